@@ -71,6 +71,7 @@ class Service:
         self.host = host
         self.listen, self.operate = ports or (free_port(), free_port())
         places = ["--listen", f"{host}:{self.listen}", "--operate", f"{host}:{self.operate}"]
+        places += [] if host.startswith("127.") else ["--behind-proxy"]
         self.words = [*before, program, "serve", "--data", data, "--sink", sink, *places, *options]
         self.log = f"{data}.log"
         self.process = None

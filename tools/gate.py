@@ -69,6 +69,7 @@ SERVICE_STEPS = (
     ("influxdb.py", ["15"], 40),
     ("protobuf_bodies.py", [], 40),
     ("sdk_go.py", ["8"], 60),
+    ("tls.py", ["8"], 90),
     ("grpc_calls.py", [], 30),
     ("clients.py", [], 30),
     ("unit_tasks.py", [], 5),

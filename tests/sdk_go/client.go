@@ -5,15 +5,19 @@ import (
 	"bytes"
 	"compress/gzip"
 	"context"
+	"crypto/tls"
+	"crypto/x509"
 	"fmt"
 	"io"
 	"net/http"
+	"os"
 	"time"
 
 	"google.golang.org/genproto/googleapis/rpc/errdetails"
 	"google.golang.org/grpc"
 	"google.golang.org/grpc/backoff"
 	"google.golang.org/grpc/codes"
+	"google.golang.org/grpc/credentials"
 	grpcgzip "google.golang.org/grpc/encoding/gzip"
 	"google.golang.org/grpc/metadata"
 	"google.golang.org/grpc/status"
@@ -32,11 +36,41 @@ type client interface {
 	try(body []byte) answer
 }
 
-func (e *exporter) dial() (client, error) {
-	if e.encoding != "grpc" {
-		return &overHTTP{exporter: e, client: &http.Client{Timeout: 3 * time.Second}}, nil
+// secure is how a connection is made to who has a certificate of the roots, with our own where we have one; or nil.
+func (e *exporter) secure() (*tls.Config, error) {
+	if e.ca == "" {
+		return nil, nil
 	}
-	connection, err := grpc.Dial(e.grpc, grpc.WithInsecure(), grpc.WithConnectParams(grpc.ConnectParams{
+	roots, err := os.ReadFile(e.ca)
+	if err != nil {
+		return nil, err
+	}
+	config := &tls.Config{RootCAs: x509.NewCertPool()}
+	config.RootCAs.AppendCertsFromPEM(roots)
+	if e.cert != "" {
+		own, err := tls.LoadX509KeyPair(e.cert, e.key)
+		if err != nil {
+			return nil, err
+		}
+		config.Certificates = []tls.Certificate{own}
+	}
+	return config, nil
+}
+
+func (e *exporter) dial() (client, error) {
+	config, err := e.secure()
+	if err != nil {
+		return nil, err
+	}
+	if e.encoding != "grpc" {
+		transport := &http.Transport{TLSClientConfig: config}
+		return &overHTTP{exporter: e, client: &http.Client{Timeout: 3 * time.Second, Transport: transport}}, nil
+	}
+	security := grpc.WithInsecure()
+	if config != nil {
+		security = grpc.WithTransportCredentials(credentials.NewTLS(config))
+	}
+	connection, err := grpc.Dial(e.grpc, security, grpc.WithConnectParams(grpc.ConnectParams{
 		Backoff:           backoff.Config{BaseDelay: 50 * time.Millisecond, Multiplier: 1.2, MaxDelay: time.Second},
 		MinConnectTimeout: time.Second,
 	}))
@@ -70,6 +104,9 @@ func (c *overHTTP) try(body []byte) answer {
 	}
 	if c.sender != "" {
 		request.Header.Set("x-sender", c.sender)
+	}
+	if c.token != "" {
+		request.Header.Set("Authorization", "Bearer "+c.token)
 	}
 	response, err := c.client.Do(request)
 	if err != nil {
@@ -112,6 +149,9 @@ func (c *overGRPC) try(body []byte) answer {
 	defer cancel()
 	if c.sender != "" {
 		ctx = metadata.AppendToOutgoingContext(ctx, "x-sender", c.sender)
+	}
+	if c.token != "" {
+		ctx = metadata.AppendToOutgoingContext(ctx, "authorization", "Bearer "+c.token)
 	}
 	options := []grpc.CallOption{grpc.ForceCodec(raw{})}
 	if c.gzip {

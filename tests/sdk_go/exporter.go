@@ -32,14 +32,16 @@ const delta = 1
 
 type exporter struct {
 	url, grpc, encoding, sender string
-	gzip                        bool
-	request, response           protoreflect.MessageDescriptor
-	client                      client
-	mutex                       sync.Mutex
-	count                       int
-	answers                     map[string]int
-	rejected                    int64
-	gaveUp                      int
+	// Files of TLS, and a token.
+	ca, cert, key, token string
+	gzip                 bool
+	request, response    protoreflect.MessageDescriptor
+	client               client
+	mutex                sync.Mutex
+	count                int
+	answers              map[string]int
+	rejected             int64
+	gaveUp               int
 }
 
 // open reads OTLP's messages, by which the library writes and reads both encodings.

@@ -8,12 +8,14 @@ mod client;
 mod explain;
 mod keeping;
 mod letters;
+mod of_senders;
 mod print;
 mod reading;
 mod serve;
 mod settings;
 mod status;
 mod table;
+mod token;
 mod totals;
 pub(crate) mod values;
 mod version;
@@ -63,6 +65,8 @@ enum Command {
     Check(check::Options),
     /// Says of each point of a captured request whether it is taken, and why not
     Explain(explain::Options),
+    /// Makes a token for a sender: prints its line for the file of --tokens, and the token itself, once, on standard error
+    Token(token::Options),
     /// Prints the version, and whether the book was proved
     Version,
     /// Prints what a package is made with
@@ -96,6 +100,7 @@ impl From<Ended> for Failure {
         match ended {
             Ended::Disk(fault) => Failure::Disk(fault),
             Ended::NoMemory(why) => Failure::Memory(why),
+            Ended::Open(why) => Failure::Line(why),
             Ended::Other(error) => Failure::Refused(error),
         }
     }
@@ -150,6 +155,7 @@ impl Command {
             Command::Dead(command) => Ok(command.run()?),
             Command::Check(options) => options.run(),
             Command::Explain(options) => options.run(),
+            Command::Token(options) => Ok(token::run(&options)?),
             Command::Version => Ok(line(version::Versions)),
             Command::Print { what } => Ok(print::run(what)?),
         }
@@ -211,6 +217,7 @@ mod tests {
             ("serve", "log-foreign", None),
             ("serve", "threads", None),
             ("serve", "sink-gzip", Some("Options of an OTLP sink")),
+            ("serve", "tokens", Some("Options of TLS and of who a sender is")),
             ("serve", "whole", Some("Options of reading")),
             ("serve", "most-series", Some("Options of the book")),
             ("explain", "json", None),
@@ -241,6 +248,11 @@ mod tests {
             ("serve --data d --sink-header content-type:x", "`content-type`"),
             ("serve --data d --sink-header \u{fc}:x", "no name of a header"),
             ("serve --data d --sink-header x:\u{1}", "`x`"),
+            ("serve --data d --tls-cert c", "--tls-key"),
+            ("serve --data d --tls-key k", "--tls-cert"),
+            ("serve --data d --client-ca c", "--tls-cert"),
+            ("token a/b/c", "behind the /"),
+            ("token -", "a sender's name"),
             ("serve --data d --listen nowhere", "--listen"),
             ("serve --data d --listen 127.0.0.1:65536", "--listen"),
             ("serve --data d --listen-grpc :4317", "--listen-grpc"),

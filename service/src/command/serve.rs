@@ -1,6 +1,7 @@
 //! `totxegun serve`: its options, and its run.
 
 use super::keeping::OfKeeping;
+use super::of_senders::OfSenders;
 use super::reading::OfReading;
 use super::settings::Names;
 use super::values::{bytes_shown, place, size, time, time_or_never, MayBeNever};
@@ -108,6 +109,8 @@ pub struct Options {
     #[arg(long, env = "TOTXEGUN_THREADS", value_name = "N", default_value_t = 4, value_parser = value_parser!(u16).range(1..=64))]
     threads: u16,
     // What is behind a group stands under its heading: so the groups come last.
+    #[command(flatten)]
+    of_senders: OfSenders,
     #[command(flatten)]
     of_sink: OfSink,
     #[command(flatten)]
@@ -284,18 +287,28 @@ impl Options {
             .unwrap_or_else(|| Address::Sqlite(data.join("metrics.db")));
         let sink = self.of_sink.put_into(sink).map_err(Failure::Line)?;
         let keep = self.of_keeping.keep(&sink).map_err(Failure::Line)?;
+        let reading = self.of_reading.reading().map_err(Failure::Line)?;
+        if self.of_senders.has_names() && reading.sender_from.is_some() {
+            return Err(Failure::Line(anyhow!(
+                "--sender-from would take a sender's word for its name: leave it out where --client-ca or --tokens name senders"
+            )));
+        }
+        let behind_proxy = self.of_senders.behind_proxy;
+        let door = self.of_senders.door(&metrics)?;
         Ok(Settings {
             data,
             listen: self.listen,
             listen_grpc: self.listen_grpc,
             operate: self.operate,
+            door,
+            behind_proxy,
             sink,
             keep,
             new_sink: self.new_sink,
             durability: self.durable,
             every: self.flush_every,
             forget: self.forget_series.0,
-            reading: self.of_reading.reading().map_err(Failure::Line)?,
+            reading,
             telling: Telling {
                 log_foreign: self.log_foreign as usize,
                 expected: self.expect_foreign,

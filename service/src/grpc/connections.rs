@@ -2,15 +2,17 @@
 
 use super::answer;
 use super::guard::Guarded;
-use crate::intake::connections::Shared;
+use crate::identity::Who;
+use crate::intake::connections::{Protocol, Shared, Transport};
 use crate::intake::Taker;
 use crate::switch::Switch;
+use crate::tls;
 use hyper::server::conn::Http;
 use hyper::service::service_fn;
 use std::convert::Infallible;
+use std::future::Future;
 use std::sync::{Arc, Mutex, PoisonError};
 use std::time::{Duration, Instant};
-use tokio::net::TcpStream;
 
 /// Calls of a connection at a time.
 const CALLS: u32 = 100;
@@ -77,16 +79,31 @@ fn bounded() -> Http {
     http
 }
 
+/// OTLP/gRPC.
+pub struct Grpc;
+
+impl Protocol for Grpc {
+    const OVER_TLS: tls::Protocol = tls::Protocol::Grpc;
+
+    fn connection<S: Transport, T: Taker>(
+        stream: S,
+        shared: Arc<Shared<T>>,
+        who: Who,
+    ) -> impl Future<Output = ()> + Send {
+        connection(stream, shared, who)
+    }
+}
+
 /// Serves its calls until it ends.
-pub async fn connection<T: Taker>(stream: TcpStream, shared: Arc<Shared<T>>) {
+async fn connection<S: Transport, T: Taker>(stream: S, shared: Arc<Shared<T>>, who: Who) {
     let Shared { limits, room, .. } = &*shared;
-    let (intake, mut stop) = (shared.intake.clone(), shared.stop.clone());
+    let (intake, mut stop, who) = (shared.intake.clone(), shared.stop.clone(), Arc::new(who));
     let calls = Calls::new();
     let of_calls = calls.clone();
     let service = service_fn(move |request| {
-        let (intake, call) = (intake.clone(), Call::begin(&of_calls));
+        let (intake, who, call) = (intake.clone(), who.clone(), Call::begin(&of_calls));
         async move {
-            let response = answer(intake, request).await;
+            let response = answer(intake, &who, request).await;
             drop(call);
             Ok::<_, Infallible>(response)
         }

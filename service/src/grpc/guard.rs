@@ -12,7 +12,6 @@ use std::pin::Pin;
 use std::task::{ready, Context, Poll};
 use std::time::{Duration, Instant};
 use tokio::io::{AsyncRead, AsyncWrite, ReadBuf};
-use tokio::net::TcpStream;
 
 /// What a client sends first.
 const PREFACE: usize = 24;
@@ -146,13 +145,13 @@ impl Frames {
 }
 
 /// A connection whose frames are counted.
-pub struct Guarded {
-    stream: TcpStream,
+pub struct Guarded<S> {
+    stream: S,
     frames: Frames,
 }
 
-impl Guarded {
-    pub fn new(stream: TcpStream) -> Guarded {
+impl<S> Guarded<S> {
+    pub fn new(stream: S) -> Guarded<S> {
         Guarded {
             stream,
             frames: Frames::new(),
@@ -160,7 +159,7 @@ impl Guarded {
     }
 }
 
-impl AsyncRead for Guarded {
+impl<S: AsyncRead + Unpin> AsyncRead for Guarded<S> {
     fn poll_read(
         mut self: Pin<&mut Self>,
         context: &mut Context<'_>,
@@ -178,7 +177,7 @@ impl AsyncRead for Guarded {
     }
 }
 
-impl AsyncWrite for Guarded {
+impl<S: AsyncWrite + Unpin> AsyncWrite for Guarded<S> {
     fn poll_write(mut self: Pin<&mut Self>, context: &mut Context<'_>, from: &[u8]) -> Poll<Result<usize>> {
         Pin::new(&mut self.stream).poll_write(context, from)
     }

@@ -11,13 +11,14 @@ mod message;
 mod reply;
 mod timeout;
 
-pub use connections::connection;
+pub use connections::Grpc;
 
+use crate::identity::Who;
 use crate::intake::head::{Head, Packing};
 use crate::intake::refusal::Refusal;
+use crate::intake::sender::sender;
 use crate::intake::{Intake, Taker};
-use crate::otlp::{Encoding, Outcome, NO_NAME};
-use crate::slot::is_sender;
+use crate::otlp::{Encoding, Outcome};
 use hyper::body::HttpBody;
 use hyper::header::{HeaderMap, HeaderName, CONTENT_TYPE};
 use hyper::http::request::Parts;
@@ -32,10 +33,10 @@ static ENCODING: HeaderName = HeaderName::from_static("grpc-encoding");
 const LATE: u16 = 504;
 
 /// Answers one call.
-async fn answer<T: Taker>(intake: Arc<Intake<T>>, request: Request<Body>) -> Response<Reply> {
+async fn answer<T: Taker>(intake: Arc<Intake<T>>, who: &Who, request: Request<Body>) -> Response<Reply> {
     let (parts, mut body) = request.into_parts();
     let is_grpc = is_grpc(&parts.headers);
-    let (call, limit) = (call(&parts), timeout::of(&parts.headers));
+    let (call, limit) = (call(&parts, who), timeout::of(&parts.headers));
     drop(parts); // they may be long, are in no budget, and a call may last
     if !is_grpc {
         message::throw_away(&mut body).await;
@@ -77,11 +78,13 @@ fn is_grpc(headers: &HeaderMap) -> bool {
 }
 
 /// The head of a call that may have a message. Whether this is packed is said by its frame.
-fn call(parts: &Parts) -> Result<Head, Outcome> {
+fn call(parts: &Parts, who: &Who) -> Result<Head, Outcome> {
     if parts.uri.path() != METHOD || parts.method != Method::POST {
         return Err(refused(404, "no such method"));
     }
-    let sender = sender(&parts.headers).ok_or_else(|| Outcome::from(&Refusal::BadSender))?;
+    let of = |name: &str| parts.headers.get_all(name).iter().map(|value| value.as_bytes());
+    let sender =
+        sender(who, of("authorization"), of("x-sender")).map_err(|refusal| Outcome::from(&refusal))?;
     let packing = match parts.headers.get(&ENCODING).map(|value| value.as_bytes()) {
         None | Some(b"identity") => Packing::Plain,
         Some(b"gzip") => Packing::Gzip,
@@ -92,16 +95,6 @@ fn call(parts: &Parts) -> Result<Head, Outcome> {
         encoding: Encoding::Protobuf,
         packing,
     })
-}
-
-/// Who calls, by its metadata.
-fn sender(headers: &HeaderMap) -> Option<String> {
-    let mut values = headers.get_all("x-sender").iter();
-    let Some(value) = values.next() else {
-        return Some(NO_NAME.into());
-    };
-    let name = value.to_str().ok().filter(|name| is_sender(name))?;
-    values.next().is_none().then(|| name.into())
 }
 
 async fn take<T: Taker>(intake: &Arc<Intake<T>>, mut head: Head, body: &mut Body) -> Outcome {

@@ -91,6 +91,7 @@ pub(super) fn code(status: u16) -> i32 {
     match status {
         200 => 0,
         400 => 3,              // INVALID_ARGUMENT
+        401 => 16,             // UNAUTHENTICATED
         403 => 7,              // PERMISSION_DENIED
         404 | 405 | 415 => 12, // UNIMPLEMENTED: another method, another encoding
         504 => 4,              // DEADLINE_EXCEEDED

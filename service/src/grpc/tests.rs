@@ -2,6 +2,7 @@
 
 use super::reply::{code, RetryInfo, Status};
 use super::*;
+use crate::identity::{Door, Options};
 use crate::intake::connections::{spread, Limits, Shared};
 use crate::intake::{Budget, Threads};
 use crate::metrics::Metrics;
@@ -51,6 +52,10 @@ struct Served {
 
 impl Served {
     async fn with(outcome: Option<Outcome>, most_bytes: usize) -> Served {
+        Served::behind(Door::default(), outcome, most_bytes).await
+    }
+
+    async fn behind(door: Door, outcome: Option<Outcome>, most_bytes: usize) -> Served {
         let kept = Arc::new(Kept {
             posts: Mutex::new(Vec::new()),
             outcome,
@@ -67,8 +72,8 @@ impl Served {
         };
         let (stop, stopped) = watch::channel(false);
         let threads = Arc::new(Threads::new(2).unwrap());
-        let shared = Shared::new(limits, Arc::new(intake), stopped);
-        let task = tokio::spawn(spread(listener, shared, threads, connection));
+        let shared = Shared::new(limits, door, Arc::new(intake), stopped);
+        let task = tokio::spawn(spread::<Grpc, _>(listener, shared, threads));
         Served {
             address,
             kept,
@@ -264,6 +269,40 @@ async fn what_is_no_call_of_the_method_is_refused() {
 }
 
 #[tokio::test]
+async fn a_stranger_is_told_so() {
+    let at = tempfile::tempdir().unwrap();
+    let (path, metrics) = (at.path().join("tokens"), Arc::new(Metrics::new().unwrap()));
+    std::fs::write(&path, crate::identity::line("shop-1/shop-*", "t0ken")).unwrap();
+    let options = Options {
+        tokens: Some(path),
+        tls: None,
+    };
+    let door = Door::open(&options, &metrics).unwrap();
+    let served = Served::behind(door, Some(Outcome::taken(0)), 1 << 20).await;
+    let token = ("authorization", "Bearer t0ken");
+    for (more, code, message) in [
+        (&[token][..], 0, ""),
+        (&[token, ("x-sender", "shop-2")], 0, ""),
+        (&[token, ("x-sender", "other")], 7, "shop-1 may not post as other"),
+        (&[token, ("x-sender", "a b")], 3, "bad sender"),
+        (
+            &[("authorization", "Bearer t0ken2")],
+            16,
+            "the token is not known",
+        ),
+        (&[token, token], 16, "no token"),
+        (&[("x-sender", "shop-1")], 16, "no token"),
+    ] {
+        let answer = served.export(more, frame(0, b"")).await;
+        assert_eq!((answer.status, answer.code()), (200, code), "{more:?}");
+        assert!(answer.text("grpc-message").starts_with(message), "{more:?}");
+    }
+    let posts = served.kept.posts.lock().unwrap().clone();
+    let senders: Vec<&str> = posts.iter().map(|post| post.0.as_str()).collect();
+    assert_eq!(senders, ["shop-1", "shop-2"]);
+}
+
+#[tokio::test]
 async fn a_deadline_ends_the_call_and_not_the_post() {
     let served = Served::with(None, 1 << 20).await;
     let answer = served.export(&[("grpc-timeout", "50m")], frame(0, b"")).await;
@@ -283,7 +322,7 @@ async fn headers_are_dropped_while_a_message_comes() {
     let are_there = Arc::downgrade(&with_headers);
     let request = Request::post(METHOD).header("content-type", "application/grpc");
     let request = request.extension(with_headers).body(body).unwrap();
-    let answering = tokio::spawn(answer(Arc::new(intake), request));
+    let answering = tokio::spawn(async move { answer(Arc::new(intake), &Who::Believed, request).await });
     for _ in 0..500 {
         if are_there.upgrade().is_none() {
             break;

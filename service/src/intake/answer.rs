@@ -38,6 +38,7 @@ fn write_any(out: &mut Vec<u8>, outcome: &Outcome, encoding: Encoding, connectio
     let told = match status {
         503 => "retry-after: 1\r\n",
         405 => "allow: POST\r\n",
+        401 => "www-authenticate: Bearer realm=\"totxegun\"\r\n",
         _ => "",
     };
     let kept = match connection {

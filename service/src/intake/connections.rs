@@ -3,8 +3,10 @@
 
 use super::pace::{Overdue, Pace, Watched};
 use super::{Intake, Taker, Threads};
+use crate::identity::{Door, Who};
 use crate::log::Seldom;
 use crate::switch::Switch;
+use crate::tls::{self, Tls};
 use hyper::server::conn::Http;
 use hyper::service::service_fn;
 use hyper::{Body, Request, Response};
@@ -13,7 +15,7 @@ use std::future::{poll_fn, Future};
 use std::sync::atomic::{AtomicBool, Ordering::Relaxed};
 use std::sync::Arc;
 use std::time::Duration;
-use tokio::io::AsyncWriteExt;
+use tokio::io::{AsyncRead, AsyncWrite, AsyncWriteExt};
 use tokio::net::{TcpListener, TcpStream};
 use tokio::sync::{watch, OwnedSemaphorePermit, Semaphore};
 use tokio::task::JoinSet;
@@ -131,19 +133,43 @@ async fn accept(
     while open.join_next().await.is_some() {}
 }
 
+/// What carries a connection of senders: TCP itself, or TLS over it. Nothing is asked of which it is for each byte.
+pub trait Transport: AsyncRead + AsyncWrite + Unpin + Send + 'static {}
+
+impl<S: AsyncRead + AsyncWrite + Unpin + Send + 'static> Transport for S {}
+
+/// What senders speak at an address.
+pub trait Protocol: 'static {
+    const OVER_TLS: tls::Protocol;
+
+    /// Serves a connection until it ends.
+    fn connection<S: Transport, T: Taker>(
+        stream: S,
+        shared: Arc<Shared<T>>,
+        who: Who,
+    ) -> impl Future<Output = ()> + Send;
+}
+
 /// What the connections of an address of senders share.
 pub struct Shared<T> {
     pub(crate) limits: Limits,
+    pub(crate) door: Door,
     pub(crate) room: Arc<Room>,
     pub(crate) intake: Arc<Intake<T>>,
     pub(crate) stop: watch::Receiver<bool>,
 }
 
 impl<T: Taker> Shared<T> {
-    pub fn new(limits: Limits, intake: Arc<Intake<T>>, stop: watch::Receiver<bool>) -> Arc<Shared<T>> {
+    pub fn new(
+        limits: Limits,
+        door: Door,
+        intake: Arc<Intake<T>>,
+        stop: watch::Receiver<bool>,
+    ) -> Arc<Shared<T>> {
         Arc::new(Shared {
             room: Room::new(limits.connections),
             limits,
+            door,
             intake,
             stop,
         })
@@ -152,28 +178,61 @@ impl<T: Taker> Shared<T> {
 
 /// Serves senders, with each connection on one of the threads, until `stop` is true or its sender is gone: then nothing
 /// more is accepted, requests that are under way are answered, and it returns after the last of them.
-pub async fn spread<T: Taker, F: Future<Output = ()> + Send + 'static>(
+pub async fn spread<P: Protocol, T: Taker>(
     listener: TcpListener,
     shared: Arc<Shared<T>>,
     threads: Arc<Threads>,
-    connection: fn(TcpStream, Arc<Shared<T>>) -> F,
 ) {
     let (room, stop) = (shared.room.clone(), shared.stop.clone());
     let begin = |open: &mut JoinSet<()>, stream: TcpStream, held: Held| {
-        // Its thread's runtime takes it over from this one.
+        let _ = stream.set_nodelay(true); // an answer is one write already
+                                          // Its thread's runtime takes it over from this one.
         let Ok(stream) = stream.into_std() else { return };
-        let (thread, place) = threads.place();
-        let shared = shared.clone();
-        let serving = async move {
-            if let Ok(stream) = TcpStream::from_std(stream) {
-                let _ = stream.set_nodelay(true); // an answer is one write already
-                connection(stream, shared).await;
+        let (shared, threads) = (shared.clone(), threads.clone());
+        match shared.door.tls.clone() {
+            Some(tls) => {
+                let runtime = tls.runtime();
+                open.spawn_on(over_tls::<P, T>(stream, shared, threads, tls, held), &runtime);
             }
-            drop((held, place));
-        };
-        open.spawn_on(serving, &thread);
+            None => {
+                let (thread, place) = threads.place();
+                let serving = async move {
+                    if let Ok(stream) = TcpStream::from_std(stream) {
+                        let who = shared.door.who(None);
+                        P::connection(stream, shared, who).await;
+                    }
+                    drop((held, place));
+                };
+                open.spawn_on(serving, &thread);
+            }
+        }
     };
     accept(listener, room, stop, begin).await;
+}
+
+/// A connection that begins with a handshake: this has its place too, and none of the threads that serve posts.
+async fn over_tls<P: Protocol, T: Taker>(
+    stream: std::net::TcpStream,
+    shared: Arc<Shared<T>>,
+    threads: Arc<Threads>,
+    tls: Arc<Tls>,
+    held: Held,
+) {
+    let mut stop = shared.stop.clone();
+    let shaken = tokio::select! {
+        shaken = tls.handshake(stream, P::OVER_TLS, || shared.room.is_full()) => shaken,
+        _ = stop.wait_true() => None, // nothing is owed to it
+    };
+    let Some(shaken) = shaken else { return };
+    let (thread, place) = threads.place();
+    let serving = thread.spawn(async move {
+        let who = shared.door.who(Some(&shaken));
+        if let Ok(stream) = shaken.arrive() {
+            P::connection(stream, shared, who).await;
+        }
+        drop((held, place));
+    });
+    let _ = serving.await; // it fails only where it panics
 }
 
 /// Serves operators, on the runtime that it is called on, with the same end.

@@ -1,12 +1,14 @@
 //! A connection of a sender over HTTP: it serves many requests one after another, and is closed where it is slow or idle.
 
-use super::connections::{Room, Shared};
+use super::connections::{Protocol, Room, Shared, Transport};
 use super::head::{self, Connection};
 use super::refusal::Refusal;
 use super::wire::Wire;
 use super::{answer, Intake, Taker};
+use crate::identity::Who;
 use crate::otlp::{Encoding, Outcome};
 use crate::switch::Switch;
+use crate::tls;
 use crate::work::within;
 use bytes::Buf;
 use std::future::{poll_fn, Future};
@@ -14,18 +16,32 @@ use std::pin::{pin, Pin};
 use std::sync::Arc;
 use std::task::Poll;
 use std::time::Duration;
-use tokio::net::TcpStream;
 use tokio::sync::watch;
 use tokio::time::{Instant, Sleep};
 
 /// How often within the time of a head it is looked whether it has come.
 const LOOKS: u32 = 4;
 
+/// OTLP/HTTP.
+pub struct Http;
+
+impl Protocol for Http {
+    const OVER_TLS: tls::Protocol = tls::Protocol::Http;
+
+    fn connection<S: Transport, T: Taker>(
+        stream: S,
+        shared: Arc<Shared<T>>,
+        who: Who,
+    ) -> impl Future<Output = ()> + Send {
+        connection(stream, shared, who)
+    }
+}
+
 /// Serves its requests until it ends.
-pub async fn connection<T: Taker>(stream: TcpStream, shared: Arc<Shared<T>>) {
+async fn connection<S: Transport, T: Taker>(stream: S, shared: Arc<Shared<T>>, who: Who) {
     let (mut wire, mut waiting) = (Wire::new(stream), Waiting::new(&shared));
     let intake = &shared.intake;
-    while let Some(asked) = next(&mut wire, &mut waiting).await {
+    while let Some(asked) = next(&mut wire, &mut waiting, &who).await {
         let goes_on = match asked {
             Ok(asked) => served(&mut wire, intake, asked, &mut waiting).await,
             Err(refusal) => {
@@ -43,15 +59,15 @@ pub async fn connection<T: Taker>(stream: TcpStream, shared: Arc<Shared<T>>) {
 }
 
 /// Answers what has no head that can be read. How it would be answered is not known, so it is JSON.
-async fn refused(wire: &mut Wire<TcpStream>, refusal: &Refusal, waiting: &mut Waiting) {
+async fn refused<S: Transport>(wire: &mut Wire<S>, refusal: &Refusal, waiting: &mut Waiting) {
     let outcome = Outcome::from(refusal);
     let sent = wire.answer(|out| answer::write(out, &outcome, Encoding::Json, Connection::Closed));
     waiting.is_sent(sent).await;
 }
 
 /// Serves a request. Whether a next one may follow.
-async fn served<T: Taker>(
-    wire: &mut Wire<TcpStream>,
+async fn served<S: Transport, T: Taker>(
+    wire: &mut Wire<S>,
     intake: &Intake<T>,
     asked: head::Asked,
     waiting: &mut Waiting,
@@ -71,11 +87,15 @@ async fn served<T: Taker>(
 }
 
 /// The next head. None where none comes any more.
-async fn next(wire: &mut Wire<TcpStream>, waiting: &mut Waiting) -> Option<Result<head::Asked, Refusal>> {
+async fn next<S: Transport>(
+    wire: &mut Wire<S>,
+    waiting: &mut Waiting,
+    who: &Who,
+) -> Option<Result<head::Asked, Refusal>> {
     let mut seen = 0;
     loop {
         if may_be_whole(&wire.input, seen) {
-            match head::read(&wire.input) {
+            match head::read(&wire.input, who) {
                 Ok(Some((end, asked))) => {
                     wire.input.advance(end);
                     return Some(Ok(asked));
@@ -179,7 +199,7 @@ impl Waiting {
         }
     }
 
-    async fn for_bytes(&mut self, wire: &mut Wire<TcpStream>) -> Came {
+    async fn for_bytes<S: Transport>(&mut self, wire: &mut Wire<S>) -> Came {
         let was_idle = is_blank(&wire.input);
         let came = self.filled(wire).await;
         if was_idle && !is_blank(&wire.input) {
@@ -188,7 +208,7 @@ impl Waiting {
         came
     }
 
-    async fn filled(&mut self, wire: &mut Wire<TcpStream>) -> Came {
+    async fn filled<S: Transport>(&mut self, wire: &mut Wire<S>) -> Came {
         let is_idle = is_blank(&wire.input);
         let mut filling = pin!(wire.fill());
         poll_fn(|context| {
@@ -227,7 +247,7 @@ fn is_blank(input: &[u8]) -> bool {
 #[cfg(test)]
 mod tests {
     use super::*;
-    use tokio::net::TcpListener;
+    use tokio::net::{TcpListener, TcpStream};
 
     #[test]
     fn a_head_is_read_again_only_where_it_may_be_whole() {

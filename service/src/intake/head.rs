@@ -1,9 +1,10 @@
 //! What the head of a request says: how its body is framed and written, who sends it, and what becomes of the connection.
 
 use super::refusal::Refusal;
+use super::sender::sender;
 use super::wire::{Body, HEADERS, READ_AHEAD};
+use crate::identity::Who;
 use crate::otlp::Encoding;
-use crate::slot::is_sender;
 use httparse::{Header, Request, Status};
 use std::mem::MaybeUninit;
 
@@ -45,8 +46,9 @@ pub enum Connection {
     Closed,
 }
 
-/// Reads a head at the beginning of what came: where it ends, and what it says. None where it is not whole yet.
-pub fn read(input: &[u8]) -> Result<Option<(usize, Asked)>, Refusal> {
+/// Reads a head at the beginning of what came: where it ends, and what it says. None where it is not whole yet. `who` is who
+/// may have sent it.
+pub fn read(input: &[u8], who: &Who) -> Result<Option<(usize, Asked)>, Refusal> {
     let mut headers = [const { MaybeUninit::uninit() }; HEADERS];
     let mut request = Request::new(&mut []);
     let end = match request.parse_with_uninit_headers(input, &mut headers) {
@@ -60,7 +62,7 @@ pub fn read(input: &[u8]) -> Result<Option<(usize, Asked)>, Refusal> {
     if !is_old && named(request.headers, "host").count() != 1 {
         return Err(Refusal::Malformed);
     }
-    let head = Head::read(&request);
+    let head = Head::read(&request, who);
     let asked = Asked {
         encoding: match &head {
             Ok(head) => head.encoding,
@@ -77,14 +79,15 @@ pub fn read(input: &[u8]) -> Result<Option<(usize, Asked)>, Refusal> {
 
 impl Head {
     /// Looks at a head in order: the path, the method, the sender, the content.
-    fn read(request: &Request) -> Result<Head, Refusal> {
+    fn read(request: &Request, who: &Who) -> Result<Head, Refusal> {
         if !request.path.is_some_and(is_of_metrics) {
             return Err(Refusal::NoSuchPath);
         }
         if request.method != Some("POST") {
             return Err(Refusal::WrongMethod);
         }
-        let sender = sender(request.headers)?;
+        let of = |name| named(request.headers, name);
+        let sender = sender(who, of("authorization"), of("x-sender"))?;
         let encoding = encoding(request.headers).ok_or(Refusal::ContentType)?;
         let packing = packing(request.headers)?;
         // Such a body is empty, and an empty one of protobuf is a request of no points: what comes after would be lost.
@@ -189,18 +192,6 @@ fn encoding_of(kind: &str) -> Option<Encoding> {
         Some(Encoding::Protobuf)
     } else {
         None
-    }
-}
-
-fn sender(headers: &[Header]) -> Result<String, Refusal> {
-    let mut values = named(headers, "x-sender");
-    let Some(value) = values.next() else {
-        return Ok("-".to_string());
-    };
-    let name = std::str::from_utf8(value).ok().filter(|name| is_sender(name));
-    match (name, values.next()) {
-        (Some(name), None) => Ok(name.to_string()),
-        _ => Err(Refusal::BadSender),
     }
 }
 

@@ -12,6 +12,7 @@ pub(crate) mod head;
 mod listen;
 mod pace;
 pub(crate) mod refusal;
+pub(crate) mod sender;
 mod threads;
 mod weight;
 mod wire;

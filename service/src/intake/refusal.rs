@@ -2,6 +2,7 @@
 
 use super::wire::{HEADERS, READ_AHEAD};
 use super::MOST;
+use crate::identity::Stranger;
 use crate::otlp::{Outcome, Refused};
 
 /// Its text is the answer's message.
@@ -13,6 +14,8 @@ pub enum Refusal {
     WrongMethod,
     #[error("bad sender: x-sender is there once, with 1 to 64 bytes of A-Z a-z 0-9 . _ -")]
     BadSender,
+    #[error("{0}")]
+    Stranger(#[from] Stranger),
     #[error("only application/json or application/x-protobuf")]
     ContentType,
     #[error("only gzip or identity")]
@@ -48,6 +51,7 @@ impl Refusal {
     pub fn status(&self) -> u16 {
         match self {
             Refusal::NoSuchPath => 404,
+            Refusal::Stranger(stranger) => stranger.status(),
             Refusal::WrongMethod => 405,
             Refusal::ContentType | Refusal::ContentEncoding => 415,
             Refusal::NoLength => 411,

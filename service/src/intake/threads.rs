@@ -24,8 +24,12 @@ pub struct Place(Arc<AtomicUsize>);
 
 impl Threads {
     pub fn new(count: usize) -> Result<Threads> {
+        Threads::named("front", count)
+    }
+
+    pub fn named(name: &str, count: usize) -> Result<Threads> {
         (0..count.max(1))
-            .map(Thread::start)
+            .map(|number| Thread::start(format!("{name}-{number}")))
             .collect::<Result<_>>()
             .map(Threads)
     }
@@ -40,19 +44,17 @@ impl Threads {
 }
 
 impl Thread {
-    fn start(number: usize) -> Result<Thread> {
+    fn start(name: String) -> Result<Thread> {
         let runtime = Builder::new_current_thread()
             .max_blocking_threads(LONG_WORK)
             .enable_all()
             .build()?;
         let handle = runtime.handle().clone();
         let (end, ended) = oneshot::channel::<()>();
-        std::thread::Builder::new()
-            .name(format!("front-{number}"))
-            .spawn(move || {
-                let _ = runtime.block_on(ended);
-                runtime.shutdown_background(); // who still waits for a disk or a sender is not waited for
-            })?;
+        std::thread::Builder::new().name(name).spawn(move || {
+            let _ = runtime.block_on(ended);
+            runtime.shutdown_background(); // who still waits for a disk or a sender is not waited for
+        })?;
         Ok(Thread {
             runtime: handle,
             connections: Arc::default(),

@@ -189,7 +189,8 @@ impl<S: AsyncRead + AsyncWrite + Unpin> Wire<S> {
     }
 
     pub async fn send(&mut self, bytes: &[u8]) -> Result<()> {
-        self.stream.write_all(bytes).await
+        self.stream.write_all(bytes).await?;
+        self.stream.flush().await // TLS may have a part of it still
     }
 
     /// Sends one answer with one write: what `write` puts into the buffer.
@@ -197,6 +198,7 @@ impl<S: AsyncRead + AsyncWrite + Unpin> Wire<S> {
         self.output.clear();
         write(&mut self.output);
         self.stream.write_all(&self.output).await?;
+        self.stream.flush().await?; // TLS may have a part of it still
         self.output.shrink_to(KEPT);
         Ok(())
     }
@@ -228,5 +230,26 @@ impl From<Error> for Refusal {
     /// A connection that fails within a request is one that ends there.
     fn from(_: Error) -> Refusal {
         Refusal::Malformed
+    }
+}
+
+#[cfg(test)]
+mod tests {
+    use super::*;
+    use std::time::Duration;
+    use tokio::io::{duplex, BufStream};
+
+    /// TLS keeps what its socket had no room for, as such a stream does.
+    #[tokio::test]
+    async fn what_is_sent_does_not_stay_in_the_stream() {
+        let (mut sender, stream) = duplex(1024);
+        let mut wire = Wire::new(BufStream::new(stream));
+        let mut read = [0; 4];
+        wire.send(b"wait").await.unwrap();
+        let reading = tokio::time::timeout(Duration::from_secs(5), sender.read_exact(&mut read));
+        assert!(reading.await.is_ok());
+        wire.answer(|out| out.extend_from_slice(b"done")).await.unwrap();
+        let reading = tokio::time::timeout(Duration::from_secs(5), sender.read_exact(&mut read));
+        assert!(reading.await.is_ok() && &read == b"done");
     }
 }

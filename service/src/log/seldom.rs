@@ -3,14 +3,23 @@
 use std::sync::{Mutex, PoisonError};
 use std::time::{Duration, Instant};
 
-const BETWEEN: Duration = Duration::from_secs(1);
-
-/// Once a second at most.
-pub struct Seldom(Mutex<Option<Instant>>);
+/// Once in so long at most.
+pub struct Seldom {
+    between: Duration,
+    last: Mutex<Option<Instant>>,
+}
 
 impl Seldom {
+    /// Once a second.
     pub const fn new() -> Seldom {
-        Seldom(Mutex::new(None))
+        Seldom::every(Duration::from_secs(1))
+    }
+
+    pub const fn every(between: Duration) -> Seldom {
+        Seldom {
+            between,
+            last: Mutex::new(None),
+        }
     }
 
     /// Whether it may be told now.
@@ -19,8 +28,8 @@ impl Seldom {
     }
 
     fn is_due_at(&self, now: Instant) -> bool {
-        let mut last = self.0.lock().unwrap_or_else(PoisonError::into_inner); // any value of it is sound
-        let is_due = last.is_none_or(|last| now >= last + BETWEEN);
+        let mut last = self.last.lock().unwrap_or_else(PoisonError::into_inner); // any value of it is sound
+        let is_due = last.is_none_or(|last: Instant| now >= last + self.between);
         if is_due {
             *last = Some(now);
         }

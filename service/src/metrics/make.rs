@@ -75,6 +75,13 @@ pub fn metrics() -> Result<Metrics> {
             "log_lines_lost_total",
             "Lines of the log that nobody took in time, or that could not be written",
         )?,
+        handshakes: maker.counters(
+            "handshakes_total",
+            "TLS handshakes of senders, by how they ended",
+            "outcome",
+            &["done", "failed", "late"],
+        )?,
+        stale_files: maker.stale_files()?,
         faults: maker.counters(
             "faults_total",
             "Points that the sink rejected, and faults of the program",
@@ -170,6 +177,13 @@ impl Maker {
         let help = "What the values of one series were rounded by together, in the finer unit, of all series the most: \
                     no total is further from the truth";
         let made = GaugeVec::new(Opts::new("totxegun_greatest_rounding_units", help), &["whole"])?;
+        self.0.register(Box::new(made.clone()))?;
+        Ok(made)
+    }
+
+    fn stale_files(&self) -> Result<IntGaugeVec> {
+        let help = "1 while the file of an option has changed and can't be used: what it had before is used";
+        let made = IntGaugeVec::new(Opts::new("totxegun_stale_files", help), &["option"])?;
         self.0.register(Box::new(made.clone()))?;
         Ok(made)
     }

@@ -10,7 +10,8 @@ pub use rounding::{RoundedSeries, SeriesOfRule};
 use crate::otlp::{Cause, Causes, Outcome, Rounded, Rounding};
 use prometheus::core::Collector;
 use prometheus::{
-    CounterVec, Encoder, Gauge, GaugeVec, IntCounter, IntCounterVec, IntGauge, Registry, TextEncoder,
+    CounterVec, Encoder, Gauge, GaugeVec, IntCounter, IntCounterVec, IntGauge, IntGaugeVec, Registry,
+    TextEncoder,
 };
 use rounding::RoundingBySeries;
 use std::collections::HashSet;
@@ -43,6 +44,10 @@ pub struct Metrics {
     pub deliveries: IntCounterVec,
     pub forgotten_series: IntCounter,
     pub log_lines_lost: IntCounter,
+    /// By `outcome`: `done`, `failed`, `late`.
+    pub handshakes: IntCounterVec,
+    /// By `option`.
+    pub stale_files: IntGaugeVec,
     /// What must never be, by `kind`.
     pub faults: IntCounterVec,
     pub checkpoint_pause_seconds: prometheus::Histogram,

@@ -28,7 +28,7 @@ pub use causes::{Cause, Causes};
 pub use explain::{explained, foreign_points, point_at, Explained};
 pub(crate) use messages::ExportMetricsServiceResponse;
 pub use numbered::{Learnt, Numbered, Series};
-pub use sender::{sender, NO_NAME};
+pub use sender::{legal, sender, NO_NAME};
 pub use whole::{Rounded, Rounding, Rule, Whole};
 
 use bytes::Bytes;

@@ -68,7 +68,7 @@ fn one_name<'d>(
 
 /// The value itself where it is a sender's name, else a name of its own: the value's beginning and its digest. A value
 /// that looks like such a name is given another, so no two values have one name.
-fn legal(value: &str) -> String {
+pub fn legal(value: &str) -> String {
     if is_sender(value) && !is_made(value) && value != NO_NAME {
         return value.to_string();
     }

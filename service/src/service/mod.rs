@@ -13,6 +13,7 @@ mod supervisor;
 pub(crate) use adopt::slot_of;
 
 use crate::files::{Durability, Fault, Folder, FolderFault};
+use crate::identity::Door;
 use crate::keeper::{Settings as Keeping, Trouble};
 use crate::metrics::Metrics;
 use crate::otlp::Reading;
@@ -21,7 +22,7 @@ use crate::sinks::{Address, Keep};
 use crate::slot::Slot;
 use anyhow::{anyhow, Context};
 use parts::Parts;
-use senders::{bind, local, Senders};
+use senders::{bind, local, refuse_open, Senders};
 use std::path::PathBuf;
 use std::sync::{Arc, OnceLock};
 use std::time::Duration;
@@ -35,6 +36,10 @@ pub struct Settings {
     /// Where senders call gRPC, if they may.
     pub listen_grpc: Option<String>,
     pub operate: String,
+    /// TLS and names at the senders' addresses.
+    pub door: Door,
+    /// Others may reach these addresses although strangers can post there.
+    pub behind_proxy: bool,
     pub sink: Address,
     /// How long the sink keeps what it has.
     pub keep: Keep,
@@ -72,6 +77,9 @@ pub enum Ended {
     /// What was taken of the book can't be written.
     #[error("{0}")]
     NoMemory(String),
+    /// Strangers could post at an address, and nobody said that they may.
+    #[error("{0}")]
+    Open(anyhow::Error),
     #[error("{0:#}")]
     Other(#[from] anyhow::Error),
 }
@@ -104,6 +112,10 @@ pub async fn run(settings: Settings) -> Result<(), Ended> {
         Some(address) => Some(bind("--listen-grpc", address).await?),
         None => None,
     };
+    refuse_open("--listen", &senders, &settings)?;
+    if let Some(callers) = &callers {
+        refuse_open("--listen-grpc", callers, &settings)?;
+    }
     let operators = bind("--operate", &settings.operate).await?;
     let slot = Arc::new(OnceLock::<Arc<Slot>>::new());
     let begun = slot.clone();
@@ -119,7 +131,13 @@ pub async fn run(settings: Settings) -> Result<(), Ended> {
     let parts = Parts::open(folder, &settings)?;
     let (folder, sink) = (settings.data.display().to_string(), parts.sink.name());
     tracing::info!(folder, sink, "data in {folder}, sink {sink}");
-    let senders = Senders { senders, callers };
+    let door = settings.door.clone();
+    tracing::info!("{door}");
+    let senders = Senders {
+        senders,
+        callers,
+        door,
+    };
     tracing::info!(
         "senders post to {}, operators ask {}",
         senders.shown(),

@@ -1,9 +1,11 @@
 //! Where senders come to.
 
-use super::Ended;
-use crate::grpc;
+use super::{Ended, Settings};
+use crate::grpc::Grpc;
+use crate::identity::Door;
 use crate::intake::connections::{spread, Limits, Shared};
-use crate::intake::{front, listen, Intake, Taker, Threads};
+use crate::intake::front::Http;
+use crate::intake::{listen, Intake, Taker, Threads};
 use anyhow::anyhow;
 use std::io::ErrorKind;
 use std::sync::Arc;
@@ -28,9 +30,25 @@ pub(super) fn local(listener: &TcpListener) -> String {
         .map_or_else(|error| error.to_string(), |address| address.to_string())
 }
 
+/// Refuses an address that other machines reach, where strangers could read along, or post under any name.
+pub(super) fn refuse_open(option: &str, listener: &TcpListener, settings: &Settings) -> Result<(), Ended> {
+    let is_local = listener
+        .local_addr()
+        .is_ok_and(|address| address.ip().to_canonical().is_loopback());
+    if is_local || settings.behind_proxy || settings.door.is_closed() {
+        return Ok(());
+    }
+    Err(Ended::Open(anyhow!(
+        "{option} {} is open to other machines, where anybody could read along and post under any name: give --tls-cert and \
+         --tls-key, and --tokens or --client-ca; or --behind-proxy, if nobody but a proxy that has both reaches it",
+        local(listener)
+    )))
+}
+
 pub(super) struct Senders {
     pub senders: TcpListener,
     pub callers: Option<TcpListener>,
+    pub door: Door,
 }
 
 impl Senders {
@@ -51,13 +69,13 @@ impl Senders {
         stop: watch::Receiver<bool>,
     ) {
         let intake = Arc::new(intake);
-        let shared = || Shared::new(limits.clone(), intake.clone(), stop.clone());
+        let shared = || Shared::new(limits.clone(), self.door.clone(), intake.clone(), stop.clone());
         let callers = async {
             if let Some(callers) = self.callers {
-                spread(callers, shared(), threads.clone(), grpc::connection).await;
+                spread::<Grpc, _>(callers, shared(), threads.clone()).await;
             }
         };
-        let senders = spread(self.senders, shared(), threads.clone(), front::connection);
+        let senders = spread::<Http, _>(self.senders, shared(), threads.clone());
         tokio::join!(senders, callers);
     }
 }

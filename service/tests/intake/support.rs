@@ -6,11 +6,12 @@ use std::future::Future;
 use std::io::Write;
 use std::sync::{Arc, Mutex};
 use std::time::Duration;
-use tokio::io::{AsyncReadExt, AsyncWriteExt};
+use tokio::io::{AsyncRead, AsyncReadExt, AsyncWrite, AsyncWriteExt};
 use tokio::net::{TcpListener, TcpStream};
 use tokio::sync::watch;
+use totxegun::identity::Door;
 use totxegun::intake::connections::{spread, Shared};
-use totxegun::intake::front::connection;
+use totxegun::intake::front::Http;
 use totxegun::intake::{Budget, Intake, Limits, Taker, Threads};
 use totxegun::metrics::Metrics;
 use totxegun::otlp::{Outcome, Reading};
@@ -74,6 +75,30 @@ impl Served {
     }
 
     pub async fn limited(limits: Limits, patience: Duration, outcome: Outcome, most_bytes: usize) -> Served {
+        Served::all(Door::default(), limits, patience, outcome, most_bytes).await
+    }
+
+    /// With TLS and names.
+    pub async fn behind(door: Door) -> Served {
+        let limits = Limits {
+            connections: 8,
+            head: PATIENCE,
+            idle: 3 * PATIENCE,
+        };
+        Served::behind_with(door, limits).await
+    }
+
+    pub async fn behind_with(door: Door, limits: Limits) -> Served {
+        Served::all(door, limits, PATIENCE, Outcome::taken(0), 64 << 20).await
+    }
+
+    async fn all(
+        door: Door,
+        limits: Limits,
+        patience: Duration,
+        outcome: Outcome,
+        most_bytes: usize,
+    ) -> Served {
         let kept = Arc::new(Kept {
             posts: Mutex::new(Vec::new()),
             outcome,
@@ -86,8 +111,8 @@ impl Served {
         let address = listener.local_addr().unwrap();
         let (stop, stopped) = watch::channel(false);
         let threads = Arc::new(Threads::new(2).unwrap());
-        let shared = Shared::new(limits, Arc::new(intake), stopped);
-        let task = tokio::spawn(spread(listener, shared, threads, connection));
+        let shared = Shared::new(limits, door, Arc::new(intake), stopped);
+        let task = tokio::spawn(spread::<Http, _>(listener, shared, threads));
         Served {
             address,
             kept,
@@ -123,8 +148,8 @@ impl Served {
     }
 }
 
-pub struct Client {
-    pub stream: TcpStream,
+pub struct Client<S = TcpStream> {
+    pub stream: S,
     pub read: Vec<u8>,
 }
 
@@ -150,7 +175,7 @@ impl Answer {
     }
 }
 
-impl Client {
+impl<S: AsyncRead + AsyncWrite + Unpin> Client<S> {
     pub async fn write(&mut self, bytes: &[u8]) {
         self.stream.write_all(bytes).await.unwrap();
     }
@@ -194,6 +219,19 @@ impl Client {
             head,
             body: self.read.drain(..length).collect(),
         }
+    }
+
+    /// Whether a request is answered 200, where the connection may end before.
+    pub async fn takes(&mut self, request: &[u8]) -> bool {
+        if self.stream.write_all(request).await.is_err() {
+            return false;
+        }
+        while !self.read.starts_with(b"HTTP/1.1 200") {
+            if !self.more().await {
+                return false;
+            }
+        }
+        true
     }
 
     /// Whether the connection ends without a further byte.

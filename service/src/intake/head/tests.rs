@@ -2,6 +2,10 @@
 
 use super::*;
 
+fn read(input: &[u8]) -> Result<Option<(usize, Asked)>, Refusal> {
+    super::read(input, &Who::Believed)
+}
+
 fn text(method: &str, path: &str, headers: &[(&str, &str)]) -> String {
     let mut text = format!("{method} {path} HTTP/1.1\r\nHost: a\r\n");
     for (name, value) in headers {

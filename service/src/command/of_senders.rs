@@ -1,0 +1,47 @@
+//! Options of TLS at the senders' addresses, and of who a sender is.
+
+use crate::identity::{Door, Options};
+use crate::metrics::Metrics;
+use crate::tls::Files;
+use clap::Args;
+use std::path::PathBuf;
+use std::sync::Arc;
+
+#[derive(Args)]
+#[command(next_help_heading = "Options of TLS and of who a sender is")]
+pub(super) struct OfSenders {
+    /// The certificate of --listen and --listen-grpc in PEM, with those between it and its root: TLS alone is spoken there then
+    #[arg(long, env = "TOTXEGUN_TLS_CERT", value_name = "FILE", requires = "tls_key")]
+    tls_cert: Option<PathBuf>,
+    /// The key of --tls-cert in PEM
+    #[arg(long, env = "TOTXEGUN_TLS_KEY", value_name = "FILE", requires = "tls_cert")]
+    tls_key: Option<PathBuf>,
+    /// Roots in PEM: a sender has the name of its certificate, which one of them has signed
+    #[arg(long, env = "TOTXEGUN_CLIENT_CA", value_name = "FILE", requires = "tls_cert")]
+    client_ca: Option<PathBuf>,
+    /// Names of senders and digests of their tokens, as `totxegun token NAME` makes them
+    #[arg(long, env = "TOTXEGUN_TOKENS", value_name = "FILE")]
+    tokens: Option<PathBuf>,
+    /// Takes posts beyond loopback without TLS or names: where nobody but a proxy that has both reaches the addresses
+    #[arg(long, env = "TOTXEGUN_BEHIND_PROXY")]
+    pub behind_proxy: bool,
+}
+
+impl OfSenders {
+    /// Whether a sender has to prove who it is.
+    pub fn has_names(&self) -> bool {
+        self.client_ca.is_some() || self.tokens.is_some()
+    }
+
+    /// Reads the files.
+    pub fn door(self, metrics: &Arc<Metrics>) -> anyhow::Result<Door> {
+        let (client_ca, tokens) = (self.client_ca, self.tokens);
+        let both = self.tls_cert.zip(self.tls_key);
+        let tls = both.map(|(certificate, key)| Files {
+            certificate,
+            key,
+            client_ca,
+        });
+        Door::open(&Options { tls, tokens }, metrics)
+    }
+}

@@ -1,0 +1,41 @@
+//! `totxegun token`: makes a token of a sender.
+
+use super::line;
+use crate::identity;
+use anyhow::{Context, Result};
+use clap::Args;
+use std::fs::File;
+use std::io::{self, Read, Write};
+
+/// So many bytes are drawn: nobody guesses them, so their digest needs no salt.
+const BYTES: usize = 32;
+
+#[derive(Args)]
+pub struct Options {
+    /// Whose it is; NAME/PATTERN may post as others too: collector/shop-*
+    #[arg(value_name = "NAME", value_parser = owner)]
+    owner: String,
+}
+
+/// Whatever the file of `--tokens` may have before a digest.
+fn owner(text: &str) -> Result<String, String> {
+    match identity::Tokens::read(identity::line(text, "").as_bytes()) {
+        Ok(_) => Ok(text.to_string()),
+        Err(why) => Err(why.trim_start_matches("line 1: ").to_string()),
+    }
+}
+
+/// The line for the file, which is printed. The token itself goes to standard error, so that `>> FILE` shows it once.
+pub fn run(options: &Options) -> Result<Vec<u8>> {
+    let mut bytes = [0; BYTES];
+    let drawn = File::open("/dev/urandom").and_then(|mut random| random.read_exact(&mut bytes));
+    drawn.context("no token can be drawn: /dev/urandom can't be read")?;
+    let token = base64::encode_config(bytes, base64::URL_SAFE_NO_PAD);
+    let owner = &options.owner;
+    writeln!(
+        io::stderr(),
+        "the token of {owner}, which nothing shows again:\n{token}"
+    )
+    .context("the token can't be shown: standard error can't be written")?;
+    Ok(line(identity::line(owner, &token)))
+}

@@ -1,0 +1,95 @@
+//! TLS and names at the senders' addresses.
+
+use super::who::Certified;
+use super::{Tokens, Who};
+use crate::metrics::Metrics;
+use crate::renewed::Renewed;
+use crate::tls::{Files, Shaken, Tls, WithoutCertificate};
+use anyhow::Result;
+use std::fmt;
+use std::path::PathBuf;
+use std::sync::Arc;
+
+/// The files of both.
+#[derive(Clone, Debug, Default)]
+pub struct Options {
+    pub tls: Option<Files>,
+    pub tokens: Option<PathBuf>,
+}
+
+/// What stands between a sender and its address. The default believes all, without TLS.
+#[derive(Clone, Default)]
+pub struct Door {
+    pub(crate) tls: Option<Arc<Tls>>,
+    by_certificate: bool,
+    tokens: Option<Arc<Renewed<Tokens>>>,
+}
+
+impl Door {
+    /// Reads the files. The error names what can't be used and says what to do.
+    pub fn open(options: &Options, metrics: &Arc<Metrics>) -> Result<Door> {
+        let without = match options.tokens {
+            Some(_) => WithoutCertificate::LetIn,
+            None => WithoutCertificate::Refused,
+        };
+        let tls = options.tls.as_ref();
+        let tls = tls
+            .map(|files| Tls::open(files, without, metrics.clone()))
+            .transpose()?;
+        let read = |contents: &[Vec<u8>]| Tokens::read(&contents.concat());
+        let tokens = options.tokens.as_ref();
+        let tokens =
+            tokens.map(|path| Renewed::open("--tokens", vec![path.clone()], Box::new(read), metrics));
+        Ok(Door {
+            tls: tls.map(Arc::new),
+            by_certificate: options
+                .tls
+                .as_ref()
+                .is_some_and(|files| files.client_ca.is_some()),
+            tokens: tokens.transpose()?,
+        })
+    }
+
+    /// By whom the requests of a connection are, which may be behind a handshake.
+    pub fn who(&self, shaken: Option<&Shaken>) -> Who {
+        let shown = shaken.and_then(Shaken::shown);
+        match (&self.tls, shown, &self.tokens) {
+            (Some(tls), Some((chain, contexts)), tokens) => {
+                Who::ByCertificate(Certified::new(chain, contexts, tls.clone(), tokens.clone()))
+            }
+            (_, None, Some(tokens)) => Who::ByToken(tokens.clone()),
+            // No handshake ends so. If one did, nobody would be believed.
+            (Some(tls), None, None) if self.by_certificate => {
+                Who::ByCertificate(Certified::new(Vec::new(), tls.contexts(), tls.clone(), None))
+            }
+            _ => Who::Believed,
+        }
+    }
+
+    /// Whether who posts has to prove who it is.
+    pub fn has_names(&self) -> bool {
+        self.by_certificate || self.tokens.is_some()
+    }
+
+    /// Whether strangers can neither read along nor post.
+    pub fn is_closed(&self) -> bool {
+        self.tls.is_some() && self.has_names()
+    }
+}
+
+impl fmt::Display for Door {
+    fn fmt(&self, to: &mut fmt::Formatter<'_>) -> fmt::Result {
+        let named = match (self.by_certificate, &self.tokens) {
+            (true, Some(_)) => "by the certificate that they show, else by their token",
+            (true, None) => "by their certificate",
+            (false, Some(_)) => "by their token",
+            (false, None) => "by their own word, the header x-sender",
+        };
+        let over = if self.tls.is_some() {
+            "over TLS"
+        } else {
+            "without TLS"
+        };
+        write!(to, "senders are named {named}, {over}")
+    }
+}

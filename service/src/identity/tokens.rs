@@ -1,0 +1,218 @@
+//! The file of `--tokens`: which tokens there are, whose each is, and which names of others it may use.
+//!
+//! A line is `NAME sha256:HEX`, of a token's digest, so that nobody can post by what the file says. `NAME/PATTERN` may also
+//! post as whoever the pattern says: a name, or the beginning of one and `*`. `NAME/PATTERN certificate` lets a certificate
+//! do so. Empty lines and those that begin with `#` say nothing.
+
+use crate::otlp::NO_NAME;
+use crate::slot::is_sender;
+use sha2::{Digest, Sha256};
+use std::collections::{HashMap, HashSet};
+use std::sync::Arc;
+use subtle::ConstantTimeEq;
+
+const DIGEST: &str = "sha256:";
+const CERTIFICATE: &str = "certificate";
+
+/// A sender by its own name.
+#[derive(Debug, PartialEq, Eq)]
+pub struct Sender {
+    pub name: String,
+    /// The names that it may use beside it: with `*` at its end all that begin so.
+    pub others: Vec<String>,
+}
+
+impl Sender {
+    /// Whether it may post under a name.
+    pub fn may_be(&self, name: &str) -> bool {
+        let fits = |other: &String| match other.strip_suffix('*') {
+            Some(begin) => name.starts_with(begin),
+            None => name == other,
+        };
+        name == self.name || self.others.iter().any(fits)
+    }
+}
+
+struct Token {
+    digest: [u8; 32],
+    owner: Arc<Sender>,
+}
+
+/// What the file says.
+#[derive(Default)]
+pub struct Tokens {
+    tokens: Vec<Token>,
+    /// By name: senders of certificates that may use others' names.
+    certified: HashMap<String, Arc<Sender>>,
+}
+
+impl Tokens {
+    /// Reads the file's contents. The error has the number of the line, and nothing of what is in it.
+    pub fn read(contents: &[u8]) -> Result<Tokens, String> {
+        let text = std::str::from_utf8(contents).map_err(|_| "it is no text in UTF-8".to_string())?;
+        let (mut tokens, mut known) = (Tokens::default(), HashSet::new());
+        let lines = text.lines().enumerate();
+        for (number, line) in lines.filter(|(_, line)| !line.trim().is_empty() && !line.starts_with('#')) {
+            let in_line = |why: &str| format!("line {}: {why}", number + 1);
+            let (sender, proof) = read_line(line).map_err(in_line)?;
+            match proof {
+                Some(digest) if !known.insert(digest) => return Err(in_line("its token has a line already")),
+                Some(digest) => tokens.tokens.push(Token {
+                    digest,
+                    owner: sender.into(),
+                }),
+                None if tokens.certified.contains_key(&sender.name) => {
+                    return Err(in_line("its name has a line for certificates already"))
+                }
+                None => drop(tokens.certified.insert(sender.name.clone(), sender.into())),
+            }
+        }
+        match tokens.tokens.is_empty() && tokens.certified.is_empty() {
+            true => Err("it has no line: add what `totxegun token NAME` prints".into()),
+            false => Ok(tokens),
+        }
+    }
+
+    /// Whose a token is. It is compared with all, each time for as long.
+    pub fn owner(&self, token: &[u8]) -> Option<Arc<Sender>> {
+        let digest = Sha256::digest(token);
+        let mut found = None;
+        for token in &self.tokens {
+            if token.digest[..].ct_eq(&digest).into() {
+                found = Some(&token.owner);
+            }
+        }
+        found.cloned()
+    }
+
+    /// The sender of a certificate's name, where it may use others'.
+    pub fn certified(&self, name: &str) -> Option<Arc<Sender>> {
+        self.certified.get(name).cloned()
+    }
+}
+
+/// A sender, and the digest of its token where it has one.
+fn read_line(line: &str) -> Result<(Sender, Option<[u8; 32]>), &'static str> {
+    let mut words = line.split_whitespace();
+    let (Some(who), Some(proof), None) = (words.next(), words.next(), words.next()) else {
+        return Err("write `NAME sha256:HEX`, as `totxegun token NAME` prints it");
+    };
+    let (name, other) = match who.split_once('/') {
+        Some((name, other)) => (name, Some(other)),
+        None => (who, None),
+    };
+    if !is_sender(name) || name == NO_NAME {
+        return Err("a sender's name is 1 to 64 of A-Z a-z 0-9 . _ -, and not - alone");
+    }
+    if other.is_some_and(|other| other != "*" && !is_sender(other.strip_suffix('*').unwrap_or(other))) {
+        return Err("behind the / write a sender's name, the beginning of one and *, or *");
+    }
+    let digest = match proof {
+        CERTIFICATE if other.is_none() => {
+            return Err("a certificate needs a line for others' names alone: NAME/PATTERN")
+        }
+        CERTIFICATE => None,
+        _ => Some(
+            digest(proof)
+                .ok_or("behind the name write sha256: and 64 hexadecimal digits, never the token itself")?,
+        ),
+    };
+    let (name, others) = (name.to_string(), other.map(str::to_string).into_iter().collect());
+    Ok((Sender { name, others }, digest))
+}
+
+fn digest(proof: &str) -> Option<[u8; 32]> {
+    let digits = proof.strip_prefix(DIGEST)?;
+    let digits = digits.as_bytes();
+    let mut digest = [0; 32];
+    if digits.len() != 2 * digest.len() {
+        return None;
+    }
+    for (byte, two) in digest.iter_mut().zip(digits.chunks(2)) {
+        let value = |digit: u8| char::from(digit).to_digit(16);
+        *byte = (value(two[0])? << 4 | value(two[1])?) as u8;
+    }
+    Some(digest)
+}
+
+/// The line of a token for the file.
+pub fn line(name: &str, token: &str) -> String {
+    let digits = Sha256::digest(token)
+        .iter()
+        .map(|byte| format!("{byte:02x}"))
+        .collect::<String>();
+    format!("{name} {DIGEST}{digits}")
+}
+
+#[cfg(test)]
+mod tests {
+    use super::*;
+
+    /// By `printf abc | sha256sum`.
+    const OF_ABC: &str = "sha256:ba7816bf8f01cfea414140de5dae2223b00361a396177a9cb410ff61f20015ad";
+
+    fn refused(text: &str) -> String {
+        Tokens::read(text.as_bytes()).err().unwrap_or_default()
+    }
+
+    #[test]
+    fn a_token_is_its_owner_s() {
+        let text = format!("# shops\n\nshop-1 {OF_ABC}\r\n{}\n", line("shop-1", "second"));
+        let tokens = Tokens::read(text.as_bytes()).unwrap();
+        assert_eq!(line("shop-1", "abc"), format!("shop-1 {OF_ABC}"));
+        for token in ["abc", "second"] {
+            assert_eq!(tokens.owner(token.as_bytes()).unwrap().name, "shop-1");
+        }
+        for token in ["", "ab", "abcd", "ABC", OF_ABC, "shop-1"] {
+            assert_eq!(tokens.owner(token.as_bytes()), None, "{token}");
+        }
+    }
+
+    #[test]
+    fn names_of_others_are_by_pattern() {
+        let text = format!("a/b-* {OF_ABC}\nc/* certificate\nd/e certificate\n");
+        let tokens = Tokens::read(text.as_bytes()).unwrap();
+        let of = |sender: Arc<Sender>, names: [&str; 5]| names.map(|name| sender.may_be(name));
+        let names = ["a", "b-", "b-1", "b", "e"];
+        assert_eq!(
+            of(tokens.owner(b"abc").unwrap(), names),
+            [true, true, true, false, false]
+        );
+        assert_eq!(of(tokens.certified("c").unwrap(), names), [true; 5]);
+        assert_eq!(
+            of(tokens.certified("d").unwrap(), names),
+            [false, false, false, false, true]
+        );
+        assert!(tokens.certified("a").is_none());
+    }
+
+    #[test]
+    fn a_faulty_line_is_named_and_not_shown() {
+        let twice = format!("a {OF_ABC}\nb {}", OF_ABC.to_uppercase().replace("SHA", "sha"));
+        for (text, why) in [
+            ("", "no line"),
+            ("# none\n", "no line"),
+            ("\na s3cret", "line 2: behind the name write sha256:"),
+            ("a sha256:s3cret", "line 1: behind the name"),
+            (
+                &format!("a {}", &OF_ABC[..OF_ABC.len() - 1]),
+                "line 1: behind the name",
+            ),
+            (&format!("a {OF_ABC} s3cret"), "line 1: write `NAME sha256:HEX`"),
+            (&format!("s3cret+ {OF_ABC}"), "line 1: a sender's name"),
+            (&format!("- {OF_ABC}"), "line 1: a sender's name"),
+            (&format!("a/s3cret+* {OF_ABC}"), "line 1: behind the /"),
+            (&format!("a/ {OF_ABC}"), "line 1: behind the /"),
+            ("a certificate", "line 1: a certificate needs"),
+            ("a/* certificate\na/b certificate", "line 2: its name has a line"),
+            (&twice, "line 2: its token has a line"),
+        ] {
+            let found = refused(text);
+            assert!(
+                found.contains(why) && !found.contains("s3cret"),
+                "{text}: {found}"
+            );
+        }
+        assert!(Tokens::read(b"\xff").is_err());
+    }
+}

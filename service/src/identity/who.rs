@@ -1,0 +1,134 @@
+//! Who the sender of a connection is, and of each of its requests.
+
+use super::{Sender, Stranger, Tokens};
+use crate::otlp::{self, NO_NAME};
+use crate::renewed::Renewed;
+use crate::tls::{Certificate, Contexts, Tls};
+use std::sync::{Arc, Mutex, PoisonError};
+use std::time::{SystemTime, UNIX_EPOCH};
+
+/// By what the requests of a connection are named.
+pub enum Who {
+    /// By their own word.
+    Believed,
+    /// By the token of each.
+    ByToken(Arc<Renewed<Tokens>>),
+    /// By the certificate that the connection has shown.
+    ByCertificate(Certified),
+}
+
+/// Whose a request is.
+#[derive(Debug)]
+pub enum Proved {
+    /// Whoever it says.
+    Anybody,
+    Sender(Arc<Sender>),
+}
+
+impl Who {
+    /// Whose a request is that has these values of the header `Authorization`.
+    pub fn proved<'h>(&self, authorization: impl Iterator<Item = &'h [u8]>) -> Result<Proved, Stranger> {
+        match self {
+            Who::Believed => Ok(Proved::Anybody),
+            Who::ByToken(tokens) => by_token(&tokens.now(), authorization).map(Proved::Sender),
+            Who::ByCertificate(certified) => certified.sender().map(Proved::Sender),
+        }
+    }
+}
+
+impl Proved {
+    /// The name of a request's sender, which may name itself.
+    pub fn name(&self, own: Option<&str>) -> Result<String, Stranger> {
+        match (self, own) {
+            (Proved::Anybody, own) => Ok(own.unwrap_or(NO_NAME).to_string()),
+            (Proved::Sender(sender), None) => Ok(sender.name.clone()),
+            (Proved::Sender(sender), Some(own)) if sender.may_be(own) => Ok(own.to_string()),
+            (Proved::Sender(sender), Some(own)) => Err(Stranger::OtherName {
+                name: sender.name.clone(),
+                other: own.to_string(),
+            }),
+        }
+    }
+}
+
+fn by_token<'h>(
+    tokens: &Tokens,
+    mut authorization: impl Iterator<Item = &'h [u8]>,
+) -> Result<Arc<Sender>, Stranger> {
+    let (Some(value), None) = (authorization.next(), authorization.next()) else {
+        return Err(Stranger::NoToken);
+    };
+    let token = bearer(value).ok_or(Stranger::NoToken)?;
+    tokens.owner(token).ok_or(Stranger::WrongToken)
+}
+
+/// The token of `Bearer TOKEN` (RFC 6750, 2.1); the scheme's case says nothing (RFC 9110, 11.1).
+fn bearer(value: &[u8]) -> Option<&[u8]> {
+    const SCHEME: &[u8] = b"bearer ";
+    let (scheme, token) = value.split_at_checked(SCHEME.len())?;
+    let token = token.trim_ascii();
+    (scheme.eq_ignore_ascii_case(SCHEME) && !token.is_empty()).then_some(token)
+}
+
+/// A sender by its certificate, which was believed when its connection began.
+pub struct Certified {
+    chain: Vec<rustls::Certificate>,
+    sender: Option<Arc<Sender>>,
+    /// Seconds since 1970 at which the certificate ends.
+    ends: i64,
+    tls: Arc<Tls>,
+    believed_by: Mutex<Arc<Contexts>>,
+    tokens: Option<Arc<Renewed<Tokens>>>,
+}
+
+impl Certified {
+    pub fn new(
+        chain: Vec<rustls::Certificate>,
+        believed_by: Arc<Contexts>,
+        tls: Arc<Tls>,
+        tokens: Option<Arc<Renewed<Tokens>>>,
+    ) -> Certified {
+        let read = chain.first().and_then(|first| Certificate::read(&first.0));
+        let ends = read.as_ref().map_or(0, |read| read.ends);
+        let name = read.and_then(|read| read.name).map(|name| otlp::legal(&name));
+        let sender = name.map(|name| Sender {
+            name,
+            others: Vec::new(),
+        });
+        Certified {
+            chain,
+            sender: sender.map(Arc::new),
+            ends,
+            tls,
+            believed_by: Mutex::new(believed_by),
+            tokens,
+        }
+    }
+
+    fn sender(&self) -> Result<Arc<Sender>, Stranger> {
+        if !self.is_believed() {
+            return Err(Stranger::NotBelieved);
+        }
+        let sender = self.sender.as_ref().ok_or(Stranger::Nameless)?;
+        let with_others = self
+            .tokens
+            .as_ref()
+            .and_then(|tokens| tokens.now().certified(&sender.name));
+        Ok(with_others.unwrap_or_else(|| sender.clone()))
+    }
+
+    /// Whether it still is: it may have ended, and its root may have been taken out of the file since.
+    fn is_believed(&self) -> bool {
+        let now = SystemTime::now().duration_since(UNIX_EPOCH).unwrap_or_default();
+        if now.as_secs() as i64 > self.ends {
+            return false;
+        }
+        let contexts = self.tls.contexts();
+        let mut believed_by = self.believed_by.lock().unwrap_or_else(PoisonError::into_inner); // any value of it is sound
+        let is_believed = Arc::ptr_eq(&believed_by, &contexts) || contexts.believes(&self.chain);
+        if is_believed {
+            *believed_by = contexts;
+        }
+        is_believed
+    }
+}

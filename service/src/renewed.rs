@@ -1,0 +1,230 @@
+//! What is read of files, and read anew when they change.
+//!
+//! A thread of its own looks at them, so that a file system that does not answer holds nobody else up. Files that can't be
+//! used leave what was used before in its place.
+
+use crate::metrics::Metrics;
+use anyhow::{anyhow, Context};
+use prometheus::IntGauge;
+use sha2::{Digest, Sha256};
+use std::fs::File;
+use std::io::Read;
+use std::path::PathBuf;
+use std::sync::{Arc, PoisonError, RwLock, Weak};
+use std::time::Duration;
+
+/// How often files are looked at. What has changed is used once two looks have found the same: so not while it is being
+/// written, nor a certificate whose key is not there yet.
+const LOOK: Duration = Duration::from_millis(250);
+
+/// The longest file, in bytes.
+const MOST: u64 = 4 << 20;
+
+/// How the contents of files are read. The error says what is wrong and what to do.
+pub type Reader<T> = Box<dyn Fn(&[Vec<u8>]) -> Result<T, String> + Send>;
+
+/// What the files had when they were last found to be sound.
+pub struct Renewed<T>(RwLock<Arc<T>>);
+
+impl<T: Send + Sync + 'static> Renewed<T> {
+    /// Reads the files of an option, and goes on looking at them until what is returned is dropped.
+    pub fn open(
+        option: &'static str,
+        paths: Vec<PathBuf>,
+        read: Reader<T>,
+        metrics: &Metrics,
+    ) -> anyhow::Result<Arc<Renewed<T>>> {
+        let mut files = Files {
+            option,
+            paths,
+            read,
+            judged: Err(String::new()),
+            seen: Err(String::new()),
+            stale: metrics.stale_files.with_label_values(&[option]),
+            into: Weak::new(),
+        };
+        let contents = files.contents();
+        files.judged = digests(&contents);
+        files.seen = files.judged.clone();
+        let first = contents.and_then(|contents| (files.read)(&contents));
+        let first = first.map_err(|why| anyhow!("{option} can't be used: {why}"))?;
+        let renewed = Arc::new(Renewed(RwLock::new(Arc::new(first))));
+        files.into = Arc::downgrade(&renewed);
+        std::thread::Builder::new()
+            .name(option.trim_matches('-').to_string())
+            .spawn(move || while files.look() {})
+            .context("no thread could be started")?;
+        Ok(renewed)
+    }
+
+    pub fn now(&self) -> Arc<T> {
+        self.0.read().unwrap_or_else(PoisonError::into_inner).clone() // any value of it is sound
+    }
+
+    fn set(&self, new: T) {
+        *self.0.write().unwrap_or_else(PoisonError::into_inner) = Arc::new(new);
+    }
+}
+
+type Contents = Result<Vec<Vec<u8>>, String>;
+/// The digest of each file, or why one can't be read.
+type Found = Result<Vec<[u8; 32]>, String>;
+
+/// The files of an option.
+struct Files<T> {
+    option: &'static str,
+    paths: Vec<PathBuf>,
+    read: Reader<T>,
+    /// What was last used, or refused.
+    judged: Found,
+    /// What the last look found.
+    seen: Found,
+    stale: IntGauge,
+    into: Weak<Renewed<T>>,
+}
+
+impl<T: Send + Sync + 'static> Files<T> {
+    /// Whether somebody still wants what is in them.
+    fn look(&mut self) -> bool {
+        std::thread::sleep(LOOK);
+        let contents = self.contents();
+        let found = digests(&contents);
+        let is_settled = found == self.seen;
+        self.seen = found;
+        let Some(into) = self.into.upgrade() else {
+            return false;
+        };
+        if is_settled && self.seen != self.judged {
+            self.judged = self.seen.clone();
+            self.judge(contents, &into);
+        }
+        true
+    }
+
+    fn judge(&self, contents: Contents, into: &Renewed<T>) {
+        let option = self.option;
+        match contents.and_then(|contents| (self.read)(&contents)) {
+            Ok(new) => {
+                into.set(new);
+                self.stale.set(0);
+                tracing::info!(option, "{option} has changed, and was read anew");
+            }
+            Err(reason) => {
+                self.stale.set(1);
+                tracing::warn!(
+                    option,
+                    reason,
+                    "{option} has changed, and can't be used, so what it had before is: {reason}"
+                );
+            }
+        }
+    }
+
+    fn contents(&self) -> Contents {
+        self.paths.iter().map(contents).collect()
+    }
+}
+
+fn contents(path: &PathBuf) -> Result<Vec<u8>, String> {
+    let mut bytes = Vec::new();
+    let read = File::open(path).and_then(|file| file.take(MOST + 1).read_to_end(&mut bytes));
+    read.map_err(|error| format!("{} can't be read: {error}", path.display()))?;
+    match bytes.len() as u64 <= MOST {
+        true => Ok(bytes),
+        false => Err(format!(
+            "{} is longer than 4 MiB: name another file",
+            path.display()
+        )),
+    }
+}
+
+fn digests(contents: &Contents) -> Found {
+    let contents = contents.as_ref().map_err(String::clone)?;
+    Ok(contents
+        .iter()
+        .map(|bytes| Sha256::digest(bytes).into())
+        .collect())
+}
+
+#[cfg(test)]
+mod tests {
+    use super::*;
+    use std::path::Path;
+    use std::time::Instant;
+
+    /// A file of a number.
+    fn number(path: &Path, metrics: &Metrics) -> anyhow::Result<Arc<Renewed<u64>>> {
+        let read = |contents: &[Vec<u8>]| {
+            let text = String::from_utf8_lossy(&contents[0]);
+            text.parse().map_err(|_| "write a number".to_string())
+        };
+        Renewed::open("--number", vec![path.into()], Box::new(read), metrics)
+    }
+
+    fn is_within(time: Duration, is_so: impl Fn() -> bool) -> bool {
+        let begun = Instant::now();
+        while !is_so() {
+            if begun.elapsed() > time {
+                return false;
+            }
+            std::thread::sleep(Duration::from_millis(5));
+        }
+        true
+    }
+
+    #[test]
+    fn what_changes_is_used_within_a_second_and_what_is_broken_is_not() {
+        let at = tempfile::tempdir().unwrap();
+        let (path, metrics) = (at.path().join("number"), Metrics::new().unwrap());
+        assert!(number(&path, &metrics)
+            .err()
+            .unwrap()
+            .to_string()
+            .starts_with("--number can't be used: "));
+        std::fs::write(&path, "x").unwrap();
+        let refused = number(&path, &metrics).err().unwrap().to_string();
+        assert_eq!(refused, "--number can't be used: write a number");
+        std::fs::write(&path, "1").unwrap();
+        let renewed = number(&path, &metrics).unwrap();
+        let stale = metrics.stale_files.with_label_values(&["--number"]);
+        let second = Duration::from_secs(1);
+        assert_eq!((*renewed.now(), stale.get()), (1, 0));
+        std::fs::write(&path, "2").unwrap();
+        assert!(is_within(second, || *renewed.now() == 2));
+        std::fs::write(&path, "two").unwrap();
+        assert!(is_within(second, || stale.get() == 1));
+        assert_eq!(*renewed.now(), 2);
+        std::fs::remove_file(&path).unwrap();
+        std::thread::sleep(4 * LOOK);
+        assert_eq!((*renewed.now(), stale.get()), (2, 1));
+        std::fs::write(&path, "2").unwrap();
+        assert!(is_within(second, || stale.get() == 0));
+    }
+
+    #[test]
+    fn what_goes_on_changing_is_not_used() {
+        let at = tempfile::tempdir().unwrap();
+        let (path, metrics) = (at.path().join("number"), Metrics::new().unwrap());
+        std::fs::write(&path, "1").unwrap();
+        let mut files = Files {
+            option: "--number",
+            paths: vec![path.clone()],
+            read: Box::new(|contents| Ok(contents[0].clone())),
+            judged: Ok(vec![]),
+            seen: Ok(vec![]),
+            stale: metrics.stale_files.with_label_values(&["--number"]),
+            into: Weak::new(),
+        };
+        let renewed = Arc::new(Renewed(RwLock::new(Arc::new(b"0".to_vec()))));
+        files.into = Arc::downgrade(&renewed);
+        for text in ["12", "123", "1234"] {
+            assert!(files.look());
+            assert_eq!(*renewed.now(), b"0");
+            std::fs::write(&path, text).unwrap();
+        }
+        assert!(files.look() && files.look());
+        assert_eq!(*renewed.now(), b"1234");
+        drop(renewed);
+        assert!(!files.look());
+    }
+}

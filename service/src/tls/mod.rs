@@ -1,0 +1,165 @@
+//! TLS at the senders' addresses: 1.2 and 1.3, by files that are read anew when they change.
+//!
+//! `pair` is our certificate with its key, `certificate` (by `der`) what one says of its owner, `handshake` is done on a
+//! thread of its own, from which the `socket` goes to the thread that serves it. `expiry` tells when our certificate ends.
+
+mod certificate;
+mod der;
+mod expiry;
+mod handshake;
+mod pair;
+mod socket;
+
+pub use certificate::Certificate;
+pub use handshake::{Shaken, Stream};
+
+use crate::intake::Threads;
+use crate::metrics::Metrics;
+use crate::renewed::Renewed;
+use anyhow::Context;
+use pair::{certificates, Pair};
+use rustls::server::{AllowAnyAnonymousOrAuthenticatedClient, AllowAnyAuthenticatedClient, NoClientAuth};
+use rustls::{RootCertStore, ServerConfig};
+use std::path::PathBuf;
+use std::sync::Arc;
+use std::time::SystemTime;
+
+/// Where certificates are, in PEM.
+#[derive(Clone, Debug)]
+pub struct Files {
+    /// Ours, with what is between it and its root.
+    pub certificate: PathBuf,
+    pub key: PathBuf,
+    /// The roots of senders' certificates, where these name them.
+    pub client_ca: Option<PathBuf>,
+}
+
+/// Whether who shows no certificate is let in: it is named otherwise then.
+#[derive(Clone, Copy, Debug, PartialEq, Eq)]
+pub enum WithoutCertificate {
+    Refused,
+    LetIn,
+}
+
+/// What is spoken over TLS, as the handshake names it.
+#[derive(Clone, Copy, Debug, PartialEq, Eq)]
+pub enum Protocol {
+    Http,
+    Grpc,
+}
+
+impl Protocol {
+    fn name(self) -> &'static [u8] {
+        match self {
+            Protocol::Http => b"http/1.1",
+            Protocol::Grpc => b"h2",
+        }
+    }
+}
+
+/// What the files had when they were last sound.
+pub struct Contexts {
+    http: Arc<ServerConfig>,
+    grpc: Arc<ServerConfig>,
+    roots: Option<RootCertStore>,
+    /// Seconds since 1970 at which our certificate ends.
+    ends: i64,
+}
+
+impl Contexts {
+    /// `contents` are of the certificate, of its key, and of the roots of senders where there are some.
+    fn read(contents: &[Vec<u8>], without: WithoutCertificate) -> Result<Contexts, String> {
+        let [chain, key, rest @ ..] = contents else {
+            return Err("--tls-cert and --tls-key belong together".into());
+        };
+        let pair = Pair::read(chain, key)?;
+        let roots = rest.first().map(|pem| roots(pem)).transpose()?;
+        let of = |protocol| config(&pair, roots.clone(), without, protocol).map(Arc::new);
+        Ok(Contexts {
+            http: of(Protocol::Http)?,
+            grpc: of(Protocol::Grpc)?,
+            roots,
+            ends: pair.ends,
+        })
+    }
+
+    fn config(&self, protocol: Protocol) -> Arc<ServerConfig> {
+        match protocol {
+            Protocol::Http => self.http.clone(),
+            Protocol::Grpc => self.grpc.clone(),
+        }
+    }
+
+    /// Whether a sender's chain is believed now.
+    pub fn believes(&self, chain: &[rustls::Certificate]) -> bool {
+        let (Some(roots), Some((first, between))) = (&self.roots, chain.split_first()) else {
+            return false;
+        };
+        let verifier = AllowAnyAuthenticatedClient::new(roots.clone());
+        verifier
+            .verify_client_cert(first, between, SystemTime::now())
+            .is_ok()
+    }
+}
+
+fn roots(pem: &[u8]) -> Result<RootCertStore, String> {
+    let mut roots = RootCertStore::empty();
+    for (number, root) in certificates("--client-ca", pem)?.iter().enumerate() {
+        roots
+            .add(root)
+            .map_err(|error| format!("certificate {} of --client-ca can't be used: {error}", number + 1))?;
+    }
+    Ok(roots)
+}
+
+fn config(
+    pair: &Pair,
+    roots: Option<RootCertStore>,
+    without: WithoutCertificate,
+    protocol: Protocol,
+) -> Result<ServerConfig, String> {
+    let verifier = match (roots, without) {
+        (None, _) => NoClientAuth::new(),
+        (Some(roots), WithoutCertificate::Refused) => AllowAnyAuthenticatedClient::new(roots),
+        (Some(roots), WithoutCertificate::LetIn) => AllowAnyAnonymousOrAuthenticatedClient::new(roots),
+    };
+    let mut config = ServerConfig::builder()
+        .with_safe_defaults()
+        .with_client_cert_verifier(verifier)
+        .with_single_cert(pair.chain.clone(), pair.key.clone())
+        .map_err(|error| format!("--tls-cert can't be used: {error}"))?;
+    config.alpn_protocols = vec![protocol.name().to_vec()];
+    Ok(config)
+}
+
+/// What makes handshakes, on a thread of its own: one costs as much as many posts.
+pub struct Tls {
+    contexts: Arc<Renewed<Contexts>>,
+    threads: Threads,
+    metrics: Arc<Metrics>,
+}
+
+impl Tls {
+    /// Reads the files. The error names what can't be used and says what to do.
+    pub fn open(files: &Files, without: WithoutCertificate, metrics: Arc<Metrics>) -> anyhow::Result<Tls> {
+        let mut paths = vec![files.certificate.clone(), files.key.clone()];
+        paths.extend(files.client_ca.clone());
+        let read = move |contents: &[Vec<u8>]| Contexts::read(contents, without);
+        let contexts = Renewed::open("--tls-cert", paths, Box::new(read), &metrics)?;
+        expiry::register(&metrics, contexts.clone()).context("metrics")?;
+        let threads = Threads::named("handshake", 1).context("no thread could be started")?;
+        Ok(Tls {
+            contexts,
+            threads,
+            metrics,
+        })
+    }
+
+    /// What is believed now.
+    pub fn contexts(&self) -> Arc<Contexts> {
+        self.contexts.now()
+    }
+}
+
+#[cfg(test)]
+pub(crate) mod tests;

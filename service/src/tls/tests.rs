@@ -1,0 +1,141 @@
+//! Certificates of `openssl`, for tests of all that reads them; and handshakes.
+
+use super::*;
+use std::path::Path;
+use std::process::{Command, Stdio};
+
+pub fn folder() -> tempfile::TempDir {
+    tempfile::tempdir().unwrap()
+}
+
+/// Runs `openssl` in a folder.
+pub fn openssl(at: &Path, arguments: &str) {
+    let words = arguments.split_whitespace();
+    let done = Command::new("openssl")
+        .current_dir(at)
+        .args(words)
+        .stderr(Stdio::null())
+        .status();
+    assert!(done.expect("openssl is there").success(), "openssl {arguments}");
+}
+
+/// A certificate that signs itself, or that another of the folder has signed.
+pub struct Made<'a> {
+    pub name: &'a str,
+    pub key: &'a str,
+    pub subject: &'a str,
+    pub names: Option<&'a str>,
+    pub by: Option<&'a str>,
+}
+
+impl Default for Made<'_> {
+    fn default() -> Self {
+        Made {
+            name: "a",
+            key: "ec -pkeyopt ec_paramgen_curve:prime256v1",
+            subject: "/CN=a",
+            names: None,
+            by: None,
+        }
+    }
+}
+
+/// Makes one: its bytes in DER. NAME.pem and NAME.key are in the folder then.
+pub fn certificate(at: &Path, made: Made) -> Vec<u8> {
+    let Made { name, key, .. } = made;
+    let mut line = format!("req -x509 -newkey {key} -nodes -keyout {name}.key -out {name}.pem -days 20");
+    if let Some(by) = made.by {
+        line += &format!(" -CA {by}.pem -CAkey {by}.key -addext basicConstraints=CA:FALSE");
+    }
+    if let Some(names) = made.names {
+        line += &format!(" -addext subjectAltName={names}");
+    }
+    let subject = ["-subj", made.subject];
+    let words = line.split_whitespace().chain(subject);
+    let done = Command::new("openssl")
+        .current_dir(at)
+        .args(words)
+        .stderr(Stdio::null())
+        .status();
+    assert!(done.expect("openssl is there").success(), "{line}");
+    openssl(at, &format!("x509 -in {name}.pem -outform DER -out {name}.der"));
+    std::fs::read(at.join(format!("{name}.der"))).unwrap()
+}
+
+/// The same in PEM, and its key.
+pub fn pem(at: &Path, made: Made) -> (Vec<u8>, Vec<u8>) {
+    let name = made.name;
+    certificate(at, made);
+    let read = |end: &str| std::fs::read(at.join(format!("{name}.{end}"))).unwrap();
+    (read("pem"), read("key"))
+}
+
+/// TLS with the certificate `server` of a folder, and the roots `ca` where clients show theirs.
+pub fn tls(at: &Path, client_ca: Option<WithoutCertificate>) -> Arc<Tls> {
+    let metrics = Arc::new(Metrics::new().unwrap());
+    let files = Files {
+        certificate: at.join("server.pem"),
+        key: at.join("server.key"),
+        client_ca: client_ca.map(|_| at.join("ca.pem")),
+    };
+    let without = client_ca.unwrap_or(WithoutCertificate::LetIn);
+    Arc::new(Tls::open(&files, without, metrics).unwrap())
+}
+
+/// `ca`, and `server` of it for localhost.
+pub fn server(at: &Path) {
+    certificate(
+        at,
+        Made {
+            name: "ca",
+            subject: "/CN=ca",
+            ..Made::default()
+        },
+    );
+    certificate(
+        at,
+        Made {
+            name: "server",
+            names: Some("DNS:localhost"),
+            by: Some("ca"),
+            ..Made::default()
+        },
+    );
+}
+
+#[test]
+fn a_chain_is_believed_by_its_root_alone() {
+    let at = folder();
+    server(at.path());
+    let of = |name, by| {
+        rustls::Certificate(certificate(
+            at.path(),
+            Made {
+                name,
+                by,
+                ..Made::default()
+            },
+        ))
+    };
+    let (ours, own) = (of("ours", Some("ca")), of("own", None));
+    let contexts = tls(at.path(), Some(WithoutCertificate::Refused)).contexts();
+    assert!(
+        contexts.believes(std::slice::from_ref(&ours))
+            && !contexts.believes(&[own])
+            && !contexts.believes(&[])
+    );
+    assert!(!tls(at.path(), None).contexts().believes(&[ours]));
+}
+
+#[test]
+fn the_page_says_when_the_certificate_ends() {
+    let at = folder();
+    server(at.path());
+    let tls = tls(at.path(), None);
+    let page = String::from_utf8(tls.metrics.page()).unwrap();
+    let line = page
+        .lines()
+        .find_map(|line| line.strip_prefix("totxegun_certificate_expires_seconds "));
+    let left: i64 = line.unwrap().parse().unwrap();
+    assert!((20 * 86_400 - 600..=20 * 86_400).contains(&left), "{left}");
+}

@@ -1,0 +1,116 @@
+//! Certificates of `openssl`, and clients that show them.
+
+use std::path::Path;
+use std::process::{Command, Stdio};
+use std::sync::Arc;
+use totxegun::identity::{Door, Options};
+use totxegun::metrics::Metrics;
+use totxegun::tls::Files;
+
+pub fn openssl(at: &Path, words: &[&str]) {
+    let done = Command::new("openssl")
+        .current_dir(at)
+        .args(words)
+        .stdout(Stdio::null())
+        .stderr(Stdio::null())
+        .status();
+    assert!(done.expect("openssl is there").success(), "openssl {words:?}");
+}
+
+const KEY: [&str; 5] = [
+    "-newkey",
+    "ec",
+    "-pkeyopt",
+    "ec_paramgen_curve:prime256v1",
+    "-nodes",
+];
+
+/// NAME.pem and NAME.key of a root.
+pub fn root(at: &Path, name: &str) {
+    let (key, chain, subject) = (
+        format!("{name}.key"),
+        format!("{name}.pem"),
+        format!("/CN={name}"),
+    );
+    let words = [
+        "req", "-x509", "-keyout", &key, "-out", &chain, "-subj", &subject, "-days", "20",
+    ];
+    openssl(at, &[&words[..], &KEY].concat());
+}
+
+/// NAME.pem and NAME.key, signed by a root, for so many days.
+pub fn signed(at: &Path, root: &str, name: &str, days: &str) {
+    std::fs::write(
+        at.join("names"),
+        format!("subjectAltName=DNS:{name}\nbasicConstraints=CA:FALSE\n"),
+    )
+    .unwrap();
+    let (key, chain, asked) = (
+        format!("{name}.key"),
+        format!("{name}.pem"),
+        format!("{name}.csr"),
+    );
+    let words = ["req", "-keyout", &key, "-out", &asked, "-subj", "/CN=other"];
+    openssl(at, &[&words[..], &KEY].concat());
+    let (by, by_key) = (format!("{root}.pem"), format!("{root}.key"));
+    let words = [
+        "x509",
+        "-req",
+        "-in",
+        &asked,
+        "-CA",
+        &by,
+        "-CAkey",
+        &by_key,
+        "-CAcreateserial",
+    ];
+    openssl(
+        at,
+        &[&words[..], &["-extfile", "names", "-days", days, "-out", &chain]].concat(),
+    );
+}
+
+/// A folder with the root `ca` and the certificate `localhost`.
+pub fn folder() -> tempfile::TempDir {
+    let at = tempfile::tempdir().unwrap();
+    root(at.path(), "ca");
+    signed(at.path(), "ca", "localhost", "20");
+    at
+}
+
+/// TLS by that certificate; with roots of senders, and tokens, where these files are named.
+pub fn door(at: &Path, client_ca: Option<&str>, tokens: Option<&str>) -> Door {
+    let tls = Some(Files {
+        certificate: at.join("localhost.pem"),
+        key: at.join("localhost.key"),
+        client_ca: client_ca.map(|name| at.join(name)),
+    });
+    let tokens = tokens.map(|name| at.join(name));
+    Door::open(&Options { tls, tokens }, &Arc::new(Metrics::new().unwrap())).unwrap()
+}
+
+/// The certificates of NAME.pem.
+fn chain(at: &Path, name: &str) -> Vec<rustls::Certificate> {
+    let pem = std::fs::read(at.join(format!("{name}.pem"))).unwrap();
+    let found = rustls_pemfile::certs(&mut &pem[..]).unwrap();
+    found.into_iter().map(rustls::Certificate).collect()
+}
+
+/// A client that believes a root, and may show a certificate.
+pub fn client(at: &Path, root: &str, shown: Option<&str>) -> rustls::ClientConfig {
+    let mut roots = rustls::RootCertStore::empty();
+    roots.add(&chain(at, root)[0]).unwrap();
+    let config = rustls::ClientConfig::builder()
+        .with_safe_defaults()
+        .with_root_certificates(roots);
+    let Some(shown) = shown else {
+        return config.with_no_client_auth();
+    };
+    let key = std::fs::read(at.join(format!("{shown}.key"))).unwrap();
+    let key = rustls_pemfile::pkcs8_private_keys(&mut &key[..])
+        .unwrap()
+        .remove(0);
+    config
+        .with_single_cert(chain(at, shown), rustls::PrivateKey(key))
+        .unwrap()
+}

@@ -1,0 +1,217 @@
+//! Who a sender is: by its certificate, by its token, and what it may call itself.
+
+use crate::certificates::{client, door, folder, root, signed};
+use crate::support::{post, Answer, Client, Served, BODY};
+use std::path::Path;
+use std::time::{Duration, Instant};
+use tokio::io::{AsyncRead, AsyncWrite};
+
+/// By `printf t0ken-N | sha256sum`.
+const OF_1: &str = "sha256:8380bfcbf4fc84857bd24cfcd1f2632ffb6185c54aaf33d2d2ad4fb2468b7611";
+const OF_2: &str = "sha256:626baab8982f0eaad4934ff0d77a6ae4f31731db88ab5d67f126b03cf8a72931";
+
+async fn asked<S: AsyncRead + AsyncWrite + Unpin>(client: &mut Client<S>, headers: &str) -> Answer {
+    let headers = format!("{headers}Content-Type: application/json\r\n");
+    client.write(&post(&headers, BODY.as_bytes())).await;
+    client.answer().await
+}
+
+fn senders(served: &Served) -> Vec<String> {
+    served
+        .kept
+        .posts
+        .lock()
+        .unwrap()
+        .iter()
+        .map(|post| post.0.clone())
+        .collect()
+}
+
+fn tokens(at: &Path, text: &str) {
+    std::fs::write(at.join("tokens"), text).unwrap();
+}
+
+#[tokio::test]
+async fn a_token_names_its_sender() {
+    let at = folder();
+    tokens(at.path(), &format!("shop-1 {OF_1}\ncollector/shop-* {OF_2}\n"));
+    let served = Served::behind(door(at.path(), None, Some("tokens"))).await;
+    let mut kept = served.secure(client(at.path(), "ca", None)).await.unwrap();
+    for (headers, status, message) in [
+        ("Authorization: Bearer t0ken-1\r\n", 200, ""),
+        ("authorization: bearer  t0ken-1\r\nx-sender: shop-1\r\n", 200, ""),
+        ("Authorization: Bearer t0ken-2\r\n", 200, ""),
+        ("Authorization: Bearer t0ken-2\r\nx-sender: shop-9\r\n", 200, ""),
+        (
+            "Authorization: Bearer t0ken-1\r\nx-sender: shop-9\r\n",
+            403,
+            "shop-1 may not post as shop-9",
+        ),
+        (
+            "Authorization: Bearer t0ken-1\r\nx-sender: -\r\n",
+            403,
+            "shop-1 may not post as -",
+        ),
+        (
+            "Authorization: Bearer t0ken-2\r\nx-sender: other\r\n",
+            403,
+            "collector may not post as other",
+        ),
+        (
+            "Authorization: Bearer t0ken-1\r\nx-sender: a b\r\n",
+            400,
+            "bad sender",
+        ),
+        ("", 401, "no token"),
+        ("x-sender: shop-1\r\n", 401, "no token"),
+        ("x-sender: a b\r\n", 401, "no token"),
+        ("Authorization: Basic dDBrZW4tMQ==\r\n", 401, "no token"),
+        ("Authorization: Bearer \r\n", 401, "no token"),
+        (
+            "Authorization: Bearer t0ken-1\r\nAuthorization: Bearer t0ken-1\r\n",
+            401,
+            "no token",
+        ),
+        ("Authorization: Bearer t0ken-3\r\n", 401, "not known"),
+        ("Authorization: Bearer t0ken-1x\r\n", 401, "not known"),
+    ] {
+        let answer = asked(&mut kept, headers).await;
+        assert_eq!(answer.status, status, "{headers}");
+        if status != 200 {
+            assert!(
+                answer.message().contains(message) && !answer.message().contains("t0ken"),
+                "{headers}"
+            );
+        }
+        let challenge = answer.has("www-authenticate: bearer realm=\"totxegun\"");
+        assert_eq!(challenge, status == 401, "{headers}: {}", answer.head);
+    }
+    assert_eq!(senders(&served), ["shop-1", "shop-1", "collector", "shop-9"]);
+}
+
+#[tokio::test]
+async fn a_token_that_is_taken_out_stops_within_a_second() {
+    let at = folder();
+    tokens(at.path(), &format!("shop-1 {OF_1}\nshop-2 {OF_2}\n"));
+    let served = Served::behind(door(at.path(), None, Some("tokens"))).await;
+    let mut kept = served.secure(client(at.path(), "ca", None)).await.unwrap();
+    let mut of = async |token: &str| {
+        asked(&mut kept, &format!("Authorization: Bearer {token}\r\n"))
+            .await
+            .status
+    };
+    assert_eq!((of("t0ken-1").await, of("t0ken-2").await), (200, 200));
+    tokens(at.path(), &format!("shop-2 {OF_2}\n"));
+    let begun = Instant::now();
+    while of("t0ken-1").await == 200 {
+        assert!(begun.elapsed() < Duration::from_secs(1));
+        tokio::time::sleep(Duration::from_millis(10)).await;
+    }
+    assert_eq!((of("t0ken-1").await, of("t0ken-2").await), (401, 200));
+    // An editor that empties the file before it writes must refuse nobody.
+    tokens(at.path(), "");
+    tokio::time::sleep(Duration::from_secs(1)).await;
+    assert_eq!(of("t0ken-2").await, 200);
+}
+
+#[tokio::test]
+async fn a_certificate_names_its_sender() {
+    let at = folder();
+    signed(at.path(), "ca", "shop-1", "20");
+    signed(at.path(), "ca", "collector", "20");
+    tokens(
+        at.path(),
+        &format!("collector/shop-* certificate\nshop-2 {OF_2}\n"),
+    );
+    let served = Served::behind(door(at.path(), Some("ca.pem"), Some("tokens"))).await;
+    let shown = |name| served.secure(client(at.path(), "ca", name));
+    let mut shop = shown(Some("shop-1")).await.unwrap();
+    assert_eq!(asked(&mut shop, "").await.status, 200);
+    assert_eq!(asked(&mut shop, "x-sender: shop-1\r\n").await.status, 200);
+    assert_eq!(asked(&mut shop, "x-sender: shop-2\r\n").await.status, 403);
+    assert_eq!(
+        asked(&mut shop, "Authorization: Bearer t0ken-2\r\n").await.status,
+        200
+    );
+    let mut collector = shown(Some("collector")).await.unwrap();
+    assert_eq!(asked(&mut collector, "x-sender: shop-7\r\n").await.status, 200);
+    assert_eq!(asked(&mut collector, "x-sender: other\r\n").await.status, 403);
+    let mut without = shown(None).await.unwrap();
+    assert_eq!(asked(&mut without, "").await.status, 401);
+    assert_eq!(
+        asked(&mut without, "Authorization: Bearer t0ken-2\r\n")
+            .await
+            .status,
+        200
+    );
+    assert_eq!(
+        senders(&served),
+        ["shop-1", "shop-1", "shop-1", "shop-7", "shop-2"]
+    );
+}
+
+#[tokio::test]
+async fn certificates_of_strangers_end_the_handshake() {
+    let at = folder();
+    root(at.path(), "other");
+    for (root, name, days) in [
+        ("ca", "sound", "20"),
+        ("ca", "expired", "-1"),
+        ("other", "strange", "20"),
+    ] {
+        signed(at.path(), root, name, days);
+    }
+    let served = Served::behind(door(at.path(), Some("ca.pem"), None)).await;
+    for (shown, wanted) in [
+        (Some("sound"), true),
+        (Some("expired"), false),
+        (Some("strange"), false),
+        (Some("other"), false), // it has signed itself
+        (None, false),
+    ] {
+        let config = client(at.path(), "ca", shown);
+        // With TLS 1.3 the client is done before it is refused: it is told by the first that it reads.
+        let is_taken = match served.secure(config).await {
+            Err(_) => false,
+            Ok(mut client) => {
+                client
+                    .takes(&post("Content-Type: application/json\r\n", BODY.as_bytes()))
+                    .await
+            }
+        };
+        assert_eq!(is_taken, wanted, "{shown:?}");
+    }
+    assert_eq!(senders(&served), ["sound"]);
+}
+
+#[tokio::test]
+async fn a_root_that_is_taken_out_ends_its_certificates() {
+    let at = folder();
+    root(at.path(), "other");
+    signed(at.path(), "ca", "shop-1", "20");
+    signed(at.path(), "other", "shop-2", "20");
+    let pem = |name: &str| std::fs::read_to_string(at.path().join(name)).unwrap();
+    std::fs::write(at.path().join("roots"), pem("ca.pem") + &pem("other.pem")).unwrap();
+    let served = Served::behind(door(at.path(), Some("roots"), None)).await;
+    let shown = |name| served.secure(client(at.path(), "ca", Some(name)));
+    let (mut first, mut second) = (shown("shop-1").await.unwrap(), shown("shop-2").await.unwrap());
+    assert_eq!(
+        (
+            asked(&mut first, "").await.status,
+            asked(&mut second, "").await.status
+        ),
+        (200, 200)
+    );
+    std::fs::write(at.path().join("roots"), pem("ca.pem")).unwrap();
+    let begun = Instant::now();
+    while asked(&mut second, "").await.status == 200 {
+        assert!(begun.elapsed() < Duration::from_secs(1));
+        tokio::time::sleep(Duration::from_millis(10)).await;
+    }
+    let answer = asked(&mut second, "").await;
+    assert!(
+        answer.status == 401 && answer.message().contains("certificate"),
+        "{answer:?}"
+    );
+    assert_eq!(asked(&mut first, "").await.status, 200);
+}
