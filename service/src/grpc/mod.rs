@@ -15,7 +15,6 @@ pub use connections::Grpc;
 
 use crate::identity::Who;
 use crate::intake::head::{Head, Packing};
-use crate::intake::refusal::Refusal;
 use crate::intake::sender::sender;
 use crate::intake::{Intake, Taker};
 use crate::otlp::{Encoding, Outcome};

@@ -78,8 +78,8 @@ pub fn metrics() -> Result<Metrics> {
         handshakes: maker.counters(
             "handshakes_total",
             "TLS handshakes of senders, by how they ended",
-            "outcome",
-            &["done", "failed", "late"],
+            &["outcome"],
+            &[&["done"], &["failed"], &["late"]],
         )?,
         stale_files: maker.stale_files()?,
         faults: maker.counters(

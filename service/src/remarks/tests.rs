@@ -144,7 +144,7 @@ const SPAN: &str = r#""startTimeUnixNano":"1","timeUnixNano":"2""#;
 
 /// What a post is answered whose points are not taken.
 async fn answered(remarks: &Arc<Remarks<Answering>>, metrics: &str) -> String {
-    match remarks.post("a".into(), body(metrics)).await {
+    match remarks.post("a".into(), body(metrics).into()).await {
         Outcome::Taken { message, .. } => message.unwrap_or_default(),
         Outcome::Refused { message, .. } => message,
     }
@@ -201,7 +201,7 @@ async fn a_sender_is_told_what_is_not_taken() {
     assert!(answer.contains("3 points of another form"), "{answer}");
     let all_taken = remarks(Outcome::taken(0), None, Telling::default());
     assert_eq!(
-        all_taken.post("a".into(), body(&metrics)).await,
+        all_taken.post("a".into(), body(&metrics).into()).await,
         Outcome::taken(0)
     );
 }
