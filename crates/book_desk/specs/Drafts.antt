@@ -1,14 +1,9 @@
 -- What a post in the making has of what was read so far.
-use Rattle.std.specs.Prelude.{◌≡◌, ◌+◌, List, length}
-use Rattle.metric_events.specs.DataPoint.{DataPoint}
+use Rattle.std.specs.Prelude.{◌≡◌, ◌+◌, length}
 use Rattle.otlp_read.specs.Tallies.{Tally}
 use Rattle.book_desk.specs.declared.draft.Draft.{Draft}
 use Rattle.book_desk.specs.Splits.{AreSplit}
 use Rattle.book_desk.specs.Windows.{within}
-
--- these points alone
-abbrev pub alone : List DataPoint → Tally
-alone points = record { points = points; foreign = 0; metrics = 0 }
 
 -- of these points it has those that end within its window, and it counts all
 pub record HasRead (d : Draft) (t : Tally) : Type 0 where

@@ -10,7 +10,7 @@ use Rattle.series_id.specs.declared.kinds.Kind.{Kind}
 use Rattle.series_id.specs.declared.kinds.Kind.TheVariants.{Sum, Histogram}
 use Rattle.metric_events.specs.DataPoint.{DataPoint}
 use Rattle.metric_events.specs.NewPoints.{point_of_sum, point_of_histogram}
-use Rattle.metric_events.specs.PointFaults.{sum_fault, histogram_fault, bounds_of}
+use Rattle.metric_events.specs.PointFaults.{sum_fault, histogram_fault}
 use Rattle.otlp_read.specs.Lists.{◌>>=◌}
 use Rattle.otlp_read.specs.Rules.{unless}
 use Rattle.otlp_read.specs.Tallies.{Tally, add_point, nothing}
@@ -41,7 +41,7 @@ histogram_said series ws =
     let total = sum_if (slice_index ws 3) (slice_index ws 4) in
     let buckets = drop 5 ws in
     unless (histogram_fault series.kind start end count total buckets)
-        (point_of_histogram series start end count total buckets)
+    (point_of_histogram series start end count total buckets)
 
 -- the point of a series that these words say after its number
 abbrev pub said_by : Kind → Identity → List ℕ → Option DataPoint

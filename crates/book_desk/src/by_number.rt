@@ -80,17 +80,11 @@ fn histogram_said(
 {
     let sum = if words[3] == 0 { None } else { Some(words[4]) };
     let buckets = words[5..].to_vec(alloc)?;
-    allowed(Point::shared_histogram(
-        alloc, series, words[0], words[1], words[2], sum, buckets,
-    ))
+    allowed(Point::shared_histogram(alloc, series, words[0], words[1], words[2], sum, buckets))
 }
 
 /// The point of a series that these words say after its number.
-fn point_said(
-    alloc: Global,
-    series: &SharedId,
-    words: &[u64],
-) -> Result<Option<Point>, AllocError>
+fn point_said(alloc: Global, series: &SharedId, words: &[u64]) -> Result<Option<Point>, AllocError>
     requires { length words.now ≡ spec.width series.now.kind }
     ensures { IfOk result (λ o. o ≡ spec.point_said series.now words.now) }
 {

@@ -1,8 +1,9 @@
 //! A post of points that were read.
 ghost use Rattle.std.specs.Prelude.{◌≡◌, ◌<◌, length, IfOk};
 ghost use Rattle.std.specs.List.{All};
-ghost use Rattle.book_desk.specs.Drafts.{HasRead, alone};
+ghost use Rattle.book_desk.specs.Drafts.{HasRead};
 ghost use Rattle.book_desk.specs.Splits.{IsFrom};
+ghost use Rattle.book_desk.specs.inner.Alone.{alone};
 
 use crate::draft::Draft;
 use crate::home::home;

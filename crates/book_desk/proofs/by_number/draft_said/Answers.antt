@@ -1,4 +1,4 @@
-use Rattle.std.proofs.Common.{◌≡◌, ◌≤◌, List, ℕ, length, sym, ap, ◌∙◌, arith}
+use Rattle.std.proofs.Common.{List, ℕ, sym, ap, ◌∙◌, arith}
 use Rattle.book_desk.specs.Words.{said}
 use Rattle.book_desk.proofs.WordsRead.{said_done}
 use Rattle.book_desk.proofs.by_number.draft_said.Goals as goal

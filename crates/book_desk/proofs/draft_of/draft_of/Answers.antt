@@ -1,7 +1,8 @@
-use Rattle.std.proofs.Common.{◌≡◌, ◌++◌, ◌∷◌, [], List, ℕ, ◌<◌, ◌+◌, length, take, get_or, sym, ap, subst, ◌∙◌, arith}
+use Rattle.std.proofs.Common.{◌≡◌, ◌++◌, ◌∷◌, [], List, ◌<◌, ◌+◌, length, take, sym, ap, subst, ◌∙◌, arith}
 use Rattle.std.proofs.lemmas.List.{take_more}
 use Rattle.metric_events.specs.DataPoint.{DataPoint}
-use Rattle.book_desk.specs.Drafts.{HasRead, alone}
+use Rattle.book_desk.specs.Drafts.{HasRead}
+use Rattle.book_desk.specs.inner.Alone.{alone}
 use Rattle.book_desk.proofs.draft_of.draft_of.Goals as goal
 
 pub loop-i-preserved : goal.loop-i-preserved

@@ -1,6 +1,7 @@
 use Rattle.std.proofs.Common.{◌≡◌, ◌+◌, ◌≤◌, length, take}
 use Rattle.std.specs.List.{All}
-use Rattle.book_desk.specs.Drafts.{HasRead, alone}
+use Rattle.book_desk.specs.Drafts.{HasRead}
+use Rattle.book_desk.specs.inner.Alone.{alone}
 use Rattle.book_desk.specs.Splits.{IsFrom}
 use Rattle.book_desk.proofs.draft_of.draft_of.Given as goal
 

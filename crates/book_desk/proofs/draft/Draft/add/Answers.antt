@@ -1,4 +1,4 @@
-use Rattle.std.proofs.Common.{◌≡◌, ◌++◌, ◌∷◌, [], List, Option, length, true, sym, ap, subst, ◌∙◌, arith, rules, length-append}
+use Rattle.std.proofs.Common.{◌≡◌, ◌++◌, ◌∷◌, [], List, Option, length, true, sym, ap, subst, arith, rules, length-append}
 use Rattle.std.proofs.lemmas.List.{with_items_is}
 use Rattle.metric_events.specs.DataPoint.{DataPoint}
 use Rattle.book_desk.specs.declared.part.Part.{Part}

@@ -1,6 +1,6 @@
 use Rattle.std.proofs.Common.{refl, sym, ◌∙◌}
 use Rattle.otlp_read.specs.Tallies.{tally}
-use Rattle.book_desk.specs.Drafts.{alone}
+use Rattle.book_desk.specs.inner.Alone.{alone}
 use Rattle.book_desk.proofs.Drafted.{all_points, kept_of}
 use Rattle.book_desk.proofs.reader.Reader.read.Goals as goal
 
