@@ -46,13 +46,7 @@ fn counted(counts: Counts) -> Answer
     }
 }
 
-pub fn read(
-    reader: &mut Reader,
-    sender: &[u8],
-    body: &[u8],
-    books: usize,
-    window: Window,
-) -> Answer
+pub fn read(reader: &mut Reader, sender: &[u8], body: &[u8], books: usize, window: Window) -> Answer
     requires { 0 < books }
     ensures read { result.status ≡ DONE → IsRead sender.now body.now books window
         (counts_of result) reader.new }
