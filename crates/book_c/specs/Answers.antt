@@ -14,7 +14,11 @@ use Rattle.book_desk.specs.declared.desk.TakeAllFault.TheVariants as all
 use Rattle.book_desk.specs.declared.flushes.TextFault.{TextFault}
 use Rattle.book_desk.specs.declared.flushes.TextFault.TheVariants as texts
 use Rattle.book_desk.specs.declared.flushes.Written.{Written}
-use Rattle.book_desk.specs.declared.reader.Counts.{Counts}
+use Rattle.book_desk.specs.declared.draft.Counts.{Counts}
+use Rattle.book_desk.specs.declared.by_number.PutFault.{PutFault}
+use Rattle.book_desk.specs.declared.by_number.PutFault.TheVariants as put
+use Rattle.book_desk.specs.declared.names.LearnFault.{LearnFault}
+use Rattle.book_desk.specs.declared.names.LearnFault.TheVariants as learn
 use Rattle.book_desk.specs.declared.reader.PostFault.{PostFault}
 use Rattle.book_desk.specs.declared.reader.PostFault.TheVariants as post
 use Rattle.book_c.specs.declared.answers.Answer.{Answer}
@@ -23,6 +27,7 @@ use Rattle.book_c.specs.declared.statuses.TheConstants.{OUT_OF_ORDER, TOO_MANY_S
 use Rattle.book_c.specs.declared.statuses.TheConstants.{NO_MEMORY, BAD_SENDER, NOT_JSON}
 use Rattle.book_c.specs.declared.statuses.TheConstants.{WRONG_SHAPE}
 use Rattle.book_c.specs.declared.statuses.TheConstants.{NOTHING, NO_SUCH, ALREADY, NOT_ENDED}
+use Rattle.book_c.specs.declared.statuses.TheConstants.{NOT_ONE}
 
 -- a status alone
 abbrev pub plain : ℕ → Answer
@@ -47,6 +52,19 @@ post_status post.BadSender = BAD_SENDER
 post_status post.NotJson = NOT_JSON
 post_status post.WrongShape = WRONG_SHAPE
 post_status post.NoMemory = NO_MEMORY
+
+-- why points by number are not put
+abbrev pub put_status : PutFault → ℕ
+put_status put.BadSender = BAD_SENDER
+put_status put.NoSuch = NO_SUCH
+put_status put.NoMemory = NO_MEMORY
+
+-- why a series gets no number
+abbrev pub learn_status : LearnFault → ℕ
+learn_status learn.NotJson = NOT_JSON
+learn_status learn.WrongShape = WRONG_SHAPE
+learn_status learn.NotOne = NOT_ONE
+learn_status learn.NoMemory = NO_MEMORY
 
 -- why flushes are not taken
 abbrev pub take_status : TakeAllFault → ℕ
@@ -77,7 +95,8 @@ hold_status hold.NoMemory = NO_MEMORY
 
 -- the counts and the text that an answer tells of
 abbrev pub counts_of : Answer → Counts
-counts_of answer = record { points = answer.number; foreign = answer.at }
+counts_of answer =
+    record { points = answer.number; foreign = answer.at; outside = answer.frontier }
 
 abbrev pub written_of : Answer → Written
 written_of answer = record { bytes = answer.number; series = answer.at }

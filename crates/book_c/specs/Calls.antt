@@ -1,5 +1,6 @@
 -- What the calls answer, and what they leave: each answer but DONE tells why.
 use Rattle.std.specs.Prelude.{◌≡◌, ◌≢◌, ◌⊎◌, ℕ, List, [], Option, None, false}
+use Rattle.series_id.specs.Identity.{Identity}
 use Rattle.metric_events.specs.Senders.{name_fault}
 use Rattle.delta_book.specs.Journal.{Journal}
 use Rattle.delta_book.specs.declared.faults.QuarantineFault.{QuarantineFault}
@@ -7,19 +8,22 @@ use Rattle.delta_book.specs.declared.flush.Flush.{Flush}
 use Rattle.book_desk.specs.Each.{EachBook}
 use Rattle.book_desk.specs.Ends.{IsNotEnded}
 use Rattle.book_desk.specs.Holds.{RestsFrom, HoldFails, hold_refusal, is_held_in}
-use Rattle.book_desk.specs.Reads.{IsUnread}
+use Rattle.book_desk.specs.Learning.{IsNotLearnt}
+use Rattle.book_desk.specs.Reads.{IsUnread, IsNotPut}
 use Rattle.book_desk.specs.Refusals.{IsNotAdmitted}
 use Rattle.book_desk.specs.Takes.{IsNotTaken}
 use Rattle.book_desk.specs.Written.{IsNotForwarded, IsNotReported}
+use Rattle.book_desk.specs.declared.by_number.PutFault.{PutFault}
 use Rattle.book_desk.specs.declared.desk.DeskFault.{DeskFault}
 use Rattle.book_desk.specs.declared.desk.EndFault.{EndFault}
 use Rattle.book_desk.specs.declared.desk.TakeAllFault.{TakeAllFault}
 use Rattle.book_desk.specs.declared.end.End.{End}
 use Rattle.book_desk.specs.declared.flushes.TextFault.{TextFault}
+use Rattle.book_desk.specs.declared.names.LearnFault.{LearnFault}
 use Rattle.book_desk.specs.declared.part.Part.{Part}
 use Rattle.book_desk.specs.declared.reader.PostFault.{PostFault}
 use Rattle.book_c.specs.Answers.{plain, admit_answer, post_status, take_status, end_status}
-use Rattle.book_c.specs.Answers.{text_status, hold_status}
+use Rattle.book_c.specs.Answers.{text_status, hold_status, put_status, learn_status}
 use Rattle.book_c.specs.declared.answers.Answer.{Answer}
 use Rattle.book_c.specs.declared.statuses.TheConstants.{BAD_SENDER, NO_MEMORY}
 use Rattle.book_c.specs.declared.statuses.TheConstants.{NOT_QUARANTINED}
@@ -28,6 +32,18 @@ use Rattle.book_c.specs.declared.statuses.TheConstants.{NOT_QUARANTINED}
 abbrev pub TellsUnread : (sender bytes : List ℕ) → Answer → List (Option Part) → Type 0
 TellsUnread sender bytes answer parts =
     (e : PostFault) × (answer ≡ plain (post_status e)) × IsUnread sender bytes e × (parts ≡ [])
+
+-- points by number were not put, and the reader has nothing
+abbrev pub TellsNotPut :
+    List Identity → (sender words : List ℕ) → Answer → List (Option Part) → Type 0
+TellsNotPut names sender words answer parts =
+    (e : PutFault) × (answer ≡ plain (put_status e)) × IsNotPut names sender words e
+    × (parts ≡ [])
+
+-- a series got no number
+abbrev pub TellsNotLearnt : (bytes : List ℕ) → Answer → Type 0
+TellsNotLearnt bytes answer =
+    (e : LearnFault) × (answer ≡ plain (learn_status e)) × IsNotLearnt bytes e
 
 -- a post was not admitted
 abbrev pub TellsNotAdmitted : (old new : List Journal) → List (Option Part) → Answer → Type 0

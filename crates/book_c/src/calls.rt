@@ -1,46 +1,97 @@
 //! The calls, with what they answer.
-ghost use Rattle.std.specs.Prelude.{◌≡◌, ◌≢◌, ◌≤◌, ◌<◌, [], None, true};
+ghost use Rattle.std.specs.Prelude.{◌≡◌, ◌≢◌, ◌≤◌, ◌<◌, [], None, length, true};
 ghost use Rattle.book_desk.specs.Each.{Each, EachBook};
 ghost use Rattle.book_desk.specs.Ends.{IsEndedBy};
 ghost use Rattle.book_desk.specs.Holds.{Holds, Releases, hold_refusal, is_held_in};
 ghost use Rattle.book_desk.specs.Posts.{Keeps};
-ghost use Rattle.book_desk.specs.Reads.{IsRead};
+ghost use Rattle.book_desk.specs.Learning.{Learns};
+ghost use Rattle.book_desk.specs.Reads.{IsRead, IsPut};
 ghost use Rattle.book_desk.specs.Refusals.{post_refusal};
 ghost use Rattle.book_desk.specs.Takes as takes;
 ghost use Rattle.book_desk.specs.Takes.{Takes, take_all_refusal};
 ghost use Rattle.book_desk.specs.Written.{IsForwarded, IsReported};
 ghost use Rattle.book_c.specs.Answers.{counts_of, written_of, left_of};
 ghost use Rattle.book_c.specs.Calls.{TellsUnread, TellsNotAdmitted, TellsNotTaken, TellsNotEnded};
-ghost use Rattle.book_c.specs.Calls.{TellsNotForwarded, TellsNotReported};
+ghost use Rattle.book_c.specs.Calls.{TellsNotForwarded, TellsNotReported, TellsNotPut};
+ghost use Rattle.book_c.specs.Calls.{TellsNotLearnt};
 ghost use Rattle.book_c.specs.inner.Names as names;
 ghost use Rattle.book_c.specs.Calls.{TellsNotHeld, TellsNotLifted};
 
 use crate::answers::{
-    Answer, admit_answer, end_status, hold_status, post_status, take_status, text_status,
+    Answer, admit_answer, end_status, hold_status, learn_status, post_status, put_status,
+    take_status, text_status,
 };
 use crate::statuses::{BAD_SENDER, DONE, NO_MEMORY, NOT_QUARANTINED};
 use book_desk::desk::Desk;
+use book_desk::draft::Counts;
 use book_desk::end::End;
 use book_desk::flushes::Flushes;
+use book_desk::names::Names;
 use book_desk::reader::Reader;
+use book_desk::window::Window;
 use metric_events::limits::MAX_TAKEN;
 use metric_events::sender_name::{NameFault, SenderName};
 use std::alloc::Global;
 
-pub fn read(reader: &mut Reader, sender: &[u8], body: &[u8], books: usize) -> Answer
+/// What a post is answered that was read.
+fn counted(counts: Counts) -> Answer
+    ensures counts { counts_of result ≡ counts }
+    ensures status { result.status ≡ DONE }
+{
+    Answer {
+        status: DONE,
+        number: counts.points,
+        at: counts.foreign,
+        frontier: counts.outside,
+    }
+}
+
+pub fn read(reader: &mut Reader, sender: &[u8], body: &[u8], books: usize, window: Window) -> Answer
     requires { 0 < books }
-    ensures read { result.status ≡ DONE → IsRead sender.now body.now books (counts_of result)
-        reader.new }
+    ensures read { result.status ≡ DONE → IsRead sender.now body.now books window
+        (counts_of result) reader.new }
     ensures unread { result.status ≢ DONE → TellsUnread sender.now body.now result reader.new }
 {
-    match reader.read(sender, body, books) {
-        Ok(counts) => Answer {
+    match reader.read(sender, body, books, window) {
+        Ok(counts) => counted(counts),
+        Err(fault) => Answer::plain(post_status(fault)),
+    }
+}
+
+pub fn put(
+    reader: &mut Reader,
+    names: &Names,
+    sender: &[u8],
+    words: &[u64],
+    books: usize,
+    window: Window,
+) -> Answer
+    requires { 0 < books }
+    ensures put { result.status ≡ DONE → IsPut names.now sender.now words.now books window
+        (counts_of result) reader.new }
+    ensures refused { result.status ≢ DONE → TellsNotPut names.now sender.now words.now result
+        reader.new }
+{
+    match reader.put(names, sender, words, books, window) {
+        Ok(counts) => counted(counts),
+        Err(fault) => Answer::plain(put_status(fault)),
+    }
+}
+
+pub fn learn(names: &mut Names, body: &[u8]) -> Answer
+    ensures learnt { result.status ≡ DONE → Learns body.now names.old names.new }
+    ensures number { result.status ≡ DONE → result.number ≡ length names.old }
+    ensures refused { result.status ≢ DONE → TellsNotLearnt body.now result }
+    ensures same { result.status ≢ DONE → names.new ≡ names.old }
+{
+    match names.learn(body) {
+        Ok(number) => Answer {
             status: DONE,
-            number: counts.points,
-            at: counts.foreign,
+            number,
+            at: 0,
             frontier: 0,
         },
-        Err(fault) => Answer::plain(post_status(fault)),
+        Err(fault) => Answer::plain(learn_status(fault)),
     }
 }
 

@@ -1,6 +1,7 @@
 //! What a handle keeps.
 use book_desk::desk::Desk;
 use book_desk::flushes::Flushes;
+use book_desk::names::Names;
 use book_desk::reader::Reader;
 
 /// Each handle keeps one of these from its making on.
@@ -11,4 +12,5 @@ pub enum Kept {
     Reader(Reader),
     Desk(Desk),
     Flushes(Flushes),
+    Names(Names),
 }

@@ -12,17 +12,19 @@ ghost use Rattle.book_desk.specs.Each.{Each, EachBook};
 ghost use Rattle.book_desk.specs.Ends.{IsEndedBy};
 ghost use Rattle.book_desk.specs.Holds.{Holds, Releases, hold_refusal, is_held_in};
 ghost use Rattle.book_desk.specs.Posts.{Keeps};
-ghost use Rattle.book_desk.specs.Reads.{IsRead};
+ghost use Rattle.book_desk.specs.Learning.{Learns};
+ghost use Rattle.book_desk.specs.Reads.{IsRead, IsPut};
 ghost use Rattle.book_desk.specs.Refusals.{post_refusal};
-ghost use Rattle.book_desk.specs.Rounds.{AreClosed};
+ghost use Rattle.book_desk.specs.Rounds.{IsClosedAlone};
 ghost use Rattle.book_desk.specs.Takes.{Takes, count, take_all_refusal};
 ghost use Rattle.book_desk.specs.Written.{IsForwarded, IsReported, all_series};
 ghost use Rattle.book_c.specs.Answers.{counts_of, written_of, left_of};
 ghost use Rattle.book_c.specs.Calls.{TellsUnread, TellsNotAdmitted, TellsNotTaken, TellsNotEnded};
-ghost use Rattle.book_c.specs.Calls.{TellsNotForwarded, TellsNotReported};
+ghost use Rattle.book_c.specs.Calls.{TellsNotForwarded, TellsNotReported, TellsNotPut};
+ghost use Rattle.book_c.specs.Calls.{TellsNotLearnt};
 ghost use Rattle.book_c.specs.Calls.{TellsNotHeld, TellsNotLifted};
-ghost use Rattle.book_c.specs.Kinds.{HasReader, HasDesk, HasFlushes};
-ghost use Rattle.book_c.specs.Kinds.{parts_of, books_of, flushes_of, text_of};
+ghost use Rattle.book_c.specs.Kinds.{HasReader, HasDesk, HasFlushes, HasNames};
+ghost use Rattle.book_c.specs.Kinds.{parts_of, books_of, flushes_of, text_of, names_of};
 
 mod answers;
 mod calls;
@@ -34,7 +36,9 @@ use answers::Answer;
 use book_desk::desk::Desk;
 use book_desk::end::End;
 use book_desk::flushes::Flushes;
+use book_desk::names::Names;
 use book_desk::reader::Reader;
+use book_desk::window::Window;
 use handle::Handle;
 use handle::parts::Parts;
 use kept::Kept;
@@ -95,8 +99,9 @@ pub extern "C" fn reader_free(alloc: Global, reader: &mut Handle)
     drop(out_of(alloc, reader));
 }
 
-/// Reads a post and splits it into parts, one for each of so many books. What was read before is
-/// gone, also if the post can't be read.
+/// Reads a post and splits its points into parts, one for each of so many books. A point that ends
+/// before `from` or after `until` is left out, and counted. What was read before is gone, also if
+/// the post can't be read.
 #[unsafe(no_mangle)]
 pub extern "C" fn reader_read(
     alloc: Global,
@@ -104,13 +109,15 @@ pub extern "C" fn reader_read(
     sender: &[u8],
     body: &[u8],
     books: usize,
+    from: u64,
+    until: u64,
     out: &mut Answer,
 )
     requires reader { HasReader reader.old }
     requires books { 0 < books }
     ensures reader { HasReader reader.new }
-    ensures read { out.new.status ≡ DONE → IsRead sender.now body.now books (counts_of out.new)
-        (parts_of reader.new.kept) }
+    ensures read { out.new.status ≡ DONE → IsRead sender.now body.now books
+        (record { from = from; until = until }) (counts_of out.new) (parts_of reader.new.kept) }
     ensures unread { out.new.status ≢ DONE → TellsUnread sender.now body.now out.new
         (parts_of reader.new.kept) }
 {
@@ -118,7 +125,87 @@ pub extern "C" fn reader_read(
     let Kept::Reader(it) = &mut *kept else {
         unreachable!()
     };
-    *out = calls::read(it, sender, body, books);
+    *out = calls::read(it, sender, body, books, Window { from, until });
+    put_back(reader, kept);
+}
+
+/// Makes room for names. True where there was memory.
+#[unsafe(no_mangle)]
+pub extern "C" fn names_new(alloc: Global, out: &mut Handle) -> bool
+    ensures names { result ≡ true → HasNames out.new }
+    ensures none { result ≡ true → names_of out.new.kept ≡ [] }
+{
+    match handle_of(alloc, Kept::Names(Names::new(alloc))) {
+        Ok(handle) => {
+            *out = handle;
+            true
+        }
+        Err(_) => false,
+    }
+}
+
+/// Frees it.
+#[unsafe(no_mangle)]
+pub extern "C" fn names_free(alloc: Global, names: &mut Handle)
+    requires { HasNames names.old }
+{
+    drop(out_of(alloc, names));
+}
+
+/// Gives the next number to the series of the only point of a request.
+#[unsafe(no_mangle)]
+pub extern "C" fn names_learn(alloc: Global, names: &mut Handle, body: &[u8], out: &mut Answer)
+    requires { HasNames names.old }
+    ensures names { HasNames names.new }
+    ensures learnt { out.new.status ≡ DONE → Learns body.now (names_of names.old.kept)
+        (names_of names.new.kept) }
+    ensures number { out.new.status ≡ DONE → out.new.number ≡ length (names_of names.old.kept) }
+    ensures refused { out.new.status ≢ DONE → TellsNotLearnt body.now out.new }
+    ensures same { out.new.status ≢ DONE → names_of names.new.kept ≡ names_of names.old.kept }
+{
+    let mut kept = out_of(alloc, names);
+    let Kept::Names(it) = &mut *kept else {
+        unreachable!()
+    };
+    *out = calls::learn(it, body);
+    put_back(names, kept);
+}
+
+/// As `reader_read`, of points by number: their series are among the names, and the words say them
+/// in turn.
+#[unsafe(no_mangle)]
+pub extern "C" fn reader_put(
+    alloc: Global,
+    reader: &mut Handle,
+    names: &mut Handle,
+    sender: &[u8],
+    words: &[u64],
+    books: usize,
+    from: u64,
+    until: u64,
+    out: &mut Answer,
+)
+    requires reader { HasReader reader.old }
+    requires names { HasNames names.old }
+    requires books { 0 < books }
+    ensures reader { HasReader reader.new }
+    ensures names { HasNames names.new }
+    ensures put { out.new.status ≡ DONE → IsPut (names_of names.old.kept) sender.now words.now books
+        (record { from = from; until = until }) (counts_of out.new) (parts_of reader.new.kept) }
+    ensures refused { out.new.status ≢ DONE → TellsNotPut (names_of names.old.kept) sender.now
+        words.now out.new (parts_of reader.new.kept) }
+    ensures same { names.new.kept ≡ names.old.kept }
+{
+    let mut kept = out_of(alloc, reader);
+    let known = out_of(alloc, names);
+    let Kept::Reader(it) = &mut *kept else {
+        unreachable!()
+    };
+    let Kept::Names(them) = &*known else {
+        unreachable!()
+    };
+    *out = calls::put(it, them, sender, words, books, Window { from, until });
+    put_back(names, known);
     put_back(reader, kept);
 }
 
@@ -406,21 +493,28 @@ pub extern "C" fn desk_lift(alloc: Global, desk: &mut Handle, sender: &[u8]) -> 
     status
 }
 
-/// Closes the round of each book whose journal has at least so many entries, where it can: how many
-/// were closed.
+/// Closes the round of the i-th book alone, if its journal has at least so many entries and nothing
+/// is open or live there: whether it did.
 #[unsafe(no_mangle)]
-pub extern "C" fn desk_close_rounds(alloc: Global, desk: &mut Handle, entries: usize) -> usize
+pub extern "C" fn desk_close_round(
+    alloc: Global,
+    desk: &mut Handle,
+    i: usize,
+    entries: usize,
+) -> bool
     requires { HasDesk desk.old }
     ensures desk { HasDesk desk.new }
-    ensures closed { AreClosed entries (books_of desk.old.kept) (books_of desk.new.kept) result }
+    ensures closed { result ≡ true → IsClosedAlone entries i (books_of desk.old.kept)
+        (books_of desk.new.kept) }
+    ensures same { result ≡ false → books_of desk.new.kept ≡ books_of desk.old.kept }
 {
     let mut kept = out_of(alloc, desk);
     let Kept::Desk(books) = &mut *kept else {
         unreachable!()
     };
-    let closed = books.close_rounds(entries);
+    let is_closed = books.close_round(i, entries);
     put_back(desk, kept);
-    closed
+    is_closed
 }
 
 /// How many series all books have.

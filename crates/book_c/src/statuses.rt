@@ -24,7 +24,7 @@ pub const NOT_JSON: u32 = 9;
 pub const WRONG_SHAPE: u32 = 10;
 /// There is nothing to admit, to take or to end.
 pub const NOTHING: u32 = 11;
-/// There is no such flush or book, or a flush is not live.
+/// There is no such flush, book or number, words end within a point, or a flush is not live.
 pub const NO_SUCH: u32 = 12;
 /// The sender is quarantined already.
 pub const ALREADY: u32 = 13;
@@ -32,3 +32,5 @@ pub const ALREADY: u32 = 13;
 pub const NOT_QUARANTINED: u32 = 14;
 /// The flushes that were taken before are not ended.
 pub const NOT_ENDED: u32 = 15;
+/// The body has not one point alone, of the profile.
+pub const NOT_ONE: u32 = 16;

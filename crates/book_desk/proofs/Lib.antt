@@ -5,5 +5,6 @@ pub mod Holds
 pub mod Takes
 pub mod Splits
 pub mod Flights
-pub mod Closes
 pub mod Counts
+pub mod WordsRead
+pub mod Drafted

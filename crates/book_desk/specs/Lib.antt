@@ -1,12 +1,16 @@
+pub mod Drafts
 pub mod Each
 pub mod Ends
 pub mod Holds
 pub mod Homes
+pub mod Learning
 pub mod Posts
 pub mod Reads
 pub mod Refusals
 pub mod Rounds
 pub mod Splits
 pub mod Takes
+pub mod Windows
+pub mod Words
 pub mod Written
 pub mod inner

@@ -1,5 +1,5 @@
--- What the close of rounds does to each book.
-use Rattle.std.specs.Prelude.{◌≡◌, ℕ, ◌+◌, ◌≤◌, ◌⊎◌, List, [], ◌∷◌, length, None}
+-- What the close of a round does to the books.
+use Rattle.std.specs.Prelude.{◌≡◌, ℕ, ◌<◌, ◌≤◌, List, length, get_or, set, None}
 use Rattle.metric_events.specs.Standing.{standing}
 use Rattle.metric_events.specs.Close.{renewed_standing}
 use Rattle.delta_book.specs.Journal.{Journal, history}
@@ -13,10 +13,8 @@ pub record IsClosed (entries : ℕ) (old new : Journal) : Type 0 where
   pub next : new ≡ closed old
   pub stands : standing (history new) ≡ renewed_standing (standing (history old))
 
--- so many books were closed, and each other one is as it was
-unfoldable pub AreClosed : ℕ → (old new : List Journal) → ℕ → Type 0
-AreClosed entries [] [] n = n ≡ 0
-AreClosed entries (o ∷ os) (b ∷ bs) n =
-    ((b ≡ o) × AreClosed entries os bs n)
-    ⊎ (IsClosed entries o b × (m : ℕ) × (n ≡ 1 + m) × AreClosed entries os bs m)
-AreClosed entries os bs n = ⊥
+-- that of the i-th book was closed, and each other book is as it was
+pub record IsClosedAlone (entries i : ℕ) (old new : List Journal) : Type 0 where
+  pub found : i < length old
+  pub closed : (d : Journal) → IsClosed entries (get_or old i d) (get_or new i d)
+  pub alone : (d : Journal) → new ≡ set old i (get_or new i d)

@@ -1,3 +1,4 @@
+pub mod Alone
 pub mod Faults
 pub mod Opened
 pub mod Returned

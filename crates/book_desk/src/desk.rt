@@ -1,5 +1,5 @@
 //! The books of a desk, each with the series that belong to it.
-ghost use Rattle.std.specs.Prelude.{◌≡◌, ◌≢◌, ◌≤◌, [], None, length, false};
+ghost use Rattle.std.specs.Prelude.{◌≡◌, ◌≢◌, ◌≤◌, [], None, length, true, false};
 ghost use Rattle.std.specs.Prelude.{OnOk, OnErr, IfErr, IfOk};
 ghost use Rattle.std.specs.List.{All};
 ghost use Rattle.delta_book.specs.Journal.{journal_of};
@@ -11,7 +11,7 @@ ghost use Rattle.book_desk.specs.Holds.{is_held_in};
 ghost use Rattle.book_desk.specs.Posts.{Keeps};
 ghost use Rattle.book_desk.specs.Takes as takes;
 ghost use Rattle.book_desk.specs.Takes.{Takes, IsNotTaken, take_all_refusal};
-ghost use Rattle.book_desk.specs.Rounds.{AreClosed};
+ghost use Rattle.book_desk.specs.Rounds.{IsClosedAlone};
 ghost use Rattle.book_desk.specs.Written as written;
 ghost use Rattle.book_desk.specs.Written.{IsReported, IsNotReported, all_series};
 ghost use Rattle.book_desk.specs.Refusals.{post_refusal, IsNotAdmitted};
@@ -22,7 +22,7 @@ use crate::hold::{hold_each, lift_each};
 use crate::none::none_of;
 use crate::post::admit_each;
 use crate::reader::Reader;
-use crate::rounds::close_each;
+use crate::rounds::close_long;
 use crate::take::take_each;
 use delta_book::book::Book;
 use delta_book::faults::{AdmitFault, QuarantineFault, TakeFault};
@@ -199,12 +199,17 @@ impl Desk {
         lift_each(&mut self.books, sender)
     }
 
-    /// Closes the round of each book whose journal has at least so many entries, where it can: how
-    /// many were closed.
-    pub fn close_rounds(&mut self, entries: usize) -> usize
-        ensures { AreClosed entries self.old.books.items self.new.books.items result }
+    /// Closes the round of the i-th book alone, if its journal has at least so many entries and
+    /// nothing is open or live there: whether it did.
+    pub fn close_round(&mut self, i: usize, entries: usize) -> bool
+        ensures closed { result ≡ true → IsClosedAlone entries i self.old.books.items
+            self.new.books.items }
+        ensures same { result ≡ false → self.new.books.items ≡ self.old.books.items }
     {
-        close_each(&mut self.books, entries)
+        if i >= self.books.len() {
+            return false;
+        }
+        close_long(&mut self.books[i], entries)
     }
 
     /// How many series all books have.

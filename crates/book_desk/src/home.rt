@@ -29,7 +29,7 @@ fn add_set(hasher: &mut FoldHasher, set: &AttrSet)
 /// A hash of the parts in which series differ most: the resource, the metric's name and the point's
 /// attributes.
 #[tactic(auto, unfolding(crate::specs::Homes::hash))]
-fn hash(series: &SeriesId) -> u64
+pub fn hash(series: &SeriesId) -> u64
     ensures { result ≡ homes.hash series.now }
 {
     let mut hasher = FoldHasher::default();

@@ -3,12 +3,17 @@
 //! flush of all books, and of a quarantine.
 #![tactic(auto)]
 
+pub mod by_number;
 pub mod desk;
+pub mod draft;
+mod draft_of;
 mod earlier;
 pub mod end;
 pub mod flushes;
 mod hold;
 mod home;
+mod name;
+pub mod names;
 mod none;
 pub mod part;
 mod post;
@@ -16,3 +21,4 @@ pub mod reader;
 mod rounds;
 mod split;
 mod take;
+pub mod window;

@@ -3,26 +3,19 @@ ghost use Rattle.std.specs.Prelude.{◌≡◌, ◌<◌, [], IfOk, IfErr, OnErr};
 ghost use Rattle.std.specs.List.{All};
 ghost use Rattle.book_desk.specs.inner.Opened.{HasPoints};
 ghost use Rattle.book_desk.specs.inner.Faults as faults;
-ghost use Rattle.book_desk.specs.Reads.{AreParts, IsRead, IsUnread};
+ghost use Rattle.book_desk.specs.Reads.{IsRead, IsUnread, IsPut, IsNotPut};
 
-use crate::none::none_of;
+use crate::by_number::{PutFault, draft_said};
+use crate::draft::Counts;
+use crate::draft_of::draft_of;
+use crate::names::Names;
 use crate::part::Part;
-use crate::split::split;
-use metric_events::points::Points;
+use crate::window::Window;
 use metric_events::sender_name::{NameFault, SenderName};
 use otlp_read::{IdentityCache, ReadFault, read_request_with};
-use std::alloc::{AllocError, Global};
+use std::alloc::Global;
 use std::marker::Model;
 use std::mem;
-
-/// How many points a post has.
-#[derive(Clone, Copy)]
-pub struct Counts {
-    /// Those of the profile, which are admitted.
-    pub points: u64,
-    /// All others.
-    pub foreign: u64,
-}
 
 /// Why a post is not read.
 #[derive(Clone, Copy, Debug, PartialEq, Eq)]
@@ -77,23 +70,14 @@ fn body_fault(fault: ReadFault) -> PostFault
     }
 }
 
-/// The parts of these points: one for each book, or none if there are no points.
-fn parts_of(
-    alloc: Global,
-    sender: &SenderName,
-    points: &Points,
-    books: usize,
-) -> Result<Vec<Option<Part>>, AllocError>
-    requires { 0 < books }
-    ensures { IfOk result (λ parts. AreParts books sender.now points.now parts.items) }
+/// The same of points by number.
+fn name_fault(fault: NameFault) -> PutFault
+    ensures { result ≡ faults.put_fault fault }
 {
-    let points = points.as_slice();
-    if points.is_empty() {
-        return Ok(Vec::new(alloc));
+    match fault {
+        NameFault::NoMemory => PutFault::NoMemory,
+        _ => PutFault::BadSender,
     }
-    let mut parts = none_of(alloc, books)?;
-    split(alloc, &mut parts, sender, points)?;
-    Ok(parts)
 }
 
 impl Reader {
@@ -108,11 +92,18 @@ impl Reader {
         }
     }
 
-    /// Reads a post and splits it into parts, one for each of so many books. What was read before
-    /// is gone, also if the post can't be read.
-    pub fn read(&mut self, sender: &[u8], body: &[u8], books: usize) -> Result<Counts, PostFault>
+    /// Reads a post and splits its points that end within the window into parts, one for each of so
+    /// many books. What was read before is gone, also if the post can't be read.
+    pub fn read(
+        &mut self,
+        sender: &[u8],
+        body: &[u8],
+        books: usize,
+        window: Window,
+    ) -> Result<Counts, PostFault>
         requires { 0 < books }
-        ensures read { IfOk result (λ counts. IsRead sender.now body.now books counts self.new) }
+        ensures read { IfOk result (λ counts. IsRead sender.now body.now books window counts
+            self.new) }
         ensures fault { IfErr result (λ e. IsUnread sender.now body.now e) }
         ensures none { OnErr result (self.new ≡ []) }
     {
@@ -125,14 +116,44 @@ impl Reader {
             Ok(reading) => reading,
             Err(fault) => return Err(body_fault(fault)),
         };
-        let Ok(parts) = parts_of(self.alloc, &sender, &reading.points, books) else {
+        let points = reading.points.as_slice();
+        let Ok(draft) = draft_of(self.alloc, sender, points, books, window) else {
             return Err(PostFault::NoMemory);
         };
-        self.parts = parts;
-        Ok(Counts {
-            points: reading.points.as_slice().len() as u64,
-            foreign: reading.foreign,
-        })
+        let mut counts = draft.counts;
+        counts.foreign = reading.foreign;
+        self.parts = draft.into_parts();
+        Ok(counts)
+    }
+
+    /// As `read`, of points by number: their series are among the names, and the words say them in
+    /// turn (`specs/Words`). They share the identities of the names.
+    pub fn put(
+        &mut self,
+        names: &Names,
+        sender: &[u8],
+        words: &[u64],
+        books: usize,
+        window: Window,
+    ) -> Result<Counts, PutFault>
+        requires { 0 < books }
+        ensures put { IfOk result (λ counts. IsPut names.now sender.now words.now books window
+            counts self.new) }
+        ensures fault { IfErr result (λ e. IsNotPut names.now sender.now words.now e) }
+        ensures none { OnErr result (self.new ≡ []) }
+    {
+        self.parts = Vec::new(self.alloc);
+        let sender = match SenderName::new(self.alloc, sender) {
+            Ok(sender) => sender,
+            Err(fault) => return Err(name_fault(fault)),
+        };
+        let draft = match draft_said(self.alloc, sender, names, words, books, window) {
+            Ok(draft) => draft,
+            Err(fault) => return Err(fault),
+        };
+        let counts = draft.counts;
+        self.parts = draft.into_parts();
+        Ok(counts)
     }
 
     /// The parts, which are gone from the reader then.

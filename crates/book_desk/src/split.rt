@@ -1,15 +1,40 @@
 //! Splits a post into parts.
-ghost use Rattle.std.specs.Prelude.{◌≡◌, ◌<◌, ◌++◌, ◌∷◌, [], None, length, OnOk};
+ghost use Rattle.std.specs.Prelude.{◌≡◌, ◌<◌, ◌++◌, ◌∷◌, [], List, length, IfOk, OnOk};
 ghost use Rattle.std.specs.List.{All};
+ghost use Rattle.metric_events.specs.DataPoint.{DataPoint};
+ghost use Rattle.book_desk.specs.Homes as homes;
 ghost use Rattle.book_desk.specs.Splits.{points_in, places_in, AreSplit, IsFrom};
 
-use crate::home::home;
 use crate::part::Part;
 use metric_events::batch::Batch;
 use metric_events::point::Point;
 use metric_events::points::Points;
 use metric_events::sender_name::SenderName;
 use std::alloc::{AllocError, Global};
+
+/// A part with this point alone, and room for so many.
+fn part_of(
+    alloc: Global,
+    sender: &SenderName,
+    point: Point,
+    place: usize,
+    room: usize,
+) -> Result<Part, AllocError>
+    ensures points { IfOk result (λ part. part.body.points ≡ point ∷ []) }
+    ensures places { IfOk result (λ part. part.places.items ≡ place ∷ []) }
+    ensures sender { IfOk result (λ part. part.body.sender ≡ sender.now) }
+{
+    let mut points = Points::new(alloc);
+    points.reserve(room)?;
+    points.push(point)?;
+    let mut places = Vec::with_capacity(alloc, room)?;
+    places.push(place)?;
+    let sender = sender.copy(alloc)?;
+    Ok(Part {
+        body: Batch { sender, points },
+        places,
+    })
+}
 
 /// Puts a point of the post into a book's part.
 fn put(
@@ -18,6 +43,7 @@ fn put(
     sender: &SenderName,
     point: Point,
     place: usize,
+    room: usize,
 ) -> Result<(), AllocError>
     requires { IsFrom sender.now part.old }
     ensures points { OnOk result (points_in part.new ≡ points_in part.old ++ point ∷ []) }
@@ -31,39 +57,30 @@ fn put(
             Ok(())
         }
         None => {
-            let mut points = Points::new(alloc);
-            points.push(point)?;
-            let mut places = Vec::new(alloc);
-            places.push(place)?;
-            *part = Some(Part {
-                body: Batch {
-                    sender: sender.copy(alloc)?,
-                    points,
-                },
-                places,
-            });
+            *part = Some(part_of(alloc, sender, point, place, room)?);
             Ok(())
         }
     }
 }
 
-/// Puts each point into the part of its book, in order.
-pub fn split(
+/// Puts a point into the part of its book, behind those that came before.
+pub fn put_home(
     alloc: Global,
     parts: &mut [Option<Part>],
     sender: &SenderName,
-    points: &[Point],
+    home: usize,
+    point: Point,
+    place: usize,
+    room: usize,
 ) -> Result<(), AllocError>
-    requires some { 0 < length parts.old }
-    requires none { All (λ p. p ≡ None) parts.old }
-    ensures lengths { length parts.new ≡ length parts.old }
-    ensures split { OnOk result (AreSplit parts.new points.now) }
+    requires within { home < length parts.old }
+    requires home { home ≡ homes.home (length parts.old) point.series }
+    requires from { All (IsFrom sender.now) parts.old }
+    ensures books { length parts.new ≡ length parts.old }
+    ensures split { OnOk result ((ps : List DataPoint) → AreSplit parts.old ps → place ≡ length ps
+        → AreSplit parts.new (ps ++ point ∷ [])) }
     ensures from { OnOk result (All (IsFrom sender.now) parts.new) }
 {
-    for i in 0..points.len() {
-        let point = &points[i];
-        let home = home(parts.len(), point.series());
-        put(alloc, &mut parts[home], sender, point.copy(alloc)?, i)?;
-    }
+    put(alloc, &mut parts[home], sender, point, place, room)?;
     Ok(())
 }

@@ -6,6 +6,7 @@ use book_desk::desk::{Desk, DeskFault, EndFault, TakeAllFault};
 use book_desk::end::End;
 use book_desk::flushes::{Flushes, TextFault};
 use book_desk::reader::{PostFault, Reader};
+use book_desk::window::Window;
 use delta_book::faults::AdmitFault;
 use metric_events::sender_name::SenderName;
 use otlp_read::read_request;
@@ -28,7 +29,11 @@ fn read_range(
         points.push((i, start))?;
     }
     let body = body_of(alloc, &points)?;
-    Ok(reader.read(b"A", body.as_bytes(), BOOKS)?.points)
+    Ok(
+        reader
+            .read(b"A", body.as_bytes(), BOOKS, Window::ALL)?
+            .points,
+    )
 }
 
 /// How many points the texts of so many flushes have, read again.
@@ -64,12 +69,16 @@ fn a_post_is_spread_and_comes_out_whole(rt: HostRuntime) -> Result<(), Fail> {
     assert!(rt; count == BOOKS);
     assert!(rt; desk.take(&mut flushes, 1000) == Err(TakeAllFault::NotEnded));
     assert!(rt; points_in_texts(&rt, alloc, &mut flushes, count)? == 100);
-    assert!(rt; desk.close_rounds(1) == 0);
+    assert!(rt; !desk.close_round(0, 1));
     desk.end(&mut flushes, End::GiveBack)?;
     assert!(rt; desk.take(&mut flushes, 5)? == BOOKS);
     desk.end(&mut flushes, End::Settle)?;
     assert!(rt; desk.end(&mut flushes, End::Settle) == Err(EndFault::Nothing));
-    assert!(rt; desk.close_rounds(1) == BOOKS);
+    assert!(rt; !desk.close_round(0, 7));
+    assert!(rt; desk.close_round(0, 1));
+    assert!(rt; !desk.close_round(0, 1));
+    assert!(rt; desk.close_round(BOOKS - 1, 1));
+    assert!(rt; !desk.close_round(BOOKS, 0));
     Ok(())
 }
 
@@ -119,14 +128,14 @@ fn what_can_not_be_read_or_written(rt: HostRuntime) -> Result<(), Fail> {
     let mut reader = Reader::new(alloc);
     let mut desk = Desk::new(alloc, 1)?;
     let mut flushes = Flushes::new(alloc);
-    assert!(rt; reader.read(b"a b", b"{}", 1).err() == Some(PostFault::BadSender));
-    assert!(rt; reader.read(b"A", b"{", 1).err() == Some(PostFault::NotJson));
-    assert!(rt; reader.read(b"A", b"[]", 1).err() == Some(PostFault::WrongShape));
+    assert!(rt; reader.read(b"a b", b"{}", 1, Window::ALL).err() == Some(PostFault::BadSender));
+    assert!(rt; reader.read(b"A", b"{", 1, Window::ALL).err() == Some(PostFault::NotJson));
+    assert!(rt; reader.read(b"A", b"[]", 1, Window::ALL).err() == Some(PostFault::WrongShape));
     let body = body_of(alloc, &[(1, 10), (2, 10)])?;
-    let _ = reader.read(b"A", body.as_bytes(), 1)?;
-    assert!(rt; reader.read(b"A", b"{", 1).is_err());
+    let _ = reader.read(b"A", body.as_bytes(), 1, Window::ALL)?;
+    assert!(rt; reader.read(b"A", b"{", 1, Window::ALL).is_err());
     assert!(rt; desk.admit(&mut reader) == Err(DeskFault::Nothing));
-    let _ = reader.read(b"A", body.as_bytes(), 1)?;
+    let _ = reader.read(b"A", body.as_bytes(), 1, Window::ALL)?;
     desk.admit(&mut reader)?;
     let bytes = desk.report(&mut flushes, 0)?;
     let mut text = Vec::from_elem(alloc, 0u8, bytes)?;

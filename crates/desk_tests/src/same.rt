@@ -4,6 +4,7 @@ ghost use Rattle.std.specs.Prelude.{◌<◌};
 use crate::bodies::body_of;
 use book_desk::desk::{Desk, DeskFault};
 use book_desk::reader::Reader;
+use book_desk::window::Window;
 use std::alloc::Global;
 use std::test::Fail;
 
@@ -66,7 +67,8 @@ impl Side {
     ) -> Result<Result<(), DeskFault>, Fail>
         requires { 0 < books }
     {
-        self.reader.read(sender, body.as_bytes(), books)?;
+        self.reader
+            .read(sender, body.as_bytes(), books, Window::ALL)?;
         Ok(self.desk.admit(&mut self.reader))
     }
 }
