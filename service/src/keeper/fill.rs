@@ -88,18 +88,14 @@ impl<S: Fn() -> bool> Filling<'_, S> {
     fn replay(&mut self, is_wanted: impl Fn(&Post) -> bool) -> Result<(), Trouble> {
         let journal = self.slot.journal.clone();
         let mut ended = Ok(());
-        journal.posts(
-            self.slot.outbox.journal(),
-            u64::MAX,
-            |read| {
-                // Also of a post that is not wanted: no later one says it again.
-                self.numbers.note(read.named);
-                if is_wanted(&read.post) {
-                    ended = self.replay_one(&read.post);
-                }
-                ended.is_ok() && !(self.stops)()
-            },
-        )?;
+        journal.posts(self.slot.outbox.journal(), u64::MAX, |read| {
+            // Also of a post that is not wanted: no later one says it again.
+            self.numbers.note(read.named);
+            if is_wanted(&read.post) {
+                ended = self.replay_one(&read.post);
+            }
+            ended.is_ok() && !(self.stops)()
+        })?;
         ended
     }
 

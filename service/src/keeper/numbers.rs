@@ -35,7 +35,9 @@ impl Numbers {
 
     /// From now on these numbers stand for these series.
     pub fn note(&mut self, named: Vec<(u64, Bytes)>) {
-        let said = named.into_iter().map(|(number, text)| (number, Number::Said(text)));
+        let said = named
+            .into_iter()
+            .map(|(number, text)| (number, Number::Said(text)));
         self.of_file.extend(said);
     }
 

@@ -68,7 +68,10 @@ fn set(request: &mut ExportMetricsServiceRequest, random: &mut Random, clock: &m
             Some(Data::Histogram(histogram)) => {
                 for point in &mut histogram.data_points {
                     (point.start_time_unix_nano, point.time_unix_nano) = span(random);
-                    point.bucket_counts.iter_mut().for_each(|bucket| *bucket = random.below(9));
+                    point
+                        .bucket_counts
+                        .iter_mut()
+                        .for_each(|bucket| *bucket = random.below(9));
                     point.count = point.bucket_counts.iter().sum::<u64>() + random.below(20) / 19;
                     point.sum = match random.below(12) {
                         0 => None,

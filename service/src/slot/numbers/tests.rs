@@ -118,7 +118,10 @@ fn what_goes_by_number_is_what_its_json_says() {
             }
         }
         let share = both.by_number as f64 / POSTS as f64;
-        eprintln!("{share} by number, {} taken, {} foreign, {requests} requests", both.taken, both.foreign);
+        eprintln!(
+            "{share} by number, {} taken, {} foreign, {requests} requests",
+            both.taken, both.foreign
+        );
         assert!(share >= least && (least > 0.0 || both.by_number == 0), "{share}");
         assert!(both.taken > POSTS / 4 && both.foreign > POSTS as u64 && requests > 20);
     }
