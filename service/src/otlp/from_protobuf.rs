@@ -29,6 +29,13 @@ pub fn written_plainly(body: &[u8], reading: &Reading) -> Result<Written, Refuse
     written_with(body, reading, 0)
 }
 
+/// Whether this is an exemplar of a request, whatever it says; of one that is there in parts no.
+pub fn is_exemplar(bytes: &[u8], reading: &Reading) -> bool {
+    const DEPTH: usize = 6; // as it is nested in a request
+    let mut writer = Writer::new(Output::new(bytes.len() * 3, reading), 0);
+    writer.message(&EXEMPLAR, bytes, DEPTH).is_ok()
+}
+
 fn written_with(body: &[u8], reading: &Reading, may_copy: usize) -> Result<Written, Refused> {
     let mut writer = Writer::new(Output::new(body.len() * 3 + 64, reading), may_copy);
     writer.message(&REQUEST, body, 0)?;

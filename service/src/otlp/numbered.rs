@@ -17,7 +17,7 @@ use identity::{Learn, Learner};
 use levels::Levels;
 use std::sync::atomic::{AtomicBool, Ordering::Relaxed};
 use std::sync::{Arc, PoisonError, RwLock};
-use walk::{Known, Stop, Walk};
+use walk::{Find, Known, Stop, Walk};
 
 /// What naming a series said.
 #[derive(Clone, Copy, Debug, PartialEq, Eq)]
@@ -70,13 +70,17 @@ impl Series {
         }
         let known = {
             let levels = self.levels.read().unwrap_or_else(PoisonError::into_inner); // each change of it is whole
-            Walk::new(Known(&levels), body.len()).request(body)
+            self.walk(Known(&levels), body)
         };
         let read = match known {
-            Err(Stop::Unknown) => Walk::new(self.learner(&learn), body.len()).request(body),
+            Err(Stop::Unknown) if !self.is_full() => self.walk(self.learner(&learn), body),
             known => known,
         };
         read.ok()
+    }
+
+    fn walk(&self, find: impl Find, body: &[u8]) -> Result<Numbered, Stop> {
+        Walk::new(&self.reading, find, body.len()).request(body)
     }
 
     fn learner<'s>(&'s self, learn: &'s Learn<'s>) -> Learner<'s> {
@@ -88,3 +92,6 @@ impl Series {
         }
     }
 }
+
+#[cfg(test)]
+mod tests;

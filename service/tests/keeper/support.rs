@@ -1,8 +1,10 @@
 //! A slot with its keeper over a folder, and what its outbox has.
 
 use bytes::Bytes;
+use serde_json::{json, Value as Json};
 use std::collections::BTreeMap;
 use std::path::PathBuf;
+use std::sync::atomic::{AtomicUsize, Ordering};
 use std::sync::Arc;
 use std::time::{Duration, Instant};
 use tokio::sync::watch;
@@ -12,8 +14,8 @@ use totxegun::files::{Durability, Folder, Outbox};
 use totxegun::keeper::{Done, Keeper, Order, Orders, Settings, Trouble};
 use totxegun::metrics::Metrics;
 use totxegun::otlp::series::{forwarded, Value};
-use totxegun::otlp::Outcome;
-use totxegun::slot::Slot;
+use totxegun::otlp::{protobuf_of_forwarded, Outcome, Reading};
+use totxegun::slot::{Request, Slot};
 
 const PATIENCE: Duration = Duration::from_secs(120);
 
@@ -63,6 +65,8 @@ impl Place {
             outbox,
             metrics,
             orders,
+            reading: Arc::default(),
+            posts: AtomicUsize::new(0),
             stop,
             task,
         };
@@ -85,6 +89,8 @@ pub struct Run {
     pub outbox: Arc<Outbox>,
     pub metrics: Arc<Metrics>,
     pub orders: Orders,
+    reading: Arc<Reading>,
+    posts: AtomicUsize,
     stop: watch::Sender<bool>,
     task: JoinHandle<Result<(), Trouble>>,
 }
@@ -98,8 +104,13 @@ impl Run {
         }
     }
 
+    /// Every second post that can be goes by number, as one of protobuf.
     pub async fn post(&self, sender: &str, body: Bytes) -> Outcome {
-        self.slot.post(sender.into(), body).await
+        let is_second = self.posts.fetch_add(1, Ordering::Relaxed) % 2 == 1;
+        let by_number = in_protobuf(&body).filter(|_| is_second);
+        let by_number = by_number.map(|body| self.slot.numbered(&body, &self.reading).unwrap());
+        let request = by_number.map_or(Request::Text(body), Request::Numbered);
+        self.slot.request(sender.into(), request).await
     }
 
     pub async fn order(&self, order: Order) -> Done {
@@ -158,6 +169,27 @@ pub fn sums(taken: &Taken) -> Vec<(&str, i64)> {
         .iter()
         .map(|(name, (sum, _))| (name.as_str(), *sum))
         .collect()
+}
+
+/// A body of sums in protobuf.
+fn in_protobuf(body: &[u8]) -> Option<Bytes> {
+    let mut request: Json = serde_json::from_slice(body).ok()?;
+    for resource in request.get_mut("resourceMetrics")?.as_array_mut()? {
+        resource["resource"] = json!({"attributes": []});
+        for scope in resource.get_mut("scopeMetrics")?.as_array_mut()? {
+            scope["scope"] = json!({"name": "", "version": "", "attributes": []});
+            for metric in scope.get_mut("metrics")?.as_array_mut()? {
+                metric["unit"] = json!("");
+                metric["sum"]["isMonotonic"] = json!(false);
+                for point in metric["sum"].get_mut("dataPoints")?.as_array_mut()? {
+                    point["attributes"] = json!([]);
+                }
+            }
+        }
+    }
+    protobuf_of_forwarded(&serde_json::to_vec(&request).ok()?)
+        .ok()
+        .map(Bytes::from)
 }
 
 /// A body of one point.

@@ -1,12 +1,14 @@
 //! Looks a request through: its fields in the order in which nearly all encoders write them, each once. Of anything else
 //! it says `Slow`, and then the request is read as any other.
 
-use super::levels::{Level, Levels, FOREIGN, TOP};
+use super::levels::{Level, Levels, FOREIGN, SLOW, TOP};
 use super::Numbered;
 use crate::files::Points;
+use crate::otlp::from_protobuf::is_exemplar;
 use crate::otlp::number::whole_double;
 use crate::otlp::schema::{Message, METRIC, REQUEST, RESOURCE_METRICS, SCOPE_METRICS};
 use crate::otlp::wire::{Fields, Payload};
+use crate::otlp::Reading;
 
 /// The fields of a metric that have points.
 const DATA: [u32; 5] = [5, SUM, HISTOGRAM, 10, 11];
@@ -72,7 +74,11 @@ pub struct Known<'l>(pub &'l Levels);
 impl Find for Known<'_> {
     #[inline]
     fn level(&mut self, _: &Path<'_>, within: Level, bytes: &[u8]) -> Result<Level, Stop> {
-        self.0.find(within, bytes).ok_or(Stop::Unknown)
+        match self.0.find(within, bytes) {
+            None => Err(Stop::Unknown),
+            Some(SLOW) => Err(Stop::Slow),
+            Some(level) => Ok(level),
+        }
     }
 
     #[inline]
@@ -87,6 +93,7 @@ impl Find for Known<'_> {
 }
 
 pub struct Walk<'b, F> {
+    reading: &'b Reading,
     find: F,
     path: Path<'b>,
     /// By which a metric is found.
@@ -135,8 +142,9 @@ fn run<'b>(fields: &mut Fields<'b>, number: u8) -> &'b [u8] {
 
 impl<'b, F: Find> Walk<'b, F> {
     /// `length` is the request's.
-    pub fn new(find: F, length: usize) -> Walk<'b, F> {
+    pub fn new(reading: &'b Reading, find: F, length: usize) -> Walk<'b, F> {
         Walk {
+            reading,
             find,
             path: Path::default(),
             key: Vec::new(),
@@ -234,6 +242,8 @@ impl<'b, F: Find> Walk<'b, F> {
         let start = fields.fixed64(2).unwrap_or(0);
         let end = fields.fixed64(3).unwrap_or(0);
         let early = whole(&mut fields);
+        self.exemplars(&mut fields, 5)?;
+        let early = early.or_else(|| whole(&mut fields));
         let attributes = run(&mut fields, 7);
         let flags = fields.number(8);
         // Some encoders have it last.
@@ -265,6 +275,7 @@ impl<'b, F: Find> Walk<'b, F> {
         let buckets = eights(fields.bytes(6))?;
         let bounds = fields.bytes(7).unwrap_or_default();
         let bound_count = eights(Some(bounds))?.len();
+        self.exemplars(&mut fields, 8)?;
         let attributes = run(&mut fields, 9);
         let flags = fields.number(10);
         (fields.fixed64(11), fields.fixed64(12));
@@ -294,6 +305,16 @@ impl<'b, F: Find> Walk<'b, F> {
                 self.ends.push(self.words.len());
             }
             _ => self.foreign += 1,
+        }
+        Ok(())
+    }
+
+    /// Passes the exemplars that come next. They are new each time, and say nothing.
+    fn exemplars(&self, fields: &mut Fields<'b>, number: u8) -> Result<(), Stop> {
+        while let Some(exemplar) = fields.bytes(number) {
+            if !is_exemplar(exemplar, self.reading) {
+                return Err(Stop::Slow);
+            }
         }
         Ok(())
     }

@@ -1,0 +1,265 @@
+//! What is read by number: nearly all that encoders write. That it says the same as its JSON is tried over the book.
+
+use super::*;
+use std::cell::RefCell;
+
+fn field(number: u8, inner: &[u8]) -> Vec<u8> {
+    assert!(inner.len() < 128);
+    [&[number << 3 | 2, inner.len() as u8], inner].concat()
+}
+
+fn fixed(number: u8, bits: u64) -> Vec<u8> {
+    [&[number << 3 | 1][..], &bits.to_le_bytes()].concat()
+}
+
+/// A request with these data of a metric.
+fn request(data: &[u8]) -> Vec<u8> {
+    let metric = [
+        &field(1, b"m")[..],
+        &field(2, b"what it is"),
+        &field(3, b"1"),
+        data,
+    ]
+    .concat();
+    let scope = [field(1, &field(1, b"s")), long(2, &metric)].concat();
+    let resource = field(1, &field(1, &field(1, b"r")));
+    long(
+        1,
+        &[resource, long(2, &scope), field(3, b"https://schema")].concat(),
+    )
+}
+
+/// A field of 128 bytes to 16 KiB, or less.
+fn long(number: u8, inner: &[u8]) -> Vec<u8> {
+    let (low, high) = (inner.len() as u8 | 128, (inner.len() >> 7) as u8);
+    [&[number << 3 | 2, low, high], inner].concat()
+}
+
+const DELTA: &[u8] = &[0x10, 1];
+const CUMULATIVE: &[u8] = &[0x10, 2];
+
+fn sum(points: &[&[Vec<u8>]], tail: &[u8]) -> Vec<u8> {
+    let points: Vec<u8> = points.iter().flat_map(|point| long(1, &point.concat())).collect();
+    request(&long(7, &[&points[..], tail].concat()))
+}
+
+fn histogram(point: &[Vec<u8>]) -> Vec<u8> {
+    request(&long(9, &[&long(1, &point.concat())[..], DELTA].concat()))
+}
+
+fn attribute(number: u8, key: &[u8]) -> Vec<u8> {
+    field(number, &[field(1, key), field(2, &field(1, b"v"))].concat())
+}
+
+/// Names nothing twice, and knows what the book does not take.
+struct Book {
+    series: Series,
+    named: RefCell<Vec<String>>,
+}
+
+impl Book {
+    fn new(most: usize) -> Book {
+        Book {
+            series: Series::new(Arc::default(), most),
+            named: RefCell::default(),
+        }
+    }
+
+    fn read(&self, body: &[u8]) -> Option<(Vec<u64>, u64)> {
+        let read = self.series.read(body, |request| {
+            let text = String::from_utf8(request.to_vec()).unwrap();
+            let posted = crate::otlp::series::posted(&request).unwrap();
+            if posted.foreign == 1 {
+                return Some(Learnt::Foreign);
+            }
+            let mut named = self.named.borrow_mut();
+            assert!(posted.series.len() == 1 && !named.contains(&text), "{text}");
+            named.push(text);
+            Some(Learnt::Number(named.len() as u64 - 1))
+        })?;
+        Some((read.points.words().to_vec(), read.foreign))
+    }
+}
+
+#[test]
+fn points_are_read_as_encoders_write_them() {
+    let book = Book::new(1 << 20);
+    let (start, end, value) = (fixed(2, 10), fixed(3, 20), fixed(6, 5));
+    let (a, b, flags) = (attribute(7, b"a"), attribute(7, b"b"), vec![0x40, 2]);
+    let exemplar = field(
+        5,
+        &[
+            fixed(2, 1),
+            fixed(6, 5),
+            field(4, b"12345678"),
+            attribute(7, b"k"),
+        ]
+        .concat(),
+    );
+    let at = |point: &[Vec<u8>]| book.read(&sum(&[point], DELTA));
+    let is = |number: u64| Some((vec![number, 10, 20, 5], 0));
+    let orders: [&[Vec<u8>]; 5] = [
+        &[start.clone(), end.clone(), value.clone(), a.clone(), b.clone()],
+        &[
+            start.clone(),
+            end.clone(),
+            a.clone(),
+            b.clone(),
+            flags.clone(),
+            value.clone(),
+        ],
+        &[
+            start.clone(),
+            end.clone(),
+            exemplar.clone(),
+            value.clone(),
+            a.clone(),
+            b.clone(),
+        ],
+        &[
+            start.clone(),
+            end.clone(),
+            value.clone(),
+            exemplar.clone(),
+            exemplar.clone(),
+            a.clone(),
+            b.clone(),
+        ],
+        &[
+            start.clone(),
+            end.clone(),
+            exemplar,
+            a.clone(),
+            b.clone(),
+            value.clone(),
+        ],
+    ];
+    for order in orders {
+        assert_eq!(at(order), is(0));
+    }
+    let others = [
+        (vec![], is(1)),
+        (vec![b.clone()], is(2)),
+        (vec![b, a.clone()], is(3)), // the book finds that these are a and b in another order
+        (vec![a.clone()], is(4)),
+    ];
+    for (attributes, wanted) in others {
+        let point = [vec![start.clone(), end.clone(), value.clone()], attributes].concat();
+        assert_eq!(at(&point), wanted);
+    }
+    let (nothing, double) = (vec![0x40, 1], fixed(4, 5f64.to_bits()));
+    for point in [
+        [start.clone(), end.clone(), value.clone(), a.clone(), nothing],
+        [start.clone(), end.clone(), double, a.clone(), vec![]],
+        [start, end, a, vec![], vec![]],
+    ] {
+        assert_eq!(at(&point), Some((vec![], 1)));
+    }
+    assert_eq!(book.named.borrow().len(), 5);
+}
+
+#[test]
+fn histograms_are_read_by_their_bounds() {
+    let book = Book::new(1 << 20);
+    let eights = |numbers: &[u64]| {
+        numbers
+            .iter()
+            .flat_map(|number| number.to_le_bytes())
+            .collect::<Vec<u8>>()
+    };
+    let bounds = |bounds: &[f64]| {
+        field(
+            7,
+            &eights(&bounds.iter().map(|one| one.to_bits()).collect::<Vec<_>>()),
+        )
+    };
+    let span = [fixed(2, 10), fixed(3, 20), fixed(4, 3)].concat();
+    let (least, most) = (fixed(11, 0.5f64.to_bits()), fixed(12, 9.5f64.to_bits()));
+    let (total, buckets) = (fixed(5, 12f64.to_bits()), field(6, &eights(&[1, 2])));
+    let (five, a) = (bounds(&[5.0]), attribute(9, b"a"));
+    let says = |number| vec![number, 10, 20, 3, 1, 12, 1, 2];
+    let at = |point: &[&Vec<u8>]| {
+        book.read(&histogram(
+            &point.iter().map(|part| (*part).clone()).collect::<Vec<_>>(),
+        ))
+    };
+    assert_eq!(
+        at(&[&span, &total, &buckets, &five, &a, &least, &most]),
+        Some((says(0), 0))
+    );
+    assert_eq!(
+        at(&[&span, &total, &least, &most, &buckets, &five, &a]),
+        Some((says(0), 0))
+    );
+    assert_eq!(
+        at(&[&span, &total, &buckets, &bounds(&[6.0]), &a]),
+        Some((says(1), 0))
+    );
+    assert_eq!(
+        at(&[&span, &buckets, &five, &a]),
+        Some((vec![0, 10, 20, 3, 0, 0, 1, 2], 0))
+    );
+    // One bucket has all where there are none.
+    assert_eq!(at(&[&span, &a]), Some((vec![2, 10, 20, 3, 0, 0, 3], 0)));
+    let half = fixed(5, 0.5f64.to_bits());
+    for foreign in [
+        vec![&span, &half, &buckets, &five, &a],
+        vec![&span, &total, &buckets, &a],
+        vec![&span, &total, &buckets, &bounds(&[0.5]), &a],
+    ]
+    .map(|point| at(&point))
+    {
+        assert_eq!(foreign, Some((vec![], 1)));
+    }
+}
+
+#[test]
+fn metrics_that_are_not_taken_are_counted() {
+    let book = Book::new(1 << 20);
+    let point = &[fixed(2, 10), fixed(3, 20), fixed(6, 5)][..];
+    assert_eq!(book.read(&sum(&[point, point], CUMULATIVE)), Some((vec![], 2)));
+    let gauge = field(5, &[field(1, &point.concat()), field(1, b"")].concat());
+    assert_eq!(book.read(&request(&gauge)), Some((vec![], 2)));
+    assert_eq!(book.read(&request(b"")), Some((vec![], 0)));
+    assert_eq!(book.read(b""), Some((vec![], 0)));
+    assert!(book.named.borrow().is_empty());
+}
+
+#[test]
+fn what_is_not_plain_is_read_otherwise() {
+    let book = Book::new(1 << 20);
+    let point = [fixed(2, 10), fixed(3, 20), fixed(6, 5)];
+    let with = |more: Vec<u8>| sum(&[&[&point[..], &[more]].concat()], DELTA);
+    let sound = request(&field(7, &[&field(1, &point.concat())[..], DELTA].concat()));
+    assert!(book.read(&sound).is_some());
+    let not_plain = [
+        with(fixed(6, 6)),                  // its value is there twice
+        with(field(1, b"old")),             // labels of an old version
+        with(field(5, &[0x15])),            // an exemplar that is cut
+        with(field(7, &field(1, b"\xff"))), // no UTF-8
+        with(vec![0xba, 0, 0]),             // a longer key than need be
+        with(field(7, &[field(2, b"\x18\x05"), field(2, b"\x18\x06")].concat())), // a value in parts
+        request(&[field(5, b""), field(7, b"")].concat()), // data of two kinds
+        request(&[field(7, b""), field(1, b"n")].concat()), // another name behind
+        [&sound[..], &field(1, &[field(1, b""), field(1, b"")].concat())].concat(), // a resource in parts
+        [&sound[..], &[0xff]].concat(),
+    ];
+    for body in not_plain {
+        assert_eq!(book.read(&body), None, "{body:02x?}");
+    }
+    assert_eq!(book.named.borrow().len(), 1);
+}
+
+/// And what is known is read on.
+#[test]
+fn there_is_a_bound() {
+    let book = Book::new(4 << 10);
+    let body = |name: u8| {
+        let point = [fixed(2, 10), fixed(3, 20), fixed(6, 5), attribute(7, &[name])];
+        sum(&[&point], DELTA)
+    };
+    let read = |name| book.read(&body(name)).is_some();
+    let fit = (b'a'..=b'z').take_while(|name| read(*name)).count();
+    assert!((3..12).contains(&fit) && book.series.is_full(), "{fit}");
+    assert!(read(b'a') && !read(b'z'));
+}
