@@ -43,8 +43,9 @@ fn sum(points: &[&[Vec<u8>]], tail: &[u8]) -> Vec<u8> {
     request(&long(7, &[&points[..], tail].concat()))
 }
 
-fn histogram(point: &[Vec<u8>]) -> Vec<u8> {
-    request(&long(9, &[&long(1, &point.concat())[..], DELTA].concat()))
+fn histograms(points: &[Vec<u8>]) -> Vec<u8> {
+    let points: Vec<u8> = points.iter().flat_map(|point| long(1, point)).collect();
+    request(&long(9, &[&points[..], DELTA].concat()))
 }
 
 fn attribute(number: u8, key: &[u8]) -> Vec<u8> {
@@ -158,59 +159,53 @@ fn points_are_read_as_encoders_write_them() {
     assert_eq!(book.named.borrow().len(), 5);
 }
 
+/// A packed list of eight bytes each.
+fn eights(number: u8, all: &[u64]) -> Vec<u8> {
+    let bytes: Vec<u8> = all.iter().flat_map(|one| one.to_le_bytes()).collect();
+    field(number, &bytes)
+}
+
+fn double(number: u8, value: f64) -> Vec<u8> {
+    fixed(number, value.to_bits())
+}
+
 #[test]
 fn histograms_are_read_by_their_bounds() {
     let book = Book::new(1 << 20);
-    let eights = |numbers: &[u64]| {
-        numbers
-            .iter()
-            .flat_map(|number| number.to_le_bytes())
-            .collect::<Vec<u8>>()
+    let bound = |bound: f64| eights(7, &[bound.to_bits()]);
+    let span = &[fixed(2, 10), fixed(3, 20), fixed(4, 3)].concat();
+    let (total, buckets) = (&double(5, 12.0), &eights(6, &[1, 2]));
+    let (least, most) = (&double(11, 0.5), &double(12, 9.5));
+    let (five, six, a) = (&bound(5.0), &bound(6.0), &attribute(9, b"a"));
+    let at = |points: &[&[&Vec<u8>]]| {
+        let point = |parts: &&[&Vec<u8>]| parts.iter().copied().flatten().copied().collect();
+        book.read(&histograms(&points.iter().map(point).collect::<Vec<_>>()))
     };
-    let bounds = |bounds: &[f64]| {
-        field(
-            7,
-            &eights(&bounds.iter().map(|one| one.to_bits()).collect::<Vec<_>>()),
-        )
-    };
-    let span = [fixed(2, 10), fixed(3, 20), fixed(4, 3)].concat();
-    let (least, most) = (fixed(11, 0.5f64.to_bits()), fixed(12, 9.5f64.to_bits()));
-    let (total, buckets) = (fixed(5, 12f64.to_bits()), field(6, &eights(&[1, 2])));
-    let (five, a) = (bounds(&[5.0]), attribute(9, b"a"));
     let says = |number| vec![number, 10, 20, 3, 1, 12, 1, 2];
-    let at = |point: &[&Vec<u8>]| {
-        book.read(&histogram(
-            &point.iter().map(|part| (*part).clone()).collect::<Vec<_>>(),
-        ))
-    };
-    assert_eq!(
-        at(&[&span, &total, &buckets, &five, &a, &least, &most]),
-        Some((says(0), 0))
-    );
-    assert_eq!(
-        at(&[&span, &total, &least, &most, &buckets, &five, &a]),
-        Some((says(0), 0))
-    );
-    assert_eq!(
-        at(&[&span, &total, &buckets, &bounds(&[6.0]), &a]),
-        Some((says(1), 0))
-    );
-    assert_eq!(
-        at(&[&span, &buckets, &five, &a]),
-        Some((vec![0, 10, 20, 3, 0, 0, 1, 2], 0))
-    );
-    // One bucket has all where there are none.
-    assert_eq!(at(&[&span, &a]), Some((vec![2, 10, 20, 3, 0, 0, 3], 0)));
-    let half = fixed(5, 0.5f64.to_bits());
-    for foreign in [
-        vec![&span, &half, &buckets, &five, &a],
-        vec![&span, &total, &buckets, &a],
-        vec![&span, &total, &buckets, &bounds(&[0.5]), &a],
-    ]
-    .map(|point| at(&point))
-    {
-        assert_eq!(foreign, Some((vec![], 1)));
+    for order in [
+        [span, total, buckets, five, a, least, most],
+        [span, total, least, most, buckets, five, a],
+    ] {
+        assert_eq!(at(&[&order]), Some((says(0), 0)));
     }
+    // Of one metric each has its own.
+    let two: [&[&Vec<u8>]; 2] = [&[span, total, buckets, five, a], &[span, total, buckets, six, a]];
+    assert_eq!(at(&two), Some(([says(0), says(1)].concat(), 0)));
+    let no_sum = at(&[&[span, buckets, five, a]]);
+    assert_eq!(no_sum, Some((vec![0, 10, 20, 3, 0, 0, 1, 2], 0)));
+    let no_buckets = at(&[&[span, a]]);
+    assert_eq!(
+        no_buckets,
+        Some((vec![2, 10, 20, 3, 0, 0, 3], 0)),
+        "one bucket has all"
+    );
+    let (half, half_bound) = (&double(5, 0.5), &bound(0.5));
+    let foreign: [&[&Vec<u8>]; 3] = [
+        &[span, half, buckets, five, a],
+        &[span, total, buckets, a],
+        &[span, total, buckets, half_bound, a],
+    ];
+    assert_eq!(at(&foreign), Some((vec![], 3)));
 }
 
 #[test]
