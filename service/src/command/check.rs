@@ -32,7 +32,7 @@ pub struct Options {
     /// Where the files are copied to while they are read [default: the system's folder for temporary files]
     #[arg(long, value_name = "DIR")]
     temporary: Option<PathBuf>,
-    /// Print the posts that are in no group instead, each a line of JSON
+    /// Prints the posts that are in no group instead, each as a line of JSON
     #[arg(long)]
     posts: bool,
     #[command(flatten)]

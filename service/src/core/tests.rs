@@ -4,6 +4,8 @@ use super::*;
 use crate::otlp::series::{forwarded, Value};
 use std::collections::BTreeMap;
 
+mod points;
+
 /// A body with a point of each of these series.
 pub(crate) fn points(names: &[String], start: u64, value: i64) -> String {
     let end = start + 10;

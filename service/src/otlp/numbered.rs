@@ -73,7 +73,7 @@ impl Series {
             self.walk(Known(&levels), body)
         };
         let read = match known {
-            Err(Stop::Unknown) => self.walk(self.learner(&learn), body),
+            Err(Stop::Unknown) if !self.is_full() => self.walk(self.learner(&learn), body),
             known => known,
         };
         read.ok()

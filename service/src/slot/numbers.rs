@@ -5,15 +5,17 @@
 //! that they have.
 
 use super::Slot;
-use crate::core::{Core, Names, Refused};
+use crate::core::{memory_used, Core, Names, Refused};
 use crate::files::Points;
 use crate::otlp::{prepare, Encoding, Learnt, Numbered, Reading, Series};
 use bytes::Bytes;
 use std::sync::{Arc, PoisonError, RwLock};
 use std::time::{Duration, Instant};
 
-/// What a series may take of memory, on average, beside what the library has.
-const BYTES_OF_A_SERIES: usize = 1 << 10;
+/// What a series may take of memory, on average, beside what the library has; and all of them, as a part of what the book
+/// may have, since the library takes about as much.
+const BYTES_OF_A_SERIES: u64 = 1 << 10;
+const PART_OF_ALL: u64 = 8;
 /// How long numbers are kept at least.
 const KEPT: Duration = Duration::from_secs(60);
 
@@ -104,9 +106,10 @@ impl Source {
 
 impl Generation {
     fn new(core: &Core, reading: &Arc<Reading>) -> Result<Generation, Refused> {
-        let most = core.most_series() * BYTES_OF_A_SERIES;
+        let most = core.most_series() as u64 * BYTES_OF_A_SERIES;
+        let most = most.min(memory_used().1 / PART_OF_ALL);
         Ok(Generation {
-            series: Series::new(reading.clone(), most),
+            series: Series::new(reading.clone(), most as usize),
             names: Names::new()?,
             began: Instant::now(),
         })

@@ -79,7 +79,9 @@ impl Model {
             false => {
                 post.truncate(1);
                 let (name, start, end, value) = &post[0];
-                run.post(&sender, point(name, *start, *end, *value)).await
+                run.slot
+                    .post(sender.clone(), point(name, *start, *end, *value))
+                    .await
             }
         };
         if self.quarantined.contains(&sender) {
@@ -102,7 +104,7 @@ impl Model {
                 let late = format!("out of order: point 0, frontier {end}");
                 let body = points(&[(name.clone(), end - 1, *end, 1)]);
                 let by_number = post_by_number(run, sender, body, reading).await;
-                let text = run.post(sender, point(name, end - 1, *end, 1)).await;
+                let text = run.slot.post(sender.into(), point(name, end - 1, *end, 1)).await;
                 assert_eq!([message(&by_number), message(&text)], [(400, late.as_str()); 2]);
             }
         }

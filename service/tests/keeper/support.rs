@@ -1,9 +1,9 @@
 //! A slot with its keeper over a folder, and what its outbox has.
 
 use bytes::Bytes;
+use serde_json::{json, Value as Json};
 use std::collections::BTreeMap;
 use std::path::PathBuf;
-use serde_json::{json, Value as Json};
 use std::sync::atomic::{AtomicUsize, Ordering};
 use std::sync::Arc;
 use std::time::{Duration, Instant};
@@ -187,7 +187,9 @@ fn in_protobuf(body: &[u8]) -> Option<Bytes> {
             }
         }
     }
-    protobuf_of_forwarded(&serde_json::to_vec(&request).ok()?).ok().map(Bytes::from)
+    protobuf_of_forwarded(&serde_json::to_vec(&request).ok()?)
+        .ok()
+        .map(Bytes::from)
 }
 
 /// A body of one point.

@@ -6,6 +6,7 @@ mod letters;
 mod lines;
 mod log;
 mod memory;
+mod numbers;
 mod pages;
 mod stuck;
 mod support;

@@ -199,6 +199,20 @@ impl Service {
         asked(&self.listen, "POST", "/v1/metrics", sender, body)
     }
 
+    /// The status that a body of protobuf is answered.
+    pub fn post_protobuf(&self, sender: &str, body: &[u8]) -> u16 {
+        let mut stream = TcpStream::connect(&self.listen).unwrap();
+        let length = body.len();
+        let head = format!(
+            "POST /v1/metrics HTTP/1.1\r\nHost: a\r\nx-sender: {sender}\r\nContent-Type: application/x-protobuf\r\n\
+             Content-Length: {length}\r\nConnection: close\r\n\r\n"
+        );
+        stream.write_all(&[head.as_bytes(), body].concat()).unwrap();
+        let mut answer = Vec::new();
+        stream.read_to_end(&mut answer).unwrap();
+        std::str::from_utf8(&answer[9..12]).unwrap().parse().unwrap()
+    }
+
     /// Repeats what is answered 503.
     pub fn post_until_answered(&self, sender: &str, body: &str) -> (u16, String) {
         let mut answer = (0, String::new());

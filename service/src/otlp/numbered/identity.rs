@@ -1,9 +1,10 @@
 //! What is not known yet is read once by the reader for all requests: a request that has this alone.
 
 use super::levels::{Full, Level, Levels, FOREIGN};
-use super::walk::{Find, Own, Path, Stop};
+use super::walk::{Find, Known, Own, Path, Stop};
 use super::Learnt;
 use crate::otlp::from_protobuf;
+use crate::otlp::output::Written;
 use crate::otlp::Reading;
 use bytes::Bytes;
 use std::sync::atomic::{AtomicBool, Ordering::Relaxed};
@@ -22,10 +23,14 @@ pub struct Learner<'s> {
 
 impl Find for Learner<'_> {
     fn level(&mut self, path: &Path<'_>, within: Level, bytes: &[u8]) -> Result<Level, Stop> {
-        if let Some(level) = self.known().find(within, bytes) {
-            return Ok(level);
+        match Known(&self.known()).level(path, within, bytes) {
+            Err(Stop::Unknown) => {}
+            known => return known,
         }
-        self.written(&request(path, &[]))?;
+        if self.written(&request(path, &[]))?.is_measured {
+            self.fitting(|levels| levels.slow(within, bytes))?;
+            return Err(Stop::Slow);
+        }
         self.fitting(|levels| levels.level(within, bytes))
     }
 
@@ -37,13 +42,13 @@ impl Find for Learner<'_> {
         if let Some(number) = self.known().find(within, own.attributes) {
             return Ok(number);
         }
-        let text = self.written(&request(path, &field(1, &point(own))))?;
+        let text = self.written(&request(path, &field(1, &point(own))))?.text;
         self.fitting(|levels| levels.take_room(own.attributes, text.len()))?;
         let number = match (self.learn)(text.into_boxed_slice().into()).ok_or(Stop::Slow)? {
             Learnt::Foreign => FOREIGN,
             Learnt::Number(number) => u32::try_from(number).map_err(|_| Stop::Slow)?,
         };
-        self.fitting(|levels| Ok(levels.series(within, own.attributes, number)))
+        self.fitting(|levels| Ok(levels.put(within, own.attributes, number)))
     }
 }
 
@@ -60,12 +65,9 @@ impl Learner<'_> {
         })
     }
 
-    /// A request as it is written for the book, where there is nothing special about it.
-    fn written(&self, request: &[u8]) -> Result<Vec<u8>, Stop> {
-        match from_protobuf::written_plainly(request, self.reading) {
-            Ok(written) if !written.is_measured => Ok(written.text),
-            _ => Err(Stop::Slow),
-        }
+    /// A request as it is written for the book.
+    fn written(&self, request: &[u8]) -> Result<Written, Stop> {
+        from_protobuf::written_plainly(request, self.reading).map_err(|_| Stop::Slow)
     }
 }
 

@@ -11,6 +11,8 @@ pub type Level = u32;
 pub const TOP: Level = 0;
 /// In the place of a number: no point of the series is taken.
 pub const FOREIGN: u32 = u32::MAX;
+/// In the place of a level: what is below is read otherwise.
+pub const SLOW: Level = u32::MAX;
 
 /// What an entry takes beside its bytes: its place in a table that is half full, its length, and what the allocator adds.
 const ENTRY: usize = 96;
@@ -49,9 +51,17 @@ impl Levels {
             return Ok(level);
         }
         let level = Level::try_from(self.all.len()).map_err(|_| Full)?;
-        self.put(within, bytes, level, LEVEL)?;
+        self.take_room(bytes, LEVEL)?;
+        self.put(within, bytes, level);
         self.all.push(HashMap::with_hasher(self.hasher.clone()));
         Ok(level)
+    }
+
+    /// What is below these bytes is read otherwise from now on.
+    pub fn slow(&mut self, within: Level, bytes: &[u8]) -> Result<(), Full> {
+        self.take_room(bytes, 0)?;
+        self.put(within, bytes, SLOW);
+        Ok(())
     }
 
     /// Takes room for a series, before it is named. `text` is what its name takes elsewhere.
@@ -61,15 +71,9 @@ impl Levels {
         Ok(())
     }
 
-    /// The number of a series, which has this one from now on where another has not named it meanwhile.
-    pub fn series(&mut self, within: Level, bytes: &[u8], number: u32) -> u32 {
+    /// What these bytes have from now on, or have already, since another has learnt them meanwhile.
+    pub fn put(&mut self, within: Level, bytes: &[u8], number: u32) -> u32 {
         let known = self.all[within as usize].entry(bytes.into());
         *known.or_insert(number)
-    }
-
-    fn put(&mut self, within: Level, bytes: &[u8], number: u32, more: usize) -> Result<(), Full> {
-        self.take_room(bytes, more)?;
-        self.series(within, bytes, number);
-        Ok(())
     }
 }

@@ -14,10 +14,19 @@ fn fixed(number: u8, bits: u64) -> Vec<u8> {
 
 /// A request with these data of a metric.
 fn request(data: &[u8]) -> Vec<u8> {
-    let metric = [&field(1, b"m")[..], &field(2, b"what it is"), &field(3, b"1"), data].concat();
+    let metric = [
+        &field(1, b"m")[..],
+        &field(2, b"what it is"),
+        &field(3, b"1"),
+        data,
+    ]
+    .concat();
     let scope = [field(1, &field(1, b"s")), long(2, &metric)].concat();
     let resource = field(1, &field(1, &field(1, b"r")));
-    long(1, &[resource, long(2, &scope), field(3, b"https://schema")].concat())
+    long(
+        1,
+        &[resource, long(2, &scope), field(3, b"https://schema")].concat(),
+    )
 }
 
 /// A field of 128 bytes to 16 KiB, or less.
@@ -34,8 +43,9 @@ fn sum(points: &[&[Vec<u8>]], tail: &[u8]) -> Vec<u8> {
     request(&long(7, &[&points[..], tail].concat()))
 }
 
-fn histogram(point: &[Vec<u8>]) -> Vec<u8> {
-    request(&long(9, &[&long(1, &point.concat())[..], DELTA].concat()))
+fn histograms(points: &[Vec<u8>]) -> Vec<u8> {
+    let points: Vec<u8> = points.iter().flat_map(|point| long(1, point)).collect();
+    request(&long(9, &[&points[..], DELTA].concat()))
 }
 
 fn attribute(number: u8, key: &[u8]) -> Vec<u8> {
@@ -77,15 +87,53 @@ fn points_are_read_as_encoders_write_them() {
     let book = Book::new(1 << 20);
     let (start, end, value) = (fixed(2, 10), fixed(3, 20), fixed(6, 5));
     let (a, b, flags) = (attribute(7, b"a"), attribute(7, b"b"), vec![0x40, 2]);
-    let exemplar = field(5, &[fixed(2, 1), fixed(6, 5), field(4, b"12345678"), attribute(7, b"k")].concat());
+    let exemplar = field(
+        5,
+        &[
+            fixed(2, 1),
+            fixed(6, 5),
+            field(4, b"12345678"),
+            attribute(7, b"k"),
+        ]
+        .concat(),
+    );
     let at = |point: &[Vec<u8>]| book.read(&sum(&[point], DELTA));
     let is = |number: u64| Some((vec![number, 10, 20, 5], 0));
     let orders: [&[Vec<u8>]; 5] = [
         &[start.clone(), end.clone(), value.clone(), a.clone(), b.clone()],
-        &[start.clone(), end.clone(), a.clone(), b.clone(), flags.clone(), value.clone()],
-        &[start.clone(), end.clone(), exemplar.clone(), value.clone(), a.clone(), b.clone()],
-        &[start.clone(), end.clone(), value.clone(), exemplar.clone(), exemplar.clone(), a.clone(), b.clone()],
-        &[start.clone(), end.clone(), exemplar, a.clone(), b.clone(), value.clone()],
+        &[
+            start.clone(),
+            end.clone(),
+            a.clone(),
+            b.clone(),
+            flags.clone(),
+            value.clone(),
+        ],
+        &[
+            start.clone(),
+            end.clone(),
+            exemplar.clone(),
+            value.clone(),
+            a.clone(),
+            b.clone(),
+        ],
+        &[
+            start.clone(),
+            end.clone(),
+            value.clone(),
+            exemplar.clone(),
+            exemplar.clone(),
+            a.clone(),
+            b.clone(),
+        ],
+        &[
+            start.clone(),
+            end.clone(),
+            exemplar,
+            a.clone(),
+            b.clone(),
+            value.clone(),
+        ],
     ];
     for order in orders {
         assert_eq!(at(order), is(0));
@@ -111,33 +159,53 @@ fn points_are_read_as_encoders_write_them() {
     assert_eq!(book.named.borrow().len(), 5);
 }
 
+/// A packed list of eight bytes each.
+fn eights(number: u8, all: &[u64]) -> Vec<u8> {
+    let bytes: Vec<u8> = all.iter().flat_map(|one| one.to_le_bytes()).collect();
+    field(number, &bytes)
+}
+
+fn double(number: u8, value: f64) -> Vec<u8> {
+    fixed(number, value.to_bits())
+}
+
 #[test]
 fn histograms_are_read_by_their_bounds() {
     let book = Book::new(1 << 20);
-    let eights = |numbers: &[u64]| numbers.iter().flat_map(|number| number.to_le_bytes()).collect::<Vec<u8>>();
-    let bounds = |bounds: &[f64]| field(7, &eights(&bounds.iter().map(|one| one.to_bits()).collect::<Vec<_>>()));
-    let span = [fixed(2, 10), fixed(3, 20), fixed(4, 3)].concat();
-    let (least, most) = (fixed(11, 0.5f64.to_bits()), fixed(12, 9.5f64.to_bits()));
-    let (total, buckets) = (fixed(5, 12f64.to_bits()), field(6, &eights(&[1, 2])));
-    let (five, a) = (bounds(&[5.0]), attribute(9, b"a"));
+    let bound = |bound: f64| eights(7, &[bound.to_bits()]);
+    let span = &[fixed(2, 10), fixed(3, 20), fixed(4, 3)].concat();
+    let (total, buckets) = (&double(5, 12.0), &eights(6, &[1, 2]));
+    let (least, most) = (&double(11, 0.5), &double(12, 9.5));
+    let (five, six, a) = (&bound(5.0), &bound(6.0), &attribute(9, b"a"));
+    let at = |points: &[&[&Vec<u8>]]| {
+        let point = |parts: &&[&Vec<u8>]| parts.iter().copied().flatten().copied().collect();
+        book.read(&histograms(&points.iter().map(point).collect::<Vec<_>>()))
+    };
     let says = |number| vec![number, 10, 20, 3, 1, 12, 1, 2];
-    let at = |point: &[&Vec<u8>]| book.read(&histogram(&point.iter().map(|part| (*part).clone()).collect::<Vec<_>>()));
-    assert_eq!(at(&[&span, &total, &buckets, &five, &a, &least, &most]), Some((says(0), 0)));
-    assert_eq!(at(&[&span, &total, &least, &most, &buckets, &five, &a]), Some((says(0), 0)));
-    assert_eq!(at(&[&span, &total, &buckets, &bounds(&[6.0]), &a]), Some((says(1), 0)));
-    assert_eq!(at(&[&span, &buckets, &five, &a]), Some((vec![0, 10, 20, 3, 0, 0, 1, 2], 0)));
-    // One bucket has all where there are none.
-    assert_eq!(at(&[&span, &a]), Some((vec![2, 10, 20, 3, 0, 0, 3], 0)));
-    let half = fixed(5, 0.5f64.to_bits());
-    for foreign in [
-        vec![&span, &half, &buckets, &five, &a],
-        vec![&span, &total, &buckets, &a],
-        vec![&span, &total, &buckets, &bounds(&[0.5]), &a],
-    ]
-    .map(|point| at(&point))
-    {
-        assert_eq!(foreign, Some((vec![], 1)));
+    for order in [
+        [span, total, buckets, five, a, least, most],
+        [span, total, least, most, buckets, five, a],
+    ] {
+        assert_eq!(at(&[&order]), Some((says(0), 0)));
     }
+    // Of one metric each has its own.
+    let two: [&[&Vec<u8>]; 2] = [&[span, total, buckets, five, a], &[span, total, buckets, six, a]];
+    assert_eq!(at(&two), Some(([says(0), says(1)].concat(), 0)));
+    let no_sum = at(&[&[span, buckets, five, a]]);
+    assert_eq!(no_sum, Some((vec![0, 10, 20, 3, 0, 0, 1, 2], 0)));
+    let no_buckets = at(&[&[span, a]]);
+    assert_eq!(
+        no_buckets,
+        Some((vec![2, 10, 20, 3, 0, 0, 3], 0)),
+        "one bucket has all"
+    );
+    let (half, half_bound) = (&double(5, 0.5), &bound(0.5));
+    let foreign: [&[&Vec<u8>]; 3] = [
+        &[span, half, buckets, five, a],
+        &[span, total, buckets, a],
+        &[span, total, buckets, half_bound, a],
+    ];
+    assert_eq!(at(&foreign), Some((vec![], 3)));
 }
 
 #[test]
@@ -160,14 +228,14 @@ fn what_is_not_plain_is_read_otherwise() {
     let sound = request(&field(7, &[&field(1, &point.concat())[..], DELTA].concat()));
     assert!(book.read(&sound).is_some());
     let not_plain = [
-        with(fixed(6, 6)),                                   // its value is there twice
-        with(field(1, b"old")),                              // labels of an old version
-        with(field(5, &[0x15])),                             // an exemplar that is cut
-        with(field(7, &field(1, b"\xff"))),                  // no UTF-8
-        with(vec![0xba, 0, 0]),                              // a longer key than need be
+        with(fixed(6, 6)),                  // its value is there twice
+        with(field(1, b"old")),             // labels of an old version
+        with(field(5, &[0x15])),            // an exemplar that is cut
+        with(field(7, &field(1, b"\xff"))), // no UTF-8
+        with(vec![0xba, 0, 0]),             // a longer key than need be
         with(field(7, &[field(2, b"\x18\x05"), field(2, b"\x18\x06")].concat())), // a value in parts
-        request(&[field(5, b""), field(7, b"")].concat()),   // data of two kinds
-        request(&[field(7, b""), field(1, b"n")].concat()),  // another name behind
+        request(&[field(5, b""), field(7, b"")].concat()), // data of two kinds
+        request(&[field(7, b""), field(1, b"n")].concat()), // another name behind
         [&sound[..], &field(1, &[field(1, b""), field(1, b"")].concat())].concat(), // a resource in parts
         [&sound[..], &[0xff]].concat(),
     ];

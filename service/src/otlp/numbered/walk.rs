@@ -1,7 +1,7 @@
 //! Looks a request through: its fields in the order in which nearly all encoders write them, each once. Of anything else
 //! it says `Slow`, and then the request is read as any other.
 
-use super::levels::{Level, Levels, FOREIGN, TOP};
+use super::levels::{Level, Levels, FOREIGN, SLOW, TOP};
 use super::Numbered;
 use crate::files::Points;
 use crate::otlp::from_protobuf::is_exemplar;
@@ -74,7 +74,11 @@ pub struct Known<'l>(pub &'l Levels);
 impl Find for Known<'_> {
     #[inline]
     fn level(&mut self, _: &Path<'_>, within: Level, bytes: &[u8]) -> Result<Level, Stop> {
-        self.0.find(within, bytes).ok_or(Stop::Unknown)
+        match self.0.find(within, bytes) {
+            None => Err(Stop::Unknown),
+            Some(SLOW) => Err(Stop::Slow),
+            Some(level) => Ok(level),
+        }
     }
 
     #[inline]

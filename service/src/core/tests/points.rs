@@ -1,0 +1,128 @@
+//! Points by number: what they say, what is refused, and what is read again.
+
+use super::*;
+
+/// Names for these series of sums, in this order.
+fn named(all: &[String]) -> Arc<Names> {
+    let names = Names::new().unwrap();
+    for (number, name) in (0..).zip(all) {
+        let request = points(std::slice::from_ref(name), 1, 0);
+        assert_eq!(names.learn(request.into()), Ok(number));
+    }
+    names
+}
+
+/// Points of sums, each of its number, with one span and one value.
+fn of(numbers: impl IntoIterator<Item = u64>, start: u64, value: i64) -> Points {
+    let mut all = Points::default();
+    for number in numbers {
+        all.push(number, start, start + 10, [value as u64]);
+    }
+    all
+}
+
+fn put(core: &Arc<Core>, names: &Arc<Names>, sender: &str, points: Points) -> Result<u64, Refused> {
+    let mut read = core.read_points(sender.into(), points, names.clone(), 1)?;
+    core.lock().admit(&mut read)?;
+    Ok(read.post.foreign - 1)
+}
+
+#[test]
+fn points_by_number_are_those_of_their_requests() {
+    for series in [1, 80_000] {
+        let core = Core::new(series).unwrap();
+        let all = names("s", 30);
+        let by = named(&all);
+        assert_eq!(put(&core, &by, "A", of(0..30, 10, 5)), Ok(0));
+        // The same series as a text.
+        assert_eq!(post(&core, "A", &points(&all, 20, 6)), Ok(0));
+        let late = Err(Refused::OutOfOrder {
+            point: 0,
+            frontier: 30,
+        });
+        assert_eq!(put(&core, &by, "A", of(0..30, 20, 6)), late);
+        assert_eq!(post(&core, "B", &points(&names("t", 2), 10, 1)), Ok(0));
+        let mixed = named(&[&names("t", 2)[..], &all[..2]].concat());
+        let other = Err(Refused::OtherWriter { point: 2 });
+        assert_eq!(put(&core, &mixed, "B", of(0..4, 40, 6)), other);
+        assert_eq!(put(&core, &by, "a b", of(0..1, 40, 6)), Err(Refused::BadSender));
+        assert_eq!(put(&core, &by, "A", of([30], 40, 6)), Err(Refused::NoSuch));
+        assert_eq!(put(&core, &by, "A", Points::default()), Ok(0));
+        // Spans that end before they begin, and begin with nothing.
+        let mut faulty = of([0], 40, 1);
+        faulty.push(1, 50, 50, [1]);
+        faulty.push(2, 0, 50, [1]);
+        assert_eq!(put(&core, &by, "A", faulty), Ok(2));
+        assert_eq!(core.lock().series(), 32);
+        let taken = taken(&core);
+        assert_eq!(taken["s0"], (12, 50));
+        assert!(all[1..].iter().all(|name| taken[name] == (11, 30)), "{taken:?}");
+    }
+}
+
+#[test]
+fn only_a_request_of_one_point_names_a_series() {
+    let names = Names::new().unwrap();
+    let gauge =
+        "{\"resourceMetrics\":[{\"scopeMetrics\":[{\"metrics\":[{\"gauge\":{\"dataPoints\":[{}]}}]}]}]}";
+    let two = points(&super::names("s", 2), 1, 0);
+    for request in [gauge, "{}", &two] {
+        assert_eq!(names.learn(request.to_string().into()), Err(Refused::NotOne));
+    }
+    assert_eq!(names.learn("x".into()), Err(Refused::NotJson));
+    let one = Bytes::from(points(&super::names("s", 1), 1, 0));
+    assert_eq!(
+        (names.learn(one.clone()), names.learn(one.clone())),
+        (Ok(0), Ok(1))
+    );
+    use crate::files::Names as _;
+    assert_eq!((names.text(1), names.text(2)), (one, Bytes::new()));
+    assert_ne!(names.generation(), Names::new().unwrap().generation());
+}
+
+/// Else its sender would be told 503 for ever.
+#[test]
+fn points_by_number_are_read_again_once_a_round_is_closed() {
+    let core = Core::new(1).unwrap();
+    let by = named(&names("a", 1));
+    for (start, value) in [(10, i64::MAX), (20, -9)] {
+        assert_eq!(put(&core, &by, "A", of([0], start, value)), Ok(0));
+    }
+    assert_eq!(taken(&core), [("a0".into(), (i64::MAX - 9, 30))].into());
+    assert_eq!(put(&core, &by, "A", of([0], 30, 10)), Ok(0));
+    assert_eq!(core.lock().rounds_closed(), 1);
+    assert_eq!(taken(&core), [("a0".into(), (10, 40))].into());
+}
+
+#[test]
+fn a_block_that_is_refused_names_nothing_and_reads_nothing() {
+    let core = Core::new(24_000).unwrap();
+    let all = names("s", 20);
+    let by = named(&all);
+    let one = Bytes::from(points(&names("t", 1), 1, 0));
+    let (blocks, number) = each_block_fails(false, || by.learn(one.clone()));
+    assert!(blocks > 5 && number == 20, "{blocks} blocks to name, {number}");
+    let read = || core.read_points("A".into(), of(0..21, 10, 5), by.clone(), 0);
+    let (blocks, mut read) = each_block_fails(true, read);
+    assert!(blocks > 3, "{blocks} blocks to read");
+    core.lock().admit(&mut read).unwrap();
+    assert_eq!(taken(&core).len(), 21);
+}
+
+/// No post waits for the rounds of two books.
+#[test]
+fn rounds_are_closed_book_by_book() {
+    let core = Core::new(24_000).unwrap();
+    let all = names("s", 20); // of each book some
+    let by = named(&all);
+    let mut closed = Vec::new();
+    for number in 1..=2_100 {
+        assert_eq!(put(&core, &by, "A", of(0..20, number * 10, 1)), Ok(0));
+        match core.lock().rounds_closed() {
+            0 => {}
+            rounds => closed.push((number, rounds)),
+        }
+    }
+    assert_eq!(closed, [(2_000, 1), (2_001, 1), (2_002, 1)]);
+    assert!(taken(&core).values().all(|one| *one == (2_100, 21_010)));
+}

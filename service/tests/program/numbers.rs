@@ -1,0 +1,66 @@
+//! Protobuf, whose points go by the numbers of their series.
+
+use crate::support::{points, Place};
+
+fn field(number: u8, inner: &[u8]) -> Vec<u8> {
+    let (low, high) = (inner.len() as u8 | 128, (inner.len() >> 7) as u8);
+    [&[number << 3 | 2, low, high], inner].concat()
+}
+
+fn fixed(number: u8, bits: u64) -> Vec<u8> {
+    [&[number << 3 | 1][..], &bits.to_le_bytes()].concat()
+}
+
+/// As `points` writes it in JSON.
+fn in_protobuf(names: &[&str], end: u64, value: i64) -> Vec<u8> {
+    let point = [fixed(2, end - 10), fixed(3, end), fixed(6, value as u64)].concat();
+    let sum = field(7, &[&field(1, &point)[..], &[0x10, 1]].concat());
+    let metric = |name: &&str| field(2, &[&field(1, name.as_bytes())[..], &sum].concat());
+    let metrics: Vec<u8> = names.iter().flat_map(metric).collect();
+    field(1, &field(2, &metrics))
+}
+
+/// Over kills, beside the same series in JSON; and a point takes a few bytes of the journal.
+#[test]
+fn points_by_number_are_counted_once_over_kills() {
+    let place = Place::new();
+    let (names, mut total) = (["a", "b", "c"], 0);
+    for run in 0..4 {
+        let mut service = place.serve();
+        for number in 0..50 {
+            let end = 1_000 * (run + 1) + 10 * number;
+            if run > 0 && number == 0 {
+                let late = in_protobuf(&names, 1_000 * run + 490, 1);
+                assert_eq!(
+                    service.post_protobuf("A", &late),
+                    400,
+                    "it was taken before the kill"
+                );
+            }
+            let status = match number % 10 {
+                9 => service.post("A", &points(&names, end, 1)).unwrap().0,
+                _ => service.post_protobuf("A", &in_protobuf(&names, end, 1)),
+            };
+            assert_eq!(status, 200);
+            total += 1;
+        }
+        assert_eq!(
+            service.post_protobuf("B", &in_protobuf(&["d", "a"], 9_000, 1)),
+            400
+        );
+        assert_eq!(service.post_protobuf("A", b"\xff"), 400);
+        service.has_no_fault();
+        if run == 0 {
+            let bytes = service.status()["slots"][0]["journal"]["bytes"].as_u64().unwrap();
+            // Five posts of three points are texts of 170 bytes a point; 45 have numbers.
+            assert!((2_500..9_000).contains(&bytes), "{bytes} bytes in the journal");
+        }
+        service.kill();
+    }
+    let service = place.serve();
+    service.drain();
+    service.has_no_fault();
+    assert_eq!(service.end(), Some(0));
+    let wanted = names.map(|name| (name.to_string(), total));
+    assert_eq!(place.totals(), wanted.into());
+}
