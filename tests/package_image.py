@@ -30,7 +30,7 @@ LISTEN = 4318
 NOBODY = 65534
 TIME_TO_END = 10
 PROGRAM = "/usr/bin/totxegun"
-LIBRARY = re.compile(r"/(usr/)?lib(64)?/(x86_64-linux-gnu/)?[\w.-]+\.so\.\d+$")
+LIBRARY = re.compile(r"/(usr/)?lib(64)?/(x86_64-linux-gnu/)?[\w.+-]+\.so\.\d+$")
 
 # What a runtime gives: processes, and a few devices.
 MOUNTS = """\
