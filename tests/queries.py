@@ -218,7 +218,7 @@ class Lite:
             for number, second in enumerate(seconds, 1)
         ]
         self.file.executemany("insert into request values (?, 0, 'e', ?, ?, 1, ?, ?, 1)", rows)
-        self.file.executemany("insert into span values (?, 1, ?, ?, 5, null, null, null)", [(row[0], row[3], row[4]) for row in rows])
+        self.file.executemany("insert into span_row values (?, 1, 0, 10000000000, 5, null, null, null)", [(row[0],) for row in rows])
         self.taken_late = [row for row in rows if row[0] % 100_000 == 7]
 
     def late_rows(self):
