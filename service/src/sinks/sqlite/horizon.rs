@@ -9,7 +9,7 @@ pub(super) struct Horizon {
     pub(super) spans_from: Whole,
     /// Hours, days and months that ended by this hour are deleted.
     pub(super) hours_from: i64,
-    /// Requests of an older file that are in hours, by their ids,
+    /// Requests of an older file that are filled in, by their ids,
     pub(super) filled: i64,
     /// and the last that is to be.
     pub(super) fill_to: i64,
@@ -27,6 +27,11 @@ impl Horizon {
                     fill_to: row.get(3)?,
                 })
             })
+    }
+
+    /// Whether all that an older file had is in hours and in its place.
+    pub(super) fn is_filled(&self) -> bool {
+        self.filled >= self.fill_to
     }
 
     pub(super) fn write(&self, transaction: &Transaction) -> rusqlite::Result<()> {

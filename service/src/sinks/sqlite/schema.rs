@@ -11,7 +11,7 @@ const APPLICATION: i64 = 0x746f_7478;
 pub(super) const STEPS: &[&str] = &[
     include_str!("version1.sql"),
     include_str!("version2.sql"),
-    include_str!("version3.sql"),
+    concat!(include_str!("version3.sql"), include_str!("version3_about.sql")),
 ];
 
 /// Brings a file to the last version, or says why it must not be touched.

@@ -8,7 +8,7 @@ use super::whole::Whole;
 use crate::otlp::series::{self, ForwardedPoint, SeriesKey};
 use crate::sinks::part::{shown, Left};
 use crate::sinks::Forwarded;
-use rusqlite::{params, Connection, OpenFlags, OptionalExtension, Transaction, TransactionBehavior};
+use rusqlite::{params, Connection, OpenFlags, Transaction, TransactionBehavior};
 use std::collections::HashMap;
 use std::fs::OpenOptions;
 use std::os::unix::fs::{MetadataExt, OpenOptionsExt};
@@ -18,6 +18,7 @@ use std::time::Duration;
 mod hours;
 mod repeat;
 mod series_row;
+pub(super) mod spans;
 pub(super) mod sums;
 mod total;
 pub(super) mod utc;
@@ -241,7 +242,7 @@ impl Writing<'_> {
 
     /// What is left, where it is not all: a request of which nothing can be added is refused as it is.
     fn request(&mut self, request: &Forwarded, points: &[ForwardedPoint]) -> Result<Option<Left>, NotTaken> {
-        let (first, last) = time_of(points);
+        let (first_start, last) = time_of(points);
         let row = self.of(|transaction| {
             transaction
                 .prepare_cached(
@@ -253,13 +254,13 @@ impl Writing<'_> {
                     request.epoch,
                     Whole(request.number),
                     points.len() as i64,
-                    Whole(first),
+                    Whole(first_start),
                     Whole(last)
                 ])
         })?;
         let mut left = Left::default();
         for (place, point) in points.iter().enumerate() {
-            if let Some(reason) = self.point(row, point)? {
+            if let Some(reason) = self.point(spans::Request { row, first_start }, point)? {
                 left.add(place, reason);
             }
         }
@@ -276,7 +277,7 @@ impl Writing<'_> {
     }
 
     /// Adds a point, or says why it overlaps, or may.
-    fn point(&mut self, request: i64, point: &ForwardedPoint) -> Result<Option<String>, NotTaken> {
+    fn point(&mut self, request: spans::Request, point: &ForwardedPoint) -> Result<Option<String>, NotTaken> {
         if point.start >= point.end {
             return Err(NotTaken::Refused(format!("the span {} is empty", shown(point))));
         }
@@ -286,7 +287,7 @@ impl Writing<'_> {
             false => self.of(|transaction| Total::read(transaction, known.series))?,
         };
         if let Some(total) = total.as_ref().filter(|total| total.may_overlap(point)) {
-            if let Some(reason) = self.overlap(request, known.series, point)? {
+            if let Some(reason) = self.overlap(request.row, known.series, point)? {
                 return Ok(Some(reason));
             }
             let until = total.deleted_until(self.horizon.spans_from);
@@ -294,7 +295,7 @@ impl Writing<'_> {
                 return Ok(Some(untold(point, until)));
             }
         }
-        self.of(|transaction| total::insert_span(transaction, request, known.series, point))?;
+        self.of(|transaction| spans::insert(transaction, request, known.series, point))?;
         let total = match total {
             None => Total::of(point),
             Some(total) => total
@@ -318,31 +319,18 @@ impl Writing<'_> {
         Ok((known, is_new))
     }
 
-    /// A span that overlaps one that is there was counted before, at least in part. Only requests whose own time
-    /// overlaps are looked through, by the primary key. Two of one request are no request of a gateway.
+    /// A span that overlaps one that is there was counted before, at least in part. Two of one request are no request of
+    /// a gateway.
     fn overlap(&self, row: i64, series: i64, point: &ForwardedPoint) -> Result<Option<String>, NotTaken> {
-        let found: Option<(Whole, Whole, i64)> = self.of(|transaction| {
-            transaction
-                .prepare_cached(
-                    "select span.start_ns, span.end_ns, span.request from request cross join span on span.request = request.id
-                     where request.has_spans and request.last_end_ns > ?2 and request.first_start_ns < ?3
-                     and span.series = ?1 and span.start_ns < ?3 and span.end_ns > ?2 limit 1",
-                )?
-                .query_row(params![series, Whole(point.start), Whole(point.end)], |row| {
-                    Ok((row.get(0)?, row.get(1)?, row.get(2)?))
-                })
-                .optional()
-        })?;
-        let Some((start, end, request)) = found else {
-            return Ok(None);
-        };
+        let found = self.of(|transaction| spans::overlapping(transaction, &self.horizon, series, point))?;
+        let Some(found) = found else { return Ok(None) };
         let reason = format!(
             "the span {} overlaps ({}, {}], which the file has already",
             shown(point),
-            start.0,
-            end.0
+            found.start,
+            found.end
         );
-        match request == row {
+        match found.request == row {
             true => Err(NotTaken::Refused(reason)),
             false => Ok(Some(reason)),
         }

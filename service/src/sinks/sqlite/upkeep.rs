@@ -63,7 +63,7 @@ impl Upkeep {
 
     fn of(&mut self, transaction: &Transaction, now: u64) -> rusqlite::Result<bool> {
         let horizon = Horizon::read(transaction)?;
-        if horizon.filled < horizon.fill_to {
+        if !horizon.is_filled() {
             fill::step(transaction, horizon, self.step)?;
             return Ok(true);
         }
@@ -90,7 +90,7 @@ fn spans(transaction: &Transaction, mut horizon: Horizon, until: u64, step: usiz
     let mut next = transaction.prepare_cached(
         "select id, last_end_ns from request where has_spans and last_end_ns <= ?1 order by last_end_ns limit 1",
     )?;
-    let mut delete = transaction.prepare_cached("delete from span where request = ?1")?;
+    let mut delete = transaction.prepare_cached("delete from span_row where request = ?1")?;
     let mut note = transaction.prepare_cached("update request set has_spans = 0 where id = ?1")?;
     let mut done = 0;
     while done < step {

@@ -1,6 +1,6 @@
 //! A request whose key is taken: what was left of it then is left again.
 
-use super::{time_of, Total, Whole, Writing};
+use super::{spans, time_of, Total, Whole, Writing};
 use crate::otlp::series::ForwardedPoint;
 use crate::sinks::part::{Left, OTHER_REQUEST};
 use crate::sinks::sqlite::fault::NotTaken;
@@ -83,12 +83,10 @@ impl Writing<'_> {
     }
 
     fn has_span(&self, taken: &Taken, series: i64, point: &ForwardedPoint) -> Result<bool, NotTaken> {
-        self.of(|transaction| {
-            transaction
-                .prepare_cached(
-                    "select 1 from span where request = ?1 and series = ?2 and start_ns = ?3 and end_ns = ?4",
-                )?
-                .exists(params![taken.row, series, Whole(point.start), Whole(point.end)])
-        })
+        let request = spans::Request {
+            row: taken.row,
+            first_start: taken.time.0,
+        };
+        self.of(|transaction| spans::has(transaction, request, series, point))
     }
 }

@@ -1,8 +1,8 @@
-//! The rows of a series' spans, and of what they come to.
+//! The row of what a series' spans come to.
 
 use super::super::whole::{Exact, Whole};
 use super::sums::{self, list, Sums};
-use crate::otlp::series::{ForwardedPoint, Value};
+use crate::otlp::series::ForwardedPoint;
 use rusqlite::{params, OptionalExtension, Row, Transaction};
 
 /// What a series' spans come to.
@@ -95,34 +95,4 @@ impl Total {
             ])
             .map(drop)
     }
-}
-
-pub(super) fn insert_span(
-    transaction: &Transaction,
-    request: i64,
-    series: i64,
-    point: &ForwardedPoint,
-) -> rusqlite::Result<()> {
-    let (value, count, sum, buckets) = match &point.value {
-        Value::Sum(value) => (Some(*value), None, None, None),
-        Value::Histogram { count, sum, buckets } => {
-            (None, Some(Whole(*count)), sum.map(Whole), Some(list(buckets)))
-        }
-    };
-    transaction
-        .prepare_cached(
-            "insert into span (request, series, start_ns, end_ns, value, count, sum, buckets)
-             values (?1, ?2, ?3, ?4, ?5, ?6, ?7, ?8)",
-        )?
-        .execute(params![
-            request,
-            series,
-            Whole(point.start),
-            Whole(point.end),
-            value,
-            count,
-            sum,
-            buckets
-        ])
-        .map(drop)
 }

@@ -39,10 +39,13 @@ struct Span {
 fn spans(trial: &Trial) -> Vec<Span> {
     let file = Connection::open(trial.path()).expect("a file");
     let mut query = file
-        .prepare("select series, end_ns, value, cast(count as text), cast(sum as text), buckets from span")
+        .prepare(
+            "select series, value, cast(count as text), cast(sum as text), buckets, first_start_ns, after_ns, length_ns
+             from request join span_row on span_row.request = request.id",
+        )
         .expect("a query");
-    let at = |end: Whole| {
-        let seconds = (end.0 - 1) / 1_000_000_000;
+    let at = |end: u64| {
+        let seconds = (end - 1) / 1_000_000_000;
         FORMATS.map(|(_, format)| {
             file.query_row("select strftime(?1, ?2, 'unixepoch')", (format, seconds), |row| {
                 row.get(0)
@@ -53,14 +56,15 @@ fn spans(trial: &Trial) -> Vec<Span> {
     let number = |text: Option<String>| text.map(|text| text.parse().expect("a number"));
     query
         .query_map([], |row| {
+            let times: [Whole; 3] = [row.get(5)?, row.get(6)?, row.get(7)?];
             Ok(Span {
                 series: row.get(0)?,
-                at: at(row.get(1)?),
-                value: row.get(2)?,
-                count: number(row.get(3)?),
-                sum: number(row.get(4)?),
+                at: at(times.iter().map(|time| time.0).sum()),
+                value: row.get(1)?,
+                count: number(row.get(2)?),
+                sum: number(row.get(3)?),
                 buckets: row
-                    .get::<_, Option<String>>(5)?
+                    .get::<_, Option<String>>(4)?
                     .map(|text| serde_json::from_str(&text).expect("buckets")),
             })
         })

@@ -52,7 +52,7 @@ fn a_lock_is_waited_for() {
 fn another_writer_is_noticed() {
     let mut trial = Trial::new();
     trial.taken(1, sum("a", 10, 20, 1));
-    let emptied = "pragma foreign_keys = off; delete from span; delete from series_total; delete from series; delete from request";
+    let emptied = "pragma foreign_keys = off; delete from span_row; delete from series_total; delete from series; delete from request";
     trial.ask(emptied);
     trial.taken(2, sum("b", 10, 20, 2));
     trial.taken(3, sum("a", 10, 20, 4));

@@ -205,12 +205,50 @@ fn older(path: &Path) {
     assert_eq!(mode, "wal");
 }
 
+/// Two hours before 2024-02-29.
+const LEAP: u64 = 1_709_157_600_000_000_000;
+
+/// What the older file took under the key 1 + 2 * turn.
+fn older_request(turn: u64) -> String {
+    let start = LEAP + turn * HOUR;
+    let points: Vec<String> = (0..3)
+        .map(|code| {
+            let value = (turn as i64 - 9) * (code + 1) * 1_000_003;
+            sum_point(200 + code, start, start + HOUR - turn % 3 * 7, value)
+        })
+        .collect();
+    metrics(&sum_of("shop.revenue", &points))
+}
+
+/// A request that the older file has, comes again; so does one of which it left a point, and what overlaps its spans.
+fn repeat(trial: &mut Trial, turn: u64) {
+    let revenue = |start: u64| sum_of("shop.revenue", &[sum_point(200, start, start + 5, 3)]);
+    let late = sum_of("shop.late", &[sum_point(200, LEAP + 1, LEAP + 6, 3)]);
+    trial.taken(1 + 2 * turn, older_request(turn));
+    match trial.take(64, metrics(&[revenue(LEAP + 1), late].join(","))) {
+        Fate::TakenPartly {
+            rejected: 1,
+            left: Some(_),
+            ..
+        } => {}
+        other => panic!("{other:?}"),
+    }
+    trial.refused(5000 + turn, metrics(&revenue(LEAP + turn * HOUR + 9)), "overlaps");
+    let other = older_request(turn).replace(
+        &format!("{}", LEAP + turn * HOUR),
+        &format!("{}", LEAP + turn * HOUR + 1),
+    );
+    trial.refused(1 + 2 * turn, other, "key is that of another request");
+}
+
 /// Deliveries go on meanwhile, also such as were taken before.
 #[test]
 fn hours_of_an_older_file_are_filled_in() {
     let mut trial = Trial::new();
     older(&trial.path());
-    let (totals, spans) = (trial.totals(), trial.ask("select * from span"));
+    let in_order = "typeof(start_ns) = 'integer' order by request, series, start_ns";
+    let spans = trial.ask(&format!("select * from span where {in_order}"));
+    let totals = trial.totals();
     let mut steps = 0;
     let mut more = true;
     while more {
@@ -223,12 +261,17 @@ fn hours_of_an_older_file_are_filled_in() {
             number,
             sum("shop.new", NOVEMBER + number, NOVEMBER + number + 1, 1),
         );
+        repeat(&mut trial, steps % 30);
         more = trial.step(NOVEMBER);
         steps += 1;
     }
     assert!(steps > 10, "{steps}");
     agree(&trial);
-    assert_eq!(trial.ask("select * from span where request <= 64"), spans);
+    assert_eq!(
+        trial.ask(&format!("select * from span where request <= 64 and {in_order}")),
+        spans
+    );
+    assert_eq!(trial.ask("select count(*) from span_before"), "0");
     assert_eq!(
         trial
             .totals()
@@ -272,7 +315,8 @@ fn a_kill_at_any_point_of_the_upkeep_changes_nothing_of_what_comes_out() {
     assert!(steps > Some(20), "{steps:?}");
     let found = |trial: &Trial| {
         let tables = [
-            "span",
+            "span_row",
+            "span_before",
             "hour",
             "day",
             "month",

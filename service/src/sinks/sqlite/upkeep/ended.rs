@@ -117,8 +117,9 @@ impl Walk {
 
     /// Whether it has come to its end.
     fn step(&mut self, transaction: &Transaction, step: usize) -> rusqlite::Result<bool> {
-        let mut delete = transaction
-            .prepare_cached("delete from span where request = ?1 and series = ?2 and end_ns <= ?3")?;
+        let mut delete = transaction.prepare_cached(
+            "delete from span_row where request = ?1 and series = ?2 and after_ns + length_ns <= ?3",
+        )?;
         let requests = self.next(transaction)?;
         let is_end = requests.is_empty();
         let mut done = 0;
@@ -127,7 +128,8 @@ impl Walk {
                 series.first_start < request.last_end && series.until > request.first_start
             };
             for series in self.series.iter().filter(within) {
-                delete.execute(params![request.id, series.id, series.until])?;
+                let until = Whole(series.until.0 - request.first_start.0);
+                delete.execute(params![request.id, series.id, until])?;
                 done += 1;
             }
             self.at = (request.last_end, request.id);

@@ -1,29 +1,34 @@
-//! Hours of a file that a version without them wrote.
+//! Hours of a file that a version without them wrote; its spans are moved to their new form.
 
 use super::super::horizon::Horizon;
-use super::super::store::sums;
-use super::super::store::{Hours, Known};
+use super::super::store::{spans, sums, Hours, Known};
 use super::super::whole::Whole;
 use crate::otlp::series::Value;
-use rusqlite::{Row, Transaction};
+use rusqlite::{OptionalExtension, Row, Transaction};
 
 /// Adds the spans of some requests, each of them whole: those of later requests are in hours since they were taken.
 pub(super) fn step(transaction: &Transaction, mut horizon: Horizon, step: usize) -> rusqlite::Result<()> {
-    let mut next = transaction.prepare_cached("select min(id) from request where id > ?1 and id <= ?2")?;
+    let mut next = transaction.prepare_cached(
+        "select id, first_start_ns from request where id > ?1 and id <= ?2 order by id limit 1",
+    )?;
     let mut hours = Hours::default();
     let mut done = 0;
     while done < step {
-        let request: Option<i64> = next.query_row([horizon.filled, horizon.fill_to], |row| row.get(0))?;
-        let Some(request) = request else {
+        let ids = [horizon.filled, horizon.fill_to];
+        let found: Option<(i64, Whole)> = next
+            .query_row(ids, |row| Ok((row.get(0)?, row.get(1)?)))
+            .optional()?;
+        let Some((request, first_start)) = found else {
             horizon.filled = horizon.fill_to;
             break;
         };
         done += 1 + add(transaction, request, &mut hours)?;
+        spans::move_one(transaction, request, first_start.0)?;
         horizon.filled = request;
     }
     hours.write(transaction, horizon.hours_from)?;
     horizon.write(transaction)?;
-    if horizon.filled == horizon.fill_to {
+    if horizon.is_filled() {
         tracing::info!("the hours of all spans that the sink's file had are filled in");
     }
     Ok(())
@@ -31,7 +36,7 @@ pub(super) fn step(transaction: &Transaction, mut horizon: Horizon, step: usize)
 
 fn add(transaction: &Transaction, request: i64, hours: &mut Hours) -> rusqlite::Result<usize> {
     let mut query = transaction.prepare_cached(
-        "select span.series, metric.id, span.end_ns, span.value, span.count, span.sum, span.buckets from span
+        "select span.series, metric.id, span.end_ns, span.value, span.count, span.sum, span.buckets from span_before as span
          join series on series.id = span.series
          join metric on metric.name = series.name and metric.kind = series.kind and metric.unit = series.unit
          where span.request = ?1",

@@ -1,0 +1,177 @@
+//! The rows of spans. Their times are told from the first start of their request, so that they are short.
+
+use super::super::horizon::Horizon;
+use super::super::whole::Whole;
+use super::sums::list;
+use crate::otlp::series::{ForwardedPoint, Value};
+use rusqlite::types::Value as Cell;
+use rusqlite::{params, OptionalExtension, Transaction};
+
+/// A request's row, and the earliest start of its points.
+#[derive(Clone, Copy)]
+pub(super) struct Request {
+    pub(super) row: i64,
+    pub(super) first_start: u64,
+}
+
+/// A span that the file has.
+pub(super) struct Found {
+    pub(super) request: i64,
+    pub(super) start: u64,
+    pub(super) end: u64,
+}
+
+pub(super) fn insert(
+    transaction: &Transaction,
+    request: Request,
+    series: i64,
+    point: &ForwardedPoint,
+) -> rusqlite::Result<()> {
+    let (value, count, sum, buckets) = match &point.value {
+        Value::Sum(value) => (Some(*value), None, None, None),
+        Value::Histogram { count, sum, buckets } => {
+            (None, Some(Whole(*count)), sum.map(Whole), Some(list(buckets)))
+        }
+    };
+    transaction
+        .prepare_cached(
+            "insert into span_row (request, series, after_ns, length_ns, value, count, sum, buckets)
+             values (?1, ?2, ?3, ?4, ?5, ?6, ?7, ?8)",
+        )?
+        .execute(params![
+            request.row,
+            series,
+            Whole(point.start - request.first_start),
+            Whole(point.end - point.start),
+            value,
+            count,
+            sum,
+            buckets
+        ])
+        .map(drop)
+}
+
+/// Whether a request has this very span.
+pub(super) fn has(
+    transaction: &Transaction,
+    request: Request,
+    series: i64,
+    point: &ForwardedPoint,
+) -> rusqlite::Result<bool> {
+    let Some(after) = point.start.checked_sub(request.first_start) else {
+        return Ok(false);
+    };
+    let length = point.end.saturating_sub(point.start);
+    let row = params![request.row, series, Whole(after), Whole(length)];
+    let is_there = transaction
+        .prepare_cached(
+            "select 1 from span_row where request = ?1 and series = ?2 and after_ns = ?3 and length_ns = ?4",
+        )?
+        .exists(row)?;
+    let before = params![request.row, series, Whole(point.start), Whole(point.end)];
+    Ok(is_there
+        || transaction
+            .prepare_cached(
+                "select 1 from span_before where request = ?1 and series = ?2 and start_ns = ?3 and end_ns = ?4",
+            )?
+            .exists(before)?)
+}
+
+/// A span of the series that overlaps the point. Only requests whose own time overlaps are looked through, by the
+/// primary key.
+pub(super) fn overlapping(
+    transaction: &Transaction,
+    horizon: &Horizon,
+    series: i64,
+    point: &ForwardedPoint,
+) -> rusqlite::Result<Option<Found>> {
+    let mut requests = transaction.prepare_cached(
+        "select id, first_start_ns from request
+         where has_spans and last_end_ns > ?1 and first_start_ns < ?2 order by last_end_ns",
+    )?;
+    let mut rows = requests.query(params![Whole(point.start), Whole(point.end)])?;
+    while let Some(row) = rows.next()? {
+        let (request, first_start): (i64, Whole) = (row.get(0)?, row.get(1)?);
+        let request = Request {
+            row: request,
+            first_start: first_start.0,
+        };
+        if let Some(found) = within(transaction, request, series, point)? {
+            return Ok(Some(found));
+        }
+    }
+    match horizon.is_filled() {
+        true => Ok(None),
+        false => before(transaction, series, point),
+    }
+}
+
+fn within(
+    transaction: &Transaction,
+    request: Request,
+    series: i64,
+    point: &ForwardedPoint,
+) -> rusqlite::Result<Option<Found>> {
+    let mut spans = transaction.prepare_cached(
+        "select after_ns, length_ns from span_row where request = ?1 and series = ?2 and after_ns < ?3",
+    )?;
+    let end = Whole(point.end.saturating_sub(request.first_start));
+    let mut rows = spans.query(params![request.row, series, end])?;
+    while let Some(row) = rows.next()? {
+        let start = request.first_start + row.get::<_, Whole>(0)?.0;
+        let end = start + row.get::<_, Whole>(1)?.0;
+        if end > point.start {
+            let request = request.row;
+            return Ok(Some(Found { request, start, end }));
+        }
+    }
+    Ok(None)
+}
+
+/// One of an older file, that was not moved yet.
+fn before(transaction: &Transaction, series: i64, point: &ForwardedPoint) -> rusqlite::Result<Option<Found>> {
+    transaction
+        .prepare_cached(
+            "select span.request, span.start_ns, span.end_ns from request
+             cross join span_before as span on span.request = request.id
+             where request.has_spans and request.last_end_ns > ?2 and request.first_start_ns < ?3
+             and span.series = ?1 and span.start_ns < ?3 and span.end_ns > ?2 limit 1",
+        )?
+        .query_row(params![series, Whole(point.start), Whole(point.end)], |row| {
+            Ok(Found {
+                request: row.get(0)?,
+                start: row.get::<_, Whole>(1)?.0,
+                end: row.get::<_, Whole>(2)?.0,
+            })
+        })
+        .optional()
+}
+
+/// Moves the spans of a request of an older file.
+pub(in super::super) fn move_one(
+    transaction: &Transaction,
+    request: i64,
+    first_start: u64,
+) -> rusqlite::Result<()> {
+    let mut read = transaction.prepare_cached(
+        "select series, start_ns, end_ns, value, count, sum, buckets from span_before where request = ?1",
+    )?;
+    let mut write =
+        transaction.prepare_cached("insert into span_row values (?1, ?2, ?3, ?4, ?5, ?6, ?7, ?8)")?;
+    let mut rows = read.query([request])?;
+    while let Some(row) = rows.next()? {
+        let (start, end): (Whole, Whole) = (row.get(1)?, row.get(2)?);
+        write.execute(params![
+            request,
+            row.get::<_, i64>(0)?,
+            Whole(start.0 - first_start),
+            Whole(end.0 - start.0),
+            row.get::<_, Cell>(3)?,
+            row.get::<_, Cell>(4)?,
+            row.get::<_, Cell>(5)?,
+            row.get::<_, Cell>(6)?
+        ])?;
+    }
+    let mut delete = transaction.prepare_cached("delete from span_before where request = ?1")?;
+    delete.execute([request]).map(drop)
+}
