@@ -8,6 +8,8 @@ mod page;
 #[cfg(test)]
 mod tests;
 
+pub(super) use page::identity;
+
 use super::{message, reply, Desk, PROMETHEUS};
 use crate::sinks::postgres::{self, Server};
 use crate::sinks::sqlite::totals::{Filter, SeriesTotal};
@@ -47,13 +49,16 @@ impl Totals {
         })
     }
 
-    /// The turn is given back by who reads, also where who asked has gone.
-    async fn page(&self) -> Result<String, String> {
+    /// What is made of all totals. The turn is given back by who reads, also where who asked has gone.
+    pub(super) async fn read<T: Send + 'static>(
+        &self,
+        make: impl FnOnce(Vec<SeriesTotal>) -> Result<T, String> + Send + 'static,
+    ) -> Result<T, String> {
         let turn = self.turn.clone().acquire_owned().await;
         let source = self.source.clone();
         let reading = tokio::spawn(async move {
             let totals = source.read().await;
-            let made = beside(move || made(&totals?)).await;
+            let made = beside(move || make(totals?)).await;
             drop(turn);
             made
         });
@@ -103,7 +108,7 @@ impl Desk {
                 &format!("only a SQLite or PostgreSQL sink has totals here: this service delivers to {name}, ask it"),
             );
         };
-        match totals.page().await {
+        match totals.read(|totals| made(&totals)).await {
             Ok(page) => reply(200, PROMETHEUS, page),
             Err(what) => message(503, &what),
         }
