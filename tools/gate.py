@@ -66,6 +66,7 @@ SERVICE_STEPS = (
     ("two_services.py", ["0", "1", "--sink", "one"], 40),
     ("demo.py", ["25"], 60),
     ("alerts.py", [], 60),
+    ("pages.py", [], 40),
     ("influxdb.py", ["15"], 40),
     ("protobuf_bodies.py", [], 40),
     ("sdk_go.py", ["8"], 60),

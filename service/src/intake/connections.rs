@@ -1,6 +1,7 @@
 //! How connections of an address are accepted, in a bounded number; and those of the operators' address: each serves many
 //! requests, slow and idle ones are closed, and these at once where others wait. The senders' are in `front`.
 
+use super::ends::Ends;
 use super::pace::{Overdue, Pace, Watched};
 use super::{Intake, Taker, Threads};
 use crate::identity::{Door, Who};
@@ -270,8 +271,12 @@ async fn connection<H: Handler>(
     let _ = stream.set_nodelay(true); // an answer is one write already
     let pace = Pace::new();
     let of_requests = pace.clone();
-    let service = service_fn(move |request| {
+    let ends = Ends::of(&stream);
+    let service = service_fn(move |mut request: Request<Body>| {
         let (handler, pace) = (handler.clone(), of_requests.clone());
+        if let Some(ends) = ends {
+            request.extensions_mut().insert(ends);
+        }
         // Boxed, so that the stream can be had back where a head is late.
         Box::pin(async move {
             pace.request_begins();

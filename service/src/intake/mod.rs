@@ -7,6 +7,7 @@
 mod answer;
 mod body;
 pub mod connections;
+pub mod ends;
 pub mod front;
 pub(crate) mod head;
 mod listen;

@@ -26,6 +26,10 @@ impl Budget {
         })
     }
 
+    pub fn most(&self) -> usize {
+        self.most
+    }
+
     pub fn used(&self) -> usize {
         self.used.load(Relaxed)
     }

@@ -10,6 +10,11 @@ pub fn now() -> String {
     written(since.unwrap_or_default()) // no clock is set before 1970
 }
 
+/// So many seconds after 1970, in UTC: `2026-11-25 14:26:23`.
+pub fn utc(seconds: u64) -> String {
+    written(Duration::from_secs(seconds))[..19].replace('T', " ")
+}
+
 fn written(since_1970: Duration) -> String {
     let (seconds, micros) = (since_1970.as_secs(), since_1970.subsec_micros());
     let (year, month, day) = date(seconds / DAY);

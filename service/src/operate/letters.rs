@@ -27,7 +27,10 @@ pub struct Resent {
 
 impl Desk {
     /// Thousands of letters take seconds, and so long nothing else would go on that this thread has to do.
-    async fn of_dead<T: Send + 'static>(&self, call: impl FnOnce(&Dead) -> T + Send + 'static) -> T {
+    pub(super) async fn of_dead<T: Send + 'static>(
+        &self,
+        call: impl FnOnce(&Dead) -> T + Send + 'static,
+    ) -> T {
         let dead = self.dead.clone();
         blocking(move || call(&dead)).await
     }

@@ -1,27 +1,36 @@
 //! The operator's address: orders to the keeper, what the service says of itself, the dead letters.
 //!
 //! It is another address than the senders', loopback by default: who can post can't operate. What a browser sends for a
-//! page of somebody else is turned away by `web`.
+//! page of somebody else is turned away by `web`; `pages` are the address's own, which only read.
 
+mod acts;
 mod letters;
 mod orders;
+mod pages;
 mod status;
 mod totals;
+mod user;
 mod web;
 
+pub use acts::{Act, Acts};
 pub use letters::Resent;
+pub use pages::Pulse;
 pub use status::{BooksStatus, RoundedSeriesStatus, RoundedStatus, SlotStatus, Status, Stock};
 pub use totals::Totals;
 
 use crate::files::{Dead, Outbox};
-use crate::intake::{connections::Handler, Budget};
+use crate::intake::connections::Handler;
+use crate::intake::ends::Ends;
+use crate::intake::Budget;
 use crate::keeper::{Order, Orders};
 use crate::metrics::Metrics;
 use crate::otlp::{Encoding, Outcome};
+use crate::remarks::Heard;
 use crate::sinks::{Delivery, Sink};
 use crate::slot::Slot;
 use hyper::header::{HeaderValue, ALLOW, CONTENT_TYPE};
 use hyper::{Body, Method, Request, Response, StatusCode};
+use pages::Page;
 use serde_json::json;
 use std::sync::{Arc, Mutex};
 use std::time::Instant;
@@ -38,11 +47,16 @@ pub struct Desk {
     /// Of slots that an earlier totxegun had: what the sink has not taken.
     pub former: Vec<Left>,
     pub dead: Arc<Dead>,
+    pub acts: Arc<Acts>,
     pub sink: Arc<dyn Sink>,
     /// Where the sink can be asked for them.
     pub totals: Option<Totals>,
     pub metrics: Arc<Metrics>,
     pub budget: Arc<Budget>,
+    /// Who has posted.
+    pub heard: Arc<Heard>,
+    /// What was posted and delivered a second.
+    pub pulse: Arc<Pulse>,
     /// Where senders post.
     pub listen: String,
     /// Where operators ask, as it was given.
@@ -73,6 +87,7 @@ enum Route {
     Letter(String),
     Resend(String),
     Drop(String),
+    Page(Page),
 }
 
 impl Route {
@@ -93,6 +108,10 @@ impl Route {
             ["dead", key] => (Method::GET, Route::Letter(key.into())),
             ["dead", key, "resend"] => (Method::POST, Route::Resend(key.into())),
             ["dead", key, "drop"] => (Method::POST, Route::Drop(key.into())),
+            [""] => (Method::GET, Route::Page(Page::Overview)),
+            ["series"] => (Method::GET, Route::Page(Page::Series)),
+            ["page.css"] => (Method::GET, Route::Page(Page::Style)),
+            ["page.js"] => (Method::GET, Route::Page(Page::Script)),
             _ => return None,
         })
     }
@@ -110,9 +129,17 @@ impl Handler for Desk {
         match Route::of(request.uri().path()) {
             None => message(404, "no such path"),
             Some((method, route)) if is_met(&method, request.method()) => {
-                match web::stranger(&request, &self.operate) {
+                let stranger = match route {
+                    Route::Page(_) => web::stranger_to_pages(&request, &self.operate),
+                    _ => web::stranger(&request, &self.operate),
+                };
+                match stranger {
                     Some(why) if !route.is_for_all() => message(403, &why),
-                    _ => self.go(route).await,
+                    _ => {
+                        let ends = request.extensions().get::<Ends>().copied();
+                        self.go(route, ends, request.uri().query().unwrap_or_default())
+                            .await
+                    }
                 }
             }
             Some((method, _)) => {
@@ -137,9 +164,17 @@ fn is_met(wanted: &Method, asked: &Method) -> bool {
 }
 
 impl Desk {
-    async fn go(&self, route: Route) -> Response<Body> {
+    async fn go(&self, route: Route, ends: Option<Ends>, query: &str) -> Response<Body> {
         match route {
-            Route::Order(order) => self.order(order).await,
+            Route::Order(Order::Checkpoint) => self.order(Order::Checkpoint).await,
+            Route::Order(Order::Quarantine(sender)) => {
+                let order = self.order(Order::Quarantine(sender.clone()));
+                self.act(ends, "quarantine", sender, order).await
+            }
+            Route::Order(Order::Lift(sender)) => {
+                let order = self.order(Order::Lift(sender.clone()));
+                self.act(ends, "lift", sender, order).await
+            }
             Route::Report => self.report().await,
             Route::Metrics => {
                 self.read_levels();
@@ -157,8 +192,15 @@ impl Desk {
             },
             Route::Letters => self.letters().await,
             Route::Letter(key) => self.letter(&key).await,
-            Route::Resend(key) => self.resend(&key).await,
-            Route::Drop(key) => self.drop_letter(&key).await,
+            Route::Resend(key) => {
+                self.act(ends, "dead resend", key.clone(), self.resend(&key))
+                    .await
+            }
+            Route::Drop(key) => {
+                self.act(ends, "dead drop", key.clone(), self.drop_letter(&key))
+                    .await
+            }
+            Route::Page(page) => self.page(page, query).await,
         }
     }
 }
@@ -201,6 +243,10 @@ mod tests {
             ("/dead/0-a-1", Method::GET),
             ("/dead/0-a-1/resend", Method::POST),
             ("/dead/0-a-1/drop", Method::POST),
+            ("/", Method::GET),
+            ("/series", Method::GET),
+            ("/page.css", Method::GET),
+            ("/page.js", Method::GET),
         ] {
             assert_eq!(Route::of(path).map(|(method, _)| method), Some(method), "{path}");
         }
@@ -210,7 +256,7 @@ mod tests {
     fn nothing_else_is_a_path() {
         for path in [
             "",
-            "/",
+            "//",
             "/v1/metrics",
             "/flush/",
             "/renew",

@@ -12,6 +12,8 @@ use std::net::IpAddr;
 /// How a browser says whose a request is. `none` is that of a person, who has typed the address.
 const FETCH_SITE: &str = "sec-fetch-site";
 const BY_HAND: &[u8] = b"none";
+/// Of a page of the same scheme, host and port as what it asks for. With `Host` looked at, it is one of ours.
+const BY_US: &[u8] = b"same-origin";
 
 /// Of a name that is none of ours, in characters.
 const SHOWN: usize = 100;
@@ -19,27 +21,34 @@ const SHOWN: usize = 100;
 /// Why a request is refused as one of a page: none where it is no such request. `ours` is the address that is listened
 /// on, as it was given.
 pub fn stranger(request: &Request<Body>, ours: &str) -> Option<String> {
-    of_a_page(request.headers()).or_else(|| {
-        let named = request.headers().get_all(HOST).iter();
-        let hosts = named.map(|host| host.to_str().unwrap_or_default());
-        let place = request.uri().authority().map(|place| place.as_str());
-        let other = hosts.chain(place).find(|host| !is_ours(host, ours))?;
-        let other = shown(other, SHOWN);
-        Some(format!(
-            "refused: `{other}` is no name of this address: ask for an IP address, localhost, or the host of --operate"
-        ))
-    })
+    of_a_page(request.headers(), &[BY_HAND]).or_else(|| of_another_name(request, ours))
 }
 
-fn of_a_page(headers: &HeaderMap) -> Option<String> {
-    let by_hand = |site: &hyper::header::HeaderValue| site.as_bytes() == BY_HAND;
+/// The same of what shows a page of ours and changes nothing: our pages may ask for it too.
+pub fn stranger_to_pages(request: &Request<Body>, ours: &str) -> Option<String> {
+    of_a_page(request.headers(), &[BY_HAND, BY_US]).or_else(|| of_another_name(request, ours))
+}
+
+fn of_another_name(request: &Request<Body>, ours: &str) -> Option<String> {
+    let named = request.headers().get_all(HOST).iter();
+    let hosts = named.map(|host| host.to_str().unwrap_or_default());
+    let place = request.uri().authority().map(|place| place.as_str());
+    let other = hosts.chain(place).find(|host| !is_ours(host, ours))?;
+    let other = shown(other, SHOWN);
+    Some(format!(
+        "refused: `{other}` is no name of this address: ask for an IP address, localhost, or the host of --operate"
+    ))
+}
+
+/// A request that says it is of a page, other than by one of these sites.
+fn of_a_page(headers: &HeaderMap, sites: &[&[u8]]) -> Option<String> {
     let what = match headers.get(FETCH_SITE) {
         _ if headers.contains_key(ORIGIN) => "an Origin",
-        Some(site) if !by_hand(site) => "a Sec-Fetch-Site",
+        Some(site) if !sites.contains(&site.as_bytes()) => "a Sec-Fetch-Site",
         _ => return None,
     };
     Some(format!(
-        "refused: it has {what}, so it is of a web page: ask by `totxegun` or curl"
+        "refused: it has {what}, so it is of a web page: ask by `totxegun` or curl, or type the address"
     ))
 }
 
@@ -110,6 +119,25 @@ mod tests {
             let why = refused("/flush", &[host, ("sec-fetch-site", site)]).unwrap();
             assert!(why.contains("it has a Sec-Fetch-Site"), "{why}");
         }
+    }
+
+    #[test]
+    fn our_pages_lead_to_each_other_alone() {
+        let asked = |headers: &[(&str, &str)]| {
+            let mut request = Request::builder().uri("/series");
+            for (name, value) in headers {
+                request = request.header(*name, *value);
+            }
+            stranger_to_pages(&request.body(Body::empty()).unwrap(), "Box-1:4319")
+        };
+        let (host, site) = (("host", "127.0.0.1:4319"), "sec-fetch-site");
+        assert_eq!(asked(&[host, (site, "same-origin")]), None);
+        assert_eq!(asked(&[host, (site, "none")]), None);
+        for other in ["cross-site", "same-site", ""] {
+            assert!(asked(&[host, (site, other)]).is_some(), "{other}");
+        }
+        assert!(asked(&[host, ("origin", "http://127.0.0.1:4319")]).is_some());
+        assert!(asked(&[("host", "evil.example:4319"), (site, "same-origin")]).is_some());
     }
 
     /// As where a page's own name is made to mean this machine.

@@ -10,8 +10,8 @@ use crate::intake::connections::{serve, Limits};
 use crate::intake::{Budget, Intake, Threads};
 use crate::keeper::{Keeper, Orders};
 use crate::metrics::Metrics;
-use crate::operate::{Desk, Left, Totals};
-use crate::remarks::Remarks;
+use crate::operate::{Acts, Desk, Left, Pulse, Totals};
+use crate::remarks::{Heard, Remarks};
 use crate::sinks::{self, Delivery, Sink};
 use crate::slot::Slot;
 use anyhow::Context;
@@ -36,6 +36,7 @@ pub(super) struct Parts {
     /// Of slots that an earlier totxegun had: what the sink has not taken.
     former: Vec<(u16, Arc<Outbox>)>,
     dead: Arc<Dead>,
+    acts: Arc<Acts>,
     pub sink: Arc<dyn Sink>,
     metrics: Arc<Metrics>,
     budget: Arc<Budget>,
@@ -52,12 +53,14 @@ impl Parts {
         let outbox = Arc::new(outbox);
         let mut outboxes = vec![outbox.clone()];
         outboxes.extend(former.iter().map(|(_, outbox)| outbox.clone()));
+        let acts = Arc::new(Acts::in_folder(&settings.data));
         let sink = super::sink::open(
             &folder,
             &settings.sink,
             settings.keep,
             settings.new_sink,
             outboxes,
+            acts.clone(),
         )?;
         let core = Core::new(settings.most_series).with_context(|| {
             format!(
@@ -75,6 +78,7 @@ impl Parts {
             orders,
             former,
             dead,
+            acts,
             sink,
             metrics,
             budget,
@@ -119,13 +123,14 @@ impl Parts {
             connections: OPERATORS,
             ..limits.clone()
         };
+        let heard = Arc::<Heard>::default();
         let intake = Intake::new(
             Remarks::new(
                 slot.clone(),
                 slot.outbox.clone(),
                 settings.telling.clone(),
                 self.metrics.clone(),
-                Arc::default(),
+                heard.clone(),
             ),
             settings.reading.clone(),
             self.budget.clone(),
@@ -137,10 +142,13 @@ impl Parts {
             left,
             former,
             dead: self.dead,
+            acts: self.acts,
             sink: self.sink,
             totals: Totals::of(&settings.sink),
+            pulse: Pulse::begin(self.metrics.clone()),
             metrics: self.metrics,
             budget: self.budget,
+            heard,
             listen: senders.shown(),
             operate: settings.operate.clone(),
             data: settings.data.display().to_string(),

@@ -2,6 +2,7 @@
 
 use super::Ended;
 use crate::files::{Fault, Folder, KnownSink, Outbox};
+use crate::operate::{Act, Acts};
 use crate::sinks::{self, Address, Keep, Memory, Sink};
 use anyhow::{anyhow, Context};
 use std::sync::atomic::{AtomicBool, Ordering::Relaxed};
@@ -14,6 +15,7 @@ struct Remembered {
     /// Until it was taken.
     takes_new: AtomicBool,
     outboxes: Vec<Arc<Outbox>>,
+    acts: Arc<Acts>,
 }
 
 /// Opens the sink. What waits in these outboxes goes into it.
@@ -23,12 +25,14 @@ pub(super) fn open(
     keep: Keep,
     takes_new: bool,
     outboxes: Vec<Arc<Outbox>>,
+    acts: Arc<Acts>,
 ) -> Result<Arc<dyn Sink>, Ended> {
     let memory = Arc::new(Remembered {
         folder: folder.clone(),
         now: address.known(),
         takes_new: AtomicBool::new(takes_new),
         outboxes,
+        acts,
     });
     memory.look_at_kind()?;
     let sink = sinks::open(address, keep, memory.clone()).context("the sink can't be opened")?;
@@ -59,14 +63,22 @@ impl Remembered {
     }
 
     fn remember(&self, before: Option<KnownSink>, now: KnownSink) -> Result<(), Fault> {
+        let left = before.filter(|before| self.takes_new.load(Relaxed) && !before.is(&now));
+        let act = left
+            .as_ref()
+            .map(|left| Act::new(None, "new sink", &format!("{now} in the place of {left}")));
+        if let Some(act) = &act {
+            self.acts.begins(act);
+        }
         self.folder.set_sink(now.clone())?;
-        match before {
-            Some(before) if self.takes_new.load(Relaxed) && !before.is(&now) => tracing::warn!(
-                "--new-sink: from here on all goes into {now}, also the requests that wait ({}); {before} keeps what \
-                 it has taken",
-                self.waiting()
-            ),
-            _ => {}
+        if let (Some(act), Some(left)) = (act, left) {
+            let waiting = self.waiting();
+            tracing::warn!(
+                "--new-sink: from here on all goes into {now}, also the requests that wait ({waiting}); {left} keeps what it \
+                 has taken"
+            );
+            self.acts
+                .ended(&act, &format!("done; requests that waited: {waiting}"));
         }
         self.takes_new.store(false, Relaxed);
         Ok(())

@@ -1,5 +1,6 @@
 //! The program itself: who has a series, kills, how many series fit, what an operator is told.
 
+mod acts;
 mod another;
 mod held;
 mod letters;

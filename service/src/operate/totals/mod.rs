@@ -8,8 +8,11 @@ mod page;
 #[cfg(test)]
 mod tests;
 
+pub(super) use page::identity;
+
 use super::{message, reply, Desk, PROMETHEUS};
 use crate::sinks::postgres::{self, Server};
+use crate::sinks::sqlite::by_hour::Hour;
 use crate::sinks::sqlite::totals::{Filter, SeriesTotal};
 use crate::sinks::{sqlite, Address};
 use hyper::{Body, Response};
@@ -47,13 +50,31 @@ impl Totals {
         })
     }
 
-    /// The turn is given back by who reads, also where who asked has gone.
-    async fn page(&self) -> Result<String, String> {
+    /// What came of a series in each hour from this one on (since 1970); none where the sink has no hours yet.
+    pub(super) async fn hours(&self, series: SeriesTotal, from: u64) -> Result<Option<Vec<Hour>>, String> {
+        let _turn = self.turn.clone().acquire_owned().await;
+        match self.source.clone() {
+            Source::Sqlite(path) => {
+                let read = move || sqlite::by_hour::read(&path, &series, from);
+                beside(move || read().map_err(|fault| fault.to_string())).await
+            }
+            Source::Postgres(server) => {
+                let read = postgres::by_hour::read(&server, &series, from).await;
+                read.map_err(|fault| fault.to_string())
+            }
+        }
+    }
+
+    /// What is made of all totals. The turn is given back by who reads, also where who asked has gone.
+    pub(super) async fn read<T: Send + 'static>(
+        &self,
+        make: impl FnOnce(Vec<SeriesTotal>) -> Result<T, String> + Send + 'static,
+    ) -> Result<T, String> {
         let turn = self.turn.clone().acquire_owned().await;
         let source = self.source.clone();
         let reading = tokio::spawn(async move {
             let totals = source.read().await;
-            let made = beside(move || made(&totals?)).await;
+            let made = beside(move || make(totals?)).await;
             drop(turn);
             made
         });
@@ -103,7 +124,7 @@ impl Desk {
                 &format!("only a SQLite or PostgreSQL sink has totals here: this service delivers to {name}, ask it"),
             );
         };
-        match totals.page().await {
+        match totals.read(|totals| made(&totals)).await {
             Ok(page) => reply(200, PROMETHEUS, page),
             Err(what) => message(503, &what),
         }

@@ -136,7 +136,7 @@ fn distinct(series: &[&SeriesTotal], is_mixed: bool) -> Vec<Labels> {
 }
 
 /// By all that makes it a series of its own, so it is the same at each scrape.
-fn identity(series: &SeriesTotal) -> String {
+pub fn identity(series: &SeriesTotal) -> String {
     let bounds = series.histogram.as_ref().map(|histogram| &histogram.bounds);
     let all = serde_json::json!([
         series.name,

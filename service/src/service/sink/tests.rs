@@ -38,12 +38,14 @@ impl Place {
             let request = br#"{"resourceMetrics":[]}"#.to_vec();
             outbox.commit(&[request], journal.turn().0).unwrap();
         }
+        let acts = Arc::new(Acts::in_folder(&self.file("data")));
         let opened = open(
             &folder,
             &sink.parse().unwrap(),
             Keep::default(),
             takes_new,
             vec![Arc::new(outbox)],
+            acts,
         );
         opened.map_err(|ended| ended.to_string())
     }
@@ -115,6 +117,17 @@ fn a_new_sink_is_taken_by_name_and_kept() {
     let other_name = other.display().to_string();
     assert_eq!(place.start(&other_name, true).err(), None);
     place.starts(&other);
+    let acts = std::fs::read_to_string(place.file("data/acts.jsonl")).unwrap();
+    let (begun, ended) = acts.split_once('\n').unwrap();
+    let what = format!("in the place of sqlite {}", one.display());
+    assert!(
+        begun.contains("\"act\":\"new sink\"") && begun.contains(&what),
+        "{acts}"
+    );
+    assert!(
+        ended.contains("done; requests that waited: 1") && ended.lines().count() == 1,
+        "{acts}"
+    );
     place.is_refused(one.to_str().unwrap(), &["other.db (id ", "one.db (id "]);
     // Also one that is not there yet, by its address.
     let down = "postgres://u@127.0.0.1:9/d";

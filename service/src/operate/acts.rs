@@ -1,0 +1,214 @@
+//! What operators have done, in `acts.jsonl` of the folder: who, when, what, and what came of it.
+//!
+//! A line is there, durably, before an act is carried out, and another one says how it ended. It is in the folder and not
+//! in the sink: a sink may be another receiver, or be down just when somebody acts. Where the file can't be written the
+//! log says so, and the act goes on: it may be what makes room.
+
+use super::{user, Desk};
+use crate::intake::ends::Ends;
+use crate::log::{all_shown, cut};
+use crate::work::blocking;
+use hyper::{Body, Response, StatusCode};
+use serde::Serialize;
+use std::fs::{File, OpenOptions};
+use std::future::Future;
+use std::io::Write;
+use std::path::{Path, PathBuf};
+use std::sync::{Mutex, PoisonError};
+
+const NAME: &str = "acts.jsonl";
+/// The lines before these.
+const EARLIER: &str = "acts.1.jsonl";
+
+/// A file is this long at most, so both have some 50,000 lines.
+const MOST: u64 = 4 << 20;
+
+/// Of what is written of an act, in characters.
+const SHOWN: usize = 500;
+
+/// Who acts where the connection does not say it.
+const NOBODY: &str = "operator";
+
+pub struct Acts {
+    folder: PathBuf,
+    file: Mutex<()>,
+}
+
+/// What was asked for.
+#[derive(Clone, Debug)]
+pub struct Act {
+    pub who: String,
+    /// `quarantine`, `lift`, `dead drop`, `dead resend`, `new sink`.
+    pub what: &'static str,
+    /// A sender, a key, a sink.
+    pub of: String,
+}
+
+#[derive(Serialize)]
+struct Written<'a> {
+    time: String,
+    who: &'a str,
+    act: &'static str,
+    of: &'a str,
+    /// None before it is carried out.
+    #[serde(skip_serializing_if = "Option::is_none")]
+    outcome: Option<&'a str>,
+}
+
+impl Act {
+    pub fn new(ends: Option<Ends>, what: &'static str, of: &str) -> Act {
+        Act {
+            who: ends.and_then(user::of).unwrap_or_else(|| NOBODY.to_string()),
+            what,
+            of: all_shown(cut(of, SHOWN)),
+        }
+    }
+}
+
+impl Acts {
+    pub fn in_folder(folder: &Path) -> Acts {
+        Acts {
+            folder: folder.into(),
+            file: Mutex::new(()),
+        }
+    }
+
+    /// It is about to be carried out.
+    pub fn begins(&self, act: &Act) {
+        self.put(act, None);
+    }
+
+    /// It was carried out, or not, for this reason.
+    pub fn ended(&self, act: &Act, outcome: &str) {
+        let Act { who, what, of } = act;
+        let outcome = all_shown(cut(outcome, SHOWN));
+        tracing::info!(who, act = what, of, outcome, "{what} {of}, by {who}: {outcome}");
+        self.put(act, Some(&outcome));
+    }
+
+    fn put(&self, act: &Act, outcome: Option<&str>) {
+        let line = Written {
+            time: crate::log::now(),
+            who: &act.who,
+            act: act.what,
+            of: &act.of,
+            outcome,
+        };
+        let _one = self.file.lock().unwrap_or_else(PoisonError::into_inner); // the file is sound at any time
+        if let Err(error) = self.append(&line, outcome.is_none()) {
+            let (file, reason) = (self.folder.join(NAME).display().to_string(), error.to_string());
+            tracing::warn!(file, reason, "{file} can't be written: {reason}");
+        }
+    }
+
+    /// `is_first` of an act: durable when this returns.
+    fn append(&self, line: &Written, is_first: bool) -> std::io::Result<()> {
+        let path = self.folder.join(NAME);
+        let mut file = OpenOptions::new().append(true).create(true).open(&path)?;
+        if file.metadata()?.len() >= MOST {
+            std::fs::rename(&path, self.folder.join(EARLIER))?;
+            file = OpenOptions::new().append(true).create(true).open(&path)?;
+        }
+        let mut bytes = serde_json::to_vec(line)?;
+        bytes.push(b'\n');
+        file.write_all(&bytes)?;
+        if is_first {
+            file.sync_data()?;
+            File::open(&self.folder)?.sync_all()?;
+        }
+        Ok(())
+    }
+}
+
+impl Desk {
+    /// Carries out an act of who has this connection, and records it.
+    pub(super) async fn act(
+        &self,
+        ends: Option<Ends>,
+        what: &'static str,
+        of: String,
+        doing: impl Future<Output = Response<Body>>,
+    ) -> Response<Body> {
+        let acts = self.acts.clone();
+        let begin = move || {
+            let act = Act::new(ends, what, &of);
+            acts.begins(&act);
+            act
+        };
+        let act = blocking(begin).await;
+        let (response, outcome) = told(doing.await).await;
+        let acts = self.acts.clone();
+        blocking(move || acts.ended(&act, &outcome)).await;
+        response
+    }
+}
+
+/// An answer, and in short what it says.
+async fn told(response: Response<Body>) -> (Response<Body>, String) {
+    let (head, body) = response.into_parts();
+    let body = hyper::body::to_bytes(body).await.unwrap_or_default(); // it is made of bytes, which come
+    let says: serde_json::Value = serde_json::from_slice(&body).unwrap_or_default();
+    let text = |name: &str| says[name].as_str().unwrap_or_default().to_string();
+    let outcome = match (head.status, says["taken"].as_bool()) {
+        (StatusCode::OK, Some(false)) => format!("not taken: {}", text("reason")),
+        (StatusCode::OK, _) => "done".to_string(),
+        (status, _) => format!("{}: {}", status.as_u16(), text("message")),
+    };
+    (Response::from_parts(head, body.into()), outcome)
+}
+
+#[cfg(test)]
+mod tests {
+    use super::*;
+
+    fn lines(folder: &Path, name: &str) -> Vec<serde_json::Value> {
+        let text = std::fs::read_to_string(folder.join(name)).unwrap();
+        text.lines()
+            .map(|line| serde_json::from_str(line).unwrap())
+            .collect()
+    }
+
+    #[test]
+    fn an_act_is_there_before_it_is_carried_out_and_then_how_it_ended() {
+        let folder = tempfile::tempdir().unwrap();
+        let acts = Acts::in_folder(folder.path());
+        let act = Act::new(None, "dead drop", "0-a-1\n{\"who\":\"root\"}");
+        acts.begins(&act);
+        let first = lines(folder.path(), NAME);
+        assert_eq!(
+            (&first[0]["who"], &first[0]["act"]),
+            (&"operator".into(), &"dead drop".into())
+        );
+        assert!(first[0].get("outcome").is_none() && first.len() == 1, "{first:?}");
+        acts.ended(&act, "no such\u{1b}request");
+        let both = lines(folder.path(), NAME);
+        assert_eq!((both.len(), &both[1]["outcome"]), (2, &"no such request".into()));
+        assert_eq!(both[1]["of"], "0-a-1 {\"who\":\"root\"}");
+    }
+
+    #[test]
+    fn the_file_does_not_grow_for_ever() {
+        let folder = tempfile::tempdir().unwrap();
+        let acts = Acts::in_folder(folder.path());
+        let act = Act::new(None, "lift", "A");
+        for fill in [MOST, MOST] {
+            acts.begins(&act);
+            let file = File::options()
+                .write(true)
+                .open(folder.path().join(NAME))
+                .unwrap();
+            file.set_len(fill).unwrap();
+            acts.begins(&act);
+            assert_eq!(lines(folder.path(), NAME).len(), 1);
+        }
+        let length = |name: &str| std::fs::metadata(folder.path().join(name)).unwrap().len();
+        assert!(length(NAME) < 1000 && length(EARLIER) == MOST);
+    }
+
+    /// As where the disk is full: what makes room goes on.
+    #[test]
+    fn an_act_goes_on_where_it_can_t_be_written() {
+        let acts = Acts::in_folder(Path::new("/nowhere/at/all"));
+        acts.begins(&Act::new(None, "lift", "A"));
+    }
+}

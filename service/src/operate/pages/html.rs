@@ -1,0 +1,191 @@
+//! Markup that is put together: what stands in the program goes in as it is, and all else escaped.
+
+use crate::log::all_shown;
+use std::fmt::{Display, Write};
+
+/// How much of a text is shown, in characters.
+const SHOWN: usize = 400;
+
+/// A page, or a part of one. Only a text of the program itself can be markup.
+#[derive(Default)]
+pub struct Html(String);
+
+impl Html {
+    pub fn markup(&mut self, markup: &'static str) -> &mut Html {
+        self.0.push_str(markup);
+        self
+    }
+
+    /// A text, also within the quotes of an attribute: one line, and nothing that is markup.
+    pub fn text(&mut self, text: impl Display) -> &mut Html {
+        let text = text.to_string();
+        let (shown, is_cut) = match text.char_indices().nth(SHOWN) {
+            Some((end, _)) => (&text[..end], true),
+            None => (&text[..], false),
+        };
+        for char in all_shown(shown).chars() {
+            match char {
+                '&' => self.0.push_str("&amp;"),
+                '<' => self.0.push_str("&lt;"),
+                '>' => self.0.push_str("&gt;"),
+                '"' => self.0.push_str("&quot;"),
+                '\'' => self.0.push_str("&#39;"),
+                other => self.0.push(other),
+            }
+        }
+        if is_cut {
+            self.0.push_str("..");
+        }
+        self
+    }
+
+    /// A text of a query, whole.
+    pub fn query(&mut self, text: &str) -> &mut Html {
+        let set = percent_encoding::NON_ALPHANUMERIC;
+        let _ = write!(self.0, "{}", percent_encoding::utf8_percent_encode(text, set)); // a text takes all
+        self
+    }
+
+    /// A number that nobody else wrote.
+    pub fn number(&mut self, number: f64) -> &mut Html {
+        let _ = write!(self.0, "{number:.1}"); // a text takes all
+        self
+    }
+
+    /// A table that says `none` where it has no row. Columns whose heads end in `#` have numbers.
+    pub fn table(&mut self, heads: &[&'static str], rows: Vec<Vec<Cell>>) -> &mut Html {
+        if rows.is_empty() {
+            return self.markup("<p class=none>none</p>\n");
+        }
+        self.markup("<table><thead><tr>");
+        for head in heads {
+            self.markup("<th")
+                .markup(class(head))
+                .markup(">")
+                .markup(title(head))
+                .markup("</th>");
+        }
+        self.markup("</tr></thead><tbody>\n");
+        for row in rows {
+            self.markup("<tr>");
+            for (head, cell) in heads.iter().zip(row) {
+                self.markup("<td")
+                    .markup(class(head))
+                    .markup(" data-head=\"")
+                    .markup(title(head))
+                    .markup("\">");
+                cell.write(self);
+                self.markup("</td>");
+            }
+            self.markup("</tr>\n");
+        }
+        self.markup("</tbody></table>\n")
+    }
+
+    pub fn into_text(self) -> String {
+        self.0
+    }
+}
+
+fn class(head: &'static str) -> &'static str {
+    if head.ends_with('#') {
+        " class=n"
+    } else {
+        ""
+    }
+}
+
+fn title(head: &'static str) -> &'static str {
+    head.trim_end_matches('#')
+}
+
+/// What is in a table's cell.
+pub enum Cell {
+    Text(String),
+    /// A text that leads to a series.
+    Series {
+        text: String,
+        id: String,
+    },
+}
+
+impl Cell {
+    pub fn of(text: impl Display) -> Cell {
+        Cell::Text(text.to_string())
+    }
+
+    fn write(self, html: &mut Html) {
+        match self {
+            Cell::Text(text) => html.text(text),
+            Cell::Series { text, id } => html
+                .markup("<a href=\"series?id=")
+                .query(&id)
+                .markup("\">")
+                .text(text)
+                .markup("</a>"),
+        };
+    }
+}
+
+/// A whole number in groups of three digits.
+pub fn grouped(number: impl Display) -> String {
+    let text = number.to_string();
+    let (sign, digits) = match text.strip_prefix('-') {
+        Some(digits) => ("-", digits),
+        None => ("", &text[..]),
+    };
+    let mut grouped = sign.to_string();
+    for (place, digit) in digits.chars().enumerate() {
+        if place > 0 && (digits.len() - place) % 3 == 0 {
+            grouped.push(',');
+        }
+        grouped.push(digit);
+    }
+    grouped
+}
+
+#[cfg(test)]
+mod tests {
+    use super::*;
+
+    #[test]
+    fn what_others_wrote_is_no_markup() {
+        let mut html = Html::default();
+        html.text("</td><script>alert(1)</script>\" onload='x' &amp;\n\u{202e}\u{1b}[2J");
+        let text = html.into_text();
+        assert!(
+            !text.contains(['<', '>', '"', '\'']) && !text.contains(char::is_control),
+            "{text}"
+        );
+        assert!(
+            text.starts_with("&lt;/td&gt;&lt;script&gt;") && text.contains("&amp;amp;"),
+            "{text}"
+        );
+        let mut long = Html::default();
+        long.text("<".repeat(100_000)).query("\"&?#<é");
+        assert_eq!(long.into_text(), "&lt;".repeat(SHOWN) + "..%22%26%3F%23%3C%C3%A9");
+    }
+
+    #[test]
+    fn a_table_has_its_rows() {
+        let mut html = Html::default();
+        let id = "a&b".to_string();
+        let row = vec![Cell::of("<i>"), Cell::Series { text: "n".into(), id }];
+        html.table(&["name", "total#"], vec![row])
+            .table(&["name"], Vec::new());
+        assert_eq!(
+            html.into_text(),
+            "<table><thead><tr><th>name</th><th class=n>total</th></tr></thead><tbody>\n<tr><td data-head=\"name\">&lt;i&gt;</td>\
+             <td class=n data-head=\"total\"><a href=\"series?id=a%26b\">n</a></td></tr>\n</tbody></table>\n<p class=none>none</p>\n"
+        );
+    }
+
+    #[test]
+    fn numbers_are_in_groups() {
+        let numbers = ["0", "999", "1000", "-1234567", "18446744073709551616"].map(grouped);
+        assert_eq!(
+            numbers,
+            ["0", "999", "1,000", "-1,234,567", "18,446,744,073,709,551,616"]
+        );
+    }
+}

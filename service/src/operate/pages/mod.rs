@@ -1,0 +1,111 @@
+//! The operator's pages: `/` and `/series`, whole without their script, which loads `/` anew every two seconds. They only
+//! read.
+//!
+//! `html` escapes all that the program has not written itself; nothing is loaded from elsewhere, and the policy forbids
+//! it.
+
+mod html;
+mod overview;
+mod plot;
+mod pulse;
+mod series;
+
+pub use pulse::Pulse;
+
+use super::status::Status;
+use super::{reply, Desk};
+use crate::command::values::seconds_shown;
+use html::Html;
+use hyper::header::X_CONTENT_TYPE_OPTIONS;
+use hyper::header::{HeaderName, HeaderValue, CACHE_CONTROL, CONTENT_SECURITY_POLICY, REFERRER_POLICY};
+use hyper::{Body, Response};
+
+const PAGE: &str = "text/html; charset=utf-8";
+
+/// Of every page: nothing is run or loaded but the two files beside it, and no other page shows it within itself.
+const HEADERS: [(HeaderName, &str); 4] = [
+    (
+        CONTENT_SECURITY_POLICY,
+        "default-src 'none'; style-src 'self'; script-src 'self'; connect-src 'self'; form-action 'self'; base-uri 'none'; \
+         frame-ancestors 'none'",
+    ),
+    (X_CONTENT_TYPE_OPTIONS, "nosniff"),
+    (REFERRER_POLICY, "no-referrer"),
+    (CACHE_CONTROL, "no-store"),
+];
+
+/// What a browser asks for.
+#[derive(Debug, PartialEq, Eq)]
+pub enum Page {
+    Overview,
+    Series,
+    Style,
+    Script,
+}
+
+/// Which page it is: the other one is led to.
+#[derive(Clone, Copy, PartialEq, Eq)]
+enum Place {
+    Overview,
+    Series,
+}
+
+impl Desk {
+    /// `query` is what stands behind the path.
+    pub(super) async fn page(&self, page: Page, query: &str) -> Response<Body> {
+        let mut response = match page {
+            Page::Overview => reply(200, PAGE, self.overview().await),
+            Page::Series => reply(200, PAGE, self.series_page(query).await),
+            Page::Style => reply(200, "text/css", include_str!("page.css")),
+            Page::Script => reply(200, "text/javascript", include_str!("page.js")),
+        };
+        for (name, value) in HEADERS {
+            response
+                .headers_mut()
+                .insert(name, HeaderValue::from_static(value));
+        }
+        response
+    }
+}
+
+/// A whole page around what it is of.
+fn frame(place: Place, status: &Status, body: Html) -> String {
+    let mut html = Html::default();
+    html.markup("<!doctype html><html lang=en><head><meta charset=utf-8><title>totxegun</title>");
+    html.markup("<meta name=viewport content=\"width=device-width, initial-scale=1\"><meta name=color-scheme content=\"light dark\">");
+    html.markup("<link rel=stylesheet href=page.css><link rel=icon href=\"data:,\">");
+    if place == Place::Overview {
+        html.markup(
+            "<script src=page.js defer></script><noscript><meta http-equiv=refresh content=10></noscript>",
+        );
+    }
+    html.markup("</head><body><header><h1>totxegun</h1>");
+    let why = status.slots.iter().find_map(|slot| slot.unavailable.as_deref());
+    match why {
+        None => html.markup("<p id=state class=\"state good\">takes posts</p>"),
+        Some(why) => html
+            .markup("<p id=state class=\"state bad\">posts get 503: ")
+            .text(why)
+            .markup("</p>"),
+    };
+    let current = |here: Place| if here == place { " aria-current=page" } else { "" };
+    html.markup("<nav><a href=\"./\"")
+        .markup(current(Place::Overview))
+        .markup(">Overview</a>");
+    html.markup("<a href=series")
+        .markup(current(Place::Series))
+        .markup(">Series</a></nav></header>\n<main id=main>");
+    let mut whole = html.into_text();
+    whole.push_str(&body.into_text());
+    let mut end = Html::default();
+    end.markup("</main><footer>totxegun ")
+        .text(&status.version)
+        .markup(", up ")
+        .text(seconds_shown(status.uptime_seconds));
+    end.markup("; senders post to ")
+        .text(&status.listen)
+        .markup("; sink ")
+        .text(&status.sink);
+    end.markup("</footer></body></html>\n");
+    whole + &end.into_text()
+}

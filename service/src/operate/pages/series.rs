@@ -1,0 +1,376 @@
+//! `GET /series`: search by name and attribute, with each total as the sink has it now; and one series by itself.
+
+use super::html::{grouped, Cell, Html};
+use super::plot::{bars, Bar};
+use super::{frame, Desk, Place};
+use crate::log::utc;
+use crate::operate::totals::{identity, Totals};
+use crate::sinks::sqlite::by_hour::Hour;
+use crate::sinks::sqlite::totals::{text, Kind, SeriesTotal};
+use crate::sinks::sqlite::Exact;
+use serde_json::{Map, Value};
+use std::time::{SystemTime, UNIX_EPOCH};
+
+/// How many are shown at most.
+const ROWS: usize = 100;
+
+/// In seconds; and how many are plotted.
+const HOUR: u64 = 3600;
+const HOURS: u64 = 48;
+
+/// What is asked for: parts of a name and of attributes, or one series.
+#[derive(Debug, Default, PartialEq, Eq)]
+struct Wanted {
+    name: String,
+    attribute: String,
+    /// By `identity`.
+    id: String,
+}
+
+impl Desk {
+    pub(super) async fn series_page(&self, query: &str) -> String {
+        let wanted = Wanted::of(query);
+        let status = self.status();
+        let mut html = Html::default();
+        form(&mut html, &wanted);
+        match &self.totals {
+            None => {
+                html.markup("<p class=note>Only a SQLite or PostgreSQL sink has totals here: ask ")
+                    .text(&status.sink);
+                html.markup(" for them.</p>");
+            }
+            Some(totals) => match totals.read(move |series| Ok(wanted.found(series))).await {
+                Ok(found) => {
+                    found.write(&mut html);
+                    if let Some(one) = found.one() {
+                        last_hours(&mut html, totals, one).await;
+                    }
+                }
+                Err(why) => {
+                    html.markup("<p class=\"note bad\">The sink can't be read: ")
+                        .text(why)
+                        .markup("</p>");
+                }
+            },
+        }
+        frame(Place::Series, &status, html)
+    }
+}
+
+/// What was found: the first rows, and how many there are.
+struct Found {
+    rows: Vec<SeriesTotal>,
+    count: usize,
+    of: usize,
+    is_one: bool,
+}
+
+impl Wanted {
+    fn of(query: &str) -> Wanted {
+        let mut wanted = Wanted::default();
+        for pair in query.split('&') {
+            let (key, value) = pair.split_once('=').unwrap_or((pair, ""));
+            let value = value.replace('+', " ");
+            let value = percent_encoding::percent_decode_str(&value).decode_utf8_lossy();
+            match key {
+                "name" => wanted.name = value.trim().to_string(),
+                "attribute" => wanted.attribute = value.trim().to_string(),
+                "id" => wanted.id = value.into_owned(),
+                _ => {}
+            }
+        }
+        wanted
+    }
+
+    fn found(self, series: Vec<SeriesTotal>) -> Found {
+        let of = series.len();
+        let mut rows: Vec<SeriesTotal> = series.into_iter().filter(|one| self.takes(one)).collect();
+        let count = rows.len();
+        rows.truncate(ROWS);
+        Found {
+            rows,
+            count,
+            of,
+            is_one: !self.id.is_empty(),
+        }
+    }
+
+    fn takes(&self, series: &SeriesTotal) -> bool {
+        if !self.id.is_empty() {
+            return identity(series) == self.id;
+        }
+        let has = |words: &str| {
+            let wanted = words.to_lowercase();
+            pairs(&series.attributes, series).any(|pair| pair.to_lowercase().contains(&wanted))
+        };
+        series.name.to_lowercase().contains(&self.name.to_lowercase())
+            && self.attribute.split_whitespace().all(has)
+    }
+}
+
+/// Each attribute of a point and its resource as `key=value`.
+fn pairs<'s>(
+    attributes: &'s Map<String, Value>,
+    series: &'s SeriesTotal,
+) -> impl Iterator<Item = String> + 's {
+    let all = attributes.iter().chain(&series.resource);
+    all.map(|(key, value)| format!("{key}={}", text(value)))
+}
+
+fn joined(attributes: &Map<String, Value>) -> String {
+    let all = attributes
+        .iter()
+        .map(|(key, value)| format!("{key}={}", text(value)));
+    all.collect::<Vec<String>>().join(", ")
+}
+
+fn form(html: &mut Html, wanted: &Wanted) {
+    html.markup("<form action=series><label>Name <input name=name type=search value=\"")
+        .text(&wanted.name);
+    html.markup("\"></label><label>Attributes <input name=attribute type=search placeholder=\"route=/ shop\" value=\"");
+    html.text(&wanted.attribute)
+        .markup("\"></label><button>Search</button></form>\n");
+}
+
+impl Found {
+    /// The only one, where one was asked for.
+    fn one(&self) -> Option<&SeriesTotal> {
+        self.rows.first().filter(|_| self.is_one)
+    }
+
+    fn write(&self, html: &mut Html) {
+        match self.one() {
+            Some(one) => self::one(html, one),
+            None => self.table(html),
+        }
+    }
+
+    fn table(&self, html: &mut Html) {
+        html.markup("<section><h2>")
+            .text(grouped(self.count))
+            .markup(" of ")
+            .text(grouped(self.of))
+            .markup(" series</h2>");
+        let rows = self.rows.iter().map(|series| {
+            let count = series
+                .histogram
+                .as_ref()
+                .map(|histogram| grouped(histogram.count));
+            vec![
+                Cell::Series {
+                    text: series.name.clone(),
+                    id: identity(series),
+                },
+                Cell::of(joined(&series.attributes)),
+                Cell::of(grouped(series.total)),
+                Cell::of(&series.unit),
+                Cell::of(count.unwrap_or_default()),
+                Cell::of(time(series.end_ns)),
+                Cell::of(joined(&series.resource)),
+            ]
+        });
+        html.table(
+            &[
+                "name",
+                "attributes",
+                "total#",
+                "unit",
+                "count#",
+                "until (UTC)",
+                "resource",
+            ],
+            rows.collect(),
+        );
+        if self.count > ROWS {
+            html.markup("<p class=note>These are the first ")
+                .text(ROWS)
+                .markup(": write more of the name or an attribute.</p>");
+        }
+        html.markup("</section>\n");
+    }
+}
+
+/// All that is known of one.
+fn one(html: &mut Html, series: &SeriesTotal) {
+    let kind = match series.kind {
+        Kind::Sum => "sum",
+        Kind::Monotonic => "monotonic sum",
+        Kind::Histogram => "histogram",
+    };
+    html.markup("<section><h2>")
+        .text(&series.name)
+        .markup("</h2><p class=total>")
+        .text(grouped(series.total));
+    html.markup(" <small>").text(&series.unit).markup("</small></p>");
+    let row = |what: &'static str, value: String| vec![Cell::of(what), Cell::Text(value)];
+    let mut rows = vec![
+        row("kind", kind.to_string()),
+        row("attributes", joined(&series.attributes)),
+        row("resource", joined(&series.resource)),
+        row(
+            "scope",
+            format!(
+                "{} {} {}",
+                series.scope_name,
+                series.scope_version,
+                joined(&series.scope_attributes)
+            ),
+        ),
+        row("from (UTC)", time(series.start_ns)),
+        row("until (UTC)", time(series.end_ns)),
+        row("spans", grouped(series.points)),
+    ];
+    if let Some(histogram) = &series.histogram {
+        rows.push(row("count", grouped(histogram.count)));
+    }
+    html.table(&["what", "value"], rows).markup("</section>\n");
+    if let Some(histogram) = &series.histogram {
+        let bounds = histogram
+            .bounds
+            .iter()
+            .map(|bound| format!("to {}", grouped(bound)));
+        let names = bounds.chain(["over all of them".to_string()]);
+        let rows = names
+            .zip(&histogram.buckets)
+            .map(|(name, count)| vec![Cell::Text(name), Cell::of(grouped(count))]);
+        html.markup("<section><h2>Buckets</h2>")
+            .table(&["values", "count#"], rows.collect())
+            .markup("</section>\n");
+    }
+}
+
+/// What came in each of the last hours: of a histogram how many values, else their sum. Nothing where the sink has no hours.
+async fn last_hours(html: &mut Html, totals: &Totals, series: &SeriesTotal) {
+    let now = SystemTime::now()
+        .duration_since(UNIX_EPOCH)
+        .map_or(0, |since| since.as_secs() / HOUR);
+    let from = (now + 1).saturating_sub(HOURS);
+    match totals.hours(series.clone(), from).await {
+        Ok(None) => {}
+        Ok(Some(hours)) => plot_of_hours(html, &hours, from),
+        Err(why) => {
+            html.markup("<p class=\"note bad\">The hours can't be read: ")
+                .text(why)
+                .markup("</p>");
+        }
+    }
+}
+
+fn plot_of_hours(html: &mut Html, hours: &[Hour], from: u64) {
+    let hour = |hour: u64| utc(hour * HOUR)[..16].to_string();
+    let of = |wanted: u64| hours.iter().find(|hour| hour.hour == wanted);
+    let bar = |wanted: u64| {
+        let value = of(wanted).map_or(Exact::default(), |hour| hour.count.unwrap_or(hour.total));
+        Bar {
+            value: value.0 as f64,
+            text: format!("{}: {}", hour(wanted), grouped(value)),
+        }
+    };
+    html.markup("<section><h2>The last 48 hours</h2>");
+    bars(html, &(from..from + HOURS).map(bar).collect::<Vec<Bar>>());
+    let rows = hours.iter().rev().map(|one| {
+        let count = one.count.map(grouped).unwrap_or_default();
+        vec![
+            Cell::Text(hour(one.hour)),
+            Cell::of(grouped(one.total)),
+            Cell::Text(count),
+        ]
+    });
+    html.table(&["hour (UTC)", "total#", "count#"], rows.collect())
+        .markup("</section>\n");
+}
+
+/// Nanoseconds since 1970 to the second, in UTC.
+fn time(nanoseconds: u64) -> String {
+    utc(nanoseconds / 1_000_000_000)
+}
+
+#[cfg(test)]
+mod tests {
+    use super::*;
+    use serde_json::json;
+
+    fn series(name: &str, attributes: Value) -> SeriesTotal {
+        SeriesTotal {
+            name: name.into(),
+            unit: "1".into(),
+            kind: Kind::Monotonic,
+            attributes: attributes.as_object().unwrap().clone(),
+            resource: json!({"service.name": "shop"}).as_object().unwrap().clone(),
+            scope_name: String::new(),
+            scope_version: String::new(),
+            scope_attributes: Map::new(),
+            points: 1,
+            start_ns: 1,
+            end_ns: 2,
+            total: Exact(1_234_567),
+            histogram: None,
+        }
+    }
+
+    fn names(query: &str) -> Vec<String> {
+        let all = vec![
+            series("orders", json!({"route": "/a b", "code": 200})),
+            series("orders.value", json!({"route": "/c&d"})),
+            series("Requests", json!({"<b>": "\"'"})),
+        ];
+        let found = Wanted::of(query).found(all);
+        assert_eq!((found.count, found.of), (found.rows.len(), 3));
+        found.rows.into_iter().map(|row| row.name).collect()
+    }
+
+    #[test]
+    fn series_are_found_by_parts() {
+        let all = ["orders", "orders.value", "Requests"];
+        assert_eq!(names(""), all);
+        assert_eq!(names("name=&attribute=&x=1"), all);
+        assert_eq!(names("name=ORDER"), all[..2]);
+        assert_eq!(names("attribute=code%3D200"), all[..1]);
+        assert_eq!(names("attribute=%2Fc%26d+service.name%3Dshop"), all[1..2]);
+        assert_eq!(names("attribute=shop&name=quest"), all[2..]);
+        assert!(names("name=nobody").is_empty() && names("attribute=%FF").is_empty());
+        let id = identity(&series("Requests", json!({"<b>": "\"'"})));
+        assert_eq!(names(&format!("id={id}&name=orders")), all[2..]);
+    }
+
+    #[test]
+    fn each_of_the_last_hours_has_its_bar() {
+        let hours = [(1000, 5, None), (1047, 7000, Some(Exact(3)))];
+        let hours = hours.map(|(hour, total, count)| Hour {
+            hour,
+            total: Exact(total),
+            count,
+        });
+        let mut html = Html::default();
+        plot_of_hours(&mut html, &hours, 1000);
+        let text = html.into_text();
+        assert_eq!(text.matches("<rect").count(), 48);
+        assert!(
+            text.contains("<title>1970-02-11 16:00: 5</title>")
+                && text.contains("<title>1970-02-13 15:00: 3</title>")
+        );
+        assert!(text.contains("7,000</td>"), "{text}");
+    }
+
+    #[test]
+    fn what_a_sender_wrote_is_no_markup() {
+        let hostile = "\"><script>alert(1)</script><img src=x onerror=alert(1)>";
+        let mut made = series(hostile, json!({hostile: hostile}));
+        (made.unit, made.scope_name) = (hostile.into(), hostile.into());
+        made.resource = made.attributes.clone();
+        let mut html = Html::default();
+        form(
+            &mut html,
+            &Wanted::of("name=%22%3E%3Cscript%3E&attribute=%27%3Cscript%3E"),
+        );
+        one(&mut html, &made);
+        let found = Wanted::default().found(vec![made]);
+        found.write(&mut html);
+        let text = html.into_text();
+        assert!(
+            !text.contains("<script") && !text.contains("<img") && !text.contains("\"\">"),
+            "{text}"
+        );
+        assert!(text.contains("1,234,567"), "{text}");
+    }
+}

@@ -1,0 +1,97 @@
+//! Whose a connection is, as the kernel knows it of one that comes from this machine.
+
+use crate::intake::ends::Ends;
+use std::net::{IpAddr, SocketAddr};
+
+/// The columns of `/proc/net/tcp`.
+const LOCAL: usize = 1;
+const REMOTE: usize = 2;
+const UID: usize = 7;
+
+/// The user's name, or `uid N`; none where the other end is on another machine, or in a network of its own.
+pub fn of(ends: Ends) -> Option<String> {
+    let table = match ends.theirs.ip().to_canonical() {
+        IpAddr::V4(_) => "/proc/net/tcp",
+        IpAddr::V6(_) => "/proc/net/tcp6",
+    };
+    let uid = uid(&std::fs::read_to_string(table).ok()?, ends)?;
+    let users = std::fs::read_to_string("/etc/passwd").unwrap_or_default();
+    Some(name(&users, &uid).unwrap_or_else(|| format!("uid {uid}")))
+}
+
+/// The user of the socket whose end this is: the other end has a row of its own, of this program.
+fn uid(table: &str, ends: Ends) -> Option<String> {
+    let (theirs, ours) = (written(ends.theirs), written(ends.ours));
+    let rows = table
+        .lines()
+        .map(|line| line.split_ascii_whitespace().collect::<Vec<&str>>());
+    let mut found = rows.filter(|row| row.get(LOCAL) == Some(&&*theirs) && row.get(REMOTE) == Some(&&*ours));
+    found.next()?.get(UID).map(|uid| uid.to_string())
+}
+
+/// An address as the table has it: words of the address as this machine has them in memory, and the port.
+fn written(address: SocketAddr) -> String {
+    let bytes = match address.ip().to_canonical() {
+        IpAddr::V4(ip) => ip.octets().to_vec(),
+        IpAddr::V6(ip) => ip.octets().to_vec(),
+    };
+    let words = bytes
+        .chunks_exact(4)
+        .map(|word| u32::from_ne_bytes([word[0], word[1], word[2], word[3]]));
+    let words: String = words.map(|word| format!("{word:08X}")).collect();
+    format!("{words}:{:04X}", address.port())
+}
+
+fn name(users: &str, uid: &str) -> Option<String> {
+    let mut rows = users.lines().map(|line| line.split(':').collect::<Vec<&str>>());
+    let row = rows.find(|row| row.get(2) == Some(&uid))?;
+    Some(row[0].to_string())
+}
+
+#[cfg(test)]
+mod tests {
+    use super::*;
+    use std::net::{TcpListener, TcpStream};
+    use std::os::unix::fs::MetadataExt;
+
+    const TABLE: &str =
+        "  sl  local_address rem_address   st tx_queue rx_queue tr tm->when retrnsmt   uid  timeout inode
+   0: 0100007F:10DF 00000000:0000 0A 00000000:00000000 00:00000000 00000000   900        0 1
+   1: 0100007F:10DF 0100007F:B2A0 01 00000000:00000000 00:00000000 00000000   900        0 2
+   2: 0100007F:B2A0 0100007F:10DF 01 00000000:00000000 00:00000000 00000000  1000        0 3
+";
+
+    #[test]
+    fn the_other_end_s_user_is_found() {
+        let ends = Ends {
+            theirs: "127.0.0.1:45728".parse().unwrap(),
+            ours: "127.0.0.1:4319".parse().unwrap(),
+        };
+        assert_eq!(uid(TABLE, ends), Some("1000".to_string()));
+        let other = Ends {
+            theirs: "192.0.2.1:45728".parse().unwrap(),
+            ..ends
+        };
+        assert_eq!(uid(TABLE, other), None);
+        let users = "root:x:0:0::/root:/bin/sh\nann:x:1000:1000::/home/ann:/bin/sh\n";
+        assert_eq!(name(users, "1000"), Some("ann".to_string()));
+        assert_eq!(name(users, "100"), None);
+    }
+
+    /// This process' own user is that of a connection that it makes.
+    #[test]
+    fn a_connection_of_this_machine_has_its_user() {
+        let users = std::fs::read_to_string("/etc/passwd").unwrap();
+        let own = std::fs::metadata("/proc/self").unwrap().uid().to_string();
+        let own = name(&users, &own).unwrap_or(format!("uid {own}"));
+        for place in ["127.0.0.1:0", "[::1]:0"] {
+            let Ok(listener) = TcpListener::bind(place) else {
+                continue; // a machine without IPv6
+            };
+            let _theirs = TcpStream::connect(listener.local_addr().unwrap()).unwrap();
+            let (ours, theirs) = listener.accept().unwrap();
+            let ours = ours.local_addr().unwrap();
+            assert_eq!(of(Ends { theirs, ours }), Some(own.clone()), "{place}");
+        }
+    }
+}

@@ -1,0 +1,60 @@
+//! What operators do is recorded in the folder and in the log.
+
+use crate::support::Place;
+use std::os::unix::fs::MetadataExt;
+
+/// The name of who runs this test, as the machine knows it.
+fn own_name() -> String {
+    let users = std::fs::read_to_string("/etc/passwd").unwrap();
+    let uid = std::fs::metadata("/proc/self").unwrap().uid().to_string();
+    let row = users.lines().find(|row| row.split(':').nth(2) == Some(&uid));
+    row.map_or(format!("uid {uid}"), |row| {
+        row.split(':').next().unwrap().to_string()
+    })
+}
+
+#[test]
+fn who_did_what_and_what_came_of_it() {
+    let place = Place::new();
+    let service = place.serve();
+    for (path, status) in [
+        ("/flush", 200),
+        ("/quarantine/A", 200),
+        ("/lift/A", 200),
+        ("/lift/B", 400),
+        ("/dead/0-a-1/drop", 404),
+        ("/dead/0-a-1/resend", 404),
+    ] {
+        assert_eq!(service.order(path).0, status, "{path}");
+    }
+    let text = std::fs::read_to_string(place.data().join("acts.jsonl")).unwrap();
+    let who = own_name();
+    let acts: Vec<serde_json::Value> = text
+        .lines()
+        .map(|line| serde_json::from_str(line).unwrap())
+        .collect();
+    let found: Vec<_> = acts
+        .iter()
+        .map(|act| (&act["act"], &act["of"], act.get("outcome")))
+        .collect();
+    let mut wanted = Vec::new();
+    let told: [[serde_json::Value; 3]; 5] = [
+        ["quarantine".into(), "A".into(), "done".into()],
+        ["lift".into(), "A".into(), "done".into()],
+        ["lift".into(), "B".into(), "400: not quarantined".into()],
+        ["dead drop".into(), "0-a-1".into(), "404: no such request".into()],
+        [
+            "dead resend".into(),
+            "0-a-1".into(),
+            "404: no such request".into(),
+        ],
+    ];
+    for [act, of, outcome] in &told {
+        wanted.extend([(act, of, None), (act, of, Some(outcome))]);
+    }
+    assert_eq!(found, wanted);
+    assert!(acts.iter().all(|act| act["who"] == who.as_str()), "{text}");
+    let log = place.log();
+    assert!(log.contains(&format!("quarantine A, by {who}: done")), "{log}");
+    assert!(!log.contains("flush, by"), "{log}");
+}

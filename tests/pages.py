@@ -1,0 +1,309 @@
+#!/usr/bin/env python3
+"""The operator's pages in a browser, headless Chromium: what they show is what was posted and what the sink has.
+
+    tests/pages.py TOTXEGUN [FOLDER]
+
+Senders post to a service with a SQLite sink, also names that are markup, and posts and points that are not taken. Then the
+pages as the browser has them, with their script and without it, are compared with what was posted, and each total with the
+database's own. No name of a sender runs as a script or becomes an element, nothing is loaded from elsewhere, and no
+part is wider than a phone. With FOLDER, a picture of each page at 1280 and 390 pixels, light and dark, is left there.
+Without Chromium all is left out, with status 77.
+
+Each line is one check; the last line counts those that passed and failed, and the status is 0 where none failed.
+"""
+import contextlib
+import html.parser
+import http.client
+import http.server
+import json
+import os
+import re
+import shutil
+import sqlite3
+import subprocess
+import sys
+import tempfile
+import threading
+import time
+
+from checks import Checks
+from service import JSON, Service, ask, in_json, wait_until
+
+HOSTILE = '"><script>document.title="owned"</script><img src=x onerror="document.title=1">\'&amp;\u202e'
+LIGHT, DARK = (), ("--blink-settings=preferredColorScheme=0",)
+WIDE, PHONE = 1280, 390
+MOST_BYTES = 60_000
+SECONDS = 60
+# Within the last hours.
+START = time.time_ns() // 10**9 * 10**9 - 3_700 * 10**9
+
+
+def chromium():
+    return next((name for name in ("chromium", "chromium-browser", "google-chrome") if shutil.which(name)), None)
+
+
+class Page(html.parser.HTMLParser):
+    """Elements, tables by their headings, and texts of a page."""
+
+    def __init__(self, text):
+        super().__init__()
+        self.elements, self.tables, self.links, self.texts, self.handlers = [], {}, [], [], []
+        self.heading, self.where, self.rows = None, None, None
+        self.feed(text)
+
+    def handle_starttag(self, tag, attrs):
+        self.elements.append(tag)
+        self.handlers += [name for name, _ in attrs if name.startswith("on") or name == "style"]
+        self.links += [value for name, value in attrs if name in ("href", "src", "action")]
+        self.where = tag if tag in ("h2", "td", "title") else self.where
+        if tag == "h2":
+            self.heading = ""
+        if tag == "tr":
+            self.tables.setdefault(self.heading, []).append([])
+        if tag == "td":
+            self.tables[self.heading][-1].append("")
+
+    def handle_endtag(self, tag):
+        if tag == self.where:
+            self.where = None
+
+    def handle_data(self, data):
+        self.texts.append(data.strip())
+        if self.where == "h2":
+            self.heading += data
+        if self.where == "td":
+            self.tables[self.heading][-1][-1] += data
+
+    def rows_of(self, heading):
+        return [row for row in self.tables.get(heading, []) if row]
+
+
+class Browser:
+    def __init__(self, folder, port):
+        self.folder, self.place = folder, f"http://127.0.0.1:{port}"
+
+    def run(self, *words, path="/", width=WIDE, height=2400, place=None):
+        words = [chromium(), "--headless", "--no-sandbox", "--disable-gpu", "--hide-scrollbars", "--disable-dev-shm-usage",
+                 f"--user-data-dir={self.folder}/chromium", f"--window-size={width},{height}", *words, place or self.place + path]
+        return subprocess.run(words, capture_output=True, timeout=SECONDS, check=False).stdout.decode(errors="replace")
+
+    def dom(self, path="/", *words):
+        return self.run("--dump-dom", "--virtual-time-budget=6000", *words, path=path)
+
+    def picture(self, name, path, width, height, *words):
+        self.run(f"--screenshot={name}", *words, path=path, width=width, height=height)
+
+
+def point(start, value, attributes):
+    return {"startTimeUnixNano": str(start), "timeUnixNano": str(start + 10**9), "asInt": str(value),
+            "attributes": [{"key": key, "value": {"stringValue": text}} for key, text in attributes.items()]}
+
+
+def request(name, points, unit="1", resource="shop", temporality=1):
+    data = {"aggregationTemporality": temporality, "isMonotonic": True, "dataPoints": points}
+    resource = {"attributes": [{"key": "service.name", "value": {"stringValue": resource}}]}
+    return {"resourceMetrics": [{"resource": resource, "scopeMetrics": [{"scope": {"name": "s"}, "metrics": [
+        {"name": name, "unit": unit, "sum": data}]}]}]}
+
+
+def post(service, body, sender="shop-1", path="/v1/metrics"):
+    body = body if isinstance(body, bytes) else json.dumps(body).encode()
+    return ask(service.listen, "POST", path, body, {"Content-Type": JSON, "x-sender": sender})
+
+
+def post_all(service):
+    """So many posts of each kind: those that are taken, and those that are not."""
+    for step in range(5):
+        for route in ("/cart", "/search"):
+            post(service, request("http.requests", [point(START + step * 10**9, 1_000_000 + step, {"route": route})], resource=route))
+    post(service, request(HOSTILE, [point(START, 7, {HOSTILE: HOSTILE})], HOSTILE, HOSTILE), "shop-2")
+    post(service, in_json([("wait", START, START + 10, ([1, 2, 3, 4], 55))]), "shop-2")
+    foreign = request("c", [point(START, 1, {}), point(START, 2, {})], temporality=2)
+    foreign["resourceMetrics"][0]["scopeMetrics"][0]["metrics"].append({"name": "g", "gauge": {"dataPoints": [{}, {}, {}]}})
+    answer = post(service, foreign, "shop-2")[1]
+    post(service, request("http.requests", [point(START, 1, {"route": "/cart"})], resource="/cart"))
+    other = post(service, request("http.requests", [point(START + 10**12, 1, {"route": "/cart"})], resource="/cart"), "thief")[1]
+    post(service, b"no JSON", "<script>a</script>")
+    post(service, {}, "-", "/v1/traces")
+    return json.loads(answer)["partialSuccess"], json.loads(other)["message"]
+
+
+def sent(service, path):
+    """A page as a browser without script has it."""
+    return Page(service.asked("GET", path)[1].decode())
+
+
+def grouped(number):
+    return f"{number:,}"
+
+
+def look_at_answers(checks, answer, other):
+    checks.same("what is not taken is counted by cause", ("5", 'points outside the profile: 3 gauges, 2 cumulative sums: see '
+                'docs/OPERATING.md, "Senders"'), (answer["rejectedDataPoints"], answer["errorMessage"]))
+    checks.same("another's series is named", "other writer: point 0: `http.requests` {route=/cart} is another sender's: give each "
+                "process its own service.instance.id", other)
+
+
+def look_at_overview(checks, page, how):
+    refused = {(row[0], row[1], row[3]) for row in page.rows_of("Refused posts")}
+    wanted = {("shop-1", "400", "1"), ("thief", "400", "1"), ("- (who names none)", "400", "1"), ("- (who names none)", "404", "1")}
+    checks.same(f"{how}: refusals are by sender and status, with their counts", wanted, refused)
+    checks.true(f"{how}: each says what to do", all(row[-1] for row in page.rows_of("Refused posts")), page.rows_of("Refused posts"))
+    foreign = {tuple(row[:3]) for row in page.rows_of("Points not taken")}
+    checks.same(f"{how}: points not taken are by sender and cause", {("shop-2", "gauge", "3"), ("shop-2", "cumulative-sum", "2")}, foreign)
+    senders = {row[0]: row[2:] for row in page.rows_of("Senders, by their last post")}
+    checks.same(f"{how}: senders have their posts", {"shop-1": ["10", "1"], "shop-2": ["3", "0"], "thief": ["0", "1"],
+                "- (who names none)": ["0", "2"]}, senders)
+
+
+def look_at_series(checks, browser, database):
+    page = Page(browser.dom("/series"))
+    with contextlib.closing(sqlite3.connect(f"file:{database}?mode=ro", uri=True)) as connection:
+        stored = connection.execute("select name, attributes, total, count from totals").fetchall()
+    wanted = sorted((name, grouped(total), grouped(count) if count is not None else "") for name, _, total, count in stored)
+    shown = [text.replace("\u202e", " ") for text, *_ in wanted]
+    found = sorted((row[0], row[2], row[4]) for row in page.rows_of(f"{len(stored)} of {len(stored)} series"))
+    checks.same("each series has the database's total", sorted(zip(shown, *list(zip(*wanted))[1:])), found)
+    some = Page(browser.dom("/series?name=HTTP&attribute=route%3D%2Fcart"))
+    checks.same("a search finds by parts of name and attribute", [["http.requests", "route=/cart", grouped(5_000_010)]],
+                [row[:3] for row in some.rows_of("1 of 4 series")])
+    link = next(link for link in some.links if link.startswith("series?id="))
+    one = Page(browser.dom(f"/{link}"))
+    checks.true("a series by itself has its total", grouped(5_000_010) in one.texts, one.texts)
+    look_at_hours(checks, one, database)
+    return [page, some, one], link
+
+
+def look_at_hours(checks, page, database):
+    """A bar an hour, where the sink has hours."""
+    with contextlib.closing(sqlite3.connect(f"file:{database}?mode=ro", uri=True)) as connection:
+        if not connection.execute("select 1 from sqlite_schema where name = 'by_hour'").fetchone():
+            print("note: the sink has no hours", flush=True)
+            return
+        stored = connection.execute("select strftime('%Y-%m-%d %H:00', hour), total from by_hour where name = 'http.requests' and "
+                                    "attributes like '%/cart%' order by hour desc").fetchall()
+    wanted = [[hour, grouped(total)] for hour, total in stored]
+    checks.same("a series has the database's hours", wanted, [row[:2] for row in page.rows_of("The last 48 hours")])
+    checks.same("48 of them are plotted", 48, page.elements.count("rect"))
+
+
+def look_at_safety(checks, service, browser, pages):
+    """Of pages as the browser has them, and as they are sent."""
+    sent = [service.asked("GET", path)[1] for path in ("/", "/series", "/page.css", "/page.js")]
+    checks.true(f"a page is under {MOST_BYTES} bytes with style and script", sum(map(len, sent)) < MOST_BYTES, list(map(len, sent)))
+    titles = [text for page in pages for text in page.texts if text.strip() in ("owned", "1")]
+    scripts = {page.elements.count("script") for page in pages}
+    checks.true("no name became an element or ran", scripts <= {0, 1} and not any("img" in page.elements for page in pages), scripts)
+    checks.true("no title was changed", "owned" not in titles, titles)
+    checks.same("there are no handlers and no styles within", [], [name for page in pages for name in page.handlers])
+    away = [link for page in pages for link in page.links if re.match(r"\w+:|//", link) and link != "data:,"]
+    checks.same("nothing leads or loads elsewhere", [], away)
+
+
+def look_at_rules(checks, service):
+    """What the address refuses of other pages holds for its own too."""
+    def status(path="/", **headers):
+        names = {name.replace("_", "-"): value for name, value in headers.items()}
+        return ask(service.operate, "GET", path, headers=names)[0]
+
+    asked = [status(), status("/series", Sec_Fetch_Site="same-origin"), status(Sec_Fetch_Site="cross-site"),
+             status(Sec_Fetch_Site="same-site"), status(Origin="null"), status(Host="evil.example:4319"),
+             status("/status", Sec_Fetch_Site="same-origin"), ask(service.operate, "POST", "/")[0]]
+    checks.same("only our own pages lead here, and only to pages", [200, 200, 403, 403, 403, 403, 403, 405], asked)
+
+
+def look_at_script(checks, folder, service):
+    """What comes after the page was loaded is shown by its script: a proxy has a sender post before the page is asked for again."""
+    class Between(http.server.BaseHTTPRequestHandler):
+        asked = 0
+
+        def do_GET(self):
+            if self.path == "/":
+                Between.asked += 1
+                if Between.asked == 2:
+                    post(service, {}, "late")
+            connection = http.client.HTTPConnection("127.0.0.1", service.operate, timeout=20)
+            connection.request("GET", self.path, headers=dict(self.headers))
+            answer = connection.getresponse()
+            body = answer.read()
+            self.send_response(answer.status)
+            for name, value in answer.getheaders():
+                self.send_header(name, value)
+            self.end_headers()
+            self.wfile.write(body)
+            connection.close()
+
+        def log_message(self, *words):
+            pass
+
+    with http.server.ThreadingHTTPServer(("127.0.0.1", 0), Between) as server:
+        threading.Thread(target=server.serve_forever, daemon=True).start()
+        before = sent(service, "/")
+        after = Page(Browser(folder, server.server_address[1]).dom("/"))
+        server.shutdown()
+    senders = ["late" in [row[0] for row in page.rows_of("Senders, by their last post")] for page in (before, after)]
+    checks.same("the script shows what has come meanwhile", [False, True], senders)
+
+
+def look_at_phone(checks, service, browser, paths):
+    """The same markup and style in a frame as wide as a phone, which says how wide it is."""
+    style = service.asked("GET", "/page.css")[1].decode()
+    for path in paths:
+        text = service.asked("GET", path)[1].decode().replace("<script src=page.js defer></script>", "")
+        text = text.replace("<link rel=stylesheet href=page.css>", f"<style>{style}</style>")
+        measure = "<script>onload=()=>parent.postMessage(`${document.documentElement.scrollWidth} of ${innerWidth}`,'*')</script></body>"
+        write(f"{browser.folder}/page.html", text.replace("</body>", measure))
+        write(f"{browser.folder}/phone.html", "<script>onmessage=(it)=>{document.title=`wide ${it.data}`}</script>"
+              f"<iframe src=page.html width={PHONE} height=900 frameborder=0></iframe>")
+        shown = browser.run("--dump-dom", "--virtual-time-budget=2000", place=f"file://{browser.folder}/phone.html")
+        checks.same(f"{path.split('=')[0]}: nothing is wider than a phone", [f"{PHONE} of {PHONE}"], re.findall("wide ([0-9]+ of [0-9]+)", shown))
+
+
+def write(path, text):
+    with open(path, "w", encoding="utf-8") as file:
+        file.write(text)
+
+
+def take_pictures(browser, folder, link):
+    for name, path, height in (("overview", "/", 1700), ("series", "/series", 700), ("one", f"/{link}", 900)):
+        for mode, words in (("light", LIGHT), ("dark", DARK)):
+            browser.picture(f"{folder}/{name}-{WIDE}-{mode}.png", path, WIDE, height, *words)
+            browser.picture(f"{folder}/{name}-{PHONE}-{mode}.png", path, PHONE, 2 * height, *words)
+
+
+def run(checks, program, folder, pictures):
+    database = f"{folder}/metrics.db"
+    service = Service(program, f"{folder}/data", f"sqlite:{database}", "--flush-every", "1h", "--durable", "process")
+    with contextlib.ExitStack() as stack:
+        stack.callback(service.kill)
+        service.start()
+        checks.true("the service is ready", service.wait_ready(), service.last_lines())
+        look_at_answers(checks, *post_all(service))
+        service.order("/flush")
+        checks.true("the sink has all", wait_until(service.is_drained), service.last_lines())
+        browser = Browser(folder, service.operate)
+        with_script = Page(browser.dom("/"))
+        look_at_overview(checks, with_script, "with the script")
+        without = sent(service, "/")
+        look_at_overview(checks, without, "without it")
+        pages, link = look_at_series(checks, browser, database)
+        look_at_safety(checks, service, browser, [with_script, without, *pages])
+        look_at_rules(checks, service)
+        look_at_phone(checks, service, browser, ["/", "/series", f"/{link}"])
+        look_at_script(checks, folder, service)
+        if pictures:
+            take_pictures(browser, pictures, link)
+
+
+def main(program, pictures=None):
+    checks = Checks()
+    if checks.has("the operator's pages", *([] if chromium() else ["chromium"])):
+        with tempfile.TemporaryDirectory(prefix="pages-") as folder:
+            run(checks, program, folder, pictures and os.path.abspath(pictures))
+    return checks.end()
+
+
+if __name__ == "__main__":
+    if len(sys.argv) not in (2, 3):
+        sys.exit(f"usage: {sys.argv[0]} TOTXEGUN [FOLDER]")
+    sys.exit(main(os.path.abspath(sys.argv[1]), *sys.argv[2:]))
