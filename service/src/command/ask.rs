@@ -1,6 +1,6 @@
 //! Orders to the running service: flush, quarantine, lift.
 
-use super::values::{counted, place};
+use super::values::{counted, one_operator};
 use super::{client, line, Form};
 use crate::slot::is_sender;
 use anyhow::{Context, Result};
@@ -9,13 +9,13 @@ use clap::Args;
 /// Where the running service is asked.
 #[derive(Args, Clone, Debug)]
 pub struct Address {
-    /// The operator's address of the running service
+    /// The operator's address of the running service: HOST:PORT, or unix:PATH
     #[arg(
         long,
         env = "TOTXEGUN_OPERATE",
         value_name = "ADDRESS",
         default_value = "127.0.0.1:4319",
-        value_parser = place
+        value_parser = one_operator
     )]
     pub operate: String,
 }

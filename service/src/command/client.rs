@@ -1,12 +1,10 @@
 //! Asks the running service at its operator's address.
 
+use super::stream::Stream;
 use crate::log::all_shown;
 use anyhow::{anyhow, bail, Context, Result};
 use std::io::{Error, ErrorKind, Read, Write};
-use std::net::{TcpStream, ToSocketAddrs};
 use std::time::{Duration, Instant};
-
-const CONNECT: Duration = Duration::from_secs(5);
 
 /// A flush of many series, or a sink that takes its time.
 const ANSWER: Duration = Duration::from_secs(120);
@@ -43,13 +41,11 @@ pub fn ask(address: &str, method: &str, path: &str) -> Result<Vec<u8>> {
 }
 
 fn reply(address: &str, method: &str, path: &str, patience: Duration) -> Result<Reply> {
-    let mut stream = connected(address).with_context(|| {
+    let mut stream = Stream::connect(address).with_context(|| {
         format!("no service answers at {address}: start it, or give its operator's address by --operate")
     })?;
     // By its number: a name that it does not know of itself is one that a page may have given it.
-    let host = stream
-        .peer_addr()
-        .map_or(address.to_string(), |place| place.to_string());
+    let host = stream.host().unwrap_or_else(|| address.to_string());
     let request =
         format!("{method} {path} HTTP/1.1\r\nHost: {host}\r\nContent-Length: 0\r\nConnection: close\r\n\r\n");
     stream
@@ -73,7 +69,7 @@ pub fn another(address: &str) -> String {
 }
 
 /// What comes until the connection ends. Who waits is told so once: an order waits until the book is filled.
-fn answer(stream: TcpStream, patience: Duration, tell: impl FnOnce()) -> std::io::Result<Vec<u8>> {
+fn answer(stream: Stream, patience: Duration, tell: impl FnOnce()) -> std::io::Result<Vec<u8>> {
     let begun = Instant::now();
     let soon = patience.min(SOON);
     let mut bytes = Vec::new();
@@ -90,7 +86,7 @@ fn answer(stream: TcpStream, patience: Duration, tell: impl FnOnce()) -> std::io
 }
 
 /// Reads, and says whether the connection has ended until then: also one on which a little comes again and again.
-fn ends_until(mut stream: &TcpStream, until: Instant, bytes: &mut Vec<u8>) -> std::io::Result<bool> {
+fn ends_until(mut stream: &Stream, until: Instant, bytes: &mut Vec<u8>) -> std::io::Result<bool> {
     let mut part = [0; 1 << 14];
     while (bytes.len() as u64) < MOST {
         let left = until.saturating_duration_since(Instant::now());
@@ -126,17 +122,6 @@ fn unanswered(address: &str, method: &str, patience: Duration, error: Error) -> 
         }
         _ => anyhow!("the service at {address} did not answer whole: {error}"),
     }
-}
-
-fn connected(address: &str) -> Result<TcpStream> {
-    let mut last = None;
-    for place in address.to_socket_addrs()? {
-        match TcpStream::connect_timeout(&place, CONNECT) {
-            Ok(stream) => return Ok(stream),
-            Err(error) => last = Some(error),
-        }
-    }
-    Err(last.map_or_else(|| anyhow!("there is no such address"), Into::into))
 }
 
 /// An answer that ends with its connection, and says how long it is.
@@ -179,6 +164,7 @@ fn message(body: &[u8]) -> String {
 #[cfg(test)]
 mod tests {
     use super::*;
+    use std::net::TcpStream;
 
     #[test]
     fn an_answer_is_read_whole_or_not() -> Result<()> {
@@ -209,7 +195,7 @@ mod tests {
         let (mut answering, _) = listener.accept()?;
         answering.write_all(b"a")?;
         let (mut told, mut written) = (0, Ok(()));
-        let bytes = answer(asking, ANSWER, || {
+        let bytes = answer(Stream::Tcp(asking), ANSWER, || {
             told += 1;
             written = answering.write_all(b"b");
             drop(answering);

@@ -14,6 +14,7 @@ mod reading;
 mod serve;
 mod settings;
 mod status;
+mod stream;
 mod table;
 mod token;
 mod totals;
@@ -258,6 +259,8 @@ mod tests {
             ("serve --data d --listen-grpc :4317", "--listen-grpc"),
             ("serve --data d --operate 127.0.0.1", "--operate"),
             ("status --operate 127.0.0.1:", "--operate"),
+            ("status --operate unix:", "unix:PATH"),
+            ("serve --data d --operate unix:", "unix:PATH"),
             ("serve --data d --drop-attribute=", "--drop-attribute"),
             ("serve --data d --drop-attribute a,,b", "--drop-attribute"),
             ("serve --data d --whole s=h", "--whole"),

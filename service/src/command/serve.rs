@@ -4,7 +4,7 @@ use super::keeping::OfKeeping;
 use super::of_senders::OfSenders;
 use super::reading::OfReading;
 use super::settings::Names;
-use super::values::{bytes_shown, place, size, time, time_or_never, MayBeNever};
+use super::values::{bytes_shown, operator, place, size, time, time_or_never, MayBeNever, SOCKET};
 use super::version::Versions;
 use super::Failure;
 use crate::core;
@@ -13,7 +13,7 @@ use crate::log;
 use crate::metrics::Metrics;
 use crate::otlp::Cause;
 use crate::remarks::Telling;
-use crate::service::{self, init, Settings};
+use crate::service::{self, init, Operate, Settings};
 use crate::sinks::{header_of, Address};
 use anyhow::{anyhow, bail, Context};
 use clap::{value_parser, Args, CommandFactory};
@@ -54,15 +54,16 @@ pub struct Options {
     /// Where senders call OTLP/gRPC, as 127.0.0.1:4317 [default: nowhere]
     #[arg(long, env = "TOTXEGUN_LISTEN_GRPC", value_name = "ADDRESS", value_parser = place)]
     listen_grpc: Option<String>,
-    /// Where operators ask: who reaches it can do all that this program can
+    /// Where operators ask: HOST:PORT, and unix:PATH beside it or alone, which takes all orders then. Who reaches it can do all that this program can
     #[arg(
         long,
         env = "TOTXEGUN_OPERATE",
         value_name = "ADDRESS",
         default_value = "127.0.0.1:4319",
-        value_parser = place
+        value_delimiter = ',',
+        value_parser = operator
     )]
-    operate: String,
+    operate: Vec<String>,
     /// Where to deliver: sqlite:PATH, postgres://USER@HOST:PORT/DB, http://HOST:PORT/PATH or https://HOST/PATH [default: sqlite:DIR/metrics.db]
     #[arg(long, env = "TOTXEGUN_SINK", value_name = "ADDRESS", hide_env_values = true)]
     sink: Option<Address>,
@@ -293,13 +294,14 @@ impl Options {
                 "--sender-from would take a sender's word for its name: leave it out where --client-ca or --tokens name senders"
             )));
         }
+        let operate = operate(&self.operate).map_err(Failure::Line)?;
         let behind_proxy = self.of_senders.behind_proxy;
         let door = self.of_senders.door(&metrics)?;
         Ok(Settings {
             data,
             listen: self.listen,
             listen_grpc: self.listen_grpc,
-            operate: self.operate,
+            operate,
             door,
             behind_proxy,
             sink,
@@ -320,6 +322,23 @@ impl Options {
             metrics,
         })
     }
+}
+
+/// One address of TCP at most, and one socket.
+fn operate(addresses: &[String]) -> anyhow::Result<Operate> {
+    let mut operate = Operate::default();
+    for address in addresses {
+        let before = match address.strip_prefix(SOCKET) {
+            Some(path) => operate.socket.replace(absolute(Path::new(path))?).is_some(),
+            None => operate.tcp.replace(address.clone()).is_some(),
+        };
+        if before {
+            bail!(
+                "--operate has a second address like {address}: give one HOST:PORT and one unix:PATH at most"
+            );
+        }
+    }
+    Ok(operate)
 }
 
 /// Other programs are told where files are: their folder may be another.

@@ -67,6 +67,25 @@ pub fn place(text: &str) -> Result<String, String> {
     }
 }
 
+/// What a socket's path stands behind.
+pub const SOCKET: &str = "unix:";
+
+/// An operator's address: `127.0.0.1:4319`, or `unix:PATH`.
+pub fn operator(text: &str) -> Result<String, String> {
+    match text.strip_prefix(SOCKET) {
+        Some("") => Err("write unix:PATH, as unix:/run/totxegun/operate".to_string()),
+        Some(_) => Ok(text.to_string()),
+        None => place(text).map_err(|why| format!("{why}, or unix:PATH")),
+    }
+}
+
+/// Of several, as the service may have them, the one that takes orders.
+pub fn one_operator(text: &str) -> Result<String, String> {
+    let all: Vec<String> = text.split(',').map(operator).collect::<Result<_, _>>()?;
+    let socket = all.iter().find(|one| one.starts_with(SOCKET));
+    Ok(socket.unwrap_or(&all[0]).clone())
+}
+
 fn scaled(text: &str, units: &[(&str, u64)]) -> Option<u64> {
     let digits = text
         .find(|letter: char| !letter.is_ascii_digit())

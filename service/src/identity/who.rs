@@ -132,3 +132,41 @@ impl Certified {
         is_believed
     }
 }
+
+#[cfg(test)]
+mod tests {
+    use super::*;
+    use crate::tls::tests::{certificate, folder, server, tls, Made};
+    use crate::tls::WithoutCertificate;
+
+    /// Who shows a certificate of the root that is believed.
+    fn shown(subject: &str, names: Option<&str>) -> Certified {
+        let at = folder();
+        server(at.path());
+        let tls = tls(at.path(), Some(WithoutCertificate::Refused));
+        let made = Made {
+            name: "c",
+            subject,
+            names,
+            by: Some("ca"),
+            ..Made::default()
+        };
+        let chain = vec![rustls::Certificate(certificate(at.path(), made))];
+        Certified::new(chain, tls.contexts(), tls, None)
+    }
+
+    /// The digits are those of `printf spiffe://d/shop | sha256sum`.
+    #[test]
+    fn a_certificate_counts_until_it_ends() {
+        let mut uri = shown("/CN=x", Some("URI:spiffe://d/shop"));
+        let name = "spiffe---d-shop.670deb13c283c1a0157c1bc0a623e9338a3f2cb6";
+        assert_eq!(uri.sender().unwrap().name, name);
+        uri.ends = 0;
+        assert_eq!(uri.sender(), Err(Stranger::NotBelieved));
+    }
+
+    #[test]
+    fn a_certificate_without_a_name_is_nobody_s() {
+        assert_eq!(shown("/O=x", None).sender(), Err(Stranger::Nameless));
+    }
+}

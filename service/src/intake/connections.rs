@@ -3,7 +3,7 @@
 
 use super::ends::Ends;
 use super::pace::{Overdue, Pace, Watched};
-use super::{Intake, Taker, Threads};
+use super::{Intake, Listener, Taker, Threads};
 use crate::identity::{Door, Who};
 use crate::log::Seldom;
 use crate::switch::Switch;
@@ -79,14 +79,14 @@ impl Room {
         self.is_full.load(Relaxed)
     }
 
-    async fn place(&self, listener: &TcpListener) -> Held {
+    async fn place(&self, listener: &impl Listener) -> Held {
         let free = self.places.clone().try_acquire_owned();
         self.is_full.store(free.is_err(), Relaxed);
         if let Ok(place) = free {
             return Some(place);
         }
-        if let (false, Ok(address)) = (self.was_full.swap(true, Relaxed), listener.local_addr()) {
-            let (most, address) = (self.most, address.to_string());
+        if !self.was_full.swap(true, Relaxed) {
+            let (most, address) = (self.most, listener.shown());
             tracing::warn!(
                 address,
                 connections = most,
@@ -98,11 +98,11 @@ impl Room {
         place
     }
 
-    async fn accepted(&self, listener: &TcpListener) -> (TcpStream, Held) {
+    async fn accepted<L: Listener>(&self, listener: &L) -> (L::Stream, Held) {
         let place = self.place(listener).await;
         loop {
-            match listener.accept().await {
-                Ok((stream, _)) => return (stream, place),
+            match listener.accepted().await {
+                Ok(stream) => return (stream, place),
                 Err(error) => {
                     if TOLD.is_due() {
                         let reason = error.to_string();
@@ -116,11 +116,11 @@ impl Room {
 }
 
 /// Accepts until `stop` is true or its sender is gone, and returns after the end of the last connection.
-async fn accept(
-    listener: TcpListener,
+async fn accept<L: Listener>(
+    listener: L,
     room: Arc<Room>,
     mut stop: watch::Receiver<bool>,
-    begin: impl Fn(&mut JoinSet<()>, TcpStream, Held),
+    begin: impl Fn(&mut JoinSet<()>, L::Stream, Held),
 ) {
     let mut open = JoinSet::new();
     loop {
@@ -186,8 +186,7 @@ pub async fn spread<P: Protocol, T: Taker>(
 ) {
     let (room, stop) = (shared.room.clone(), shared.stop.clone());
     let begin = |open: &mut JoinSet<()>, stream: TcpStream, held: Held| {
-        let _ = stream.set_nodelay(true); // an answer is one write already
-                                          // Its thread's runtime takes it over from this one.
+        // Its thread's runtime takes it over from this one.
         let Ok(stream) = stream.into_std() else { return };
         let (shared, threads) = (shared.clone(), threads.clone());
         match shared.door.tls.clone() {
@@ -237,15 +236,15 @@ async fn over_tls<P: Protocol, T: Taker>(
 }
 
 /// Serves operators, on the runtime that it is called on, with the same end.
-pub async fn serve<H: Handler>(
-    listener: TcpListener,
+pub async fn serve<L: Listener, H: Handler>(
+    listener: L,
     limits: Limits,
     handler: Arc<H>,
     stop: watch::Receiver<bool>,
 ) {
     let room = Room::new(limits.connections);
     let (stopped, of_room) = (stop.clone(), room.clone());
-    let begin = |open: &mut JoinSet<()>, stream: TcpStream, held: Held| {
+    let begin = |open: &mut JoinSet<()>, stream: L::Stream, held: Held| {
         let serving = connection(
             stream,
             of_room.clone(),
@@ -261,14 +260,13 @@ pub async fn serve<H: Handler>(
     accept(listener, room, stop, begin).await;
 }
 
-async fn connection<H: Handler>(
-    stream: TcpStream,
+async fn connection<S: Transport, H: Handler>(
+    stream: S,
     room: Arc<Room>,
     limits: Limits,
     handler: Arc<H>,
     mut stop: watch::Receiver<bool>,
 ) {
-    let _ = stream.set_nodelay(true); // an answer is one write already
     let pace = Pace::new();
     let of_requests = pace.clone();
     let ends = Ends::of(&stream);

@@ -1,8 +1,12 @@
-//! How an address is listened on.
+//! How an address is listened on: one of TCP, or a socket of this machine.
 
+use std::future::Future;
 use std::io::{ErrorKind, Result};
+use std::os::unix::fs::{FileTypeExt, PermissionsExt};
+use std::path::Path;
 use std::time::Duration;
-use tokio::net::TcpListener;
+use tokio::io::{AsyncRead, AsyncWrite};
+use tokio::net::{TcpListener, TcpStream, UnixListener, UnixStream};
 use tokio::time::Instant;
 
 /// How long it may be taken still: a service that was killed has it until the system has ended it.
@@ -22,9 +26,83 @@ pub async fn listen(address: &str) -> Result<TcpListener> {
     }
 }
 
+/// Who may connect to a socket: its owner and its group.
+const SOCKET_MODE: u32 = 0o660;
+
+/// Listens at a socket of this machine. What a run that was killed has left there is taken away.
+pub async fn listen_at_socket(path: &Path) -> Result<UnixListener> {
+    let is_socket = std::fs::symlink_metadata(path).is_ok_and(|file| file.file_type().is_socket());
+    let is_left = |error: std::io::Error| error.kind() == ErrorKind::ConnectionRefused;
+    if is_socket && UnixStream::connect(path).await.is_err_and(is_left) {
+        std::fs::remove_file(path)?;
+    }
+    let listener = UnixListener::bind(path)?;
+    std::fs::set_permissions(path, PermissionsExt::from_mode(SOCKET_MODE))?;
+    Ok(listener)
+}
+
+/// Where connections come from.
+pub trait Listener: Send + Sync + 'static {
+    type Stream: AsyncRead + AsyncWrite + Unpin + Send + 'static;
+
+    fn accepted(&self) -> impl Future<Output = Result<Self::Stream>> + Send;
+
+    /// As people write it. Port 0 is any free one.
+    fn shown(&self) -> String;
+}
+
+impl Listener for TcpListener {
+    type Stream = TcpStream;
+
+    async fn accepted(&self) -> Result<TcpStream> {
+        let (stream, _) = self.accept().await?;
+        let _ = stream.set_nodelay(true); // an answer is one write already
+        Ok(stream)
+    }
+
+    fn shown(&self) -> String {
+        self.local_addr()
+            .map_or_else(|error| error.to_string(), |address| address.to_string())
+    }
+}
+
+impl Listener for UnixListener {
+    type Stream = UnixStream;
+
+    async fn accepted(&self) -> Result<UnixStream> {
+        Ok(self.accept().await?.0)
+    }
+
+    fn shown(&self) -> String {
+        let address = self.local_addr().ok();
+        let path = address.as_ref().and_then(|address| address.as_pathname());
+        path.map_or("unix:".into(), |path| format!("unix:{}", path.display()))
+    }
+}
+
 #[cfg(test)]
 mod tests {
     use super::*;
+    use std::os::unix::fs::MetadataExt;
+
+    /// One that is listened at is somebody's, and what is no socket is no socket that was left.
+    #[tokio::test]
+    async fn a_socket_that_was_left_is_taken_away_and_no_other() {
+        let at = tempfile::tempdir().unwrap();
+        let path = at.path().join("operate");
+        let first = listen_at_socket(&path).await.unwrap();
+        assert_eq!(std::fs::metadata(&path).unwrap().mode() & 0o777, 0o660);
+        let taken = listen_at_socket(&path).await.unwrap_err();
+        assert_eq!(taken.kind(), ErrorKind::AddrInUse);
+        drop(first); // its file stays, as after a kill
+        let second = listen_at_socket(&path).await.unwrap();
+        assert_eq!(second.shown(), format!("unix:{}", path.display()));
+        drop(second);
+        std::fs::remove_file(&path).unwrap();
+        std::fs::write(&path, "a file").unwrap();
+        assert!(listen_at_socket(&path).await.is_err());
+        assert_eq!(std::fs::read(&path).unwrap(), b"a file");
+    }
     use nix::fcntl::{fcntl, FcntlArg, FdFlag};
     use std::os::fd::AsRawFd;
 

@@ -20,7 +20,7 @@ mod wire;
 
 pub(crate) use body::MOST;
 pub use connections::Limits;
-pub use listen::listen;
+pub use listen::{listen, listen_at_socket, Listener};
 pub use threads::Threads;
 pub use weight::Budget;
 pub(crate) use weight::Hold;

@@ -7,7 +7,6 @@ use std::sync::{Arc, Mutex, PoisonError};
 use std::task::{ready, Context, Poll};
 use std::time::{Duration, Instant};
 use tokio::io::{AsyncRead, AsyncWrite, ReadBuf};
-use tokio::net::TcpStream;
 
 /// How long who idles has its place where others wait for it.
 const SHORT: Duration = Duration::from_secs(1);
@@ -99,18 +98,18 @@ impl Pace {
 }
 
 /// A connection whose reads and writes its pace sees.
-pub struct Watched {
-    stream: TcpStream,
+pub struct Watched<S> {
+    stream: S,
     pace: Arc<Pace>,
 }
 
-impl Watched {
-    pub fn new(stream: TcpStream, pace: Arc<Pace>) -> Watched {
+impl<S> Watched<S> {
+    pub fn new(stream: S, pace: Arc<Pace>) -> Watched<S> {
         Watched { stream, pace }
     }
 }
 
-impl AsyncRead for Watched {
+impl<S: AsyncRead + Unpin> AsyncRead for Watched<S> {
     fn poll_read(
         mut self: Pin<&mut Self>,
         context: &mut Context<'_>,
@@ -125,14 +124,14 @@ impl AsyncRead for Watched {
     }
 }
 
-impl Watched {
+impl<S> Watched<S> {
     fn saw(&self, written: Poll<Result<usize>>) -> Poll<Result<usize>> {
         self.pace.sent(written.is_ready());
         written
     }
 }
 
-impl AsyncWrite for Watched {
+impl<S: AsyncWrite + Unpin> AsyncWrite for Watched<S> {
     fn poll_write(mut self: Pin<&mut Self>, context: &mut Context<'_>, from: &[u8]) -> Poll<Result<usize>> {
         let written = Pin::new(&mut self.stream).poll_write(context, from);
         self.saw(written)

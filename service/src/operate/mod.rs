@@ -124,6 +124,35 @@ impl Route {
     }
 }
 
+impl Route {
+    /// Whether it changes something, or shows what senders have sent.
+    fn is_order(&self) -> bool {
+        use Route::*;
+        matches!(self, Order(_) | Letters | Letter(_) | Resend(_) | Drop(_))
+    }
+}
+
+/// An address at which nothing is changed, since orders are taken elsewhere.
+pub struct ReadOnly {
+    pub desk: Arc<Desk>,
+    pub orders_at: String,
+}
+
+impl Handler for ReadOnly {
+    async fn answer(self: Arc<Self>, request: Request<Body>) -> Response<Body> {
+        match Route::of(request.uri().path()) {
+            Some((_, route)) if route.is_order() => {
+                let place = &self.orders_at;
+                message(
+                    403,
+                    &format!("this is taken at {place} alone: give `--operate {place}` to totxegun"),
+                )
+            }
+            _ => self.desk.clone().answer(request).await,
+        }
+    }
+}
+
 impl Handler for Desk {
     async fn answer(self: Arc<Self>, request: Request<Body>) -> Response<Body> {
         match Route::of(request.uri().path()) {
@@ -249,6 +278,27 @@ mod tests {
             ("/page.js", Method::GET),
         ] {
             assert_eq!(Route::of(path).map(|(method, _)| method), Some(method), "{path}");
+        }
+    }
+
+    /// With a socket, the first are taken there alone.
+    #[test]
+    fn orders_and_bodies_are_told_from_what_is_read() {
+        let is_order = |path| Route::of(path).unwrap().1.is_order();
+        for path in [
+            "/flush",
+            "/checkpoint",
+            "/quarantine/A",
+            "/lift/A",
+            "/dead",
+            "/dead/k",
+            "/dead/k/resend",
+            "/dead/k/drop",
+        ] {
+            assert!(is_order(path), "{path}");
+        }
+        for path in ["/report", "/metrics", "/totals", "/health", "/ready", "/status"] {
+            assert!(!is_order(path), "{path}");
         }
     }
 

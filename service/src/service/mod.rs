@@ -4,6 +4,7 @@
 
 mod adopt;
 pub mod init;
+mod operators;
 mod parts;
 mod running;
 mod senders;
@@ -11,6 +12,7 @@ mod sink;
 mod supervisor;
 
 pub(crate) use adopt::slot_of;
+pub use operators::Operate;
 
 use crate::files::{Durability, Fault, Folder, FolderFault};
 use crate::identity::Door;
@@ -21,8 +23,9 @@ use crate::remarks::Telling;
 use crate::sinks::{Address, Keep};
 use crate::slot::Slot;
 use anyhow::{anyhow, Context};
+use operators::Operators;
 use parts::Parts;
-use senders::{bind, local, refuse_open, Senders};
+use senders::Senders;
 use std::path::PathBuf;
 use std::sync::{Arc, OnceLock};
 use std::time::Duration;
@@ -35,7 +38,7 @@ pub struct Settings {
     pub listen: String,
     /// Where senders call gRPC, if they may.
     pub listen_grpc: Option<String>,
-    pub operate: String,
+    pub operate: Operate,
     /// TLS and names at the senders' addresses.
     pub door: Door,
     /// Others may reach these addresses although strangers can post there.
@@ -107,16 +110,8 @@ impl From<FolderFault> for Ended {
 pub async fn run(settings: Settings) -> Result<(), Ended> {
     let mut signals = Signals::new()?;
     let supervisor = Supervisor::from_environment();
-    let senders = bind("--listen", &settings.listen).await?;
-    let callers = match &settings.listen_grpc {
-        Some(address) => Some(bind("--listen-grpc", address).await?),
-        None => None,
-    };
-    refuse_open("--listen", &senders, &settings)?;
-    if let Some(callers) = &callers {
-        refuse_open("--listen-grpc", callers, &settings)?;
-    }
-    let operators = bind("--operate", &settings.operate).await?;
+    let senders = Senders::bind(&settings).await?;
+    let operators = Operators::bind(&settings.operate).await?;
     let slot = Arc::new(OnceLock::<Arc<Slot>>::new());
     let begun = slot.clone();
     // Before the files are opened: that may take longer than a supervisor waits.
@@ -131,17 +126,11 @@ pub async fn run(settings: Settings) -> Result<(), Ended> {
     let parts = Parts::open(folder, &settings)?;
     let (folder, sink) = (settings.data.display().to_string(), parts.sink.name());
     tracing::info!(folder, sink, "data in {folder}, sink {sink}");
-    let door = settings.door.clone();
-    tracing::info!("{door}");
-    let senders = Senders {
-        senders,
-        callers,
-        door,
-    };
+    tracing::info!("{}", settings.door);
     tracing::info!(
         "senders post to {}, operators ask {}",
         senders.shown(),
-        local(&operators)
+        operators.shown()
     );
     let mut running = parts.start(&settings, senders, operators);
     slot.get_or_init(|| running.slot.clone());

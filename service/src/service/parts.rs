@@ -1,12 +1,13 @@
 //! Opens all parts.
 
 use super::adopt::leave_others;
+use super::operators::Operators;
 use super::running::Running;
 use super::senders::Senders;
 use super::{Ended, Settings};
 use crate::core::Core;
 use crate::files::{Dead, Folder, Outbox};
-use crate::intake::connections::{serve, Limits};
+use crate::intake::connections::Limits;
 use crate::intake::{Budget, Intake, Threads};
 use crate::keeper::{Keeper, Orders};
 use crate::metrics::Metrics;
@@ -17,7 +18,6 @@ use crate::slot::Slot;
 use anyhow::Context;
 use std::sync::{Arc, Mutex};
 use std::time::{Duration, Instant};
-use tokio::net::TcpListener;
 use tokio::sync::watch;
 use tokio::task::JoinSet;
 
@@ -86,7 +86,7 @@ impl Parts {
         })
     }
 
-    pub fn start(self, settings: &Settings, senders: Senders, operators: TcpListener) -> Running {
+    pub fn start(self, settings: &Settings, senders: Senders, operators: Operators) -> Running {
         let (stop_intake, intake_stopped) = watch::channel(false);
         let (stop_keeper, keeper_stopped) = watch::channel(false);
         let (stop_deliveries, deliveries_stopped) = watch::channel(false);
@@ -150,7 +150,7 @@ impl Parts {
             budget: self.budget,
             heard,
             listen: senders.shown(),
-            operate: settings.operate.clone(),
+            operate: settings.operate.tcp.clone().unwrap_or_default(),
             data: settings.data.display().to_string(),
             most_series: settings.most_series,
             begun: Instant::now(),
@@ -159,7 +159,7 @@ impl Parts {
             intake: tokio::spawn(senders.serve(limits, intake, self.threads.clone(), intake_stopped)),
             keeper,
             deliveries,
-            operate: tokio::spawn(serve(operators, of_operators, Arc::new(desk), keeper_stopped)),
+            operate: tokio::spawn(operators.serve(of_operators, Arc::new(desk), keeper_stopped)),
             stop_intake,
             stop_keeper,
             stop_deliveries,

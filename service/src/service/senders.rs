@@ -5,7 +5,7 @@ use crate::grpc::Grpc;
 use crate::identity::Door;
 use crate::intake::connections::{spread, Limits, Shared};
 use crate::intake::front::Http;
-use crate::intake::{listen, Intake, Taker, Threads};
+use crate::intake::{listen, Intake, Listener, Taker, Threads};
 use anyhow::anyhow;
 use std::io::ErrorKind;
 use std::sync::Arc;
@@ -23,26 +23,19 @@ pub(super) async fn bind(option: &str, address: &str) -> Result<TcpListener, End
     })?)
 }
 
-/// Where a listener really listens: port 0 is any free one.
-pub(super) fn local(listener: &TcpListener) -> String {
-    listener
-        .local_addr()
-        .map_or_else(|error| error.to_string(), |address| address.to_string())
-}
-
-/// Refuses an address that other machines reach, where strangers could read along, or post under any name.
-pub(super) fn refuse_open(option: &str, listener: &TcpListener, settings: &Settings) -> Result<(), Ended> {
-    let is_local = listener
-        .local_addr()
-        .is_ok_and(|address| address.ip().to_canonical().is_loopback());
-    if is_local || settings.behind_proxy || settings.door.is_closed() {
-        return Ok(());
+/// Listens at an address that other machines do not reach, or at which no stranger can read along or post.
+async fn bind_closed(option: &str, address: &str, settings: &Settings) -> Result<TcpListener, Ended> {
+    let listener = bind(option, address).await?;
+    let place = listener.local_addr();
+    let is_local = place.is_ok_and(|place| place.ip().to_canonical().is_loopback());
+    match is_local || settings.behind_proxy || settings.door.is_closed() {
+        true => Ok(listener),
+        false => Err(Ended::Open(anyhow!(
+            "{option} {address} is open to other machines, where anybody could read along and post under any name: give \
+             --tls-cert and --tls-key, and --tokens or --client-ca; or --behind-proxy, if nobody but a proxy that has both \
+             reaches it"
+        ))),
     }
-    Err(Ended::Open(anyhow!(
-        "{option} {} is open to other machines, where anybody could read along and post under any name: give --tls-cert and \
-         --tls-key, and --tokens or --client-ca; or --behind-proxy, if nobody but a proxy that has both reaches it",
-        local(listener)
-    )))
 }
 
 pub(super) struct Senders {
@@ -52,12 +45,27 @@ pub(super) struct Senders {
 }
 
 impl Senders {
+    /// Listens at their addresses, which nobody accepts at yet.
+    pub async fn bind(settings: &Settings) -> Result<Senders, Ended> {
+        let senders = bind_closed("--listen", &settings.listen, settings).await?;
+        let callers = match &settings.listen_grpc {
+            Some(address) => Some(bind_closed("--listen-grpc", address, settings).await?),
+            None => None,
+        };
+        let door = settings.door.clone();
+        Ok(Senders {
+            senders,
+            callers,
+            door,
+        })
+    }
+
     pub fn shown(&self) -> String {
         let callers = self
             .callers
             .iter()
-            .map(|callers| format!(", gRPC to {}", local(callers)));
-        local(&self.senders) + &callers.collect::<String>()
+            .map(|callers| format!(", gRPC to {}", callers.shown()));
+        self.senders.shown() + &callers.collect::<String>()
     }
 
     /// Until both have ended.

@@ -31,50 +31,53 @@ fn tokens(at: &Path, text: &str) {
     std::fs::write(at.join("tokens"), text).unwrap();
 }
 
+/// The headers of a post, the status of its answer, and what its text has.
+const OF_TOKENS: [(&str, u16, &str); 16] = [
+    ("Authorization: Bearer t0ken-1\r\n", 200, ""),
+    ("authorization: bearer  t0ken-1\r\nx-sender: shop-1\r\n", 200, ""),
+    ("Authorization: Bearer t0ken-2\r\n", 200, ""),
+    ("Authorization: Bearer t0ken-2\r\nx-sender: shop-9\r\n", 200, ""),
+    (
+        "Authorization: Bearer t0ken-1\r\nx-sender: shop-9\r\n",
+        403,
+        "shop-1 may not post as shop-9",
+    ),
+    (
+        "Authorization: Bearer t0ken-1\r\nx-sender: -\r\n",
+        403,
+        "shop-1 may not post as -",
+    ),
+    (
+        "Authorization: Bearer t0ken-2\r\nx-sender: other\r\n",
+        403,
+        "collector may not post as other",
+    ),
+    (
+        "Authorization: Bearer t0ken-1\r\nx-sender: a b\r\n",
+        400,
+        "bad sender",
+    ),
+    ("", 401, "no token"),
+    ("x-sender: shop-1\r\n", 401, "no token"),
+    ("x-sender: a b\r\n", 401, "no token"),
+    ("Authorization: Basic dDBrZW4tMQ==\r\n", 401, "no token"),
+    ("Authorization: Bearer \r\n", 401, "no token"),
+    (
+        "Authorization: Bearer t0ken-1\r\nAuthorization: Bearer t0ken-1\r\n",
+        401,
+        "no token",
+    ),
+    ("Authorization: Bearer t0ken-3\r\n", 401, "not known"),
+    ("Authorization: Bearer t0ken-1x\r\n", 401, "not known"),
+];
+
 #[tokio::test]
 async fn a_token_names_its_sender() {
     let at = folder();
     tokens(at.path(), &format!("shop-1 {OF_1}\ncollector/shop-* {OF_2}\n"));
     let served = Served::behind(door(at.path(), None, Some("tokens"))).await;
     let mut kept = served.secure(client(at.path(), "ca", None)).await.unwrap();
-    for (headers, status, message) in [
-        ("Authorization: Bearer t0ken-1\r\n", 200, ""),
-        ("authorization: bearer  t0ken-1\r\nx-sender: shop-1\r\n", 200, ""),
-        ("Authorization: Bearer t0ken-2\r\n", 200, ""),
-        ("Authorization: Bearer t0ken-2\r\nx-sender: shop-9\r\n", 200, ""),
-        (
-            "Authorization: Bearer t0ken-1\r\nx-sender: shop-9\r\n",
-            403,
-            "shop-1 may not post as shop-9",
-        ),
-        (
-            "Authorization: Bearer t0ken-1\r\nx-sender: -\r\n",
-            403,
-            "shop-1 may not post as -",
-        ),
-        (
-            "Authorization: Bearer t0ken-2\r\nx-sender: other\r\n",
-            403,
-            "collector may not post as other",
-        ),
-        (
-            "Authorization: Bearer t0ken-1\r\nx-sender: a b\r\n",
-            400,
-            "bad sender",
-        ),
-        ("", 401, "no token"),
-        ("x-sender: shop-1\r\n", 401, "no token"),
-        ("x-sender: a b\r\n", 401, "no token"),
-        ("Authorization: Basic dDBrZW4tMQ==\r\n", 401, "no token"),
-        ("Authorization: Bearer \r\n", 401, "no token"),
-        (
-            "Authorization: Bearer t0ken-1\r\nAuthorization: Bearer t0ken-1\r\n",
-            401,
-            "no token",
-        ),
-        ("Authorization: Bearer t0ken-3\r\n", 401, "not known"),
-        ("Authorization: Bearer t0ken-1x\r\n", 401, "not known"),
-    ] {
+    for (headers, status, message) in OF_TOKENS {
         let answer = asked(&mut kept, headers).await;
         assert_eq!(answer.status, status, "{headers}");
         if status != 200 {

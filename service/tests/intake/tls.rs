@@ -39,19 +39,13 @@ async fn said<S: tokio::io::AsyncRead + tokio::io::AsyncWrite + Unpin>(
     (lines.collect::<Vec<_>>().join("\n"), answer.body)
 }
 
-/// Framing that may be read in two ways too.
-#[tokio::test]
-async fn answers_over_tls_are_those_without() {
-    let at = folder();
-    let (plain, secure) = (
-        Served::start().await,
-        Served::behind(door(at.path(), None, None)).await,
-    );
+/// Posts, and framing that may be read in two ways.
+fn requests() -> Vec<Vec<u8>> {
     let head = "POST /v1/metrics HTTP/1.1\r\nHost: a\r\nContent-Type: application/json\r\n";
     let chunked = "Transfer-Encoding: chunked\r\n";
     let long = vec![b' '; 300 << 10];
     let of = |rest: &str| format!("{head}{rest}").into_bytes();
-    let requests = [
+    vec![
         json(BODY.as_bytes()),
         json(&[&long, BODY.as_bytes()].concat()),
         post(
@@ -69,8 +63,17 @@ async fn answers_over_tls_are_those_without() {
         b"GET /flush HTTP/1.1\r\nHost: a\r\n\r\n".to_vec(),
         b"POST /v1/metrics HTTP/1.1\r\n\r\n".to_vec(),
         b"SSH-2.0-OpenSSH_9.2\r\n\r\n".to_vec(),
-    ];
-    for request in &requests {
+    ]
+}
+
+#[tokio::test]
+async fn answers_over_tls_are_those_without() {
+    let at = folder();
+    let (plain, secure) = (
+        Served::start().await,
+        Served::behind(door(at.path(), None, None)).await,
+    );
+    for request in &requests() {
         let begin = String::from_utf8_lossy(&request[..request.len().min(200)]).into_owned();
         let wanted = said(&mut plain.client().await, request).await;
         let mut client = secure.secure(client(at.path(), "ca", None)).await.unwrap();
@@ -209,6 +212,27 @@ async fn a_handshake_has_ten_seconds() {
     assert!(begun.elapsed() > Duration::from_secs(8));
 }
 
+/// Posts on connections of its own, until the new certificate is used: how many posts were taken.
+async fn posts_until_new(served: Arc<Served>, old: rustls::ClientConfig, new: rustls::ClientConfig) -> usize {
+    let (mut taken, mut is_new) = (0, false);
+    while !is_new {
+        // Who believes the old one alone is told no later than at its handshake: nothing was posted then.
+        let mut client = match served.secure(old.clone()).await {
+            Ok(client) => client,
+            Err(_) => {
+                is_new = true;
+                served.secure(new.clone()).await.expect("either is used")
+            }
+        };
+        assert!(said(&mut client, &json(BODY.as_bytes()))
+            .await
+            .0
+            .starts_with("HTTP/1.1 200"));
+        taken += 1;
+    }
+    taken
+}
+
 /// Each of many connections posts once, while certificate and key are exchanged one after the other.
 #[tokio::test(flavor = "multi_thread", worker_threads = 2)]
 async fn a_new_certificate_is_used_and_no_post_is_lost() {
@@ -217,28 +241,7 @@ async fn a_new_certificate_is_used_and_no_post_is_lost() {
     let served = Arc::new(Served::behind(door(at.path(), None, None)).await);
     let (old, new) = (client(at.path(), "ca", None), client(at.path(), "new", None));
     let mut kept = served.secure(old.clone()).await.unwrap();
-    let load = tokio::spawn({
-        let (served, old, new) = (served.clone(), old.clone(), new.clone());
-        async move {
-            let (mut taken, mut is_new) = (0, false);
-            while !is_new {
-                // Who believes the old one alone is told no later than at its handshake: nothing was posted then.
-                let mut client = match served.secure(old.clone()).await {
-                    Ok(client) => client,
-                    Err(_) => {
-                        is_new = true;
-                        served.secure(new.clone()).await.expect("either is used")
-                    }
-                };
-                assert!(said(&mut client, &json(BODY.as_bytes()))
-                    .await
-                    .0
-                    .starts_with("HTTP/1.1 200"));
-                taken += 1;
-            }
-            taken
-        }
-    });
+    let load = tokio::spawn(posts_until_new(served.clone(), old, new));
     tokio::time::sleep(Duration::from_millis(500)).await;
     let begun = Instant::now();
     let path = at.path().to_path_buf();

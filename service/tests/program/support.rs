@@ -84,6 +84,14 @@ impl Place {
         service
     }
 
+    /// The totals, none before the sink's file is made.
+    pub fn totals_if_any(&self) -> BTreeMap<String, i64> {
+        match self.folder.path().join("sink.db").exists() {
+            true => self.totals(),
+            false => BTreeMap::new(),
+        }
+    }
+
     /// By the metric's name, its total, as the program's own command shows it.
     pub fn totals(&self) -> BTreeMap<String, i64> {
         let output = Command::new(PROGRAM)
