@@ -245,8 +245,10 @@ pub async fn serve<L: Listener, H: Handler>(
     let room = Room::new(limits.connections);
     let (stopped, of_room) = (stop.clone(), room.clone());
     let begin = |open: &mut JoinSet<()>, stream: L::Stream, held: Held| {
+        let ends = L::ends(&stream);
         let serving = connection(
             stream,
+            ends,
             of_room.clone(),
             limits.clone(),
             handler.clone(),
@@ -262,6 +264,7 @@ pub async fn serve<L: Listener, H: Handler>(
 
 async fn connection<S: Transport, H: Handler>(
     stream: S,
+    ends: Option<Ends>,
     room: Arc<Room>,
     limits: Limits,
     handler: Arc<H>,
@@ -269,7 +272,6 @@ async fn connection<S: Transport, H: Handler>(
 ) {
     let pace = Pace::new();
     let of_requests = pace.clone();
-    let ends = Ends::of(&stream);
     let service = service_fn(move |mut request: Request<Body>| {
         let (handler, pace) = (handler.clone(), of_requests.clone());
         if let Some(ends) = ends {

@@ -1,21 +1,28 @@
-//! Both ends of an operator's connection, for who asks whose it is.
+//! What an operator's connection shows of who is at its other end.
 
 use std::net::SocketAddr;
-use tokio::net::TcpStream;
+use tokio::net::{TcpStream, UnixStream};
 
 /// Of a request, among its extensions.
 #[derive(Clone, Copy, Debug)]
-pub struct Ends {
-    pub theirs: SocketAddr,
-    pub ours: SocketAddr,
+pub enum Ends {
+    Tcp {
+        theirs: SocketAddr,
+        ours: SocketAddr,
+    },
+    /// The number of the user, as the kernel says it of a socket's.
+    Socket(u32),
 }
 
 impl Ends {
     /// None where it has broken already.
     pub fn of(stream: &TcpStream) -> Option<Ends> {
-        Some(Ends {
-            theirs: stream.peer_addr().ok()?,
-            ours: stream.local_addr().ok()?,
-        })
+        let (theirs, ours) = (stream.peer_addr().ok()?, stream.local_addr().ok()?);
+        Some(Ends::Tcp { theirs, ours })
+    }
+
+    /// None where it has broken already.
+    pub fn of_socket(stream: &UnixStream) -> Option<Ends> {
+        Some(Ends::Socket(stream.peer_cred().ok()?.uid()))
     }
 }

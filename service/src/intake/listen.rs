@@ -1,5 +1,6 @@
 //! How an address is listened on: one of TCP, or a socket of this machine.
 
+use super::ends::Ends;
 use std::future::Future;
 use std::io::{ErrorKind, Result};
 use std::os::unix::fs::{FileTypeExt, PermissionsExt};
@@ -47,6 +48,8 @@ pub trait Listener: Send + Sync + 'static {
 
     fn accepted(&self) -> impl Future<Output = Result<Self::Stream>> + Send;
 
+    fn ends(stream: &Self::Stream) -> Option<Ends>;
+
     /// As people write it. Port 0 is any free one.
     fn shown(&self) -> String;
 }
@@ -60,6 +63,10 @@ impl Listener for TcpListener {
         Ok(stream)
     }
 
+    fn ends(stream: &TcpStream) -> Option<Ends> {
+        Ends::of(stream)
+    }
+
     fn shown(&self) -> String {
         self.local_addr()
             .map_or_else(|error| error.to_string(), |address| address.to_string())
@@ -71,6 +78,10 @@ impl Listener for UnixListener {
 
     async fn accepted(&self) -> Result<UnixStream> {
         Ok(self.accept().await?.0)
+    }
+
+    fn ends(stream: &UnixStream) -> Option<Ends> {
+        Ends::of_socket(stream)
     }
 
     fn shown(&self) -> String {

@@ -10,18 +10,23 @@ const UID: usize = 7;
 
 /// The user's name, or `uid N`; none where the other end is on another machine, or in a network of its own.
 pub fn of(ends: Ends) -> Option<String> {
-    let table = match ends.theirs.ip().to_canonical() {
-        IpAddr::V4(_) => "/proc/net/tcp",
-        IpAddr::V6(_) => "/proc/net/tcp6",
+    let uid = match ends {
+        Ends::Socket(uid) => uid.to_string(),
+        Ends::Tcp { theirs, ours } => {
+            let table = match theirs.ip().to_canonical() {
+                IpAddr::V4(_) => "/proc/net/tcp",
+                IpAddr::V6(_) => "/proc/net/tcp6",
+            };
+            uid(&std::fs::read_to_string(table).ok()?, theirs, ours)?
+        }
     };
-    let uid = uid(&std::fs::read_to_string(table).ok()?, ends)?;
     let users = std::fs::read_to_string("/etc/passwd").unwrap_or_default();
     Some(name(&users, &uid).unwrap_or_else(|| format!("uid {uid}")))
 }
 
 /// The user of the socket whose end this is: the other end has a row of its own, of this program.
-fn uid(table: &str, ends: Ends) -> Option<String> {
-    let (theirs, ours) = (written(ends.theirs), written(ends.ours));
+fn uid(table: &str, theirs: SocketAddr, ours: SocketAddr) -> Option<String> {
+    let (theirs, ours) = (written(theirs), written(ours));
     let rows = table
         .lines()
         .map(|line| line.split_ascii_whitespace().collect::<Vec<&str>>());
@@ -63,16 +68,10 @@ mod tests {
 
     #[test]
     fn the_other_end_s_user_is_found() {
-        let ends = Ends {
-            theirs: "127.0.0.1:45728".parse().unwrap(),
-            ours: "127.0.0.1:4319".parse().unwrap(),
-        };
-        assert_eq!(uid(TABLE, ends), Some("1000".to_string()));
-        let other = Ends {
-            theirs: "192.0.2.1:45728".parse().unwrap(),
-            ..ends
-        };
-        assert_eq!(uid(TABLE, other), None);
+        let ours = "127.0.0.1:4319".parse().unwrap();
+        let found = |theirs: &str| uid(TABLE, theirs.parse().unwrap(), ours);
+        assert_eq!(found("127.0.0.1:45728"), Some("1000".to_string()));
+        assert_eq!(found("192.0.2.1:45728"), None);
         let users = "root:x:0:0::/root:/bin/sh\nann:x:1000:1000::/home/ann:/bin/sh\n";
         assert_eq!(name(users, "1000"), Some("ann".to_string()));
         assert_eq!(name(users, "100"), None);
@@ -91,7 +90,7 @@ mod tests {
             let _theirs = TcpStream::connect(listener.local_addr().unwrap()).unwrap();
             let (ours, theirs) = listener.accept().unwrap();
             let ours = ours.local_addr().unwrap();
-            assert_eq!(of(Ends { theirs, ours }), Some(own.clone()), "{place}");
+            assert_eq!(of(Ends::Tcp { theirs, ours }), Some(own.clone()), "{place}");
         }
     }
 }
