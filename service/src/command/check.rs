@@ -2,28 +2,27 @@
 //!
 //! The files are copied, and the copy is opened as a start opens it: so what is said is what a start would do.
 
+mod copy;
+mod posts;
+
 use super::table::Table;
 use super::{json, values, Failure, Form};
 use crate::files::{Dropped, Durability, Fault, Folder, FolderFault, Journal, Outbox, Replayed};
 use crate::service::slot_of;
 use anyhow::{bail, Context};
 use clap::Args;
+use copy::{interrupts, remove_at, Copy};
 use nix::fcntl::{flock, FlockArg};
-use nix::sys::signal::{SigSet, Signal};
 use serde::Serialize;
 use std::collections::HashSet;
-use std::fs::{DirBuilder, File};
-use std::io::ErrorKind;
+use std::fs::File;
 use std::os::fd::AsRawFd;
-use std::os::unix::fs::DirBuilderExt;
 use std::path::{Path, PathBuf};
 use std::time::Duration;
 
 /// How often the folder's lock is tried, and how long between.
 const TRIES: u32 = 50;
 const PAUSE: Duration = Duration::from_millis(20);
-/// How often a copy is tried to be removed.
-const REMOVALS: usize = 100;
 
 #[derive(Args)]
 pub struct Options {
@@ -33,6 +32,9 @@ pub struct Options {
     /// Where the files are copied to while they are read [default: the system's folder for temporary files]
     #[arg(long, value_name = "DIR")]
     temporary: Option<PathBuf>,
+    /// Prints the posts that are in no group instead, each as a line of JSON
+    #[arg(long)]
+    posts: bool,
     #[command(flatten)]
     form: Form,
 }
@@ -75,7 +77,11 @@ impl Options {
         let copy = Copy::made(&temporary)?;
         remove_at(interrupts, copy.0.clone()).context("no thread could be started")?;
         copy.fill(&self.data, &temporary)?;
-        let found = found(&copy.0).map_err(|failure| in_the_original(failure, &copy.0, &self.data))?;
+        let in_data = |failure| in_the_original(failure, &copy.0, &self.data);
+        if self.posts {
+            return posts::print(&copy.0).map(|()| Vec::new()).map_err(in_data);
+        }
+        let found = found(&copy.0).map_err(in_data)?;
         show_found(found, &copy.0, &self.data, self.form)
     }
 }
@@ -137,101 +143,15 @@ fn has_slot(data: &Path) -> bool {
     entries.any(|entry| entry.file_name().as_encoded_bytes().starts_with(b"slot-"))
 }
 
-/// What ends a command from outside, from here on for who waits for it alone.
-fn interrupts() -> nix::Result<SigSet> {
-    let mut signals = SigSet::empty();
-    signals.add(Signal::SIGINT);
-    signals.add(Signal::SIGTERM);
-    signals.thread_block()?;
-    Ok(signals)
-}
-
-/// Has them remove a copy too: it may be gigabytes of what senders sent. The status is what a shell calls such an end.
-fn remove_at(interrupts: SigSet, copy: PathBuf) -> std::io::Result<()> {
-    let ended = move || {
-        if let Ok(signal) = interrupts.wait() {
-            remove(&copy);
-            std::process::exit(128 + signal as i32);
-        }
-    };
-    std::thread::Builder::new()
-        .name("interrupt".into())
-        .spawn(ended)?;
-    Ok(())
-}
-
-/// Also while a file of it is being made.
-fn remove(copy: &Path) {
-    let mut fault = None;
-    for _ in 0..REMOVALS {
-        match std::fs::remove_dir_all(copy) {
-            Err(error) if error.kind() != ErrorKind::NotFound => fault = Some(error),
-            _ => return,
-        }
-    }
-    if let Some(error) = fault {
-        crate::complain(format_args!("{} could not be removed: {error}", copy.display()));
-    }
-}
-
-/// A copy of the journal, the outbox and the dead letters; removed when it is dropped.
-struct Copy(PathBuf);
-
-impl Copy {
-    /// An empty one.
-    fn made(temporary: &Path) -> anyhow::Result<Copy> {
-        let place = temporary.join(format!("totxegun-check-{}", std::process::id()));
-        DirBuilder::new()
-            .mode(0o700)
-            .create(&place)
-            .with_context(|| format!("{} can't be made", place.display()))?;
-        Ok(Copy(place)) // and not before: what was there already is not this one's to remove
-    }
-
-    fn fill(&self, data: &Path, temporary: &Path) -> anyhow::Result<()> {
-        for entry in std::fs::read_dir(data)? {
-            let name = entry?.file_name();
-            let is_ours = name
-                .to_str()
-                .is_some_and(|name| name == "version" || name == "dead" || name.starts_with("slot-"));
-            if is_ours {
-                copy_all(&data.join(&name), &self.0.join(&name)).with_context(|| {
-                    format!(
-                        "{} can't be copied to {}: give --temporary",
-                        data.display(),
-                        temporary.display()
-                    )
-                })?;
-            }
-        }
-        Ok(())
-    }
-}
-
-impl Drop for Copy {
-    fn drop(&mut self) {
-        remove(&self.0);
-    }
-}
-
-/// A file, or a folder with all in it.
-fn copy_all(from: &Path, to: &Path) -> std::io::Result<()> {
-    if !from.is_dir() {
-        return std::fs::copy(from, to).map(|_| ());
-    }
-    std::fs::create_dir(to)?;
-    for entry in std::fs::read_dir(from)? {
-        let name = entry?.file_name();
-        copy_all(&from.join(&name), &to.join(&name))?;
-    }
-    Ok(())
+fn opened(copy: &Path) -> Result<Folder, Failure> {
+    Folder::open(copy, Durability::Process).map_err(|fault| match fault {
+        FolderFault::Fault(fault) => Failure::Disk(fault),
+        in_use => Failure::Refused(in_use.into()),
+    })
 }
 
 fn found(copy: &Path) -> Result<Found, Failure> {
-    let folder = Folder::open(copy, Durability::Process).map_err(|fault| match fault {
-        FolderFault::Fault(fault) => Failure::Disk(fault),
-        in_use => Failure::Refused(in_use.into()),
-    })?;
+    let folder = opened(copy)?;
     let mut found = Found {
         slots: folder.slots(),
         sink: folder.sink().map(|sink| sink.to_string()),

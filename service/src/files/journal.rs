@@ -4,8 +4,8 @@
 //! |---|---|
 //! | 16 post, 17 copy (of 0.5.0) | seconds since 1970 (u64), foreign points (u64), length of the sender's name (u64), name, body |
 //! | 18 held | JSON: of each quarantined sender its name, how many of its posts are in its own file, and where they end there |
-//! | 19 name | number (u64), JSON: a request of one point, whose series has the number in this file from here on |
-//! | 20 points | as a post, but its numbers and its body are packed (`packed`) |
+//! | 19 name | number, JSON: a request of one point, whose series has the number in this file from here on |
+//! | 20 points | as a post, but its body is points, and packed as its numbers are (`packed`) |
 //!
 //! A name is written with the first points of a segment that need it, by the same write.
 //!

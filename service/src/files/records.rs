@@ -6,7 +6,7 @@
 //! | 2 mark | offset (u64): all before it was durable when the mark was written; of the journal also the length that the file had durably, and the first segment that is not in groups (u64 each) |
 //! | 3 end, the last of a closed file | as a mark |
 //!
-//! Other kinds are a file's own. No kind is a byte that JSON may have, so that no body has a record in it.
+//! Other kinds are a file's own. No kind is a byte that JSON or packed points may have, so that no body has a record in it.
 
 use super::disk::io_fault;
 use super::Fault;

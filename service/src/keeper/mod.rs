@@ -2,8 +2,8 @@
 //!
 //! One task does all of this, one after the other: `run` waits for what is to be done, `checkpoint` moves what the book
 //! has to the outbox, `forget` leaves out series, `fill` gives a fresh book what the files say, `owners` finds whose
-//! series these are, `series` says which ones a
-//! post has, `numbers` gives them numbers for the book, `drain` brings all to rest. What takes long is done on threads beside the runtime's.
+//! series these are, `series` says which ones a post has, `numbers` gives them numbers for the book, `drain` brings all to
+//! rest. What takes long is done on threads beside the runtime's.
 
 mod checkpoint;
 mod drain;
@@ -14,6 +14,8 @@ mod orders;
 mod owners;
 mod run;
 mod series;
+
+pub(crate) use series::only_series;
 
 use crate::core::Refused;
 use crate::files::Fault;

@@ -37,7 +37,66 @@ impl SeriesOfPosts {
     }
 }
 
-fn only_series(text: &[u8]) -> Option<SeriesKey> {
+/// The series of a request of one point, by which the journal names it.
+pub(crate) fn only_series(text: &[u8]) -> Option<SeriesKey> {
     let mut series = posted(text)?.series.into_keys();
     series.next().filter(|_| series.next().is_none())
+}
+
+#[cfg(test)]
+mod tests {
+    use super::*;
+    use crate::files::Post;
+    use bytes::Bytes;
+
+    fn text(name: &str, end: u64) -> Bytes {
+        format!(
+            "{{\"resourceMetrics\":[{{\"scopeMetrics\":[{{\"metrics\":[{{\"name\":\"{name}\",\"sum\":{{\
+             \"aggregationTemporality\":1,\"dataPoints\":[{{\"asInt\":\"5\",\"startTimeUnixNano\":\"1\",\
+             \"timeUnixNano\":\"{end}\"}}]}}}}]}}]}}]}}"
+        )
+        .into()
+    }
+
+    fn of(series: &mut SeriesOfPosts, body: Body, named: &[(u64, &str)]) -> Option<Vec<(String, u64)>> {
+        let post = Post {
+            sender: "s".into(),
+            foreign: 0,
+            body,
+        };
+        let named = named.iter().map(|(number, name)| (*number, text(name, 2)));
+        let posted = series.of(&Replayed {
+            post,
+            named: named.collect(),
+        })?;
+        let names = posted.series.into_iter();
+        let mut names: Vec<_> = names.map(|(key, end)| (key.parts().unwrap().name, end)).collect();
+        names.sort();
+        Some(names)
+    }
+
+    fn points(of: &[(u64, u64)]) -> Body {
+        let mut points = Points::default();
+        for (number, end) in of {
+            points.push(*number, 1, *end, [5]);
+        }
+        Body::Points(points)
+    }
+
+    #[test]
+    fn a_number_stands_for_what_was_said_last() {
+        let mut series = SeriesOfPosts::default();
+        let pair = |name: &str, end| (name.to_string(), end);
+        let both = of(
+            &mut series,
+            points(&[(0, 9), (7, 8), (0, 7)]),
+            &[(7, "b"), (0, "a")],
+        );
+        assert_eq!(both, Some(vec![pair("a", 9), pair("b", 8)]));
+        let one = of(&mut series, Body::Text(text("c", 6)), &[(0, "d")]);
+        assert_eq!(one, Some(vec![pair("c", 6)]));
+        let again = of(&mut series, points(&[(0, 5), (7, 4)]), &[]);
+        assert_eq!(again, Some(vec![pair("b", 4), pair("d", 5)]));
+        assert_eq!(of(&mut series, points(&[(1, 5)]), &[]), None);
+    }
 }

@@ -1,4 +1,5 @@
 //! Slot and keeper over files on disk, with the book that is linked in.
 
+mod numbered;
 mod real;
 mod support;

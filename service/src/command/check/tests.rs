@@ -1,7 +1,9 @@
 //! What `totxegun check` refuses, and what it leaves behind.
 
 use super::*;
+use crate::files::{Body, Names, Points, Post};
 use anyhow::Result;
+use bytes::Bytes;
 use tempfile::tempdir;
 
 #[test]
@@ -117,5 +119,63 @@ fn what_is_in_the_place_of_a_copy_stays() -> Result<()> {
     };
     assert!(format!("{error:#}").contains("can't be made"), "{error:#}");
     assert!(place.join("another's").exists());
+    Ok(())
+}
+
+/// Of a sum and a histogram.
+struct Two;
+
+impl Names for Two {
+    fn generation(&self) -> u64 {
+        1
+    }
+
+    fn text(&self, number: u64) -> Bytes {
+        let data = match number {
+            0 => r#""sum":{"aggregationTemporality":1,"isMonotonic":true,"dataPoints":[{"asInt":"0""#,
+            _ => {
+                r#""histogram":{"aggregationTemporality":1,"dataPoints":[{"count":"0","bucketCounts":["0","0"],"explicitBounds":[5]"#
+            }
+        };
+        format!(
+            r#"{{"resourceMetrics":[{{"scopeMetrics":[{{"metrics":[{{"name":"m{number}",{data},"startTimeUnixNano":"1","timeUnixNano":"2"}}]}}}}]}}]}}]}}"#
+        )
+        .into()
+    }
+}
+
+#[test]
+fn posts_are_told_by_the_names_of_their_series_and_with_their_values() -> Result<()> {
+    let data = tempdir()?;
+    let folder = Folder::open(data.path(), Durability::Process).unwrap();
+    let (journal, outbox) = folder.slot(0)?;
+    let mut points = Points::default();
+    points.push(0, 10, 20, [-7i64 as u64]);
+    points.push(1, 30, 40, [3, 1, 12, 1, 2]);
+    points.push(1, 40, 50, [1, 0, 0, 0, 1]);
+    let post = |sender: &str, body: Body| Post {
+        sender: sender.into(),
+        foreign: 2,
+        body,
+    };
+    journal.append(&post("a", Body::Points(points)), &Two);
+    let text = "{\n  \"resourceMetrics\": 12345678901234567890123\n}";
+    journal.append(&post("b", Body::Text(text.into())), &Two);
+    let mut lines = Vec::new();
+    posts::put_lines(&journal, &outbox, |text| {
+        lines.extend_from_slice(text);
+        Ok(())
+    })
+    .unwrap();
+    let expected = [
+        r#"{"sender":"a","foreign":2,"points":["#,
+        r#"{"series":[[],"","",[],"m0","","monotonic",[]],"start":10,"end":20,"value":-7},"#,
+        r#"{"series":[[],"","",[],"m1","",[5],[]],"start":30,"end":40,"count":3,"sum":12,"buckets":[1,2]},"#,
+        r#"{"series":[[],"","",[],"m1","",[5],[]],"start":40,"end":50,"count":1,"buckets":[0,1]}]}"#,
+        "\n",
+        r#"{"sender":"b","foreign":2,"body":{   "resourceMetrics": 12345678901234567890123 }}"#,
+        "\n",
+    ];
+    assert_eq!(String::from_utf8(lines)?, expected.concat());
     Ok(())
 }

@@ -1,4 +1,4 @@
-//! Points in few bytes. Of each, as numbers of 7 bits a byte, the lowest first:
+//! Points in few bytes. Of each, in this order:
 //!
 //! | what | against |
 //! |---|---|
@@ -6,23 +6,35 @@
 //! | its end | that of the point before; 0 for the first |
 //! | its length, end less start | that of the point before; 0 for the first |
 //! | how many words it says | |
-//! | which of them are not 0: a bit each, in bytes, the lowest first | |
+//! | which of them are not 0: a byte for six, 32 and a bit each, the lowest first | |
 //! | those that are not 0 | |
 //!
-//! A difference, and a word, may be negative: n is written as 2n, and -n as 2n-1. All wraps, so any 64 bits can be
-//! written; and points have one form alone, so what is read is what was written.
+//! A number is written by 7 bits a byte, the lowest first, 128 and these, until less than 96 is left: that is the last one,
+//! with 32. So no byte is the kind of a record, and points have no record in them, whatever a sender sends. Where a number
+//! may be negative, as a difference or a word, n is written as 2n, and -n as 2n-1. All wraps, so any 64 bits can be written.
+//! Points have one form alone.
 
 use super::post::Points;
 
+/// The byte of a 0; lower ones may be kinds of records.
+const FIRST: u8 = 32;
+/// A byte from here on is not the last of its number.
+const MORE: u8 = 128;
+/// What is less is one byte.
+const LAST: u64 = (MORE - FIRST) as u64;
+/// How many words have their bits in a byte.
+const SIX: usize = 6;
+
 pub(super) fn of(points: &Points) -> Vec<u8> {
-    let (mut out, mut last) = (Vec::new(), Last::default());
+    let mut out = Vec::with_capacity(points.words().len() * 2);
+    let mut last = Last::default();
     for point in points.each() {
         last.put(&mut out, point);
     }
     out
 }
 
-/// Reads all bytes; `None` where they are no points. No more is kept at any time than eight words for a byte.
+/// Reads all bytes; `None` where they are no points. No more is kept at any time than six words for a byte.
 pub(super) fn read(mut bytes: &[u8]) -> Option<Points> {
     let (mut points, mut last) = (Points::default(), Last::default());
     while !bytes.is_empty() {
@@ -32,25 +44,27 @@ pub(super) fn read(mut bytes: &[u8]) -> Option<Points> {
 }
 
 pub(super) fn put_number(out: &mut Vec<u8>, mut number: u64) {
-    while number > 0x7f {
-        out.push(number as u8 | 0x80);
+    while number >= LAST {
+        out.push(MORE | number as u8);
         number >>= 7;
     }
-    out.push(number as u8);
+    out.push(FIRST + number as u8);
 }
 
 /// Takes a number off the front. `None` also where it is longer than it is written, or more than 64 bits.
 pub(super) fn take_number(bytes: &mut &[u8]) -> Option<u64> {
-    let mut number = 0;
+    let (mut number, mut before) = (0, u64::MAX);
     for shift in (0..64).step_by(7) {
         let (byte, rest) = bytes.split_first()?;
         *bytes = rest;
-        let bits = u64::from(byte & 0x7f);
-        number |= bits << shift;
-        if *byte < 0x80 {
-            let is_short = shift == 0 || *byte > 0;
-            return (is_short && number >> shift == bits).then_some(number);
+        if *byte < MORE {
+            let last = u64::from(byte.checked_sub(FIRST)?);
+            let is_short = last > 0 || before >= LAST;
+            let fits = last << shift >> shift == last;
+            return (is_short && fits).then_some(number | last << shift);
         }
+        before = u64::from(byte - MORE);
+        number |= before << shift;
     }
     None
 }
@@ -85,9 +99,9 @@ impl Last {
         put_signed(out, length.wrapping_sub(self.length));
         self.note(*number, *end, length);
         put_number(out, says.len() as u64);
-        for eight in says.chunks(8) {
-            let bits = eight.iter().rev();
-            out.push(bits.fold(0, |byte, word| byte << 1 | u8::from(*word != 0)));
+        for six in says.chunks(SIX) {
+            let bits = six.iter().rev();
+            out.push(FIRST + bits.fold(0, |byte, word| byte << 1 | u8::from(*word != 0)));
         }
         let said = says.iter().filter(|word| **word != 0);
         said.for_each(|word| put_signed(out, *word));
@@ -99,16 +113,23 @@ impl Last {
         let length = self.length.wrapping_add(take_signed(bytes)?);
         self.note(number, end, length);
         let count = usize::try_from(take_number(bytes)?).ok()?;
-        let (bits, rest) = bytes.split_at_checked(count.div_ceil(8))?;
+        let (bits, rest) = bytes.split_at_checked(count.div_ceil(SIX))?;
         *bytes = rest;
-        let is_said = |word: usize| bits[word / 8] >> (word % 8) & 1 != 0;
-        let mut says = Vec::new();
-        for word in 0..count {
-            says.push(if is_said(word) { take_word(bytes)? } else { 0 });
+        let is_said = |word: usize| (bits[word / SIX] - FIRST) >> (word % SIX) & 1 != 0;
+        let are_bits = bits.iter().all(|byte| (FIRST..FIRST + (1 << SIX)).contains(byte));
+        if !are_bits || (count..bits.len() * SIX).any(is_said) {
+            return None;
         }
-        let has_more = (count..bits.len() * 8).any(is_said);
+        let mut is_sound = true;
+        let says = (0..count).map(|word| match is_said(word) {
+            false => 0,
+            true => take_word(bytes).unwrap_or_else(|| {
+                is_sound = false;
+                0
+            }),
+        });
         points.push(number, end.wrapping_sub(length), end, says);
-        (!has_more).then_some(())
+        is_sound.then_some(())
     }
 
     fn note(&mut self, number: u64, end: u64, length: u64) {

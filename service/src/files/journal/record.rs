@@ -55,9 +55,10 @@ impl Posts {
         let bytes = Bytes::from(bytes);
         let (since, post) = match kind {
             NAME => {
-                let number = records::take_number(&mut &bytes[..]).ok_or(NO_POST)?;
+                let mut text = &bytes[..];
+                let number = packed::take_number(&mut text).ok_or(NO_POST)?;
                 self.known.insert(number);
-                self.named.push((number, bytes.slice(size_of::<u64>()..)));
+                self.named.push((number, bytes.slice_ref(text)));
                 return Ok(None);
             }
             POST | COPY => text(bytes).ok_or(NO_POST)?,

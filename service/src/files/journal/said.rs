@@ -1,7 +1,7 @@
 //! Which names a segment has said.
 
 use super::post::{Names, Points};
-use super::NAME;
+use super::{packed, NAME};
 use crate::files::records;
 
 /// The numbers that a segment has named: a bit each, so an eighth of a byte of each name that there is.
@@ -41,7 +41,9 @@ impl Said {
 
 /// Appends the record by which a file says a name.
 pub(super) fn put_name(out: &mut Vec<u8>, number: u64, text: &[u8]) {
-    records::put(out, NAME, &[&number.to_le_bytes(), text]);
+    let mut head = Vec::new();
+    packed::put_number(&mut head, number);
+    records::put(out, NAME, &[&head, text]);
 }
 
 #[cfg(test)]

@@ -2,6 +2,7 @@
 
 use super::*;
 use crate::files::numbers::Numbers;
+use crate::files::records;
 
 const MINUTE: u64 = 60_000_000_000;
 /// A time of 2026.
@@ -34,9 +35,19 @@ fn the_bytes_are_those_of_the_table() {
     points.push(4, 70, 100, [u64::MAX]);
     points.push(2, 100, 130, [300, 0, 0, 0, 0, 0, 0, 0, 0, 1]);
     let bytes = [
-        &[6, 0xc8, 1, 60, 1, 1, 10][..],
-        &[0, 0, 0, 1, 1, 1],
-        &[5, 60, 0, 10, 0b1, 0b10, 0xd8, 4, 2],
+        &[32 + 6, 128 + 72, 32 + 1, 32 + 60, 32 + 1, 32 + 0b1, 32 + 10][..],
+        &[32, 32, 32, 32 + 1, 32 + 0b1, 32 + 1],
+        &[
+            32 + 5,
+            32 + 60,
+            32,
+            32 + 10,
+            32 + 0b1,
+            32 + 0b1000,
+            128 + 88,
+            32 + 4,
+            32 + 2,
+        ],
     ];
     assert_eq!(of(&points), bytes.concat());
 }
@@ -46,7 +57,10 @@ fn random_points_come_back() {
     let mut chance = Numbers(1);
     for _ in 0..20_000 {
         let points = random(&mut chance);
-        assert_eq!(read(&of(&points)), Some(points));
+        let bytes = of(&points);
+        let is_kind = |byte: &u8| (records::HEADER..=records::LAST).contains(byte);
+        assert!(!bytes.iter().any(is_kind), "a record could be in it");
+        assert_eq!(read(&bytes), Some(points));
     }
 }
 
@@ -69,8 +83,10 @@ fn each_cut_and_each_flipped_byte_is_no_points_or_the_one_form_of_some() {
 fn any_bytes_are_no_points_or_the_one_form_of_some() {
     let mut chance = Numbers(3);
     for _ in 0..100_000 {
-        let most = [3, 9, 256][chance.below(3) as usize];
-        let bytes: Vec<u8> = (0..chance.below(60)).map(|_| chance.below(most) as u8).collect();
+        let (least, most) = [(32, 3), (32, 70), (0, 256)][chance.below(3) as usize];
+        let length = chance.below(60);
+        let byte = |_| (least + chance.below(most)) as u8;
+        let bytes: Vec<u8> = (0..length).map(byte).collect();
         is_one_form(&bytes);
     }
 }
@@ -78,14 +94,14 @@ fn any_bytes_are_no_points_or_the_one_form_of_some() {
 fn is_one_form(bytes: &[u8]) {
     if let Some(points) = read(bytes) {
         assert_eq!(of(&points), bytes);
-        assert!(points.words().len() <= 8 * bytes.len(), "{bytes:?}");
+        assert!(points.words().len() <= 6 * bytes.len(), "{bytes:?}");
     }
 }
 
 #[test]
 fn a_number_that_is_read_is_no_length_of_anything() {
     for count in [8, 1 << 20, 1 << 40, u64::MAX] {
-        let mut bytes = vec![0, 0, 0];
+        let mut bytes = vec![FIRST; 3];
         put_number(&mut bytes, count);
         assert_eq!(read(&bytes), None, "{count}");
     }
@@ -93,10 +109,24 @@ fn a_number_that_is_read_is_no_length_of_anything() {
 
 #[test]
 fn a_number_has_one_form() {
-    for bytes in [&[0x80, 0][..], &[0xff, 0x80, 0], &[0x80], &[0xff; 10], &[]] {
+    let faulty: [&[u8]; 7] = [
+        &[128, 32],
+        &[255, 128, 32],
+        &[223, 32],
+        &[128],
+        &[255; 10],
+        &[31],
+        &[],
+    ];
+    for bytes in faulty {
         assert_eq!(take_number(&mut &bytes[..]), None, "{bytes:?}");
     }
-    let most = [[0xff; 9].as_slice(), &[1]].concat();
+    for number in (0..20_000).chain((0..64).flat_map(|bit| [1 << bit, (1 << bit) - 1])) {
+        let mut bytes = Vec::new();
+        put_number(&mut bytes, number);
+        assert_eq!(take_number(&mut &bytes[..]), Some(number));
+    }
+    let most = [[255; 9].as_slice(), &[33]].concat();
     assert_eq!(take_number(&mut &most[..]), Some(u64::MAX));
 }
 

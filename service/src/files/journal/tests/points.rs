@@ -86,7 +86,7 @@ fn a_segment_says_a_name_once_ahead_of_its_first_points_and_by_the_same_write() 
     );
     assert_eq!(
         records_of(&segment::path(folder.path(), 1))[0].1,
-        [97, 0, 0, 0, 0, 0, 0, 0, b'a']
+        [128 + 97, 32, b'a']
     );
 }
 

@@ -1,0 +1,148 @@
+//! `totxegun check --posts`: each post that is in no group, a line of JSON, whichever form the journal has it in.
+
+use super::{opened, Failure};
+use crate::command::show;
+use crate::files::{Body, Journal, Outbox, Points, Replayed};
+use crate::keeper::only_series;
+use crate::otlp::series::{Kind, SeriesKey};
+use serde::Serialize;
+use serde_json::value::RawValue;
+use std::collections::HashMap;
+use std::path::Path;
+
+/// How much is printed at once.
+const PIECE: usize = 64 << 10;
+
+#[derive(Serialize)]
+struct Line<'a> {
+    sender: &'a str,
+    /// How many points were not taken.
+    foreign: u64,
+    #[serde(flatten)]
+    what: What<'a>,
+}
+
+#[derive(Serialize)]
+#[serde(rename_all = "snake_case")]
+enum What<'a> {
+    /// As the book was given it.
+    Body(Box<RawValue>),
+    Points(Vec<Point<'a>>),
+}
+
+#[derive(Serialize)]
+struct Point<'a> {
+    /// Its identity.
+    series: &'a RawValue,
+    start: u64,
+    end: u64,
+    #[serde(flatten)]
+    says: Says,
+}
+
+#[derive(Serialize)]
+#[serde(untagged)]
+enum Says {
+    Sum {
+        value: i64,
+    },
+    Histogram {
+        count: u64,
+        #[serde(skip_serializing_if = "Option::is_none")]
+        sum: Option<u64>,
+        buckets: Vec<u64>,
+    },
+}
+
+/// What numbers stand for.
+#[derive(Default)]
+struct Series(HashMap<u64, Option<(Box<RawValue>, Kind)>>);
+
+/// Prints those of a folder.
+pub(super) fn print(copy: &Path) -> Result<(), Failure> {
+    let folder = opened(copy)?;
+    for number in 0..folder.slots() {
+        let (journal, outbox) = folder.slot(number)?;
+        put_lines(&journal, &outbox, show)?;
+    }
+    Ok(())
+}
+
+/// In the order in which a start puts them into the book, but for those of quarantined senders.
+pub(super) fn put_lines(
+    journal: &Journal,
+    outbox: &Outbox,
+    mut put: impl FnMut(&[u8]) -> anyhow::Result<()>,
+) -> Result<(), Failure> {
+    let (mut series, mut text, mut done) = (Series::default(), Vec::new(), Ok(()));
+    journal.posts(outbox.journal(), u64::MAX, |read| {
+        done = series.put_line(&mut text, &read);
+        if done.is_ok() && text.len() >= PIECE {
+            done = put(&std::mem::take(&mut text));
+        }
+        done.is_ok()
+    })?;
+    done?;
+    Ok(put(&text)?)
+}
+
+impl Series {
+    fn put_line(&mut self, text: &mut Vec<u8>, read: &Replayed) -> anyhow::Result<()> {
+        for (number, name) in &read.named {
+            self.0.insert(*number, named(name));
+        }
+        let what = match &read.post.body {
+            // No text of JSON has an end of a line in it.
+            Body::Text(body) => What::Body(RawValue::from_string(
+                String::from_utf8_lossy(body).replace(['\n', '\r'], " "),
+            )?),
+            Body::Points(points) => What::Points(self.points(points)?),
+        };
+        let (sender, foreign) = (read.post.sender.as_str(), read.post.foreign);
+        serde_json::to_writer(
+            &mut *text,
+            &Line {
+                sender,
+                foreign,
+                what,
+            },
+        )?;
+        text.push(b'\n');
+        Ok(())
+    }
+
+    fn points(&self, points: &Points) -> anyhow::Result<Vec<Point<'_>>> {
+        let point = |words: &[u64]| self.point(words);
+        let points: Option<Vec<Point<'_>>> = points.each().map(point).collect();
+        points.ok_or_else(|| anyhow::anyhow!("the journal has a point that is none of its series"))
+    }
+
+    fn point(&self, words: &[u64]) -> Option<Point<'_>> {
+        let [number, start, end, says @ ..] = words else {
+            return None;
+        };
+        let (series, kind) = self.0.get(number)?.as_ref()?;
+        let says = match (kind, says) {
+            (Kind::Sum | Kind::Monotonic, [value]) => Says::Sum { value: *value as i64 },
+            (Kind::Histogram { .. }, [count, has_sum, sum, buckets @ ..]) => Says::Histogram {
+                count: *count,
+                sum: (*has_sum != 0).then_some(*sum),
+                buckets: buckets.to_vec(),
+            },
+            _ => return None,
+        };
+        let (start, end) = (*start, *end);
+        Some(Point {
+            series,
+            start,
+            end,
+            says,
+        })
+    }
+}
+
+fn named(text: &[u8]) -> Option<(Box<RawValue>, Kind)> {
+    let key: SeriesKey = only_series(text)?;
+    let kind = key.parts().ok()?.kind;
+    Some((RawValue::from_string(key.0.to_string()).ok()?, kind))
+}
