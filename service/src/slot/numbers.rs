@@ -156,12 +156,14 @@ impl Numbers {
     /// Numbers that nobody has yet, unless another has begun with some.
     fn begin(&self, core: &Core, reading: &Arc<Reading>) -> Option<Arc<Generation>> {
         let mut now = self.now.write().unwrap_or_else(PoisonError::into_inner);
-        let before = now.take().filter(|other| !other.is_over(self.limits));
-        *now = match before {
-            None => Generation::new(core, reading, self.limits).ok().map(Arc::new),
-            other => other,
-        };
-        now.clone()
+        if let Some(other) = now.as_ref().filter(|other| !other.is_over(self.limits)) {
+            return Some(other.clone());
+        }
+        let fresh = Generation::new(core, reading, self.limits).ok().map(Arc::new);
+        let before = std::mem::replace(&mut *now, fresh.clone());
+        drop(now);
+        drop(before); // without the lock: it has much to give back
+        fresh
     }
 }
 
