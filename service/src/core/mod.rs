@@ -166,9 +166,6 @@ impl Read {
     }
 }
 
-/// How many bytes a word of a point may take in the journal.
-const BYTES_OF_A_WORD: usize = 10;
-
 impl Read {
     /// Says what its numbers stand for.
     pub fn names(&self) -> &dyn files::Names {
@@ -182,10 +179,8 @@ impl Read {
     pub fn bytes(&self) -> usize {
         match (&self.post.body, &self.names) {
             (Body::Text(body), _) => body.len(),
-            (Body::Points(points), None) => points.words().len() * BYTES_OF_A_WORD,
-            (Body::Points(points), Some(names)) => {
-                points.words().len() * BYTES_OF_A_WORD + names.length(points.numbers())
-            }
+            (Body::Points(points), None) => points.packed().len(),
+            (Body::Points(points), Some(names)) => points.packed().len() + names.length(points.numbers()),
         }
     }
 }
