@@ -22,6 +22,8 @@ part() {
 
 # shellcheck disable=SC2086 # words, each an argument
 part service service.py --runs 3 --seconds 0.7 $earlier
+# shellcheck disable=SC2086
+part half service.py --senders 64 --rows json-1,json-20,protobuf-103 --parties process --runs 3 --share 0.5 $earlier
 part plain gateway.py --beside plain,plain-tree,plain-answers,plain-fast --allocators tcmalloc --receivers 4 --runs 7 --seconds 0.6
 part instructions instructions.py
 part allocators gateway.py --allocators libc,mimalloc --seconds 0.7

@@ -1,9 +1,9 @@
 /* Posts OTLP to a gateway or to the service, and prints how long it took. Built with -pthread -lz.
  *
- *     load PORT CLIENTS REQUESTS POINTS SERIES KIND ENCODING CONNECTIONS FROM
+ *     load PORT CLIENTS REQUESTS POINTS SERIES KIND ENCODING CONNECTIONS FROM [PERIOD]
  *
  * CLIENTS threads, each a sender of its own, post so many requests together, of so many points each, as fast as they are
- * answered. The SERIES are shared out among the senders; KIND is sum or histogram (11 buckets); ENCODING is json,
+ * answered; or each once in PERIOD microseconds, and what is late counts as waiting for its answer. The SERIES are shared out among the senders; KIND is sum or histogram (11 buckets); ENCODING is json,
  * protobuf or gzip, which is packed protobuf; CONNECTIONS is each, one for each request, or kept. A sender's points go
  * round its series and on in time, so a second run begins at the point FROM of each sender, where the first one ended.
  * ENCODING may also be grpc: protobuf over HTTP/2, on connections that are kept, whatever CONNECTIONS says.
@@ -45,6 +45,7 @@ struct client {
 
 static int port, is_histogram, is_protobuf, is_packed, is_kept, is_grpc;
 static long clients, points, series, from;
+static double period;
 static pthread_barrier_t prepared;
 
 static double now(void) {
@@ -379,13 +380,23 @@ static int post(struct client *client, struct text request) {
     return held >= 12 && !memcmp(answer + 9, "200", 3);
 }
 
+/* Waits until a request is due: when it begins. */
+static double due(double at) {
+    if (period == 0) return now();
+    struct timespec until = { (time_t)at, (long)((at - (time_t)at) * 1e9) };
+    if (now() >= at) return at;
+    clock_nanosleep(CLOCK_MONOTONIC, TIMER_ABSTIME, &until, NULL);
+    return now();
+}
+
 static void *run(void *given) {
     struct client *client = given;
     for (long number = 0; number < client->requests; number++)
         client->posts[number] = request_of(client, number, from + number * points);
     pthread_barrier_wait(&prepared);
+    double first = now() + period * client->number / clients;
     for (long number = 0; number < client->requests; number++) {
-        double begun = now();
+        double begun = due(first + period * number);
         client->failed += !(is_grpc ? call : post)(client, client->posts[number]);
         client->took[number] = now() - begun;
     }
@@ -399,7 +410,8 @@ static int order(const void *a, const void *b) {
 
 int main(int count, char **words) {
     static struct client all[MOST_CLIENTS];
-    if (count != 10) return fprintf(stderr, "usage: load PORT CLIENTS REQUESTS POINTS SERIES KIND ENCODING CONNECTIONS FROM\n"), 2;
+    if (count != 10 && count != 11)
+        return fprintf(stderr, "usage: load PORT CLIENTS REQUESTS POINTS SERIES KIND ENCODING CONNECTIONS FROM [PERIOD]\n"), 2;
     port = atoi(words[1]);
     clients = atol(words[2]);
     long requests = clients > 0 ? atol(words[3]) / clients : 0;
@@ -411,6 +423,7 @@ int main(int count, char **words) {
     is_protobuf = is_packed || is_grpc || !strcmp(words[7], "protobuf");
     is_kept = is_grpc || !strcmp(words[8], "kept");
     from = atol(words[9]);
+    period = count == 11 ? atof(words[10]) * 1e-6 : 0;
     if (clients < 1 || clients > MOST_CLIENTS || requests < 1 || points < 1 || series < clients) return 2;
     double *took = room(clients * requests * sizeof *took);
     pthread_barrier_init(&prepared, NULL, clients + 1);

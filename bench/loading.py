@@ -41,10 +41,11 @@ class Senders:
         self.port, self.clients, self.posts = port, clients, posts
         self.posted = 0
 
-    def load(self, requests):
+    def load(self, requests, period=0):
+        """So many requests, each sender's as fast as they are answered, or once in a period of so many seconds."""
         posts = self.posts
         words = [self.port, self.clients, requests, posts.points, posts.series, posts.kind, posts.encoding, posts.connections,
-                 self.posted]
+                 self.posted, period * 1e6]
         ran = subprocess.run([LOAD, *map(str, words)], stdout=subprocess.PIPE, text=True, check=True)
         whole, failed, *times, size = ran.stdout.split()
         self.posted += int(whole) // self.clients * posts.points

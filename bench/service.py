@@ -2,7 +2,7 @@
 """Prints what the service takes for a post beside the bare gateway, and beside an earlier service, in one run.
 
     bench/service.py [--totxegun FILE] [--gateway FILE] [--earlier FOLDER] [--senders N,..] [--series N] [--rows NAME,..]
-                     [--parties NAME,..] [--runs N] [--seconds N] [--data DIR] [--options WORDS] [--set NAME=VALUE]*
+                     [--parties NAME,..] [--runs N] [--seconds N] [--share N] [--data DIR] [--options WORDS] [--set NAME=VALUE]*
 
 The programs are bin/totxegun and bin/gateway, as `make build` makes them, where none is named. Rows: json-1, json-20,
 protobuf-103, gzip-103, grpc-1, grpc-103, by the encoding and the points of a post, over 800 series. Parties: gateway, which is
@@ -13,7 +13,8 @@ gateway has four receivers, tcmalloc where that is installed, a connection a req
 reads no other. The services get kept connections, a sender each. The folder of a service is made in DIR, which is out/bench
 where none is named: the disk that `disk` waits for.
 
-The parties run in turn, each run in fresh processes whose series are there already, and of about so many seconds.
+The parties run in turn, each run in fresh processes whose series are there already, and of about so many seconds. With a share
+below 1 posts come at that share of the rate that a party has taken at most, evenly: what a post takes then is not its wait for others.
 Figures are medians over the runs, with the least and the most in brackets; a ratio is one of a run of the service to the
 run beside it. Processor time is all of a service's, an earlier one's gateway counted, with what flushing, journal and outbox
 take meanwhile.
@@ -51,16 +52,16 @@ class Figures:
         self.failed = loaded.failed
 
 
-def measured(port, pids, clients, posts, requests):
+def measured(port, pids, clients, posts, requests, period):
     """The figures of a load on these processes."""
     senders = Senders(port, clients, posts)
     senders.make_series()
     before = sum(map(processor_seconds, pids))
-    loaded = senders.load(rounded(requests, clients))
+    loaded = senders.load(rounded(requests, clients), period)
     return Figures(sum(map(processor_seconds, pids)) - before, loaded)
 
 
-def run(party, arguments, row, clients, requests):
+def run(party, arguments, row, clients, requests, period):
     """The figures of one run."""
     encoding, points, _ = ROWS[row]
     connections = "kept"
@@ -74,21 +75,25 @@ def run(party, arguments, row, clients, requests):
             words = ["--durable", party.removeprefix(EARLIER), "--listen-grpc", f"127.0.0.1:{grpc}"]
             one = stack.enter_context(serving(arguments, *words, is_earlier=party.startswith(EARLIER)))
             port, pids = grpc if encoding == "grpc" else one.listen, processes(one)
-        return measured(port, pids, clients, Posts("sum", points, arguments.series, encoding, connections), requests)
+        posts = Posts("sum", points, arguments.series, encoding, connections)
+        return measured(port, pids, clients, posts, requests, period)
 
 
 def print_row(arguments, row, clients):
     """Runs the parties in turn, and prints a line for each."""
     runs = {party: [] for party in arguments.parties}
     requests = {party: int(ROWS[row][2] * arguments.seconds) for party in arguments.parties}
+    periods = dict.fromkeys(arguments.parties, 0)
     for number in range(arguments.runs + 1):  # The first one finds how many requests take the time.
         for party in arguments.parties:
             count = requests[party] if number else requests[party] // 4
-            figures = run(party, arguments, row, clients, max(count, LEAST_POSTS * clients))
+            figures = run(party, arguments, row, clients, max(count, LEAST_POSTS * clients), periods[party])
             if number:
                 runs[party].append(figures)
             else:
-                requests[party] = int(figures.a_second * arguments.seconds)
+                a_second = figures.a_second * arguments.share
+                requests[party] = int(a_second * arguments.seconds)
+                periods[party] = clients / a_second if arguments.share < 1 else 0
     print(f"\n{row}, {clients} senders", flush=True)
     for party, all_of_it in runs.items():
         print_party(party, all_of_it)
@@ -123,6 +128,7 @@ def main():
     parser.add_argument("--parties", type=lambda text: text.split(","), default=PARTIES)
     parser.add_argument("--runs", type=int, default=5)
     parser.add_argument("--seconds", type=float, default=1)
+    parser.add_argument("--share", type=float, default=1)
     arguments = parser.parse_args()
     if arguments.earlier:
         arguments.parties += [EARLIER + party for party in arguments.parties if party in SERVICE]

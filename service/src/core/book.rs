@@ -298,36 +298,28 @@ impl Tried {
 
 // tcmalloc, which has all blocks of the process: it is linked before the C library, whose malloc nobody calls.
 #[link(name = "tcmalloc_minimal")]
-extern "C" {
-    /// How many bytes a block has for which so many are asked: what it counts.
-    fn nallocx(bytes: usize, flags: libc::c_int) -> usize;
-    /// Frees a block that has so many: so that is sought once.
-    fn tc_free_sized(at: *mut libc::c_void, bytes: usize);
-}
+extern "C" {}
 
-/// How many bytes a block has.
+/// The length that the allocator gave a block, which counts.
 fn length_of(at: *mut libc::c_void) -> usize {
     // SAFETY: `at` came from malloc or realloc and was not freed.
     unsafe { libc::malloc_usable_size(at) }
 }
 
-/// A block of so many bytes, aligned to at most 16, as malloc aligns all that has as many. One of no bytes has an
-/// address of its own.
+/// A block of so many bytes, aligned to at most 16, as malloc aligns all. One of no bytes has an address of its own.
 #[no_mangle]
 extern "C" fn rattle_alloc(bytes: usize, align: usize) -> Tried {
-    let bytes = if bytes == 0 { align } else { bytes };
     // SAFETY: any number may be asked for.
-    let length = unsafe { nallocx(bytes, 0) };
-    if !memory::take(length) {
-        return Tried::not();
-    }
-    // SAFETY: as above.
-    let at = unsafe { libc::malloc(bytes) };
+    let at = unsafe { libc::malloc(if bytes == 0 { align } else { bytes }) };
     if at.is_null() {
-        memory::give(length);
         return Tried::not();
     }
-    Tried::of(at)
+    if memory::take(length_of(at)) {
+        return Tried::of(at);
+    }
+    // SAFETY: it came from malloc just now, and nobody has it.
+    unsafe { libc::free(at) };
+    Tried::not()
 }
 
 /// Another length for a block, whose first bytes stay. Where that fails the block is as it was.
@@ -352,8 +344,7 @@ extern "C" fn rattle_realloc(at: *mut u8, _kept: usize, bytes: usize, align: usi
 #[no_mangle]
 extern "C" fn rattle_dealloc(at: *mut u8) {
     let at = at.cast();
-    let length = length_of(at);
-    memory::give(length);
-    // SAFETY: the library gives what it has from these functions, once; and the block has so many bytes.
-    unsafe { tc_free_sized(at, length) };
+    memory::give(length_of(at));
+    // SAFETY: the library gives what it has from these functions, once.
+    unsafe { libc::free(at) };
 }

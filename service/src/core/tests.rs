@@ -170,6 +170,13 @@ fn a_thread_has_the_stack_for_what_nests_to_127() {
     thread.spawn(run).unwrap().join().unwrap();
 }
 
+/// A library that is linked but not needed is left out, and then malloc is the C library's.
+#[test]
+fn the_allocator_is_the_linked_one() {
+    let maps = std::fs::read_to_string("/proc/self/maps").unwrap();
+    assert!(maps.contains("/libtcmalloc_minimal.so"), "{maps}");
+}
+
 /// Lets each block that a call asks for fail in turn, until it needs no more: how many failed. It is tried again then.
 fn each_block_fails<T>(does_without: bool, mut call: impl FnMut() -> Result<T, Refused>) -> (u64, T) {
     for blocks in 0.. {
