@@ -2,7 +2,7 @@
 
 use super::super::schema::STEPS;
 use super::hours::{agree, sums, view, Rows};
-use super::upkeep::{days, HOUR, NOVEMBER};
+use super::upkeep::{HOUR, NOVEMBER};
 use super::*;
 use rusqlite::Connection;
 
@@ -95,10 +95,11 @@ fn hours_of_an_older_file_are_filled_in() {
 /// 2024-03-01 12:00.
 const NOON: u64 = 1_709_294_400_000_000_000;
 
+/// Of the first four hours no span is left, of the first two no hour, and all series but one are out of use.
 const KEEP: Keep = Keep {
-    spans: days(1),
-    hours: days(2),
-    series: days(1),
+    spans: Some(Duration::from_secs(34 * 3600)),
+    hours: Some(Duration::from_secs(36 * 3600)),
+    series: Some(Duration::from_secs(6 * 3600)),
 };
 
 /// The file as it lies there when its log ends anywhere: the next start goes on, and comes to the same.
@@ -109,7 +110,10 @@ fn a_kill_at_any_point_of_an_update_changes_nothing_of_what_comes_out() {
     let file = std::fs::read(trial.path()).expect("the file");
     let connection = all_in_the_log(&trial.path());
     let whole = found(&trial);
-    assert!(!sums(&trial, 0).is_empty() && whole.1.len() > sums(&trial, 0).len());
+    assert_eq!(
+        (sums(&trial, 0).len(), trial.ask("select min(hour) from by_hour")),
+        (1, "2024-02-29 00:00".into())
+    );
     let log = std::fs::read(trial.folder.path().join("totals.db-wal")).expect("the log");
     drop(connection);
     let frame = 24 + 4096;

@@ -8,7 +8,7 @@ const DAY: u64 = 24 * HOUR;
 /// 2026-11-01 00:00.
 pub(super) const NOVEMBER: u64 = 1_793_491_200_000_000_000;
 
-pub(super) const fn days(days: u64) -> Option<Duration> {
+fn days(days: u64) -> Option<Duration> {
     Some(Duration::from_secs(days * 86_400))
 }
 
