@@ -70,18 +70,7 @@ impl SqliteSink {
             tracing::warn!(reason, "{reason}; it is opened again at each delivery");
         }
         let (jobs, received) = mpsc::channel::<Job>();
-        let write = move || {
-            let mut wait = LOOK;
-            loop {
-                match received.recv_timeout(wait) {
-                    // Nobody waits where the service ends. The key says the next time that it was taken.
-                    Ok(job) => drop(job.done.send(writer.take(&job.request))),
-                    Err(RecvTimeoutError::Timeout) => writer.look(),
-                    Err(RecvTimeoutError::Disconnected) => return,
-                }
-                wait = if writer.keep_up() { PAUSE } else { LOOK };
-            }
-        };
+        let write = move || writer.run(&received);
         let thread = std::thread::Builder::new()
             .name("sqlite".into())
             .spawn(write)
@@ -205,6 +194,20 @@ impl Writer {
             tracing::error!(reason, "its -wal was deleted, and can't be saved: {reason}");
         }
         self.is_told = self.is(Found::WithoutLog);
+    }
+
+    /// Until there is nobody any more who sends. Nobody waits where the service ends: the key says the next time that it
+    /// was taken.
+    fn run(&mut self, received: &mpsc::Receiver<Job>) {
+        let mut wait = LOOK;
+        loop {
+            match received.recv_timeout(wait) {
+                Ok(job) => drop(job.done.send(self.take(&job.request))),
+                Err(RecvTimeoutError::Timeout) => self.look(),
+                Err(RecvTimeoutError::Disconnected) => return,
+            }
+            wait = if self.keep_up() { PAUSE } else { LOOK };
+        }
     }
 
     /// A step of what is to be done beside deliveries, in a file that is open. Whether there is another.

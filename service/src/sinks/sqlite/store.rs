@@ -29,6 +29,8 @@ use total::Total;
 
 /// How long another process may keep the lock before a delivery is given up for this time.
 const PATIENCE: Duration = Duration::from_secs(2);
+/// More than there are: each is prepared once.
+const STATEMENTS: usize = 64;
 /// How many series' row numbers are kept in memory; then they are read anew.
 const CACHED: usize = 100_000;
 
@@ -61,6 +63,7 @@ impl Store {
         make_private(path);
         let mut connection = Connection::open_with_flags(path, flags).map_err(fault)?;
         connection.busy_timeout(PATIENCE).map_err(fault)?;
+        connection.set_prepared_statement_cache_capacity(STATEMENTS);
         // Before anything is changed: the file may be another program's.
         let known = STEPS.len() as i64;
         match schema::check(&connection, path, known)? == known {

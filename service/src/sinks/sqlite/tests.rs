@@ -1,6 +1,7 @@
 //! What the file has behind each request; what goes wrong around it is in `trouble`.
 
 mod hours;
+mod older;
 mod part;
 mod speed;
 mod trouble;

@@ -47,6 +47,28 @@ fn a_lock_is_waited_for() {
     assert_eq!(trial.totals(), [("a".into(), 1, 1), ("new".into(), 2, 1)]);
 }
 
+/// What is to be deleted is deleted later, and deliveries go on.
+#[test]
+fn a_lock_holds_up_the_upkeep_alone() {
+    let mut trial = Trial::new();
+    trial.taken(1, sum("a", 10, 20, 1));
+    trial.writer.upkeep = Upkeep::new(Keep {
+        spans: Some(Duration::from_secs(1)),
+        ..Keep::default()
+    });
+    let other = Connection::open(trial.path()).expect("open");
+    other.execute_batch("begin immediate").expect("a lock");
+    assert!(!trial.writer.keep_up());
+    assert!(!trial.writer.is_kept && trial.writer.store.is_some());
+    other.execute_batch("rollback").expect("no lock");
+    trial.taken(2, sum("a", 20, 30, 2));
+    assert!(!trial.writer.keep_up(), "it is not due yet");
+    assert_eq!(trial.ask("select count(*) from span"), "2");
+    assert_eq!(trial.writer.step(10_000_000_000).ok(), Some(true));
+    assert_eq!(trial.ask("select count(*) from span"), "0");
+    assert_eq!(trial.totals(), only("a", 3, 2));
+}
+
 /// A row number that is kept in memory is not believed behind another process's write.
 #[test]
 fn another_writer_is_noticed() {
