@@ -24,6 +24,7 @@ import subprocess
 import sys
 import tempfile
 import threading
+import time
 
 from checks import Checks
 from service import JSON, Service, ask, in_json, wait_until
@@ -33,7 +34,8 @@ LIGHT, DARK = (), ("--blink-settings=preferredColorScheme=0",)
 WIDE, PHONE = 1280, 390
 MOST_BYTES = 60_000
 SECONDS = 60
-START = 1_795_000_000_000_000_000
+# Within the last hours.
+START = time.time_ns() // 10**9 * 10**9 - 3_700 * 10**9
 
 
 def chromium():
@@ -168,7 +170,21 @@ def look_at_series(checks, browser, database):
     link = next(link for link in some.links if link.startswith("series?id="))
     one = Page(browser.dom(f"/{link}"))
     checks.true("a series by itself has its total", grouped(5_000_010) in one.texts, one.texts)
+    look_at_hours(checks, one, database)
     return [page, some, one], link
+
+
+def look_at_hours(checks, page, database):
+    """A bar an hour, where the sink has hours."""
+    with contextlib.closing(sqlite3.connect(f"file:{database}?mode=ro", uri=True)) as connection:
+        if not connection.execute("select 1 from sqlite_schema where name = 'by_hour'").fetchone():
+            print("note: the sink has no hours", flush=True)
+            return
+        stored = connection.execute("select strftime('%Y-%m-%d %H:00', hour), total from by_hour where name = 'http.requests' and "
+                                    "attributes like '%/cart%' order by hour desc").fetchall()
+    wanted = [[hour, grouped(total)] for hour, total in stored]
+    checks.same("a series has the database's hours", wanted, [row[:2] for row in page.rows_of("The last 48 hours")])
+    checks.same("48 of them are plotted", 48, page.elements.count("rect"))
 
 
 def look_at_safety(checks, service, browser, pages):

@@ -1,6 +1,7 @@
 //! The PostgreSQL sink against a server of its own. Without `initdb` nothing is tried, and a line says so.
 
 mod another;
+mod hours;
 mod lost;
 mod rivals;
 mod server;

@@ -35,6 +35,38 @@ pub fn lines(html: &mut Html, lines: &[Line], places: usize) {
     html.markup("</svg></div>\n");
 }
 
+/// A bar: its height, and what is said of it.
+pub struct Bar {
+    pub value: f64,
+    pub text: String,
+}
+
+/// Bars side by side over the same ground; those below zero hang from it.
+pub fn bars(html: &mut Html, bars: &[Bar]) {
+    let values = || bars.iter().map(|bar| bar.value);
+    let (top, bottom) = (values().fold(0.0, f64::max), values().fold(0.0, f64::min));
+    let whole = if top > bottom { top - bottom } else { 1.0 };
+    begin(html, &grouped(top.ceil()));
+    let step = WIDTH / bars.len().max(1) as f64;
+    let height = |value: f64| (HEIGHT - 2.0 * MARGIN) * value.abs() / whole;
+    let ground = MARGIN + height(top);
+    for (place, bar) in bars.iter().enumerate() {
+        let above = if bar.value > 0.0 { height(bar.value) } else { 0.0 };
+        html.markup("<rect x=\"")
+            .number(place as f64 * step + 1.0)
+            .markup("\" y=\"")
+            .number(ground - above);
+        html.markup("\" width=\"")
+            .number(step - 2.0)
+            .markup("\" height=\"")
+            .number(height(bar.value));
+        html.markup("\"><title>")
+            .text(&bar.text)
+            .markup("</title></rect>");
+    }
+    html.markup("</svg></div>\n");
+}
+
 fn begin(html: &mut Html, top: &str) {
     html.markup("<div class=plot><span>")
         .text(top)
@@ -49,6 +81,26 @@ fn height(value: f64, top: f64) -> f64 {
 #[cfg(test)]
 mod tests {
     use super::*;
+
+    #[test]
+    fn bars_stand_on_zero_or_hang_from_it() {
+        let bar = |value: f64| Bar {
+            value,
+            text: format!("<{value}>"),
+        };
+        let mut html = Html::default();
+        bars(&mut html, &[bar(3.0), bar(-1.0)]);
+        let text = html.into_text();
+        assert!(
+            text.contains("<rect x=\"1.0\" y=\"18.0\" width=\"358.0\" height=\"93.0\">"),
+            "{text}"
+        );
+        assert!(
+            text.contains("<rect x=\"361.0\" y=\"111.0\" width=\"358.0\" height=\"31.0\">"),
+            "{text}"
+        );
+        assert!(text.contains("<title>&lt;-1&gt;</title>"), "{text}");
+    }
 
     #[test]
     fn the_last_value_is_at_the_right() {

@@ -1,13 +1,22 @@
 //! `GET /series`: search by name and attribute, with each total as the sink has it now; and one series by itself.
 
 use super::html::{grouped, Cell, Html};
+use super::plot::{bars, Bar};
 use super::{frame, Desk, Place};
-use crate::operate::totals::identity;
+use crate::log::utc;
+use crate::operate::totals::{identity, Totals};
+use crate::sinks::sqlite::by_hour::Hour;
 use crate::sinks::sqlite::totals::{text, Kind, SeriesTotal};
+use crate::sinks::sqlite::Exact;
 use serde_json::{Map, Value};
+use std::time::{SystemTime, UNIX_EPOCH};
 
 /// How many are shown at most.
 const ROWS: usize = 100;
+
+/// In seconds; and how many are plotted.
+const HOUR: u64 = 3600;
+const HOURS: u64 = 48;
 
 /// What is asked for: parts of a name and of attributes, or one series.
 #[derive(Debug, Default, PartialEq, Eq)]
@@ -31,7 +40,12 @@ impl Desk {
                 html.markup(" for them.</p>");
             }
             Some(totals) => match totals.read(move |series| Ok(wanted.found(series))).await {
-                Ok(found) => found.write(&mut html),
+                Ok(found) => {
+                    found.write(&mut html);
+                    if let Some(one) = found.one() {
+                        last_hours(&mut html, totals, one).await;
+                    }
+                }
                 Err(why) => {
                     html.markup("<p class=\"note bad\">The sink can't be read: ")
                         .text(why)
@@ -119,10 +133,15 @@ fn form(html: &mut Html, wanted: &Wanted) {
 }
 
 impl Found {
+    /// The only one, where one was asked for.
+    fn one(&self) -> Option<&SeriesTotal> {
+        self.rows.first().filter(|_| self.is_one)
+    }
+
     fn write(&self, html: &mut Html) {
-        match &self.rows[..] {
-            [one] if self.is_one => self::one(html, one),
-            _ => self.table(html),
+        match self.one() {
+            Some(one) => self::one(html, one),
+            None => self.table(html),
         }
     }
 
@@ -220,15 +239,55 @@ fn one(html: &mut Html, series: &SeriesTotal) {
     }
 }
 
+/// What came in each of the last hours: of a histogram how many values, else their sum. Nothing where the sink has no hours.
+async fn last_hours(html: &mut Html, totals: &Totals, series: &SeriesTotal) {
+    let now = SystemTime::now()
+        .duration_since(UNIX_EPOCH)
+        .map_or(0, |since| since.as_secs() / HOUR);
+    let from = (now + 1).saturating_sub(HOURS);
+    match totals.hours(series.clone(), from).await {
+        Ok(None) => {}
+        Ok(Some(hours)) => plot_of_hours(html, &hours, from),
+        Err(why) => {
+            html.markup("<p class=\"note bad\">The hours can't be read: ")
+                .text(why)
+                .markup("</p>");
+        }
+    }
+}
+
+fn plot_of_hours(html: &mut Html, hours: &[Hour], from: u64) {
+    let hour = |hour: u64| utc(hour * HOUR)[..16].to_string();
+    let of = |wanted: u64| hours.iter().find(|hour| hour.hour == wanted);
+    let bar = |wanted: u64| {
+        let value = of(wanted).map_or(Exact::default(), |hour| hour.count.unwrap_or(hour.total));
+        Bar {
+            value: value.0 as f64,
+            text: format!("{}: {}", hour(wanted), grouped(value)),
+        }
+    };
+    html.markup("<section><h2>The last 48 hours</h2>");
+    bars(html, &(from..from + HOURS).map(bar).collect::<Vec<Bar>>());
+    let rows = hours.iter().rev().map(|one| {
+        let count = one.count.map(grouped).unwrap_or_default();
+        vec![
+            Cell::Text(hour(one.hour)),
+            Cell::of(grouped(one.total)),
+            Cell::Text(count),
+        ]
+    });
+    html.table(&["hour (UTC)", "total#", "count#"], rows.collect())
+        .markup("</section>\n");
+}
+
 /// Nanoseconds since 1970 to the second, in UTC.
 fn time(nanoseconds: u64) -> String {
-    crate::log::utc(nanoseconds / 1_000_000_000)
+    utc(nanoseconds / 1_000_000_000)
 }
 
 #[cfg(test)]
 mod tests {
     use super::*;
-    use crate::sinks::sqlite::Exact;
     use serde_json::json;
 
     fn series(name: &str, attributes: Value) -> SeriesTotal {
@@ -272,6 +331,25 @@ mod tests {
         assert!(names("name=nobody").is_empty() && names("attribute=%FF").is_empty());
         let id = identity(&series("Requests", json!({"<b>": "\"'"})));
         assert_eq!(names(&format!("id={id}&name=orders")), all[2..]);
+    }
+
+    #[test]
+    fn each_of_the_last_hours_has_its_bar() {
+        let hours = [(1000, 5, None), (1047, 7000, Some(Exact(3)))];
+        let hours = hours.map(|(hour, total, count)| Hour {
+            hour,
+            total: Exact(total),
+            count,
+        });
+        let mut html = Html::default();
+        plot_of_hours(&mut html, &hours, 1000);
+        let text = html.into_text();
+        assert_eq!(text.matches("<rect").count(), 48);
+        assert!(
+            text.contains("<title>1970-02-11 16:00: 5</title>")
+                && text.contains("<title>1970-02-13 15:00: 3</title>")
+        );
+        assert!(text.contains("7,000</td>"), "{text}");
     }
 
     #[test]

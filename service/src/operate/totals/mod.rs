@@ -12,6 +12,7 @@ pub(super) use page::identity;
 
 use super::{message, reply, Desk, PROMETHEUS};
 use crate::sinks::postgres::{self, Server};
+use crate::sinks::sqlite::by_hour::Hour;
 use crate::sinks::sqlite::totals::{Filter, SeriesTotal};
 use crate::sinks::{sqlite, Address};
 use hyper::{Body, Response};
@@ -47,6 +48,21 @@ impl Totals {
             source,
             turn: Arc::new(Semaphore::new(1)),
         })
+    }
+
+    /// What came of a series in each hour from this one on (since 1970); none where the sink has no hours yet.
+    pub(super) async fn hours(&self, series: SeriesTotal, from: u64) -> Result<Option<Vec<Hour>>, String> {
+        let _turn = self.turn.clone().acquire_owned().await;
+        match self.source.clone() {
+            Source::Sqlite(path) => {
+                let read = move || sqlite::by_hour::read(&path, &series, from);
+                beside(move || read().map_err(|fault| fault.to_string())).await
+            }
+            Source::Postgres(server) => {
+                let read = postgres::by_hour::read(&server, &series, from).await;
+                read.map_err(|fault| fault.to_string())
+            }
+        }
     }
 
     /// What is made of all totals. The turn is given back by who reads, also where who asked has gone.

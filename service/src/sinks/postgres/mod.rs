@@ -4,6 +4,7 @@
 //! again: no request is lost by it.
 
 mod address;
+pub mod by_hour;
 mod fault;
 mod point_rows;
 mod repeat;

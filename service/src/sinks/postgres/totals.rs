@@ -12,7 +12,7 @@ use tokio::time::timeout;
 use tokio_postgres::Row;
 
 /// How long the server may take for all of it.
-const PATIENCE: Duration = Duration::from_secs(20);
+pub(super) const PATIENCE: Duration = Duration::from_secs(20);
 
 /// One statement, so all is as of one moment. The identity is exact where the other columns are not.
 const READ: &str =
@@ -60,7 +60,7 @@ async fn made(name: &str, rows: Vec<Row>) -> Result<Vec<SeriesTotal>, PostgresFa
 
 /// A row that no service has written so.
 #[derive(Debug, thiserror::Error)]
-enum Odd {
+pub(super) enum Odd {
     #[error("a row of totxegun.series is not as it was written: {0}")]
     Series(#[from] NotForwarded),
     #[error("a row of totxegun.series_total is not as it was written: {0}")]
@@ -71,11 +71,29 @@ enum Odd {
 
 fn total(row: &Row) -> Result<SeriesTotal, Odd> {
     let identity: &str = row.try_get(0)?;
+    let mut series = parts_of(identity)?;
+    series.points = row.try_get::<_, i64>(1)?.unsigned_abs();
+    (series.start_ns, series.end_ns) = (number(row, 2, "first_start_ns")?, number(row, 3, "last_end_ns")?);
+    series.total = Exact(number(row, 4, "total")?);
+    if let Some(histogram) = &mut series.histogram {
+        let buckets: Option<&str> = row.try_get(7)?;
+        let buckets = buckets.unwrap_or_default();
+        let read: Vec<i128> =
+            serde_json::from_str(buckets).map_err(|_| Odd::Number("buckets", buckets.into()))?;
+        histogram.count = Exact(number(row, 5, "count")?);
+        histogram.points_without_sum = row.try_get::<_, i64>(6)?.unsigned_abs();
+        histogram.buckets = read.into_iter().map(Exact).collect();
+    }
+    Ok(series)
+}
+
+/// A series as its identity says, without what came of it.
+pub(super) fn parts_of(identity: &str) -> Result<SeriesTotal, Odd> {
     let parts = SeriesKey(identity.into()).parts()?;
-    let (kind, histogram) = match parts.kind {
+    let (kind, bounds) = match parts.kind {
         Identified::Sum => (Kind::Sum, None),
         Identified::Monotonic => (Kind::Monotonic, None),
-        Identified::Histogram { bounds } => (Kind::Histogram, Some(histogram(row, bounds)?)),
+        Identified::Histogram { bounds } => (Kind::Histogram, Some(bounds)),
     };
     Ok(SeriesTotal {
         name: parts.name,
@@ -86,28 +104,20 @@ fn total(row: &Row) -> Result<SeriesTotal, Odd> {
         scope_name: parts.scope_name,
         scope_version: parts.scope_version,
         scope_attributes: object(&parts.scope_attributes)?,
-        points: row.try_get::<_, i64>(1)?.unsigned_abs(),
-        start_ns: number(row, 2, "first_start_ns")?,
-        end_ns: number(row, 3, "last_end_ns")?,
-        total: Exact(number(row, 4, "total")?),
-        histogram,
+        points: 0,
+        start_ns: 0,
+        end_ns: 0,
+        total: Exact::default(),
+        histogram: bounds.map(|bounds| Histogram {
+            count: Exact::default(),
+            points_without_sum: 0,
+            bounds,
+            buckets: Vec::new(),
+        }),
     })
 }
 
-fn histogram(row: &Row, bounds: Vec<i64>) -> Result<Histogram, Odd> {
-    let buckets: Option<&str> = row.try_get(7)?;
-    let buckets = buckets.unwrap_or_default();
-    let read: Vec<i128> =
-        serde_json::from_str(buckets).map_err(|_| Odd::Number("buckets", buckets.into()))?;
-    Ok(Histogram {
-        count: Exact(number(row, 5, "count")?),
-        points_without_sum: row.try_get::<_, i64>(6)?.unsigned_abs(),
-        bounds,
-        buckets: read.into_iter().map(Exact).collect(),
-    })
-}
-
-fn number<T: std::str::FromStr>(row: &Row, place: usize, column: &'static str) -> Result<T, Odd> {
+pub(super) fn number<T: std::str::FromStr>(row: &Row, place: usize, column: &'static str) -> Result<T, Odd> {
     let text: Option<&str> = row.try_get(place)?;
     let text = text.unwrap_or_default();
     text.parse().map_err(|_| Odd::Number(column, text.into()))

@@ -3,6 +3,7 @@
 //! One thread has the connection, since calls of SQLite wait for the disk. It opens the file when it is needed and
 //! again after a fault, so whatever is wrong with the file is a reason to try again: no request is lost by it.
 
+pub mod by_hour;
 mod fault;
 mod schema;
 mod store;

@@ -18,6 +18,12 @@ pub struct Filter {
     pub attributes: Vec<(String, String)>,
 }
 
+/// All series, or those of one name.
+pub(super) const READ: &str = "select name, unit, kind, attributes, resource, scope_name, scope_version, scope_attributes, points,
+    first_start_ns, last_end_ns, total_high, total_low, count_high, count_low, without_sum, bounds, buckets, series.id
+    from series join series_total on series_total.series = series.id where ?1 is null or name = ?1
+    order by name, attributes, resource, series.id";
+
 /// What a series' points come to.
 #[derive(Clone, Debug, PartialEq, Eq, Serialize)]
 pub struct SeriesTotal {
@@ -60,6 +66,21 @@ pub struct Histogram {
     pub buckets: Vec<Exact>,
 }
 
+impl SeriesTotal {
+    /// Whether both are of one series, whatever came of it meanwhile.
+    pub fn is_of_series(&self, other: &SeriesTotal) -> bool {
+        let texts =
+            |of: &SeriesTotal| [&of.name, &of.unit, &of.scope_name, &of.scope_version].map(String::clone);
+        let bounds = |of: &SeriesTotal| of.histogram.as_ref().map(|histogram| histogram.bounds.clone());
+        self.kind == other.kind
+            && self.attributes == other.attributes
+            && self.resource == other.resource
+            && self.scope_attributes == other.scope_attributes
+            && texts(self) == texts(other)
+            && bounds(self) == bounds(other)
+    }
+}
+
 impl Filter {
     fn takes(&self, row: &SeriesTotal) -> bool {
         self.attributes.iter().all(|(key, value)| {
@@ -87,14 +108,7 @@ pub fn read(path: &Path, filter: &Filter) -> Result<Vec<SeriesTotal>, SqliteFaul
     if schema::check(&connection, path, STEPS.len() as i64)? == 0 {
         return Ok(Vec::new());
     }
-    let mut query = connection
-        .prepare(
-            "select name, unit, kind, attributes, resource, scope_name, scope_version, scope_attributes, points,
-             first_start_ns, last_end_ns, total_high, total_low, count_high, count_low, without_sum, bounds, buckets
-             from series join series_total on series_total.series = series.id where ?1 is null or name = ?1
-             order by name, attributes, resource, series.id",
-        )
-        .map_err(fault)?;
+    let mut query = connection.prepare(READ).map_err(fault)?;
     let rows = query.query_map([&filter.name], row).map_err(fault)?;
     let mut totals = Vec::new();
     for row in rows {
@@ -108,7 +122,7 @@ pub fn read(path: &Path, filter: &Filter) -> Result<Vec<SeriesTotal>, SqliteFaul
 
 /// Opens a file to read. A reader of a write-ahead log writes to a file beside it; who may not, and finds no log,
 /// reads the file as one that nobody writes.
-fn open(path: &Path) -> Result<Connection, SqliteFault> {
+pub(super) fn open(path: &Path) -> Result<Connection, SqliteFault> {
     let fault = |error| SqliteFault::of(path, error);
     if !path.is_file() {
         return Err(SqliteFault::told(
@@ -148,7 +162,7 @@ fn uri(path: &Path) -> String {
     uri + "?immutable=1"
 }
 
-fn row(row: &Row) -> rusqlite::Result<SeriesTotal> {
+pub(super) fn row(row: &Row) -> rusqlite::Result<SeriesTotal> {
     let kind: String = row.get(2)?;
     let kind = match kind.as_str() {
         "sum" => Kind::Sum,

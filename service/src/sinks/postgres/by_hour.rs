@@ -1,0 +1,81 @@
+//! Reads what came of one series in its last hours, by the view `by_hour`.
+
+use super::address::Server;
+use super::fault::PostgresFault;
+use super::session;
+use super::totals::{number, parts_of, Odd, PATIENCE};
+use crate::sinks::sqlite::by_hour::Hour;
+use crate::sinks::sqlite::totals::SeriesTotal;
+use crate::sinks::sqlite::Exact;
+use tokio::time::timeout;
+use tokio_postgres::{Client, Row};
+
+/// The hours of a series from this one on (since 1970), in order; none where the schema has no hours, or not this series.
+pub async fn read(
+    server: &Server,
+    series: &SeriesTotal,
+    from: u64,
+) -> Result<Option<Vec<Hour>>, PostgresFault> {
+    let name = server.to_string();
+    let late = || PostgresFault::told(&name, format!("no hours within {} s", PATIENCE.as_secs()));
+    let rows = timeout(PATIENCE, rows(server, &name, series, from)).await;
+    let Some(rows) = rows.map_err(|_| late())?? else {
+        return Ok(None);
+    };
+    let hours: Result<Vec<Hour>, Odd> = rows.iter().map(hour).collect();
+    hours
+        .map(Some)
+        .map_err(|odd| PostgresFault::told(&name, odd.to_string()))
+}
+
+async fn rows(
+    server: &Server,
+    name: &str,
+    series: &SeriesTotal,
+    from: u64,
+) -> Result<Option<Vec<Row>>, PostgresFault> {
+    let fault = |error| PostgresFault::of(name, &error);
+    let (client, _connection) = session::connect(server).await?;
+    client
+        .batch_execute("set default_transaction_read_only = on")
+        .await
+        .map_err(fault)?;
+    let view = client.query_one("select to_regclass('totxegun.by_hour') is not null", &[]);
+    if !view.await.map_err(fault)?.get::<_, bool>(0) {
+        return Ok(None);
+    }
+    let Some(id) = found(&client, name, series).await? else {
+        return Ok(None);
+    };
+    let hours =
+        "select extract(epoch from hour)::bigint / 3600, total::text, count::text from totxegun.by_hour
+         where series = $1 and hour >= to_timestamp($2 * 3600.0::double precision) order by hour";
+    let rows = client.query(hours, &[&id, &(from as f64)]).await;
+    rows.map(Some).map_err(fault)
+}
+
+/// A series' identifier. A column has U+FFFD for what no text of the server holds, so all of that name are compared.
+async fn found(client: &Client, name: &str, series: &SeriesTotal) -> Result<Option<i64>, PostgresFault> {
+    let named = "select id, identity from totxegun.series where name = $1";
+    let shown = series.name.replace('\0', "\u{fffd}");
+    let rows = client.query(named, &[&shown]).await;
+    for row in rows.map_err(|error| PostgresFault::of(name, &error))? {
+        let found = parts_of(row.get(1)).map_err(|odd| PostgresFault::told(name, odd.to_string()))?;
+        if found.is_of_series(series) {
+            return Ok(Some(row.get(0)));
+        }
+    }
+    Ok(None)
+}
+
+fn hour(row: &Row) -> Result<Hour, Odd> {
+    let count: Option<&str> = row.try_get(2)?;
+    Ok(Hour {
+        hour: row.try_get::<_, i64>(0)?.unsigned_abs(),
+        total: Exact(number(row, 1, "total")?),
+        count: match count {
+            Some(_) => Some(Exact(number(row, 2, "count")?)),
+            None => None,
+        },
+    })
+}

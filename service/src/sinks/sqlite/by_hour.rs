@@ -1,0 +1,138 @@
+//! Reads what came of one series in its last hours, by the view `by_hour`.
+
+use super::fault::SqliteFault;
+use super::totals::{open, row, SeriesTotal, READ};
+use super::whole::Exact;
+use rusqlite::types::{FromSqlError, ValueRef};
+use rusqlite::{Connection, OptionalExtension, Row};
+use std::path::Path;
+
+/// What came of a series in an hour (UTC).
+#[derive(Clone, Copy, Debug, PartialEq, Eq)]
+pub struct Hour {
+    /// When it begins, in hours since 1970.
+    pub hour: u64,
+    pub total: Exact,
+    /// Of a histogram.
+    pub count: Option<Exact>,
+}
+
+/// Where the series' identifier is in a row of `READ`.
+const ID: usize = 18;
+
+/// The hours of a series from this one on (since 1970), in order; none where the file has no hours, or not this series.
+pub fn read(path: &Path, series: &SeriesTotal, from: u64) -> Result<Option<Vec<Hour>>, SqliteFault> {
+    let fault = |error| SqliteFault::of(path, error);
+    let connection = open(path)?;
+    match found(&connection, series).map_err(fault)? {
+        Some(id) => hours(&connection, id, from).map(Some).map_err(fault),
+        None => Ok(None),
+    }
+}
+
+/// A series' identifier, in a file that has hours.
+fn found(connection: &Connection, series: &SeriesTotal) -> rusqlite::Result<Option<i64>> {
+    let view = "select 1 from sqlite_schema where type = 'view' and name = 'by_hour'";
+    if connection.query_row(view, [], |_| Ok(())).optional()?.is_none() {
+        return Ok(None);
+    }
+    let mut query = connection.prepare(READ)?;
+    let mut rows = query.query([Some(&series.name)])?;
+    while let Some(found) = rows.next()? {
+        if row(found)?.is_of_series(series) {
+            return found.get(ID).map(Some);
+        }
+    }
+    Ok(None)
+}
+
+/// An hour is a text there, which begins with its date.
+fn hours(connection: &Connection, id: i64, from: u64) -> rusqlite::Result<Vec<Hour>> {
+    let mut query = connection.prepare(
+        "select cast(strftime('%s', hour) as integer) / 3600 as since, total, count from by_hour
+         where series = ?1 and hour >= date(?2 * 3600, 'unixepoch') and since >= ?2 order by since",
+    )?;
+    let rows = query.query_map([id, from as i64], |row| {
+        Ok(Hour {
+            hour: row.get::<_, i64>(0)?.unsigned_abs(),
+            total: exact(row, 1)?.unwrap_or_default(),
+            count: exact(row, 2)?,
+        })
+    })?;
+    rows.collect()
+}
+
+/// An integer, or a text where no integer of SQLite holds it.
+fn exact(row: &Row, column: usize) -> rusqlite::Result<Option<Exact>> {
+    let number = match row.get_ref(column)? {
+        ValueRef::Null => return Ok(None),
+        ValueRef::Integer(number) => Some(i128::from(number)),
+        ValueRef::Text(text) => std::str::from_utf8(text).ok().and_then(|text| text.parse().ok()),
+        _ => None,
+    };
+    let odd =
+        |kind| rusqlite::Error::FromSqlConversionFailure(column, kind, Box::new(FromSqlError::InvalidType));
+    let kind = row.get_ref(column)?.data_type();
+    number.map(|number| Some(Exact(number))).ok_or_else(|| odd(kind))
+}
+
+#[cfg(test)]
+mod tests {
+    use super::*;
+
+    /// Two series that differ in an attribute, and hours as `by_hour` has them.
+    const ROWS: &str = r#"
+        insert into series values (7, 'm', '1', 'monotonic', '[]', '{"a":1}', '{}', '', '', '{}'),
+            (8, 'm', '1', 'monotonic', '[]', '{"a":"1"}', '{}', '', '', '{}'),
+            (9, 'm', '1', 'histogram', '[5]', '{"a":1}', '{}', '', '', '{}');
+        insert into series_total values (7, 1, 1, 2, 0, 5, 0, 0, 0, null), (8, 1, 1, 2, 0, 5, 0, 0, 0, null),
+            (9, 1, 1, 2, 0, 5, 0, 0, 0, '[1,2]');
+    "#;
+    const VIEW: &str = "
+        create view by_hour as select '2026-11-27 12:00' as hour, 5 as total, null as count, 7 as series
+        union all select '2026-11-27 11:00', 6, null, 7 union all select '2026-11-25 00:00', 7, null, 7
+        union all select '2026-11-27 12:00', '9223372036854775808', null, 8
+        union all select '2026-11-27 12:00', -3, 4, 9";
+    /// 2026-11-27 11:00.
+    const ELEVEN: u64 = 1_795_777_200 / 3600;
+
+    #[test]
+    fn the_hours_of_one_series_are_read() {
+        let folder = tempfile::tempdir().unwrap();
+        let path = folder.path().join("metrics.db");
+        let connection = Connection::open(&path).unwrap();
+        connection.execute_batch(include_str!("version1.sql")).unwrap();
+        connection.execute_batch(ROWS).unwrap();
+        let all: Vec<SeriesTotal> = connection
+            .prepare(READ)
+            .unwrap()
+            .query_map([None::<String>], row)
+            .unwrap()
+            .collect::<rusqlite::Result<_>>()
+            .unwrap();
+        assert_eq!(read(&path, &all[0], 0).unwrap(), None, "a file without hours");
+        connection.execute_batch(VIEW).unwrap();
+        let hours = |place: usize, from| {
+            let hours = read(&path, &all[place], from).unwrap().unwrap().into_iter();
+            hours
+                .map(|it| (it.hour - ELEVEN, it.total.0, it.count.map(|count| count.0)))
+                .collect::<Vec<_>>()
+        };
+        let [number, text, histogram] = ["7", "8", "9"].map(|id| {
+            let id: i64 = id.parse().unwrap();
+            all.iter()
+                .position(|one| found(&connection, one).unwrap() == Some(id))
+                .unwrap()
+        });
+        assert_eq!(hours(number, ELEVEN), [(0, 6, None), (1, 5, None)]);
+        assert_eq!(hours(text, ELEVEN), [(1, 1 << 63, None)]);
+        assert_eq!(hours(histogram, 0), [(1, -3, Some(4))]);
+        let mut other = all[0].clone();
+        other.unit = "By".into();
+        assert_eq!(
+            read(&path, &other, 0).unwrap(),
+            None,
+            "a series that the file does not have"
+        );
+    }
+}
