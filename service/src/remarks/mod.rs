@@ -154,7 +154,7 @@ impl<T: Taker> Remarks<T> {
         read: impl FnOnce(&[u8]) -> R + Send + 'static,
     ) -> Option<R> {
         let source = source.clone();
-        if source.len() <= SHORT {
+        if source.length() <= SHORT {
             return source.text().map(|body| read(&body));
         }
         let _turn = self.readers.acquire().await; // it is never closed

@@ -91,13 +91,13 @@ impl Request {
 impl ByNumber {
     fn bytes(&self) -> usize {
         let words = self.points.words().len() + self.points.count();
-        2 * size_of::<u64>() * words + self.source.len() // a list that grows has room for twice what it has
+        2 * size_of::<u64>() * words + self.source.length() // a list that grows has room for twice what it has
     }
 }
 
 impl Source {
     /// Of the request as it came.
-    pub fn len(&self) -> usize {
+    pub fn length(&self) -> usize {
         match self {
             Source::Text(body) | Source::Protobuf { body, .. } => body.len(),
         }
