@@ -1,5 +1,6 @@
 //! The book: proved, linked in, and asked by calls. `book` is the wrapper over its library, the only file that calls what
-//! is not Rust, `refusal` what it says no by, `memory` what it may have.
+//! is not Rust, `refusal` what it says no by, `memory` what it may have, `names` has numbers for series, `rounds` when rounds are
+//! closed, `read` a post that was read.
 //!
 //! A post is read by a reader, which needs no lock. All else is asked of the one `Book` under the lock of `Core`: so
 //! there is one order of all that changes it, and what is put into the journal under that lock has the same.
@@ -8,14 +9,16 @@
 mod book;
 mod memory;
 mod names;
+mod read;
 mod refusal;
 mod rounds;
 
 pub use memory::used as memory_used;
 pub use names::Names;
+pub use read::Read;
 pub use refusal::Refused;
 
-use crate::files::{self, Body, NoNames, Points, Post};
+use crate::files::{Body, Points};
 use book::{Answer, Desk, Flushes, Reader, MOST_TAKEN};
 use bytes::Bytes;
 use refusal::check;
@@ -42,18 +45,6 @@ pub struct Book {
     desk: Desk,
     books: usize,
     rounds: Rounds,
-}
-
-/// A post that was read, and is in no book yet. Its reader is another's once this is dropped.
-pub struct Read {
-    core: Arc<Core>,
-    reader: Option<Reader>,
-    pub post: Post,
-    /// By which its points have numbers, where they have.
-    names: Option<Arc<Names>>,
-    points: u64,
-    /// How many points the library is not given, since they are outside the profile.
-    left_out: u64,
 }
 
 /// What was taken of the book: a request for each of these numbers, from 0. It is to be settled, or given back.
@@ -96,7 +87,7 @@ impl Core {
 
     /// Reads a post. JSON may nest to 127: the thread has 2 MiB of stack, as those of the runtimes have.
     pub fn read(self: &Arc<Core>, sender: String, body: Bytes) -> Result<Read, Refused> {
-        self.read_any(sender, Body::Text(body), None, 0)
+        Read::new(self, sender, Body::Text(body), None, 0)
     }
 
     /// The same of points that have numbers by these names. So many others are outside the profile.
@@ -107,30 +98,7 @@ impl Core {
         names: Arc<Names>,
         left_out: u64,
     ) -> Result<Read, Refused> {
-        self.read_any(sender, Body::Points(points), Some(names), left_out)
-    }
-
-    fn read_any(
-        self: &Arc<Core>,
-        sender: String,
-        body: Body,
-        names: Option<Arc<Names>>,
-        left_out: u64,
-    ) -> Result<Read, Refused> {
-        let mut read = Read {
-            reader: Some(self.reader()?),
-            core: self.clone(),
-            post: Post {
-                sender,
-                foreign: 0,
-                body,
-            },
-            names,
-            points: 0,
-            left_out,
-        };
-        read.again()?;
-        Ok(read)
+        Read::new(self, sender, Body::Points(points), Some(names), left_out)
     }
 
     fn reader(&self) -> Result<Reader, Refused> {
@@ -146,50 +114,6 @@ impl Core {
     pub fn lock(&self) -> Locked<'_> {
         // A call of the library is whole or ends the process.
         Locked(self.book.lock().unwrap_or_else(PoisonError::into_inner))
-    }
-}
-
-impl Read {
-    /// A reader has a post until the book was asked to take it, whatever that says.
-    fn again(&mut self) -> Result<&mut Reader, Refused> {
-        let reader = self.reader.as_mut().ok_or(Refused::NoMemory)?;
-        let (sender, books) = (self.post.sender.as_bytes(), self.core.books);
-        let answer = match (&self.post.body, &self.names) {
-            (Body::Text(body), _) => reader.read(sender, body, books),
-            (Body::Points(points), Some(names)) => names.put(reader, sender, points.words(), books),
-            (Body::Points(_), None) => return Err(Refused::NoSuch),
-        };
-        let read = check(answer)?;
-        self.points = read.number;
-        self.post.foreign = self.left_out + read.at;
-        Ok(reader)
-    }
-}
-
-impl Read {
-    /// Says what its numbers stand for.
-    pub fn names(&self) -> &dyn files::Names {
-        match &self.names {
-            Some(names) => &**names,
-            None => &NoNames,
-        }
-    }
-
-    /// How many bytes it may take in the journal.
-    pub fn bytes(&self) -> usize {
-        match (&self.post.body, &self.names) {
-            (Body::Text(body), _) => body.len(),
-            (Body::Points(points), None) => points.packed().len(),
-            (Body::Points(points), Some(names)) => points.packed().len() + names.length(points.numbers()),
-        }
-    }
-}
-
-impl Drop for Read {
-    fn drop(&mut self) {
-        if let Some(reader) = self.reader.take() {
-            self.core.readers().push(reader);
-        }
     }
 }
 

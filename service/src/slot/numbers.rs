@@ -12,12 +12,21 @@ use bytes::Bytes;
 use std::sync::{Arc, PoisonError, RwLock};
 use std::time::{Duration, Instant};
 
-/// What a series may take of memory, on average, beside what the library has; and all of them, as a part of what the book
-/// may have, since the library takes about as much.
-const BYTES_OF_A_SERIES: u64 = 1 << 10;
+/// What numbers may take.
+#[derive(Clone, Copy)]
+struct Limits {
+    /// Of memory for a series, on average, beside what the library has.
+    bytes: u64,
+    /// How long they are kept at least.
+    kept: Duration,
+}
+
+const LIMITS: Limits = Limits {
+    bytes: 1 << 10,
+    kept: Duration::from_secs(60),
+};
+/// All series take no more than this part of what the book may have, since the library takes about as much for them.
 const PART_OF_ALL: u64 = 8;
-/// How long numbers are kept at least.
-const KEPT: Duration = Duration::from_secs(60);
 
 /// What is posted.
 pub enum Request {
@@ -50,9 +59,11 @@ struct Generation {
     began: Instant,
 }
 
-/// None until there is a request, and where there is no memory for them.
-#[derive(Default)]
-pub(super) struct Numbers(RwLock<Option<Arc<Generation>>>);
+pub(super) struct Numbers {
+    /// None until there is a request, and where there is no memory for them.
+    now: RwLock<Option<Arc<Generation>>>,
+    limits: Limits,
+}
 
 impl From<Bytes> for Request {
     fn from(text: Bytes) -> Request {
@@ -101,8 +112,8 @@ impl Source {
 }
 
 impl Generation {
-    fn new(core: &Core, reading: &Arc<Reading>) -> Result<Generation, Refused> {
-        let most = core.most_series() as u64 * BYTES_OF_A_SERIES;
+    fn new(core: &Core, reading: &Arc<Reading>, limits: Limits) -> Result<Generation, Refused> {
+        let most = core.most_series() as u64 * limits.bytes;
         let most = most.min(memory_used().1 / PART_OF_ALL);
         Ok(Generation {
             series: Series::new(reading.clone(), most as usize),
@@ -111,8 +122,8 @@ impl Generation {
         })
     }
 
-    fn is_over(&self) -> bool {
-        self.series.is_full() && self.began.elapsed() >= KEPT
+    fn is_over(&self, limits: Limits) -> bool {
+        self.series.is_full() && self.began.elapsed() >= limits.kept
     }
 
     fn read(&self, body: &[u8]) -> Option<Numbered> {
@@ -124,24 +135,35 @@ impl Generation {
     }
 }
 
+impl Default for Numbers {
+    fn default() -> Numbers {
+        Numbers {
+            now: RwLock::default(),
+            limits: LIMITS,
+        }
+    }
+}
+
 impl Numbers {
     fn now(&self, core: &Core, reading: &Arc<Reading>) -> Option<Arc<Generation>> {
-        let now = self.0.read().unwrap_or_else(PoisonError::into_inner).clone();
+        let now = self.now.read().unwrap_or_else(PoisonError::into_inner).clone();
         match now {
-            Some(now) if !now.is_over() => Some(now),
+            Some(now) if !now.is_over(self.limits) => Some(now),
             _ => self.begin(core, reading),
         }
     }
 
     /// Numbers that nobody has yet, unless another has begun with some.
     fn begin(&self, core: &Core, reading: &Arc<Reading>) -> Option<Arc<Generation>> {
-        let mut now = self.0.write().unwrap_or_else(PoisonError::into_inner);
-        let before = now.take().filter(|other| !other.is_over());
-        *now = match before {
-            None => Generation::new(core, reading).ok().map(Arc::new),
-            other => other,
-        };
-        now.clone()
+        let mut now = self.now.write().unwrap_or_else(PoisonError::into_inner);
+        if let Some(other) = now.as_ref().filter(|other| !other.is_over(self.limits)) {
+            return Some(other.clone());
+        }
+        let fresh = Generation::new(core, reading, self.limits).ok().map(Arc::new);
+        let before = std::mem::replace(&mut *now, fresh.clone());
+        drop(now);
+        drop(before); // without the lock: it has much to give back
+        fresh
     }
 }
 

@@ -1,6 +1,6 @@
 //! What the service takes of memory for the series of a post.
 
-use crate::support::{Place, NO_SINK};
+use crate::support::{field, fixed, Place, NO_SINK};
 
 /// More than one book has, so that none is kept. A key of each of them takes 170 MB together.
 const SERIES: usize = 10_500;
@@ -25,6 +25,22 @@ fn many_series() -> String {
     )
 }
 
+/// The same in protobuf.
+fn in_protobuf() -> Vec<u8> {
+    let text = field(1, "r".repeat(4000).as_bytes());
+    let attribute = |key: &&str| field(1, &[field(1, key.as_bytes()), field(2, &text)].concat());
+    let resource: Vec<u8> = ["a", "b", "c", "d"].iter().flat_map(attribute).collect();
+    let values = [fixed(2, 1), fixed(3, 2), fixed(6, 1)].concat();
+    let point = |number: usize| {
+        let own = field(7, &field(1, number.to_string().as_bytes()));
+        field(1, &[&values[..], &own].concat())
+    };
+    let points: Vec<u8> = (0..SERIES).flat_map(point).collect();
+    let sum = field(7, &[&points[..], &[0x10, 1]].concat());
+    let metric = field(2, &[field(1, b"m"), sum].concat());
+    field(1, &[field(1, &resource), field(2, &metric)].concat())
+}
+
 /// The most memory that a process has had so far, in bytes.
 fn greatest_memory(pid: u32) -> u64 {
     let status = std::fs::read_to_string(format!("/proc/{pid}/status")).unwrap();
@@ -42,6 +58,9 @@ fn series_that_share_a_long_resource_take_little_memory() {
         answer.0 == 503 && answer.1.contains("too many series"),
         "{answer:?}"
     );
+    for _ in 0..3 {
+        assert_eq!(service.post_protobuf("A", &in_protobuf()), 503);
+    }
     let most = greatest_memory(service.pid());
     assert!(most < MOST, "{} MiB", most >> 20);
 }

@@ -1,15 +1,6 @@
 //! Protobuf, whose points go by the numbers of their series.
 
-use crate::support::{points, Place};
-
-fn field(number: u8, inner: &[u8]) -> Vec<u8> {
-    let (low, high) = (inner.len() as u8 | 128, (inner.len() >> 7) as u8);
-    [&[number << 3 | 2, low, high], inner].concat()
-}
-
-fn fixed(number: u8, bits: u64) -> Vec<u8> {
-    [&[number << 3 | 1][..], &bits.to_le_bytes()].concat()
-}
+use crate::support::{field, fixed, points, Place};
 
 /// As `points` writes it in JSON.
 fn in_protobuf(names: &[&str], end: u64, value: i64) -> Vec<u8> {

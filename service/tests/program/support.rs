@@ -266,6 +266,23 @@ fn asked(address: &str, method: &str, path: &str, sender: &str, body: &str) -> O
     Some((head.get(9..12)?.parse().ok()?, body.to_string()))
 }
 
+/// A field of protobuf that has a length.
+pub fn field(number: u8, inner: &[u8]) -> Vec<u8> {
+    let mut out = vec![number << 3 | 2];
+    let mut length = inner.len();
+    while length > 127 {
+        out.push(length as u8 | 128);
+        length >>= 7;
+    }
+    out.push(length as u8);
+    [&out, inner].concat()
+}
+
+/// A field of protobuf of eight bytes.
+pub fn fixed(number: u8, bits: u64) -> Vec<u8> {
+    [&[number << 3 | 1][..], &bits.to_le_bytes()].concat()
+}
+
 /// A body with a point of each of these series.
 pub fn points(names: &[&str], end: u64, value: i64) -> String {
     let start = end - 10;

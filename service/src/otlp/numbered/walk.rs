@@ -239,15 +239,14 @@ impl<'b, F: Find> Walk<'b, F> {
 
     fn sum(&mut self, level: Level, point: &'b [u8]) -> Result<(), Stop> {
         let mut fields = Fields::of(point);
-        let start = fields.fixed64(2).unwrap_or(0);
-        let end = fields.fixed64(3).unwrap_or(0);
-        let early = whole(&mut fields);
+        let (start, end) = span(&mut fields);
+        // Some encoders have it before the exemplars, some behind them, some last.
+        let value = whole(&mut fields);
         self.exemplars(&mut fields, 5)?;
-        let early = early.or_else(|| whole(&mut fields));
+        let value = value.or_else(|| whole(&mut fields));
         let attributes = run(&mut fields, 7);
         let flags = fields.number(8);
-        // Some encoders have it last.
-        let value = early.or_else(|| whole(&mut fields)).flatten();
+        let value = value.or_else(|| whole(&mut fields)).flatten();
         let own = Own {
             bounds: None,
             attributes,
@@ -255,8 +254,8 @@ impl<'b, F: Find> Walk<'b, F> {
         let number = self.series(level, own, &fields)?;
         match value {
             Some(value) if is_recorded(number, flags) => {
-                self.words
-                    .extend_from_slice(&[u64::from(number), start, end, value]);
+                let words = [u64::from(number), start, end, value];
+                self.words.extend_from_slice(&words);
                 self.ends.push(self.words.len());
             }
             _ => self.foreign += 1,
@@ -266,19 +265,18 @@ impl<'b, F: Find> Walk<'b, F> {
 
     fn histogram(&mut self, level: Level, point: &'b [u8]) -> Result<(), Stop> {
         let mut fields = Fields::of(point);
-        let start = fields.fixed64(2).unwrap_or(0);
-        let end = fields.fixed64(3).unwrap_or(0);
+        let (start, end) = span(&mut fields);
         let count = fields.fixed64(4).unwrap_or(0);
-        let sum = fields.fixed64(5);
-        // The least and the largest value say nothing. One kind of encoder has them here, another at the end.
-        (fields.fixed64(11), fields.fixed64(12));
+        let sum = has_sum(fields.fixed64(5));
+        // One kind of encoder has them here, another at the end.
+        pass_extremes(&mut fields);
         let buckets = eights(fields.bytes(6))?;
         let bounds = fields.bytes(7).unwrap_or_default();
         let bound_count = eights(Some(bounds))?.len();
         self.exemplars(&mut fields, 8)?;
         let attributes = run(&mut fields, 9);
         let flags = fields.number(10);
-        (fields.fixed64(11), fields.fixed64(12));
+        pass_extremes(&mut fields);
         let level = self.level_of_bounds(level, bounds)?;
         let own = Own {
             bounds: Some(bounds),
@@ -290,15 +288,9 @@ impl<'b, F: Find> Walk<'b, F> {
             true => &whole, // one bucket has all
             false => buckets,
         };
-        let sum = match sum {
-            None => Some((0, 0)),
-            Some(bits) => {
-                whole_double(f64::from_bits(bits)).and_then(|sum| Some((1, u64::try_from(sum).ok()?)))
-            }
-        };
         match sum {
-            Some((has_sum, sum)) if is_recorded(number, flags) && buckets.len() == bound_count + 1 => {
-                let before = [u64::from(number), start, end, count, has_sum, sum];
+            Some([has, sum]) if is_recorded(number, flags) && buckets.len() == bound_count + 1 => {
+                let before = [u64::from(number), start, end, count, has, sum];
                 self.words.extend_from_slice(&before);
                 let buckets = buckets.iter().map(|bucket| u64::from_le_bytes(*bucket));
                 self.words.extend(buckets);
@@ -339,6 +331,28 @@ impl<'b, F: Find> Walk<'b, F> {
             false => Err(Stop::Slow),
         }
     }
+}
+
+/// Passes a point's times, which are 0 where they are not there.
+#[inline]
+fn span(fields: &mut Fields<'_>) -> (u64, u64) {
+    let start = fields.fixed64(2).unwrap_or(0);
+    (start, fields.fixed64(3).unwrap_or(0))
+}
+
+/// Passes the least and the largest value, which say nothing.
+#[inline]
+fn pass_extremes(fields: &mut Fields<'_>) {
+    let _ = fields.fixed64(11);
+    let _ = fields.fixed64(12);
+}
+
+/// Whether a histogram's point has a sum, as a word, and the sum; none of one that is not taken.
+#[inline]
+fn has_sum(bits: Option<u64>) -> Option<[u64; 2]> {
+    let Some(bits) = bits else { return Some([0, 0]) };
+    let sum = whole_double(f64::from_bits(bits))?;
+    Some([1, u64::try_from(sum).ok()?])
 }
 
 /// Passes the value of a sum's point, if it is next: none of a double, whose point is not taken.

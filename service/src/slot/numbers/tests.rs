@@ -2,7 +2,7 @@
 
 use super::*;
 use crate::core::Read;
-use crate::files::Body;
+use crate::files::{self, Body};
 use crate::otlp::{posts_of_test, Rule, Whole};
 use crate::slot::request::read;
 
@@ -86,6 +86,32 @@ fn by_number(read: &Read) -> Option<&Points> {
 fn rules(rules: &[&str]) -> Whole {
     let rules = rules.iter().map(|rule| rule.parse::<Rule>().unwrap());
     Whole::new(rules).unwrap()
+}
+
+/// Where there is room for few series.
+#[test]
+fn numbers_begin_anew_and_posts_under_way_keep_theirs() {
+    let mut both = Both::new(Reading::default());
+    both.numbers.limits = Limits {
+        bytes: 1,
+        kept: Duration::ZERO,
+    };
+    let first = Bytes::from(posts_of_test(9, 1).remove(0));
+    let mut generations = std::collections::HashSet::new();
+    for (number, body) in posts_of_test(8, 2_000).into_iter().enumerate() {
+        let under_way = both.numbers.read(&both.fast, &first, &both.reading);
+        both.post(["A", "B"][number / 7 % 2], body);
+        let now = both.numbers.now(&both.fast, &both.reading).unwrap();
+        generations.insert(files::Names::generation(&*now.names));
+        let points = under_way.and_then(|by| read(&both.fast, "C".into(), Request::Numbered(by)).ok());
+        let wanted = read(&both.slow, "C".into(), both.text(&first).unwrap()).unwrap();
+        assert!(points.is_none_or(|read| read.post.foreign == wanted.post.foreign));
+        if number % 100 == 99 {
+            both.flush();
+        }
+    }
+    assert!(generations.len() > 20, "{}", generations.len());
+    assert!(both.by_number > 1_000, "{}", both.by_number);
 }
 
 #[test]

@@ -1,0 +1,90 @@
+//! A post that was read.
+
+use super::book::Reader;
+use super::refusal::{check, Refused};
+use super::{Core, Names};
+use crate::files::{self, Body, NoNames, Post};
+use std::sync::Arc;
+
+/// How many bytes a word of a point may take in the journal.
+const BYTES_OF_A_WORD: usize = 10;
+
+/// A post that was read, and is in no book yet. Its reader is another's once this is dropped.
+pub struct Read {
+    core: Arc<Core>,
+    pub(super) reader: Option<Reader>,
+    pub post: Post,
+    /// By which its points have numbers, where they have.
+    names: Option<Arc<Names>>,
+    pub(super) points: u64,
+    /// How many points the library is not given, since they are outside the profile.
+    left_out: u64,
+}
+
+impl Read {
+    pub(super) fn new(
+        core: &Arc<Core>,
+        sender: String,
+        body: Body,
+        names: Option<Arc<Names>>,
+        left_out: u64,
+    ) -> Result<Read, Refused> {
+        let post = Post {
+            sender,
+            foreign: left_out,
+            body,
+        };
+        let mut read = Read {
+            reader: Some(core.reader()?),
+            core: core.clone(),
+            post,
+            names,
+            points: 0,
+            left_out,
+        };
+        read.again()?;
+        Ok(read)
+    }
+
+    /// A reader has a post until the book was asked to take it, whatever that says.
+    pub(super) fn again(&mut self) -> Result<&mut Reader, Refused> {
+        let reader = self.reader.as_mut().ok_or(Refused::NoMemory)?;
+        let (sender, books) = (self.post.sender.as_bytes(), self.core.books);
+        let answer = match (&self.post.body, &self.names) {
+            (Body::Text(body), _) => reader.read(sender, body, books),
+            (Body::Points(points), Some(names)) => names.put(reader, sender, points.words(), books),
+            (Body::Points(_), None) => return Err(Refused::NoSuch),
+        };
+        let read = check(answer)?;
+        self.points = read.number;
+        self.post.foreign = self.left_out + read.at;
+        Ok(reader)
+    }
+
+    /// Says what its numbers stand for.
+    pub fn names(&self) -> &dyn files::Names {
+        match &self.names {
+            Some(names) => &**names,
+            None => &NoNames,
+        }
+    }
+
+    /// How many bytes it may take in the journal.
+    pub fn bytes(&self) -> usize {
+        match &self.post.body {
+            Body::Text(body) => body.len(),
+            Body::Points(points) => {
+                let named = self.names.as_ref().map(|names| names.length(points.numbers()));
+                points.words().len() * BYTES_OF_A_WORD + named.unwrap_or(0)
+            }
+        }
+    }
+}
+
+impl Drop for Read {
+    fn drop(&mut self) {
+        if let Some(reader) = self.reader.take() {
+            self.core.readers().push(reader);
+        }
+    }
+}
