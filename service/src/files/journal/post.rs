@@ -2,6 +2,7 @@
 
 use super::packed;
 use bytes::Bytes;
+use std::sync::OnceLock;
 
 /// A post that the book took.
 #[derive(Clone, Debug, PartialEq, Eq)]
@@ -25,7 +26,7 @@ impl Body {
     pub fn bytes(&self) -> u64 {
         match self {
             Body::Text(body) => body.len() as u64,
-            Body::Points(points) => packed::of(points).len() as u64,
+            Body::Points(points) => points.packed().len() as u64,
         }
     }
 }
@@ -43,11 +44,12 @@ impl Post {
 
 /// Points by number, one behind the other as the library takes them: each is the number of its series, its start and its
 /// end (nanoseconds since 1970), and what it says.
-#[derive(Clone, Debug, Default, PartialEq, Eq)]
+#[derive(Clone, Debug, Default)]
 pub struct Points {
     words: Vec<u64>,
     /// Where each point ends.
     ends: Vec<usize>,
+    packed: OnceLock<Vec<u8>>,
 }
 
 /// Ahead of what a point says.
@@ -77,7 +79,8 @@ impl Points {
         let mut begin = 0;
         let is_point = |end: &usize| *end >= std::mem::replace(&mut begin, *end) + HEAD;
         let are_points = ends.iter().all(is_point) && begin == words.len();
-        are_points.then_some(Points { words, ends })
+        let packed = OnceLock::new();
+        are_points.then_some(Points { words, ends, packed })
     }
 
     /// Puts a point behind the others; `says` is a sum's value, or a histogram's count, whether it has a sum, the sum, and
@@ -86,11 +89,17 @@ impl Points {
         self.words.extend([number, start, end]);
         self.words.extend(says);
         self.ends.push(self.words.len());
+        self.packed.take();
     }
 
     /// All of them, as the library takes them.
     pub fn words(&self) -> &[u64] {
         &self.words
+    }
+
+    /// As the journal has them. Made once: who asks ahead of a lock does not keep others waiting for it.
+    pub fn packed(&self) -> &[u8] {
+        self.packed.get_or_init(|| packed::of(self))
     }
 
     pub fn count(&self) -> usize {
@@ -110,6 +119,14 @@ impl Points {
             .map(|(begin, end)| &self.words[*begin..*end])
     }
 }
+
+impl PartialEq for Points {
+    fn eq(&self, other: &Points) -> bool {
+        (&self.words, &self.ends) == (&other.words, &other.ends)
+    }
+}
+
+impl Eq for Points {}
 
 /// For posts that are texts.
 pub struct NoNames;

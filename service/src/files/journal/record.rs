@@ -27,7 +27,7 @@ pub(super) fn put(out: &mut Vec<u8>, since: u64, post: &Post) {
             for number in [since, post.foreign, sender.len() as u64] {
                 packed::put_number(&mut head, number);
             }
-            records::put(out, POINTS, &[&head, sender, &packed::of(points)]);
+            records::put(out, POINTS, &[&head, sender, points.packed()]);
         }
     }
 }
