@@ -66,13 +66,10 @@ impl Read {
         }
     }
 
-    /// How many bytes it may take in the journal.
+    /// How many bytes it may take in the journal. Points are packed here, ahead of the lock.
     pub fn bytes(&self) -> usize {
-        match (&self.post.body, &self.names) {
-            (Body::Text(body), _) => body.len(),
-            (Body::Points(points), None) => points.packed().len(),
-            (Body::Points(points), Some(names)) => points.packed().len() + names.length(points.numbers()),
-        }
+        let named = self.names.as_ref().map(|names| names.length(self.post.numbers()));
+        self.post.body.bytes() as usize + named.unwrap_or(0)
     }
 }
 

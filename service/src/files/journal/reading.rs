@@ -49,6 +49,13 @@ impl Shared {
         segment: Read,
         each: &mut impl FnMut(u64, Replayed) -> Result<bool, Fault>,
     ) -> Result<bool, Fault> {
+        // Ahead of its own posts: behind some of them these files would say otherwise what their numbers stand for.
+        if segment.is_first && segment.with_held {
+            let list = lock(&self.held).get(&segment.number).cloned();
+            if !held::posts(&self.folder, &list.unwrap_or_default(), each)? {
+                return Ok(false);
+            }
+        }
         let path = segment::path(&self.folder, segment.number);
         let (mut reader, mut next) = Reader::open(&path, Which::Journal, segment.number, segment.written)?;
         let mut posts = Posts::default();
@@ -63,10 +70,7 @@ impl Shared {
                     kind: HELD,
                     bytes,
                 } => {
-                    let list = held::list_of(&bytes).ok_or_else(|| reader.damaged(at, held::NO_LIST))?;
-                    if segment.is_first && segment.with_held && !held::posts(&self.folder, &list, each)? {
-                        return Ok(false);
-                    }
+                    held::list_of(&bytes).ok_or_else(|| reader.damaged(at, held::NO_LIST))?;
                 }
                 Next::Record { at, kind, bytes } => {
                     let read = posts.read(kind, bytes);

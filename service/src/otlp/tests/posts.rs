@@ -37,15 +37,6 @@ pub fn posts(seed: u64, many: usize) -> Vec<Vec<u8>> {
 
 /// Gives each point a span behind all others, and nearly all of them values that can be added up.
 fn set(request: &mut ExportMetricsServiceRequest, random: &mut Random, clock: &mut u64) {
-    let mut span = |random: &mut Random| {
-        let start = *clock;
-        *clock += 1 + random.below(1_000_000_000);
-        match random.below(60) {
-            0 => (start, start),
-            1 => (0, *clock),
-            _ => (start, *clock),
-        }
-    };
     let scopes = request
         .resource_metrics
         .iter_mut()
@@ -55,38 +46,56 @@ fn set(request: &mut ExportMetricsServiceRequest, random: &mut Random, clock: &m
             None => {}
             Some(Data::Sum(sum)) => {
                 for point in &mut sum.data_points {
-                    (point.start_time_unix_nano, point.time_unix_nano) = span(random);
-                    point.flags = random.below(30) as u32 / 28;
-                    point.value = Some(match random.below(40) {
-                        0 => Number::AsDouble(0.5),
-                        1 => Number::AsInt(-5),
-                        2 => Number::AsInt(i64::MAX - 3),
-                        _ => Number::AsInt(random.below(1000) as i64),
-                    });
+                    (point.start_time_unix_nano, point.time_unix_nano) = span(random, clock);
+                    set_sum(point, random);
                 }
             }
             Some(Data::Histogram(histogram)) => {
                 for point in &mut histogram.data_points {
-                    (point.start_time_unix_nano, point.time_unix_nano) = span(random);
-                    point
-                        .bucket_counts
-                        .iter_mut()
-                        .for_each(|bucket| *bucket = random.below(9));
-                    point.count = point.bucket_counts.iter().sum::<u64>() + random.below(20) / 19;
-                    point.sum = match random.below(12) {
-                        0 => None,
-                        1 => Some(0.5),
-                        2 => Some(-1.0),
-                        3 => Some(-0.0),
-                        4 => Some(9007199254740994.0),
-                        _ => Some(random.below(1000) as f64),
-                    };
-                    if random.below(20) == 0 {
-                        point.bucket_counts.pop();
-                    }
+                    (point.start_time_unix_nano, point.time_unix_nano) = span(random, clock);
+                    set_histogram(point, random);
                 }
             }
         }
+    }
+}
+
+fn span(random: &mut Random, clock: &mut u64) -> (u64, u64) {
+    let start = *clock;
+    *clock += 1 + random.below(1_000_000_000);
+    match random.below(60) {
+        0 => (start, start),
+        1 => (0, *clock),
+        _ => (start, *clock),
+    }
+}
+
+fn set_sum(point: &mut NumberDataPoint, random: &mut Random) {
+    point.flags = random.below(30) as u32 / 28;
+    point.value = Some(match random.below(40) {
+        0 => Number::AsDouble(0.5),
+        1 => Number::AsInt(-5),
+        2 => Number::AsInt(i64::MAX - 3),
+        _ => Number::AsInt(random.below(1000) as i64),
+    });
+}
+
+fn set_histogram(point: &mut HistogramDataPoint, random: &mut Random) {
+    point
+        .bucket_counts
+        .iter_mut()
+        .for_each(|bucket| *bucket = random.below(9));
+    point.count = point.bucket_counts.iter().sum::<u64>() + random.below(20) / 19;
+    point.sum = match random.below(12) {
+        0 => None,
+        1 => Some(0.5),
+        2 => Some(-1.0),
+        3 => Some(-0.0),
+        4 => Some(9007199254740994.0),
+        _ => Some(random.below(1000) as f64),
+    };
+    if random.below(20) == 0 {
+        point.bucket_counts.pop();
     }
 }
 

@@ -118,6 +118,28 @@ fn posts_of_quarantined_senders_are_moved_once_and_are_there_until_they_are_flus
     assert!(!file(folder.path(), "a").exists());
 }
 
+/// In the same segment a number is named once, and in a sender's own file it may be another series.
+#[test]
+fn posts_that_come_while_others_are_moved_keep_their_names() {
+    let folder = place();
+    let journal = open(folder.path());
+    let number = |letter: u8, text: &str| u64::from(letter) + Letters::of(text).shift();
+    assert_eq!(number(b'1', "1"), number(b'0', "0bc"));
+    append_of(&journal, "a", "1");
+    let (next, _) = journal.turn();
+    journal.shared.sync();
+    append_of(&journal, "b", "0bc");
+    journal.hold(&names(&["a"]), 1, next).unwrap();
+    append_of(&journal, "b", "0de");
+    journal.forget(next).unwrap();
+    let expected = [("a", "1"), ("b", "0bc"), ("b", "0de")];
+    let expected = expected.map(|(sender, text)| (sender.to_string(), text.to_string()));
+    assert_eq!(all_texts(&journal, next), expected);
+    kill(journal);
+    let journal = open_from(&Disk::default(), folder.path(), Durability::Process, next).unwrap();
+    assert_eq!(all_texts(&journal, next), expected);
+}
+
 #[test]
 fn more_senders_than_files_are_open_at_a_time_and_long_posts_are_moved() {
     let folder = place();

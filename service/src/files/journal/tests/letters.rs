@@ -23,6 +23,11 @@ impl Letters {
     pub fn of(text: &str) -> Letters {
         Letters(text.len() as u64 / 2 % 3)
     }
+
+    /// So much more than a letter is its number.
+    pub fn shift(&self) -> u64 {
+        self.0
+    }
 }
 
 pub fn body(text: &str) -> Body {
@@ -41,7 +46,7 @@ fn points(text: &str) -> Points {
             word[..eight.len()].copy_from_slice(eight);
             u64::from_le_bytes(word)
         });
-        let number = u64::from(piece[0]) + Letters::of(text).0;
+        let number = u64::from(piece[0]) + Letters::of(text).shift();
         points.push(number, begin, begin + piece.len() as u64, words);
     }
     points
