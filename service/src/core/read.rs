@@ -6,9 +6,6 @@ use super::{Core, Names};
 use crate::files::{self, Body, NoNames, Post};
 use std::sync::Arc;
 
-/// How many bytes a word of a point may take in the journal.
-const BYTES_OF_A_WORD: usize = 10;
-
 /// A post that was read, and is in no book yet. Its reader is another's once this is dropped.
 pub struct Read {
     core: Arc<Core>,
@@ -75,7 +72,7 @@ impl Read {
             Body::Text(body) => body.len(),
             Body::Points(points) => {
                 let named = self.names.as_ref().map(|names| names.length(points.numbers()));
-                points.words().len() * BYTES_OF_A_WORD + named.unwrap_or(0)
+                points.packed().len() + named.unwrap_or(0)
             }
         }
     }
