@@ -40,6 +40,7 @@ impl Desk {
                 .map_or(0, |since| since.as_secs()),
         };
         let mut html = Html::default();
+        seen.tiles(&mut html);
         seen.rates(&mut html);
         seen.waits(&mut html);
         seen.refused(&mut html);
@@ -60,54 +61,49 @@ impl Desk {
 }
 
 impl Seen<'_> {
+    fn tiles(&self, html: &mut Html) {
+        let last = self.desk.pulse.rates().last().copied().unwrap_or_default();
+        let waiting: u64 = self.status.slots.iter().map(|slot| slot.waiting).sum();
+        let class_if = |is_so: bool, class: &'static str| if is_so { class } else { "" };
+        let refused = class_if(last.refused > 0.0, "refused");
+        let (troubled, dead) = (
+            class_if(self.trouble().is_some(), "bad"),
+            class_if(self.status.dead > 0, "bad"),
+        );
+        html.markup("<section class=tiles>");
+        for (what, class, value) in [
+            ("posts a second", "posted", grouped(last.taken.round())),
+            ("refused a second", refused, grouped(last.refused.round())),
+            (
+                "requests delivered a second",
+                "delivered",
+                grouped(last.delivered.round()),
+            ),
+            ("requests wait for the sink", troubled, grouped(waiting)),
+            ("dead requests", dead, grouped(self.status.dead)),
+            ("series", "", grouped(self.desk.metrics.levels.series.get())),
+        ] {
+            html.markup("<div class=\"tile ")
+                .markup(class)
+                .markup("\"><b>")
+                .text(value);
+            html.markup("</b><span>").markup(what).markup("</span></div>");
+        }
+        html.markup("</section>\n");
+    }
+
     fn rates(&self, html: &mut Html) {
         let rates = self.desk.pulse.rates();
-        let last = rates.last().copied().unwrap_or_default();
-        let waiting: u64 = self.status.slots.iter().map(|slot| slot.waiting).sum();
-        let is_bad = |bad: bool| if bad { "bad" } else { "" };
-        html.markup("<section class=tiles>");
-        tile(html, "posts a second", "posted", grouped(last.taken.round()));
-        tile(
-            html,
-            "refused a second",
-            if last.refused > 0.0 { "refused" } else { "" },
-            grouped(last.refused.round()),
-        );
-        tile(
-            html,
-            "requests delivered a second",
-            "delivered",
-            grouped(last.delivered.round()),
-        );
-        tile(
-            html,
-            "requests wait for the sink",
-            is_bad(self.trouble().is_some()),
-            grouped(waiting),
-        );
-        tile(
-            html,
-            "dead requests",
-            is_bad(self.status.dead > 0),
-            grouped(self.status.dead),
-        );
-        tile(html, "series", "", grouped(self.desk.metrics.levels.series.get()));
-        html.markup("</section>\n<section><h2>The last five minutes</h2>");
-        let of = |value: fn(&Rates) -> f64| rates.iter().map(value).collect();
+        let line = |class, value: fn(&Rates) -> f64| Line {
+            class,
+            values: rates.iter().map(value).collect(),
+        };
         let all = [
-            Line {
-                class: "delivered",
-                values: of(|rates| rates.delivered),
-            },
-            Line {
-                class: "refused",
-                values: of(|rates| rates.refused),
-            },
-            Line {
-                class: "posted",
-                values: of(|rates| rates.taken),
-            },
+            line("delivered", |rates| rates.delivered),
+            line("refused", |rates| rates.refused),
+            line("posted", |rates| rates.taken),
         ];
+        html.markup("<section><h2>The last five minutes</h2>");
         lines(html, &all, KEPT);
         html.markup("<p class=key><span><i class=posted></i>posts taken</span><span><i class=refused></i>refused</span>");
         html.markup("<span><i class=delivered></i>requests delivered, a second</span></p></section>\n");
@@ -120,60 +116,52 @@ impl Seen<'_> {
     }
 
     fn waits(&self, html: &mut Html) {
-        let row = |what: &str, many: u64, bytes: u64, age: Option<u64>| {
-            let age = age.map_or_else(String::new, seconds_shown);
-            vec![
-                Cell::of(what),
-                Cell::of(grouped(many)),
-                Cell::of(bytes_shown(bytes)),
-                Cell::of(age),
-            ]
-        };
-        let mut rows = Vec::new();
-        for slot in &self.status.slots {
-            if slot.slot == self.desk.slot.number() {
-                let posts = self.desk.slot.ungrouped();
-                rows.push(row(
-                    "posts, for a flush",
-                    posts,
-                    slot.journal.bytes,
-                    slot.journal.age_seconds,
-                ));
-            }
-            rows.push(row(
-                "requests, for the sink",
-                slot.waiting,
-                slot.outbox.bytes,
-                slot.outbox.age_seconds,
-            ));
-            if slot.held.posts > 0 {
-                rows.push(row(
-                    "posts of quarantined senders",
-                    slot.held.posts,
-                    slot.held.bytes,
-                    None,
-                ));
-            }
-        }
         html.markup("<section><h2>What waits</h2>");
         if let Some(trouble) = self.trouble() {
             html.markup("<p class=\"note bad\">The sink: ")
                 .text(trouble)
                 .markup("</p>");
         }
-        let mut quarantined = self
-            .status
-            .slots
-            .iter()
-            .flat_map(|slot| &slot.quarantined)
-            .peekable();
-        if quarantined.peek().is_some() {
-            let names: Vec<&str> = quarantined.map(String::as_str).take(ROWS).collect();
+        let quarantined = self.status.slots.iter().flat_map(|slot| &slot.quarantined);
+        let names: Vec<&str> = quarantined.map(String::as_str).take(ROWS).collect();
+        if !names.is_empty() {
             html.markup("<p class=note>Quarantined: ").text(names.join(", "));
             html.markup("; <code>totxegun lift NAME</code> once it is repaired</p>");
         }
-        html.table(&["what", "how many#", "on disk#", "oldest#"], rows)
-            .markup("</section>\n");
+        html.table(&["what", "how many#", "on disk#", "oldest#"], self.waiting());
+        html.markup("</section>\n");
+    }
+
+    fn waiting(&self) -> Vec<Vec<Cell>> {
+        let row = |what: &str, many: u64, bytes: u64, age: Option<u64>| {
+            let age = age.map_or_else(String::new, seconds_shown);
+            [what.to_string(), grouped(many), bytes_shown(bytes), age]
+                .map(Cell::Text)
+                .into()
+        };
+        let mut rows = Vec::new();
+        for slot in &self.status.slots {
+            let (journal, outbox, held) = (&slot.journal, &slot.outbox, slot.held);
+            if slot.slot == self.desk.slot.number() {
+                let posts = self.desk.slot.ungrouped();
+                rows.push(row(
+                    "posts, for a flush",
+                    posts,
+                    journal.bytes,
+                    journal.age_seconds,
+                ));
+            }
+            rows.push(row(
+                "requests, for the sink",
+                slot.waiting,
+                outbox.bytes,
+                outbox.age_seconds,
+            ));
+            if held.posts > 0 {
+                rows.push(row("posts of quarantined senders", held.posts, held.bytes, None));
+            }
+        }
+        rows
     }
 
     fn refused(&self, html: &mut Html) {
@@ -245,40 +233,24 @@ impl Seen<'_> {
     }
 
     fn limits(&self, html: &mut Html) {
-        let (levels, books) = (&self.desk.metrics.levels, &self.status.books);
+        let (levels, books, budget) = (&self.desk.metrics.levels, &self.status.books, &self.desk.budget);
         let series = levels.series.get().max(0) as u64;
-        let row = |what: &str, now: String, most: String, part: f64, option: &str| {
-            let part = format!("{:.0} %", 100.0 * part);
-            vec![
-                Cell::of(what),
-                Cell::of(now),
-                Cell::of(most),
-                Cell::of(part),
-                Cell::of(option),
-            ]
-        };
-        let of_bytes = |what, now: u64, most: u64, option| {
-            row(what, bytes_shown(now), bytes_shown(most), part(now, most), option)
-        };
-        let most_series = grouped(books.most_series);
+        let (used, most) = (budget.used() as u64, budget.most() as u64);
+        let (memory, most_memory) = (books.memory_bytes, books.most_memory_bytes);
         let rows = vec![
-            row(
-                "series",
-                grouped(series),
-                most_series,
-                part(series, books.most_series),
-                "--most-series",
-            ),
-            of_bytes(
+            limit("series", series, books.most_series, grouped, "--most-series"),
+            limit(
                 "memory of the book",
-                books.memory_bytes,
-                books.most_memory_bytes,
+                memory,
+                most_memory,
+                bytes_shown,
                 "--book-memory",
             ),
-            of_bytes(
+            limit(
                 "memory of posts under way",
-                self.desk.budget.used() as u64,
-                self.desk.budget.most() as u64,
+                used,
+                most,
+                bytes_shown,
                 "--most-bytes",
             ),
         ];
@@ -286,8 +258,8 @@ impl Seen<'_> {
         html.table(&["what", "now#", "at most#", "used#", "option"], rows);
         let free = levels.disk_free_bytes.get().max(0) as u64;
         html.markup("<p class=note>Free on the disk: ")
-            .text(bytes_shown(free))
-            .markup("</p></section>\n");
+            .text(bytes_shown(free));
+        html.markup("</p></section>\n");
     }
 
     fn dead(&self, html: &mut Html) {
@@ -316,13 +288,18 @@ impl Seen<'_> {
     }
 }
 
-fn tile(html: &mut Html, what: &'static str, class: &'static str, value: String) {
-    html.markup("<div class=\"tile ")
-        .markup(class)
-        .markup("\"><b>")
-        .text(value)
-        .markup("</b><span>");
-    html.markup(what).markup("</span></div>");
+/// How much of a limit is used, and which option sets it.
+fn limit(what: &str, now: u64, most: u64, shown: fn(u64) -> String, option: &str) -> Vec<Cell> {
+    let part = format!("{:.0} %", 100.0 * now as f64 / most.max(1) as f64);
+    [
+        what.to_string(),
+        shown(now),
+        shown(most),
+        part,
+        option.to_string(),
+    ]
+    .map(Cell::Text)
+    .into()
 }
 
 /// That a table does not have all.
@@ -339,8 +316,4 @@ fn sender(name: &str) -> String {
         NO_NAME => "- (who names none)".to_string(),
         name => name.to_string(),
     }
-}
-
-fn part(now: u64, most: u64) -> f64 {
-    now as f64 / most.max(1) as f64
 }

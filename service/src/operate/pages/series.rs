@@ -6,7 +6,7 @@ use super::{frame, Desk, Place};
 use crate::log::utc;
 use crate::operate::totals::{identity, Totals};
 use crate::sinks::sqlite::by_hour::Hour;
-use crate::sinks::sqlite::totals::{text, Kind, SeriesTotal};
+use crate::sinks::sqlite::totals::{text, Histogram, Kind, SeriesTotal};
 use crate::sinks::sqlite::Exact;
 use serde_json::{Map, Value};
 use std::time::{SystemTime, UNIX_EPOCH};
@@ -151,36 +151,16 @@ impl Found {
             .markup(" of ")
             .text(grouped(self.of))
             .markup(" series</h2>");
-        let rows = self.rows.iter().map(|series| {
-            let count = series
-                .histogram
-                .as_ref()
-                .map(|histogram| grouped(histogram.count));
-            vec![
-                Cell::Series {
-                    text: series.name.clone(),
-                    id: identity(series),
-                },
-                Cell::of(joined(&series.attributes)),
-                Cell::of(grouped(series.total)),
-                Cell::of(&series.unit),
-                Cell::of(count.unwrap_or_default()),
-                Cell::of(time(series.end_ns)),
-                Cell::of(joined(&series.resource)),
-            ]
-        });
-        html.table(
-            &[
-                "name",
-                "attributes",
-                "total#",
-                "unit",
-                "count#",
-                "until (UTC)",
-                "resource",
-            ],
-            rows.collect(),
-        );
+        let heads = [
+            "name",
+            "attributes",
+            "total#",
+            "unit",
+            "count#",
+            "until (UTC)",
+            "resource",
+        ];
+        html.table(&heads, self.rows.iter().map(row).collect());
         if self.count > ROWS {
             html.markup("<p class=note>These are the first ")
                 .text(ROWS)
@@ -190,53 +170,80 @@ impl Found {
     }
 }
 
+/// One of several.
+fn row(series: &SeriesTotal) -> Vec<Cell> {
+    let count = series
+        .histogram
+        .as_ref()
+        .map(|histogram| grouped(histogram.count));
+    let name = Cell::Series {
+        text: series.name.clone(),
+        id: identity(series),
+    };
+    vec![
+        name,
+        Cell::of(joined(&series.attributes)),
+        Cell::of(grouped(series.total)),
+        Cell::of(&series.unit),
+        Cell::of(count.unwrap_or_default()),
+        Cell::of(time(series.end_ns)),
+        Cell::of(joined(&series.resource)),
+    ]
+}
+
 /// All that is known of one.
 fn one(html: &mut Html, series: &SeriesTotal) {
+    let rows = facts(series).into_iter();
+    let rows = rows.map(|(what, value)| vec![Cell::of(what), Cell::Text(value)]);
+    html.markup("<section><h2>")
+        .text(&series.name)
+        .markup("</h2><p class=total>");
+    html.text(grouped(series.total))
+        .markup(" <small>")
+        .text(&series.unit);
+    html.markup("</small></p>")
+        .table(&["what", "value"], rows.collect());
+    html.markup("</section>\n");
+    if let Some(histogram) = &series.histogram {
+        buckets(html, histogram);
+    }
+}
+
+fn facts(series: &SeriesTotal) -> Vec<(&'static str, String)> {
     let kind = match series.kind {
         Kind::Sum => "sum",
         Kind::Monotonic => "monotonic sum",
         Kind::Histogram => "histogram",
     };
-    html.markup("<section><h2>")
-        .text(&series.name)
-        .markup("</h2><p class=total>")
-        .text(grouped(series.total));
-    html.markup(" <small>").text(&series.unit).markup("</small></p>");
-    let row = |what: &'static str, value: String| vec![Cell::of(what), Cell::Text(value)];
-    let mut rows = vec![
-        row("kind", kind.to_string()),
-        row("attributes", joined(&series.attributes)),
-        row("resource", joined(&series.resource)),
-        row(
-            "scope",
-            format!(
-                "{} {} {}",
-                series.scope_name,
-                series.scope_version,
-                joined(&series.scope_attributes)
-            ),
-        ),
-        row("from (UTC)", time(series.start_ns)),
-        row("until (UTC)", time(series.end_ns)),
-        row("spans", grouped(series.points)),
+    let (scope, version) = (&series.scope_name, &series.scope_version);
+    let of_scope = joined(&series.scope_attributes);
+    let mut facts = vec![
+        ("kind", kind.to_string()),
+        ("attributes", joined(&series.attributes)),
+        ("resource", joined(&series.resource)),
+        ("scope", format!("{scope} {version} {of_scope}")),
+        ("from (UTC)", time(series.start_ns)),
+        ("until (UTC)", time(series.end_ns)),
+        ("spans", grouped(series.points)),
     ];
-    if let Some(histogram) = &series.histogram {
-        rows.push(row("count", grouped(histogram.count)));
-    }
-    html.table(&["what", "value"], rows).markup("</section>\n");
-    if let Some(histogram) = &series.histogram {
-        let bounds = histogram
-            .bounds
-            .iter()
-            .map(|bound| format!("to {}", grouped(bound)));
-        let names = bounds.chain(["over all of them".to_string()]);
-        let rows = names
-            .zip(&histogram.buckets)
-            .map(|(name, count)| vec![Cell::Text(name), Cell::of(grouped(count))]);
-        html.markup("<section><h2>Buckets</h2>")
-            .table(&["values", "count#"], rows.collect())
-            .markup("</section>\n");
-    }
+    let count = series.histogram.as_ref().map(|histogram| histogram.count);
+    facts.extend(count.map(|count| ("count", grouped(count))));
+    facts
+}
+
+fn buckets(html: &mut Html, histogram: &Histogram) {
+    let bounds = histogram
+        .bounds
+        .iter()
+        .map(|bound| format!("to {}", grouped(bound)));
+    let names = bounds.chain(["over all of them".to_string()]);
+    let counts = histogram.buckets.iter().map(grouped);
+    let rows = names
+        .zip(counts)
+        .map(|(name, count)| vec![Cell::Text(name), Cell::Text(count)]);
+    html.markup("<section><h2>Buckets</h2>")
+        .table(&["values", "count#"], rows.collect());
+    html.markup("</section>\n");
 }
 
 /// What came in each of the last hours: of a histogram how many values, else their sum. Nothing where the sink has no hours.
