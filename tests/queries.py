@@ -55,12 +55,14 @@ class Series:
         return (self.number * 7919 + hour * 104729 + self.number % 89 * hour) % 9973
 
     def buckets(self, hour):
-        return [(self.number + hour * 3 + place * (1 + self.number % 5)) % 11 for place in range(len(BOUNDS) + 1)]
+        """The higher the fewer, in some series and on some days more than in others."""
+        fewer = self.number % 4 + hour // 24 % 3 * 4
+        return [(self.number + hour * 3 + place * 4) % 11 // (1 + place * fewer // 2) for place in range(len(BOUNDS) + 1)]
 
 
 # The same numbers as SQL, of `n` and `h`.
 VALUE = "((n * 7919 + h * 104729 + n % 89 * h) % 9973)"
-BUCKETS = [f"((n + h * 3 + {place} * (1 + n % 5)) % 11)" for place in range(len(BOUNDS) + 1)]
+BUCKETS = [f"((n + h * 3 + {place} * 4) % 11 / (1 + {place} * (n % 4 + h / 24 % 3 * 4) / 2))" for place in range(len(BOUNDS) + 1)]
 COUNT = "(" + " + ".join(BUCKETS) + ")"
 
 
