@@ -4,10 +4,10 @@ import json
 # What Prometheus calls the programs' metrics, and what it calls the parts of a histogram.
 NAMES = {"shop.orders": "shop_orders_total", "shop.order.value": "shop_order_value", "shop.sent": "shop_sent_bytes_total"}
 HISTOGRAM = "shop.order.value"
-# Each point of each request, in the order in which they were taken.
+# Each point of each request, in the order in which they were taken: a request is one transaction.
 POINTS = """
-select coalesce(json_agg(json_build_array(request, name, resource->>'service.instance.id', attributes, coalesce(value, sum),
-    coalesce(span.count, 0)) order by request), '[]')
+select coalesce(json_agg(json_build_array(span.xmin::text::bigint, name, resource->>'service.instance.id', attributes,
+    coalesce(value, sum), coalesce(span.count, 0)) order by span.xmin::text::bigint), '[]')
 from totxegun.span join totxegun.series on series.id = span.series"""
 
 

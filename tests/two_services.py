@@ -73,7 +73,7 @@ MORE_HASTY, SHORT_PAUSE = 0.5, 0.01
 ALONE = "TWO_SERVICES_ALONE"
 STEPS = ("stop", "folder", "calm", "drain", "wait")
 SPANS = """
-select coalesce(json_agg(json_build_array(name, start_ns, end_ns, value, sum, buckets)), '[]')
+select coalesce(json_agg(json_build_array(name, start_ns, end_ns, value, sum, span.buckets::numeric[])), '[]')
 from totxegun.span join totxegun.series on series.id = span.series"""
 
 

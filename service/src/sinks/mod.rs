@@ -122,7 +122,7 @@ impl Memory for () {
 pub fn open(address: &Address, keep: Keep, memory: Arc<dyn Memory>) -> anyhow::Result<Arc<dyn Sink>> {
     match address {
         Address::Sqlite(path) => Ok(Arc::new(sqlite::SqliteSink::open(path, keep, memory)?)),
-        Address::Postgres(server) => Ok(Arc::new(postgres::PostgresSink::open(server, memory)?)),
+        Address::Postgres(server) => Ok(Arc::new(postgres::PostgresSink::open(server, keep, memory)?)),
         Address::Otlp {
             url,
             protobuf,

@@ -1,7 +1,7 @@
 //! A database that is not the one that is remembered.
 
 use super::server::{sum, Server};
-use super::{again, taken};
+use super::{again, open, taken};
 use std::sync::{Arc, Mutex};
 use totxegun::sinks::{self, Keep, Memory};
 
@@ -56,4 +56,33 @@ async fn a_database_is_known_by_its_id_once_it_is_reached() {
     server.ask("alter database three rename to late");
     taken(&*late, 3, sum("a", 300, 400, 5)).await;
     assert_eq!(server.ask_of("late", "select total from totxegun.totals"), "15");
+}
+
+/// What is too old by our options stays in a database that is not ours.
+#[tokio::test(flavor = "multi_thread")]
+async fn nothing_is_deleted_in_another_database() {
+    let Some(server) = Server::start() else { return };
+    let first = Arc::new(First::default());
+    let open_ours = |database: &str| {
+        let keep = Keep {
+            spans: Some(std::time::Duration::from_secs(86_400)),
+            ..Keep::default()
+        };
+        sinks::open(&server.by_socket(database).parse().unwrap(), keep, first.clone()).unwrap()
+    };
+    server.ask("create database ours; create database theirs");
+    drop(open_ours("ours"));
+    taken(&*open(&server.by_socket("theirs")), 1, sum("a", 100, 200, 5)).await;
+    server.ask("alter database theirs rename to hidden");
+    let late = open_ours("theirs");
+    server.ask("alter database hidden rename to theirs");
+    again(&*late, 2, sum("a", 300, 400, 5), "another sink").await;
+    tokio::time::sleep(std::time::Duration::from_secs(4)).await;
+    assert_eq!(server.ask_of("theirs", "select count(*) from totxegun.span"), "1");
+    // In ours such a span goes.
+    let ours = open_ours("ours");
+    taken(&*ours, 1, sum("a", 100, 200, 5)).await;
+    while server.ask_of("ours", "select count(*) from totxegun.span") != "0" {
+        tokio::time::sleep(std::time::Duration::from_millis(50)).await;
+    }
 }

@@ -1,56 +1,178 @@
-//! The hours of a series, by a view such as the schema has.
+//! Hours are what the spans come to, whatever order requests come in.
 
-use crate::server::{histogram, sum, sum_named, Server};
-use crate::{open, taken};
-use totxegun::sinks::postgres::{by_hour, totals};
-use totxegun::sinks::Address;
+use crate::points::{body, lines, value, Point, Random, Value, HOUR};
+use crate::server::{sum, Server};
+use crate::{open, refused, request, taken};
+use std::collections::BTreeMap;
+use totxegun::sinks::Fate;
 
-/// In the place of the view: each series has its total in the hour 5, and 1 in the one before.
-const VIEW: &str = "drop view if exists totxegun.by_hour;
-    create view totxegun.by_hour as select to_timestamp(5 * 3600) as hour, total, count, series from totxegun.totals
-    union all select to_timestamp(4 * 3600), 1, null, series from totxegun.totals";
-const NO_VIEW: &str = "drop view if exists totxegun.by_hour cascade";
+/// 2024-02-29, a leap day, at 20:00, and the end of that month.
+const FIRST: u64 = 1_709_236_800_000_000_000;
+const MARCH: u64 = 1_709_251_200_000_000_000;
+
+/// Of one service after the other: spans that never overlap, of ten hours, some of which are longer than an hour, and of
+/// which some end with the hour.
+fn spans(random: &mut Random) -> Vec<Point> {
+    let mut all = Vec::new();
+    for name in ["a", "b", "h", "hh"] {
+        let mut start = FIRST + random.below(HOUR);
+        while start < FIRST + 10 * HOUR {
+            let end = match random.below(8) {
+                0 => (start / HOUR + 1) * HOUR,
+                1 => start + 1 + random.below(2 * HOUR),
+                _ => start + 1 + random.below(HOUR / 10),
+            };
+            let value = value(name, random);
+            all.push(Point {
+                name: name.into(),
+                start,
+                end,
+                value,
+            });
+            start = end + random.below(3).saturating_sub(1) * random.below(HOUR / 5);
+        }
+    }
+    all
+}
+
+const BY_HOUR: &str = "select name, hour, hour.points, hour.total, hour.count, hour.without_sum, hour.buckets
+    from totxegun.hour join totxegun.series on series.id = hour.series order by 1, 2";
+
+/// The view, which has no `without_sum`, and no count of sums.
+fn view(of: &str) -> String {
+    format!(
+        "select name, to_char({of} at time zone 'UTC', 'YYYY-MM-DD'), points, total, coalesce(count, 0), 0, buckets \
+         from totxegun.by_{of} order by 1, 2"
+    )
+}
+
+fn without_sums(lines: String) -> String {
+    let line = |line: &str| {
+        let mut parts: Vec<&str> = line.split('|').collect();
+        parts[5] = "0";
+        parts.join("|")
+    };
+    lines.lines().map(line).collect::<Vec<String>>().join("\n")
+}
 
 #[tokio::test(flavor = "multi_thread")]
-async fn the_hours_of_one_series_are_read() {
+async fn hours_days_and_months_are_the_sums_of_spans() {
+    let Some(server) = Server::start() else { return };
+    for seed in 1..4 {
+        let database = format!("seed{seed}");
+        server.ask(&format!("create database {database}"));
+        let services = [(); 2].map(|()| open(&server.by_socket(&database)));
+        let mut random = Random(seed);
+        let all = spans(&mut random);
+        let mut order: Vec<usize> = (0..all.len()).collect();
+        // Most come in the order of their times, and some much later.
+        order.sort_by_cached_key(|place| all[*place].end + random.below(5) / 4 * random.below(4 * HOUR));
+        for (number, part) in (0..).zip(order.chunks(7)) {
+            let part: Vec<Point> = part.iter().map(|place| all[*place].clone()).collect();
+            let sink = &services[random.below(2) as usize];
+            for _ in 0..1 + random.below(2) {
+                taken(&**sink, number, body(&part)).await;
+            }
+            refused(&**sink, 10_000 + number, body(&part), "overlaps").await;
+        }
+        let ask = |query: &str| server.ask_of(&database, query);
+        assert_eq!(ask(BY_HOUR), lines(&all, |ns| (ns / HOUR).to_string()));
+        let days = lines(&all, |ns| {
+            if ns < MARCH { "2024-02-29" } else { "2024-03-01" }.into()
+        });
+        assert_eq!(ask(&view("day")), without_sums(days));
+        let months = lines(&all, |ns| {
+            if ns < MARCH { "2024-02-01" } else { "2024-03-01" }.into()
+        });
+        assert_eq!(ask(&view("month")), without_sums(months));
+        let both = "select name, hour, sum(total), sum(count), sum(points) from totxegun.by_hour group by 1, 2 order by 1, 2";
+        assert_eq!(ask(both), ask(&both.replace("by_hour", "totals_by_hour")));
+        assert_eq!(ask("select count(*) from totxegun.span"), all.len().to_string());
+    }
+}
+
+#[tokio::test(flavor = "multi_thread")]
+async fn a_span_counts_in_the_hour_of_its_last_nanosecond() {
+    let Some(server) = Server::start() else { return };
+    let sink = open(&server.by_socket("postgres"));
+    for (number, (start, end)) in [(MARCH - 9, MARCH), (MARCH, MARCH + 1), (MARCH + 1, MARCH + HOUR)]
+        .into_iter()
+        .enumerate()
+    {
+        taken(&*sink, number as u64, sum("a", start, end, 1)).await;
+    }
+    for (view, found) in [
+        ("by_hour", "2024-02-29 23:00|1\n2024-03-01 00:00|2"),
+        ("totals_by_hour", "2024-02-29 23:00|1\n2024-03-01 00:00|2"),
+    ] {
+        let query = format!(
+            "select to_char(hour at time zone 'UTC', 'YYYY-MM-DD HH24:MI'), total from totxegun.{view} order by 1"
+        );
+        assert_eq!(server.ask(&query), found, "{view}");
+    }
+    let buckets = "select \"from\", up_to, count from totxegun.buckets order by up_to";
+    taken(&*sink, 9, crate::server::histogram("h", 1, 2, Some(3), [7, 0, 2])).await;
+    assert_eq!(server.ask(buckets), "|-5|7\n-5|10|0\n10||2");
+}
+
+/// Whether a point overlaps is right wherever it lies: in a gap of an hour, across hours, before all, far ahead.
+#[tokio::test(flavor = "multi_thread")]
+async fn what_overlaps_is_found_without_an_index_of_series() {
+    let Some(server) = Server::start() else { return };
+    let sink = open(&server.by_socket("postgres"));
+    let mut number = 0;
+    for base in [FIRST, 1 << 40, (1 << 63) - HOUR, u64::MAX - 4 * HOUR] {
+        let mut random = Random(base);
+        let mut there: BTreeMap<u64, u64> = BTreeMap::new();
+        for _ in 0..150 {
+            number += 1;
+            let start = base + random.below(30) * (HOUR / 12);
+            let end = start + 1 + random.below(4) * (HOUR / 24);
+            let overlaps = there.iter().any(|(from, to)| *from < end && *to > start);
+            let name = format!("a{base}");
+            let fate = sink.deliver(&request(number, sum(&name, start, end, 1))).await;
+            match fate {
+                Fate::Taken if !overlaps => {
+                    there.insert(start, end);
+                }
+                Fate::Refused { reason } if overlaps => assert!(reason.contains("overlaps"), "{reason}"),
+                other => panic!("({start}, {end}] beside {there:?}: {other:?}"),
+            }
+        }
+        assert!(there.len() > 12, "{}", there.len());
+    }
+}
+
+/// No request finds an hour that another one is just writing.
+#[tokio::test(flavor = "multi_thread")]
+async fn services_that_share_series_write_one_hour() {
     let Some(server) = Server::start() else { return };
     let address = server.by_socket("postgres");
-    let sink = open(&address);
-    taken(&*sink, 1, sum("a", 100, 200, 5)).await;
-    taken(&*sink, 2, sum_named("a\\u0000", "x", 1, 2, 4)).await;
-    taken(&*sink, 3, sum_named("a\u{fffd}", "x", 1, 2, 8)).await;
-    taken(&*sink, 4, histogram("h", 1, 2, Some(u64::MAX), [u64::MAX, 0, 1])).await;
-    let Ok(Address::Postgres(place)) = address.parse() else {
-        panic!("{address}")
-    };
-    let all = totals::read(&place).await.unwrap();
-    assert_eq!(all.len(), 4);
-    server.ask(NO_VIEW);
-    assert_eq!(
-        by_hour::read(&place, &all[0], 0).await.unwrap(),
-        None,
-        "a schema without hours"
-    );
-    server.run_file("postgres", VIEW);
-    for series in &all {
-        let count = series.histogram.as_ref().map(|histogram| histogram.count.0);
-        let hours = by_hour::read(&place, series, 0).await.unwrap().unwrap();
-        let found: Vec<_> = hours
-            .iter()
-            .map(|it| (it.hour, it.total.0, it.count.map(|count| count.0)))
-            .collect();
-        assert_eq!(
-            found,
-            [(4, 1, None), (5, series.total.0, count)],
-            "{}",
-            series.name
-        );
-        assert_eq!(
-            by_hour::read(&place, series, 5).await.unwrap().unwrap(),
-            hours[1..]
-        );
+    let services = (0..3).map(|service| {
+        let sink = open(&address);
+        tokio::spawn(async move {
+            let mut points = Vec::new();
+            for round in 0..40u64 {
+                let start = FIRST + (3 * round + service) * HOUR / 10;
+                let point = |name: &str| Point {
+                    name: name.into(),
+                    start,
+                    end: start + HOUR / 10,
+                    value: value(name, &mut Random(start)),
+                };
+                let part = [point("a"), point("h")];
+                let mut request = request(round, body(&part));
+                request.slot = service as u16;
+                assert_eq!(sink.deliver(&request).await, Fate::Taken);
+                points.extend(part);
+            }
+            points
+        })
+    });
+    let mut all = Vec::new();
+    for service in services.collect::<Vec<_>>() {
+        all.extend(service.await.expect("a service"));
     }
-    let mut other = all[0].clone();
-    other.unit = "By".into();
-    assert_eq!(by_hour::read(&place, &other, 0).await.unwrap(), None);
+    assert_eq!(server.ask(BY_HOUR), lines(&all, |ns| (ns / HOUR).to_string()));
+    assert!(matches!(all[0].value, Value::Sum(_)));
 }

@@ -1,8 +1,11 @@
 //! The PostgreSQL sink against a server of its own. Without `initdb` nothing is tried, and a line says so.
 
 mod another;
+mod by_hour;
 mod hours;
+mod kept;
 mod lost;
+mod points;
 mod rivals;
 mod server;
 mod speed;
@@ -22,12 +25,11 @@ fn request(number: u64, body: String) -> Forwarded {
 }
 
 fn open(address: &str) -> std::sync::Arc<dyn Sink> {
-    sinks::open(
-        &address.parse().expect(address),
-        Keep::default(),
-        std::sync::Arc::new(()),
-    )
-    .expect(address)
+    open_with(address, Keep::default())
+}
+
+fn open_with(address: &str, keep: Keep) -> std::sync::Arc<dyn Sink> {
+    sinks::open(&address.parse().expect(address), keep, std::sync::Arc::new(())).expect(address)
 }
 
 async fn taken(sink: &dyn Sink, number: u64, body: String) {
@@ -178,7 +180,9 @@ async fn by_tls() {
     let sink = open(&address("localhost"));
     taken(&*sink, 1, sum("a", 1, 2, 1)).await;
     assert_eq!(
-        server.ask("select ssl from pg_stat_ssl join pg_stat_activity using (pid) where usename = 'shop'"),
+        server.ask(
+            "select distinct ssl from pg_stat_ssl join pg_stat_activity using (pid) where usename = 'shop'"
+        ),
         "t"
     );
     // A root that did not sign it, a name that the certificate does not have, and none, though it has the address.
@@ -233,8 +237,8 @@ async fn what_is_told() {
             .to_string();
         assert!(error.contains(part) && error.contains(database), "{error}");
     };
-    server.ask_of("d1", "update totxegun.version set version = 5");
-    refuses("d1", "schema 5; this one knows 4");
+    server.ask_of("d1", "update totxegun.version set version = 6");
+    refuses("d1", "schema 6; this one knows 5");
     again(&*lame, 2, body(), "version").await;
     again(&*lame, 2, body(), "later version").await;
     server.ask_of(

@@ -4,10 +4,11 @@ use crate::server::{sum, Server};
 use crate::{open, refused, taken};
 
 /// The steps, of which each version has made so many.
-const STEPS: [&str; 3] = [
+const STEPS: [&str; 4] = [
     include_str!("../../src/sinks/postgres/version1.sql"),
     include_str!("../../src/sinks/postgres/version2.sql"),
     include_str!("../../src/sinks/postgres/version3.sql"),
+    include_str!("../../src/sinks/postgres/version4.sql"),
 ];
 
 /// What a service of that time had written: one point of the series that `sum("a", ..)` has.
@@ -20,23 +21,29 @@ const WRITTEN: &str = r#"
     insert into totxegun.series_total (series, points, first_start_ns, last_end_ns, total) values (1, 1, 100, 200, 5);
     insert into totxegun.span (series, start_ns, end_ns, request, value) values (1, 100, 200, 1, 5)"#;
 
+/// A database of an earlier version.
+fn make(server: &Server, database: &str, version: usize) {
+    server.ask(&format!("create database {database}"));
+    let ask = |query: &str| server.ask_of(database, query);
+    ask("create schema totxegun");
+    for step in &STEPS[..version] {
+        server.run_file(database, &format!("begin;\n{step}\ncommit;"));
+    }
+    ask(&format!(
+        "insert into totxegun.version values ('totxegun', {version})"
+    ));
+}
+
 #[tokio::test(flavor = "multi_thread")]
 async fn a_database_of_an_earlier_version_is_brought_up() {
     let Some(server) = Server::start() else { return };
     for version in 1..=STEPS.len() {
         let database = format!("version{version}");
-        server.ask(&format!("create database {database}"));
+        make(&server, &database, version);
         let ask = |query: &str| server.ask_of(&database, query);
-        ask("create schema totxegun");
-        for step in &STEPS[..version] {
-            server.run_file(&database, &format!("begin;\n{step}\ncommit;"));
-        }
-        ask(&format!(
-            "insert into totxegun.version values ('totxegun', {version})"
-        ));
         ask(WRITTEN);
         let sink = open(&server.by_socket(&database));
-        assert_eq!(ask("select version from totxegun.version"), "4");
+        assert_eq!(ask("select version from totxegun.version"), "5");
         assert_eq!(ask("select count(*) from pg_constraint where contype = 'f' and connamespace = 'totxegun'::regnamespace"), "0");
         taken(&*sink, 1, sum("a", 100, 200, 5)).await;
         refused(&*sink, 2, sum("a", 150, 250, 1), "overlaps").await;
@@ -47,4 +54,131 @@ async fn a_database_of_an_earlier_version_is_brought_up() {
             "a|2|7\nb|1|8"
         );
     }
+}
+
+/// What version 4 had written of 40 series, half of them histograms: of each 1,500 spans of 37 s, and one in the year 2540.
+/// Beside it, what they come to by hours.
+const MANY: &str = r#"
+    insert into totxegun.series (digest, identity, is_exact, name, unit, kind, bounds, attributes, resource, scope_name,
+        scope_version, scope_attributes)
+    select sha256(convert_to(identity, 'UTF8')), identity, true, 'm' || number % 4, '1', kind, bounds, '{}', '{}', 's', '1', '{}'
+    from (select number, 'x' || number as identity, case number % 2 when 0 then 'sum' else 'histogram' end as kind,
+        case number % 2 when 1 then '{5,10}'::bigint[] end as bounds from generate_series(1, 40) as number) as one;
+    insert into totxegun.span
+    select id, 1790000000000000000 + n * 37000000000, 1790000000000000000 + (n + 1) * 37000000000, 1,
+        case kind when 'sum' then n - 700 end, case kind when 'histogram' then n end,
+        case when kind = 'histogram' and n % 5 > 0 then 7 * n end, case kind when 'histogram' then array[n % 3, n, 0] end
+    from totxegun.series, generate_series(0, 1499) as n;
+    insert into totxegun.span select id, 18000000000000000000, 18000000000000000009, 1, 5 from totxegun.series where kind = 'sum';
+    insert into totxegun.series_total
+    select series, count(*), min(start_ns), max(end_ns), sum(coalesce(value, sum, 0)), sum(coalesce(span.count, 0)),
+        count(*) filter (where value is null and sum is null),
+        case when max(buckets) is not null then array[sum(buckets[1]), sum(buckets[2]), sum(buckets[3])] end
+    from totxegun.span group by series;
+    create table public.wanted as
+    select series, div(end_ns - 1, 3600000000000)::int as hour, count(*) as points, sum(coalesce(value, sum, 0)) as total,
+        sum(coalesce(span.count, 0)) as count, count(*) filter (where value is null and sum is null) as without_sum,
+        case when max(buckets) is not null then array[sum(buckets[1]), sum(buckets[2]), sum(buckets[3])] end as buckets
+    from totxegun.span group by 1, 2"#;
+
+/// How many hours of the old series are not as wanted; and of their metrics.
+const ODD: &str = "select (select count(*) from (
+        select series, hour, sum(points), sum(total), sum(count), sum(without_sum),
+            case when max(buckets) is not null then array[sum(buckets[1]), sum(buckets[2]), sum(buckets[3])] end
+        from totxegun.hour where series <= 40 group by 1, 2
+        except select * from public.wanted) as odd),
+    (select count(*) from (select series, hour from public.wanted except select series, hour from totxegun.hour) as odd),
+    (select count(*) from (
+        select series, day, sum(points), sum(total), sum(count),
+            case when max(buckets) is not null then array[sum(buckets[1]), sum(buckets[2]), sum(buckets[3])] end
+        from totxegun.day where series <= 40 group by 1, 2
+        except
+        select series, hour / 24, sum(points), sum(total), sum(count),
+            case when max(buckets) is not null then array[sum(buckets[1]), sum(buckets[2]), sum(buckets[3])] end
+        from public.wanted group by 1, 2) as odd),
+    (select sum(points) - (select points from totxegun.totals where name = 'new') from totxegun.totals_by_hour)";
+
+/// Each step is a transaction, so whatever ends the service the next one goes on; and at each moment all is in the views.
+#[tokio::test(flavor = "multi_thread")]
+async fn hours_are_filled_in_while_deliveries_go_on_over_kills() {
+    let Some(server) = Server::start() else { return };
+    make(&server, "old", 4);
+    let ask = |query: &str| server.ask_of("old", query);
+    server.run_file("old", MANY);
+    let address = server.by_socket("old");
+    // A kill of the step that makes the tables leaves version 4.
+    server.run_file(
+        "old",
+        "create function public.fails() returns event_trigger language plpgsql as $$ begin
+            if current_query() like '%hour_before%' then raise exception 'killed'; end if; end $$;
+        create event trigger killed on ddl_command_end when tag in ('COMMENT') execute function public.fails()",
+    );
+    crate::again(&*open(&address), 1, sum("new", 1, 2, 1), "killed").await;
+    assert_eq!(ask("select version from totxegun.version"), "4");
+    assert_eq!(ask("select count(*) from totxegun.span"), "60020");
+    ask("drop event trigger killed");
+    drop(open(&address));
+    // So a run does not come to the end.
+    server.run_file(
+        "old",
+        "create function public.slow() returns trigger language plpgsql as $$ begin perform pg_sleep(0.5); return new; end $$;
+        create trigger slow before update on totxegun.filling for each row execute function public.slow()",
+    );
+    let (mut number, mut places) = (1, std::collections::BTreeSet::new());
+    while ask("select to_regclass('totxegun.filling') is not null") == "t" {
+        places.insert(ask("select series, start_ns from totxegun.filling"));
+        // Who is killed does not say good-bye; here its connections are cut.
+        let sink = open(&address);
+        for _ in 0..20 {
+            number += 1;
+            let start = 1_795_000_000_000_000_000 + number;
+            taken(&*sink, number, sum("new", start, start + 1, 1)).await;
+            if number % 7 == 0 {
+                assert_eq!(ask(ODD), "0|0|0|60020");
+            }
+        }
+        tokio::time::sleep(std::time::Duration::from_secs(1)).await;
+        ask("select pg_terminate_backend(pid) from pg_stat_activity where application_name = 'totxegun' and datname = 'old'");
+        drop(sink);
+    }
+    assert!(places.len() > 2, "{places:?}");
+    assert_eq!(ask(ODD), "0|0|0|60020");
+    assert_eq!(
+        ask("select count(*), count(distinct (series, hour)) from totxegun.hour where series <= 40"),
+        ask("select count(*), count(*) from public.wanted")
+    );
+    assert_eq!(
+        ask("select count(*), min(end_ns) from totxegun.span_other where end_ns < 0"),
+        "20|-446744073709551607"
+    );
+    // They go together, once all of them are too old, and are never counted again.
+    let sink = crate::open_with(
+        &address,
+        totxegun::sinks::Keep {
+            spans: Some(std::time::Duration::from_secs(86_400)),
+            ..Default::default()
+        },
+    );
+    tokio::time::sleep(std::time::Duration::from_secs(3)).await;
+    assert_eq!(ask("select to_regclass('totxegun.span_before') is null"), "f");
+    drop(sink);
+    ask("update totxegun.horizon set before_to_ns = 1");
+    let sink = crate::open_with(
+        &address,
+        totxegun::sinks::Keep {
+            spans: Some(std::time::Duration::from_secs(86_400)),
+            ..Default::default()
+        },
+    );
+    while ask("select to_regclass('totxegun.span_before') is null") == "f" {
+        tokio::time::sleep(std::time::Duration::from_millis(50)).await;
+    }
+    number += 1;
+    let start = 1_795_000_000_000_000_000 + number;
+    while sink
+        .deliver(&crate::request(number, sum("new", start, start + 1, 1)))
+        .await
+        != totxegun::sinks::Fate::Taken
+    {}
+    assert_eq!(ask(ODD), "0|0|0|60020");
 }

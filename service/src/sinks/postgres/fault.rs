@@ -2,6 +2,7 @@
 
 use crate::log;
 use crate::otlp::series::NotForwarded;
+use std::time::Duration;
 use tokio_postgres::error::DbError;
 
 /// The most characters of what a server says: it may quote what a sender wrote.
@@ -31,6 +32,10 @@ impl PostgresFault {
 
     pub(super) fn of(server: &str, error: &tokio_postgres::Error) -> PostgresFault {
         PostgresFault::told(server, shown(error))
+    }
+
+    pub(super) fn late(server: &str, patience: Duration) -> PostgresFault {
+        PostgresFault::told(server, format!("no answer within {} s", patience.as_secs_f64()))
     }
 
     /// Whether it stays until somebody names another database or starts another version.

@@ -6,6 +6,9 @@
 mod address;
 pub mod by_hour;
 mod fault;
+mod keeping;
+mod metric_rows;
+mod overlap;
 mod point_rows;
 mod repeat;
 mod rows;
@@ -23,9 +26,10 @@ pub use address::Server;
 pub use fault::PostgresFault;
 
 use super::part::Left;
-use super::{Fate, Forwarded, Keys, Memory, Sink};
+use super::{Fate, Forwarded, Keep, Keys, Memory, Sink};
 use fault::NotTaken;
-use rows::OfSeries;
+use keeping::Keeper;
+use rows::Content;
 use session::Session;
 use std::future::Future;
 use std::pin::Pin;
@@ -35,7 +39,7 @@ use std::time::Duration;
 use tokio::sync::Mutex;
 use tokio::time::timeout;
 
-/// How long a delivery may take, with the connection. The server gives a statement up before.
+/// How long a connection may take, and then a delivery. The server gives a statement up before.
 const PATIENCE: Duration = Duration::from_secs(30);
 /// How long a start waits for the server.
 const AT_START: Duration = Duration::from_secs(6);
@@ -47,17 +51,18 @@ pub struct PostgresSink {
     /// One delivery at a time. It is taken out while it is used: one that was left half-way is closed.
     session: Mutex<Option<Session>>,
     /// Whether this run has seen the schema: where it is gone then, somebody took it away.
-    was_there: AtomicBool,
+    was_there: Arc<AtomicBool>,
     patience: Duration,
     keys: Keys,
+    _keeper: Option<Keeper>,
 }
 
 impl PostgresSink {
     /// Makes the schema where there is none. A server that does not answer now is asked again at each delivery; a
     /// schema that must not be written (of a later version, of another program, another than is remembered) is an error.
-    pub fn open(server: &Server, memory: Arc<dyn Memory>) -> anyhow::Result<PostgresSink> {
+    pub fn open(server: &Server, keep: Keep, memory: Arc<dyn Memory>) -> anyhow::Result<PostgresSink> {
         let tried = try_once(server, memory.clone())?;
-        let was_there = tried.is_ok();
+        let was_there = Arc::new(AtomicBool::new(tried.is_ok()));
         if let Err(fault) = tried {
             if fault.is_lasting() {
                 return Err(fault.into());
@@ -65,36 +70,46 @@ impl PostgresSink {
             let reason = fault.to_string();
             tracing::warn!(reason, "{reason}; it is tried again at each delivery");
         }
+        let keeper = Keeper::start(server.clone(), keep, memory.clone(), was_there.clone())?;
         Ok(PostgresSink {
             server: server.clone(),
             name: server.to_string(),
             memory,
             session: Mutex::new(None),
-            was_there: AtomicBool::new(was_there),
+            was_there,
             patience: PATIENCE,
             keys: Keys::default(),
+            _keeper: Some(keeper),
         })
     }
 
-    async fn read(&self, request: &Forwarded) -> Result<Vec<OfSeries>, NotTaken> {
+    async fn read(&self, request: &Forwarded) -> Result<Content, NotTaken> {
         let body = request.body.clone();
         // Milliseconds of work, too much for the runtime.
         let read = tokio::task::spawn_blocking(move || rows::read(&body)).await;
         read.map_err(|error| PostgresFault::told(&self.name, error.to_string()))?
     }
 
+    /// By the session that is there, or by a new one, which may have to bring the schema up first.
     async fn take(
         &self,
         place: &mut Option<Session>,
         request: &Forwarded,
-        all: Vec<OfSeries>,
+        content: Content,
     ) -> Result<Option<Left>, NotTaken> {
         let mut session = match place.take() {
             Some(session) if !session.client.is_closed() => session,
-            _ => Session::open(&self.server, &*self.memory, self.was_there.load(Relaxed)).await?,
+            _ => {
+                let was_there = self.was_there.load(Relaxed);
+                Session::open(&self.server, &*self.memory, was_there, self.patience).await?
+            }
         };
         self.was_there.store(true, Relaxed);
-        let taken = store::take(&mut session, &self.name, request, all).await;
+        let taking = store::take(&mut session, &self.name, request, content);
+        let taken = match timeout(self.patience, taking).await {
+            Ok(taken) => taken,
+            Err(_) => Err(PostgresFault::late(&self.name, self.patience).into()),
+        };
         if matches!(taken, Ok(_) | Err(NotTaken::Refused(_))) {
             *place = Some(session);
         }
@@ -102,16 +117,10 @@ impl PostgresSink {
     }
 
     async fn tried(&self, request: &Forwarded) -> Result<Option<Left>, NotTaken> {
-        let all = self.read(request).await?;
+        let content = self.read(request).await?;
         // It is not the server that is late where other slots' requests go first.
         let mut place = self.session.lock().await;
-        match timeout(self.patience, self.take(&mut place, request, all)).await {
-            Ok(taken) => taken,
-            Err(_) => {
-                let what = format!("no answer within {} s", self.patience.as_secs_f64());
-                Err(PostgresFault::told(&self.name, what).into())
-            }
-        }
+        self.take(&mut place, request, content).await
     }
 
     async fn send(&self, request: &Forwarded) -> Fate {
@@ -134,15 +143,7 @@ fn try_once(server: &Server, memory: Arc<dyn Memory>) -> anyhow::Result<Result<(
         .enable_all()
         .build()?;
     let server = server.clone();
-    let open = async move {
-        match timeout(AT_START, Session::open(&server, &*memory, false)).await {
-            Ok(opened) => opened.map(drop),
-            Err(_) => Err(PostgresFault::told(
-                &server.to_string(),
-                format!("no answer within {} s", AT_START.as_secs()),
-            )),
-        }
-    };
+    let open = async move { Session::open(&server, &*memory, false, AT_START).await.map(drop) };
     let thread = std::thread::Builder::new().name("postgres".into());
     let thread = thread.spawn(move || runtime.block_on(open))?;
     thread
@@ -191,9 +192,10 @@ mod tests {
             server,
             memory: Arc::new(()),
             session: Mutex::new(None),
-            was_there: AtomicBool::new(false),
+            was_there: Arc::default(),
             patience: Duration::from_millis(300),
             keys: Keys::default(),
+            _keeper: None,
         };
         let request = |slot| Forwarded {
             slot,

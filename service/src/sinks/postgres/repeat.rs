@@ -1,15 +1,16 @@
 //! What of a request is not added, at first and when it comes again.
 
 use super::fault::NotTaken;
-use super::rows::OfSeries;
+use super::rows::{Content, OfSeries};
 use super::series::Known;
+use super::session::Before;
 use super::store::Writing;
 use super::values::Numeric;
 use crate::otlp::series::{self, ForwardedPoint, SeriesKey};
 use crate::sinks::part::shown;
 use crate::sinks::part::{Left, OTHER_REQUEST};
 use crate::sinks::Forwarded;
-use std::collections::HashSet;
+use std::collections::{BTreeSet, HashSet};
 use tokio_postgres::Row;
 
 /// Points that overlap what is there, each by its series and start, which no other point of the request has.
@@ -71,13 +72,52 @@ pub(super) fn without(
     both.into_iter().unzip()
 }
 
+/// A request that was taken.
+pub(super) struct Taken {
+    row: i64,
+    /// How many were added.
+    points: i64,
+    /// None where version 4 took it.
+    digest: Option<Vec<u8>>,
+    /// The places of points that were not added.
+    left_out: Option<Vec<i32>>,
+}
+
+impl Taken {
+    /// Of the columns `id`, `points`, `digest` and `left_out`.
+    pub(super) fn of(row: &Row) -> Taken {
+        Taken {
+            row: row.get(0),
+            points: row.get(1),
+            digest: row.get(2),
+            left_out: row.get(3),
+        }
+    }
+}
+
 impl Writing<'_> {
-    /// Of a request that was taken: the points that have no span of it. Each of these was left for a span of another
-    /// request, which is there for ever; else it is another request that came under the key.
+    /// What was left out of a request that was taken; else it is another one that came under the key.
     pub(super) async fn left_of(
         &self,
-        row: i64,
-        added: i64,
+        taken: &Taken,
+        request: &Forwarded,
+        content: &Content,
+    ) -> Result<Option<Left>, NotTaken> {
+        match (&taken.digest, &self.statements.before) {
+            (Some(digest), _) if *digest == content.digest => left_out(taken, request),
+            (None, Some(before)) => self.left_before(taken, before, request, &content.all).await,
+            // Its spans are deleted by now.
+            (None, None) if taken.points == points(&content.all) => Ok(None),
+            _ => Err(NotTaken::Refused(OTHER_REQUEST.into())),
+        }
+    }
+
+    /// Of a request that version 4 took: the points that have no span of it. Each of these was left for a span of another
+    /// request.
+    async fn left_before(
+        &self,
+        taken: &Taken,
+        before: &Before,
         request: &Forwarded,
         all: &[OfSeries],
     ) -> Result<Option<Left>, NotTaken> {
@@ -89,18 +129,37 @@ impl Writing<'_> {
         let starts: Vec<Numeric> = each().map(|(_, point)| point.start.into()).collect();
         let ends: Vec<Numeric> = each().map(|(_, point)| point.end.into()).collect();
         let rows = self
-            .rows(&self.statements.left, &[&row, &digests, &starts, &ends])
+            .rows(&before.left, &[&taken.row, &digests, &starts, &ends])
             .await?;
         let was_left = |row: &Row| row.get::<_, bool>(1);
-        if rows.len() as i64 != points(all) - added || !rows.iter().all(was_left) {
+        if rows.len() as i64 != points(all) - taken.points || !rows.iter().all(was_left) {
             return Err(NotTaken::Refused(OTHER_REQUEST.into()));
         }
         let points: Vec<&ForwardedPoint> = each().map(|(_, point)| point).collect();
         let mut refused = Refused::default();
         for row in rows {
             let point = points[row.get::<_, i64>(0) as usize - 1];
-            refused.add(point, || format!("it was there already: {}", shown(point)));
+            refused.add(point, || was_there(point));
         }
         refused.left(request)
     }
+}
+
+fn left_out(taken: &Taken, request: &Forwarded) -> Result<Option<Left>, NotTaken> {
+    let Some(places) = &taken.left_out else {
+        return Ok(None);
+    };
+    let places: BTreeSet<usize> = places.iter().map(|place| *place as usize).collect();
+    let points = series::forwarded(&request.body)?;
+    let first = places.first().and_then(|place| points.get(*place));
+    let reason = first.map_or(String::new(), was_there);
+    Ok(Some(Left {
+        places,
+        reason,
+        ..Left::default()
+    }))
+}
+
+fn was_there(point: &ForwardedPoint) -> String {
+    format!("it was there already: {}", shown(point))
 }

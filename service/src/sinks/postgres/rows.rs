@@ -6,6 +6,17 @@ use crate::sinks::part::shown;
 use sha2::{Digest, Sha256};
 use std::collections::BTreeMap;
 
+/// Of an hour, in nanoseconds.
+const HOUR: u64 = 3_600_000_000_000;
+
+/// A request as it is written down.
+#[derive(Debug)]
+pub(super) struct Content {
+    /// SHA-256 of its body: a request that comes again has the same.
+    pub(super) digest: Vec<u8>,
+    pub(super) all: Vec<OfSeries>,
+}
+
 /// A series of a request with its points, by time.
 #[derive(Debug)]
 pub(super) struct OfSeries {
@@ -14,7 +25,7 @@ pub(super) struct OfSeries {
     pub(super) points: Vec<ForwardedPoint>,
 }
 
-/// What a series' points of one request come to. Thousands of numbers of 64 bits fit 128.
+/// What points of a series come to. Thousands of numbers of 64 bits fit 128.
 #[derive(Default)]
 pub(super) struct Total {
     pub(super) total: i128,
@@ -24,8 +35,8 @@ pub(super) struct Total {
     pub(super) buckets: Option<Vec<i128>>,
 }
 
-/// The series of a request, in the order of their digests: so two writers make rows in one order.
-pub(super) fn read(body: &[u8]) -> Result<Vec<OfSeries>, NotTaken> {
+/// The series are in the order of their digests: so two writers make rows in one order.
+pub(super) fn read(body: &[u8]) -> Result<Content, NotTaken> {
     let mut all: BTreeMap<SeriesKey, Vec<ForwardedPoint>> = BTreeMap::new();
     for point in series::forwarded(body)? {
         all.entry(point.series.clone()).or_default().push(point);
@@ -39,7 +50,13 @@ pub(super) fn read(body: &[u8]) -> Result<Vec<OfSeries>, NotTaken> {
     let mut all: Vec<OfSeries> = all.into_iter().map(of_series).collect();
     all.sort_unstable_by(|one, other| one.digest.cmp(&other.digest));
     all.iter_mut().try_for_each(OfSeries::put_in_order)?;
-    Ok(all)
+    let digest = Sha256::digest(body).to_vec();
+    Ok(Content { digest, all })
+}
+
+/// Hours since 1970 (UTC). A span counts in the one in which it ends; where it ends at a full hour, in the one before.
+pub(super) fn hour_of(point: &ForwardedPoint) -> i32 {
+    ((point.end - 1) / HOUR) as i32
 }
 
 /// Digests texts one after the other. Neighbours in an order mostly begin alike, and what they share is digested once.
@@ -102,9 +119,22 @@ impl OfSeries {
         }
     }
 
-    pub(super) fn total(&self) -> Total {
+    /// The later one of its last hour so far and that of its last point.
+    pub(super) fn last_hour(&self, so_far: Option<i32>) -> i32 {
+        self.points.last().map(hour_of).max(so_far).unwrap_or(0)
+    }
+
+    /// Its points of earlier hours than this one, and the others.
+    pub(super) fn parted(&self, hour: i32) -> (&[ForwardedPoint], &[ForwardedPoint]) {
+        let late = self.points.partition_point(|point| hour_of(point) < hour);
+        self.points.split_at(late)
+    }
+}
+
+impl Total {
+    pub(super) fn of(points: &[ForwardedPoint]) -> Total {
         let mut all = Total::default();
-        for point in &self.points {
+        for point in points {
             match &point.value {
                 Value::Sum(value) => all.total += i128::from(*value),
                 Value::Histogram { count, sum, buckets } => {

@@ -1,8 +1,9 @@
 //! The schema `totxegun` of a database: a version in it, and the steps that lead from each version to the next.
 
 use super::fault::PostgresFault;
+use super::keeping::days;
 use crate::sinks::Memory;
-use tokio_postgres::{Client, GenericClient};
+use tokio_postgres::{Client, Error, GenericClient, Transaction};
 
 /// Step N leads from version N to version N+1. A step that was released is never changed.
 const STEPS: &[&str] = &[
@@ -10,13 +11,21 @@ const STEPS: &[&str] = &[
     include_str!("version2.sql"),
     include_str!("version3.sql"),
     include_str!("version4.sql"),
+    concat!(
+        include_str!("version5.sql"),
+        include_str!("version5_comments.sql")
+    ),
 ];
+
+/// Where version 4 has spans, their hours are filled in behind the steps. Else there is nothing to keep of it.
+const FILLING: &str = include_str!("filling.sql");
+const NOTHING_BEFORE: &str = "drop table totxegun.span_before";
 
 /// The version that this program writes.
 pub(super) const KNOWN: i32 = STEPS.len() as i32;
 
 /// `totxegun`, as the number of an advisory lock: one of several services brings the schema up, the others wait.
-const LOCK: i64 = 0x746f_7478_6567_756e;
+pub(super) const LOCK: i64 = 0x746f_7478_6567_756e;
 
 /// What the database has under our name.
 struct Found {
@@ -24,15 +33,15 @@ struct Found {
     version: i32,
 }
 
-/// Brings the schema to the last version, or says why it must not be touched: also one that is not the one that is
+/// Brings the schema that was found to the last version, or says why it must not be touched: also one that is not the one that is
 /// remembered.
 pub(super) async fn migrate(
     client: &mut Client,
     server: &str,
+    found: i32,
     memory: &dyn Memory,
     was_there: bool,
 ) -> Result<(), PostgresFault> {
-    let found = check(client, server).await?.version;
     // One that is gone in this run is told of, and made again.
     let is_replaced = found == 0 && was_there;
     if found != KNOWN {
@@ -48,7 +57,10 @@ pub(super) async fn migrate(
 
 async fn bring_up(client: &mut Client, server: &str, was_there: bool) -> Result<(), PostgresFault> {
     let fault = |error| PostgresFault::of(server, &error);
-    let transaction = client.transaction().await.map_err(fault)?;
+    let mut transaction = client.transaction().await.map_err(fault)?;
+    // Some seconds for a million series, once.
+    let patient = transaction.batch_execute("set local statement_timeout = '5min'");
+    patient.await.map_err(fault)?;
     transaction
         .execute("select pg_advisory_xact_lock($1)", &[&LOCK])
         .await
@@ -70,6 +82,7 @@ async fn bring_up(client: &mut Client, server: &str, was_there: bool) -> Result<
     for step in &STEPS[found.version as usize..] {
         transaction.batch_execute(step).await.map_err(fault)?;
     }
+    begin_hours(&mut transaction).await.map_err(fault)?;
     let row =
         format!("delete from totxegun.version; insert into totxegun.version values ('totxegun', {KNOWN})");
     transaction.batch_execute(&row).await.map_err(fault)?;
@@ -79,6 +92,16 @@ async fn bring_up(client: &mut Client, server: &str, was_there: bool) -> Result<
         found.version
     );
     Ok(())
+}
+
+async fn begin_hours(transaction: &mut Transaction<'_>) -> Result<(), Error> {
+    let has_spans = "select exists (select from totxegun.span_before)";
+    let next = match transaction.query_one(has_spans, &[]).await?.get(0) {
+        true => FILLING,
+        false => NOTHING_BEFORE,
+    };
+    transaction.batch_execute(next).await?;
+    days::make(transaction).await
 }
 
 /// Says so where the tables are made although there were some: these are under another name, or gone.

@@ -41,8 +41,25 @@ pub(super) struct Known {
     pub(super) id: i64,
     /// Made by this transaction: nobody else sees it, and it has no total yet.
     pub(super) is_new: bool,
+    /// The number of its metric.
+    pub(super) metric: String,
     /// Of its spans that were there.
     pub(super) last_end: Option<u64>,
+    /// In which that is, in hours since 1970.
+    pub(super) last_hour: Option<i32>,
+}
+
+impl Known {
+    /// As it is found, before it is locked.
+    fn of(row: &Row, is_new: bool) -> Known {
+        Known {
+            id: row.get(1),
+            is_new,
+            metric: row.get(2),
+            last_end: None,
+            last_hour: None,
+        }
+    }
 }
 
 /// By the places of the series in a request.
@@ -68,18 +85,23 @@ impl Writing<'_> {
         let (one, two, three, four) = tokio::try_join!(next(), next(), next(), next())?;
         let mut made = [one, two, three, four].into_iter().flatten().peekable();
         // They came back in the order in which they went.
-        for (series, found) in all.iter().zip(found) {
+        for (series, found) in all.iter().zip(&mut *found) {
             let is_of = |row: &Row| row.get::<_, &[u8]>(0) == series.digest;
-            *found = made.next_if(is_of).map(|row| Known {
-                id: row.get(1),
-                is_new: true,
-                last_end: None,
-            });
+            *found = made.next_if(is_of).map(|row| Known::of(&row, true));
         }
-        match made.next() {
-            None => Ok(()),
-            Some(_) => Err(self.fault("new series came back in another order").into()),
+        if made.next().is_some() {
+            return Err(self.fault("new series came back in another order").into());
         }
+        self.metrics(found).await
+    }
+
+    /// Makes the metrics of the series that were made.
+    async fn metrics(&self, found: &Found) -> Result<(), NotTaken> {
+        let made: Vec<i64> = found.iter().flatten().map(|known| known.id).collect();
+        if !made.is_empty() {
+            self.rows(&self.statements.metrics, &[&made]).await?;
+        }
+        Ok(())
     }
 
     async fn make_piece(&self, series: &[&OfSeries]) -> Result<Vec<Row>, NotTaken> {
@@ -99,11 +121,7 @@ impl Writing<'_> {
         }
         let digests: Vec<&[u8]> = places.iter().map(|place| &all[*place].digest[..]).collect();
         for row in self.rows(&self.statements.find, &[&digests]).await? {
-            found[places[row.get::<_, i64>(0) as usize - 1]] = Some(Known {
-                id: row.get(1),
-                is_new: false,
-                last_end: None,
-            });
+            found[places[row.get::<_, i64>(0) as usize - 1]] = Some(Known::of(&row, false));
         }
         Ok(())
     }
@@ -124,6 +142,7 @@ impl Writing<'_> {
             let (last_end, buckets): (Option<&str>, Option<i32>) = (row.get(1), row.get(2));
             all[place].fits(buckets.map(|count| count as usize))?;
             known[place].last_end = last_end.and_then(|end| end.parse().ok());
+            known[place].last_hour = row.get(3);
         }
         Ok(known)
     }

@@ -6,8 +6,10 @@ use super::series::Seen;
 use super::tls::Tls;
 use super::{schema, statements};
 use crate::sinks::{roots, Memory};
+use std::time::Duration;
 use tokio::io::{AsyncRead, AsyncWrite};
 use tokio::task::JoinHandle;
+use tokio::time::timeout;
 use tokio_postgres::{Client, Connection, NoTls, Statement};
 
 /// Each statement is bounded, and a transaction whose client is gone does not keep its locks. Texts and times mean the
@@ -33,30 +35,54 @@ pub(super) struct Session {
 pub(super) struct Statements {
     pub(super) key: Statement,
     pub(super) is_taken: Statement,
-    pub(super) set_points: Statement,
-    pub(super) left: Statement,
+    pub(super) set_left_out: Statement,
     pub(super) make: Statement,
+    pub(super) metrics: Statement,
     pub(super) find: Statement,
     pub(super) lock: Statement,
+    pub(super) hours_beside: Statement,
     pub(super) overlap: Statement,
+    pub(super) far_overlap: Statement,
+    pub(super) deleted: Statement,
     pub(super) spans: Statement,
     pub(super) first_totals: Statement,
+    pub(super) hours_over: Statement,
+    pub(super) past_hours: Statement,
     pub(super) totals: Statement,
+    pub(super) metric_hours: Statement,
+    pub(super) before: Option<Before>,
+}
+
+/// For spans of version 4, where there are some.
+pub(super) struct Before {
+    pub(super) left: Statement,
+    pub(super) overlap: Statement,
 }
 
 impl Session {
-    /// `was_there` says that the schema has been seen before.
+    /// `was_there` says that the schema has been seen before. A schema that is brought up takes as long as it takes; for
+    /// all else the server has so long.
     pub(super) async fn open(
         server: &Server,
         memory: &dyn Memory,
         was_there: bool,
+        patience: Duration,
     ) -> Result<Session, PostgresFault> {
         let name = server.to_string();
-        let (mut client, connection) = connect(server).await?;
-        schema::migrate(&mut client, &name, memory, was_there).await?;
-        let fault = |error| PostgresFault::of(&name, &error);
-        client.batch_execute(PLANS).await.map_err(fault)?;
-        let statements = Statements::prepare(&client).await.map_err(fault)?;
+        let late = |_| PostgresFault::late(&name, patience);
+        let connecting = async {
+            let (client, connection) = connect(server).await?;
+            let version = schema::version(&client, &name).await?;
+            Ok((client, connection, version))
+        };
+        let (mut client, connection, version) = timeout(patience, connecting).await.map_err(late)??;
+        schema::migrate(&mut client, &name, version, memory, was_there).await?;
+        let preparing = async {
+            client.batch_execute(PLANS).await?;
+            Statements::prepare(&client).await
+        };
+        let statements = timeout(patience, preparing).await.map_err(late)?;
+        let statements = statements.map_err(|error| PostgresFault::of(&name, &error))?;
         Ok(Session {
             client,
             statements,
@@ -110,15 +136,35 @@ impl Statements {
         Ok(Statements {
             key: client.prepare(statements::KEY).await?,
             is_taken: client.prepare(statements::IS_TAKEN).await?,
-            set_points: client.prepare(statements::SET_POINTS).await?,
-            left: client.prepare(statements::LEFT).await?,
+            set_left_out: client.prepare(statements::SET_LEFT_OUT).await?,
             make: client.prepare(statements::MAKE).await?,
+            metrics: client.prepare(statements::METRICS).await?,
             find: client.prepare(statements::FIND).await?,
             lock: client.prepare(statements::LOCK).await?,
+            hours_beside: client.prepare(statements::HOURS_BESIDE).await?,
             overlap: client.prepare(statements::OVERLAP).await?,
+            far_overlap: client.prepare(statements::FAR_OVERLAP).await?,
+            deleted: client.prepare(statements::DELETED).await?,
             spans: client.prepare(statements::SPANS).await?,
             first_totals: client.prepare(statements::FIRST_TOTALS).await?,
+            hours_over: client.prepare(statements::HOURS_OVER).await?,
+            past_hours: client.prepare(statements::PAST_HOURS).await?,
             totals: client.prepare(statements::TOTALS).await?,
+            metric_hours: client.prepare(statements::METRIC_HOURS).await?,
+            before: Before::prepare(client).await?,
         })
+    }
+}
+
+impl Before {
+    async fn prepare(client: &Client) -> Result<Option<Before>, tokio_postgres::Error> {
+        let is_there = "select to_regclass('totxegun.span_before') is not null";
+        if !client.query_one(is_there, &[]).await?.get::<_, bool>(0) {
+            return Ok(None);
+        }
+        Ok(Some(Before {
+            left: client.prepare(statements::LEFT_BEFORE).await?,
+            overlap: client.prepare(statements::OVERLAP_BEFORE).await?,
+        }))
     }
 }

@@ -1,9 +1,10 @@
 //! One transaction a request, whole or not at all.
 
 use super::fault::{NotTaken, PostgresFault};
-use super::point_rows::{SpanRow, TotalRow};
-use super::repeat::{self, Refused};
-use super::rows::{overlaps, OfSeries};
+use super::metric_rows;
+use super::point_rows::{HourRow, SpanRow, TotalRow};
+use super::repeat::{self, Taken};
+use super::rows::{hour_of, Content, OfSeries};
 use super::schema::KNOWN;
 use super::series::Known;
 use super::session::{Session, Statements};
@@ -17,7 +18,7 @@ use tokio_postgres::{Row, Statement, Transaction};
 /// A request's key: new, or that of a request that was taken.
 enum Key {
     New(i64),
-    Taken { row: i64, points: i64 },
+    Taken(Taken),
 }
 
 /// Takes a request that is not taken yet, but for spans that overlap: these are left. On any error nothing of it is
@@ -26,7 +27,7 @@ pub(super) async fn take(
     session: &mut Session,
     server: &str,
     request: &Forwarded,
-    all: Vec<OfSeries>,
+    content: Content,
 ) -> Result<Option<Left>, NotTaken> {
     let transaction = session.client.transaction().await;
     let transaction = transaction.map_err(|error| NotTaken::of(server, &error))?;
@@ -35,10 +36,11 @@ pub(super) async fn take(
         statements: &session.statements,
         server,
     };
-    let row = match writing.key(request, &all).await? {
+    let row = match writing.key(request, &content).await? {
         Key::New(row) => row,
-        Key::Taken { row, points } => return writing.left_of(row, points, request, &all).await,
+        Key::Taken(taken) => return writing.left_of(&taken, request, &content).await,
     };
+    let all = content.all;
     let known = writing.series(&all, &session.seen).await?;
     let refused = writing.overlapping(&all, &known).await?;
     let (all, known) = repeat::without(all, known, &refused);
@@ -46,18 +48,16 @@ pub(super) async fn take(
         return Err(NotTaken::Refused(refused.reason));
     }
     // The totals are written down here while the server has the spans.
-    tokio::try_join!(writing.spans(row, &all, &known), writing.totals(&all, &known))?;
-    if !refused.is_empty() {
-        let added = repeat::points(&all);
-        writing
-            .write(&writing.statements.set_points, &[&row, &added], 1)
-            .await?;
+    tokio::try_join!(writing.spans(&all, &known), writing.totals(&all, &known))?;
+    let left = refused.left(request)?;
+    if let Some(left) = &left {
+        writing.leave_out(row, repeat::points(&all), left).await?;
     }
     // No content can be at fault any more.
     let committed = writing.transaction.commit().await;
     committed.map_err(|error| PostgresFault::of(server, &error))?;
     session.seen.add(&all);
-    refused.left(request)
+    Ok(left)
 }
 
 pub(super) struct Writing<'a> {
@@ -74,6 +74,11 @@ impl Writing<'_> {
     ) -> Result<Vec<Row>, NotTaken> {
         let rows = self.transaction.query(statement, columns).await;
         rows.map_err(|error| NotTaken::of(self.server, &error))
+    }
+
+    pub(super) async fn settings(&self, text: &str) -> Result<(), NotTaken> {
+        let set = self.transaction.batch_execute(text).await;
+        set.map_err(|error| NotTaken::of(self.server, &error))
     }
 
     /// Each statement must write the rows that it was given: else the tables are not as they were made.
@@ -94,13 +99,13 @@ impl Writing<'_> {
     }
 
     /// The number of the request's row, made where there is none.
-    async fn key(&self, request: &Forwarded, all: &[OfSeries]) -> Result<Key, NotTaken> {
+    async fn key(&self, request: &Forwarded, content: &Content) -> Result<Key, NotTaken> {
         let (slot, number) = (i32::from(request.slot), Numeric::from(request.number));
-        let points = repeat::points(all);
+        let points = repeat::points(&content.all);
         let rows = self
             .rows(
                 &self.statements.key,
-                &[&slot, &request.epoch, &number, &points, &KNOWN],
+                &[&slot, &request.epoch, &number, &points, &KNOWN, &content.digest],
             )
             .await?;
         if let Some(row) = rows.first() {
@@ -110,43 +115,21 @@ impl Writing<'_> {
             .rows(&self.statements.is_taken, &[&slot, &request.epoch, &number])
             .await?;
         if let Some(row) = rows.first() {
-            return Ok(Key::Taken {
-                row: row.get(0),
-                points: row.get(1),
-            });
+            return Ok(Key::Taken(Taken::of(row)));
         }
         Err(PostgresFault::told(self.server, "the schema's version has changed: it is read again").into())
     }
 
-    /// A span that overlaps one that is there was counted before, at least in part. Behind all of a series' spans it
-    /// overlaps none.
-    async fn overlapping(&self, all: &[OfSeries], known: &[Known]) -> Result<Refused, NotTaken> {
-        let before = |(point, known): &(&ForwardedPoint, &Known)| {
-            known.last_end.is_some_and(|last_end| point.start < last_end)
-        };
-        let before: Vec<_> = each(all, known).filter(before).collect();
-        let mut refused = Refused::default();
-        if before.is_empty() {
-            return Ok(refused);
-        }
-        let series: Vec<i64> = before.iter().map(|(_, known)| known.id).collect();
-        let starts: Vec<Numeric> = before.iter().map(|(point, _)| point.start.into()).collect();
-        let ends: Vec<Numeric> = before.iter().map(|(point, _)| point.end.into()).collect();
-        let rows = self
-            .rows(&self.statements.overlap, &[&series, &starts, &ends])
-            .await?;
-        for row in rows {
-            let (place, start, end): (i64, &str, &str) = (row.get(0), row.get(1), row.get(2));
-            let point = before[place as usize - 1].0;
-            refused.add(point, || overlaps(point, start, end));
-        }
-        Ok(refused)
+    /// Writes down what of the request is not added, so a repeat is told the same.
+    async fn leave_out(&self, row: i64, added: i64, left: &Left) -> Result<(), NotTaken> {
+        let places: Vec<i32> = left.places.iter().map(|place| *place as i32).collect();
+        self.write(&self.statements.set_left_out, &[&row, &added, &places], 1)
+            .await
     }
 
-    async fn spans(&self, request: i64, all: &[OfSeries], known: &[Known]) -> Result<(), NotTaken> {
+    async fn spans(&self, all: &[OfSeries], known: &[Known]) -> Result<(), NotTaken> {
         let row = |(point, known): (_, &Known)| SpanRow {
             series: known.id,
-            request,
             point,
         };
         let rows: Vec<SpanRow> = each(all, known).map(row).collect();
@@ -154,7 +137,12 @@ impl Writing<'_> {
     }
 
     async fn totals(&self, all: &[OfSeries], known: &[Known]) -> Result<(), NotTaken> {
-        let row = |(of, known): (_, &Known)| TotalRow { series: known.id, of };
+        self.past_hours(all, known).await?;
+        let row = |(of, known): (_, &Known)| TotalRow {
+            series: known.id,
+            of,
+            hour: OfSeries::last_hour(of, known.last_hour),
+        };
         let (first, more): (Vec<_>, Vec<_>) = all.iter().zip(known).partition(|(_, known)| known.is_new);
         for (statement, part) in [
             (&self.statements.first_totals, first),
@@ -165,12 +153,46 @@ impl Writing<'_> {
                 self.write(statement, &[&rows], rows.len()).await?;
             }
         }
-        Ok(())
+        // Behind all else, since other services wait for these rows.
+        let rows = metric_rows::rows(all, known);
+        self.write(&self.statements.metric_hours, &[&rows], rows.len())
+            .await
+    }
+
+    /// Writes hours that are over by this request, and adds to those what comes late.
+    async fn past_hours(&self, all: &[OfSeries], known: &[Known]) -> Result<(), NotTaken> {
+        let both = || all.iter().zip(known);
+        let is_over =
+            |(of, known): &(&OfSeries, &Known)| known.last_hour < Some(of.last_hour(known.last_hour));
+        let over: Vec<i64> = both()
+            .filter(|both| !both.1.is_new && is_over(both))
+            .map(|(_, known)| known.id)
+            .collect();
+        if !over.is_empty() {
+            self.rows(&self.statements.hours_over, &[&over]).await?;
+        }
+        let late: Vec<HourRow> = both()
+            .flat_map(|(of, known)| {
+                let (late, _) = of.parted(of.last_hour(known.last_hour));
+                let hours = late.chunk_by(|one, next| hour_of(one) == hour_of(next));
+                hours.map(|points| HourRow {
+                    series: known.id,
+                    points,
+                })
+            })
+            .collect();
+        match late.is_empty() {
+            true => Ok(()),
+            false => {
+                self.write(&self.statements.past_hours, &[&late], late.len())
+                    .await
+            }
+        }
     }
 }
 
 /// Each point, with what is known of its series.
-fn each<'a>(
+pub(super) fn each<'a>(
     all: &'a [OfSeries],
     known: &'a [Known],
 ) -> impl Iterator<Item = (&'a ForwardedPoint, &'a Known)> {

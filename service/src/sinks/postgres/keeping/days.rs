@@ -1,0 +1,64 @@
+//! The partitions of `span`: each has the spans that end in one day of UTC; one that ends at midnight, in the day before.
+
+use tokio_postgres::{Client, Error, GenericClient};
+
+/// The days without one: behind the last that has one, but for those that are long ago, until three days ahead.
+const MISSING: &str = "with known as (
+        select max(to_date(right(relname, 8), 'YYYYMMDD')) as last, (now() at time zone 'UTC')::date as today
+        from pg_class join pg_namespace on pg_namespace.oid = relnamespace
+        where nspname = 'totxegun' and relkind = 'r' and relname ~ '^span_[0-9]{8}$'
+    )
+    select to_char(day, 'YYYYMMDD'), extract(epoch from day)::int8 * 1000000000 + 1 from known,
+        generate_series(greatest(coalesce(last + 1, today - 1), today - 40)::timestamp, today + 3, '1 day') as day";
+
+/// In nanoseconds.
+const DAY: i64 = 86_400_000_000_000;
+
+/// The most spans that are moved into a day that is made behind them.
+const MOVED: i64 = 100_000;
+
+/// As few bytes as an index by time can have.
+const SUMMARIZE: &str = "select brin_summarize_new_values(indexrelid) from (
+        select indexrelid from pg_index join pg_class as one on one.oid = indexrelid join pg_am on pg_am.oid = one.relam
+        join pg_class as its on its.oid = indrelid join pg_namespace on pg_namespace.oid = its.relnamespace
+        where nspname = 'totxegun' and amname = 'brin' and its.relkind = 'r'
+            and (its.relname like 'past_%' or its.relname <= 'span_' || to_char(now() + '1 day', 'YYYYMMDD'))
+        order by its.relname like 'past_%' desc, its.relname desc limit 5
+    ) as latest";
+
+pub(in super::super) async fn make(client: &mut impl GenericClient) -> Result<(), Error> {
+    for row in client.query(MISSING, &[]).await? {
+        make_one(client, row.get(0), row.get(1)).await?;
+    }
+    Ok(())
+}
+
+/// Spans of the day that came before are moved into it. A day of which there are too many stays among the others.
+async fn make_one(client: &mut impl GenericClient, day: &str, from: i64) -> Result<(), Error> {
+    let (to, name) = (from + DAY, format!("totxegun.span_{day}"));
+    let of_day = format!("totxegun.span_other where end_ns >= {from} and end_ns < {to}");
+    let transaction = client.transaction().await?;
+    let make = format!(
+        "lock table totxegun.span_other in access exclusive mode;
+        create table {name} (like totxegun.span including comments);
+        create index on {name} using brin (end_ns, start_ns) with (pages_per_range = 32, autosummarize = on);
+        comment on table {name} is 'The spans that end on this day';
+        insert into {name} select * from {of_day} limit {MOVED} + 1"
+    );
+    transaction.batch_execute(&make).await?;
+    let count = format!("select count(*) from {name}");
+    if transaction.query_one(&count, &[]).await?.get::<_, i64>(0) > MOVED {
+        return transaction.rollback().await;
+    }
+    let attach = format!(
+        "delete from {of_day};
+        alter table totxegun.span attach partition {name} for values from ({from}) to ({to})"
+    );
+    transaction.batch_execute(&attach).await?;
+    transaction.commit().await
+}
+
+/// Pages that no index has yet are read by each look for spans of a time: so these are few.
+pub(super) async fn summarize(client: &Client) -> Result<(), Error> {
+    client.query(SUMMARIZE, &[]).await.map(drop)
+}

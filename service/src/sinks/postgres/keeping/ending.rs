@@ -1,0 +1,64 @@
+//! The spans of series that nobody posts to any more.
+//!
+//! It is written down of a series first that its spans may be gone, and in `ending` that they go. Then they go hour by hour,
+//! for many series at once: no index has a span's series, but hours say where there are some.
+
+use super::seconds;
+use std::time::Duration;
+use tokio_postgres::{Client, Error};
+
+/// The most series that end together.
+const TOGETHER: i64 = 1000;
+
+const BEGIN: &str = "with old as (
+        select series from totxegun.series_total
+        where last_end_ns < (extract(epoch from now()) - $1::float8)::numeric * 1000000000
+            and spans_from_ns is distinct from last_end_ns
+        order by series limit $2::int8 for no key update skip locked
+    ), marked as (
+        update totxegun.series_total as t set spans_from_ns = last_end_ns from old where old.series = t.series
+        returning t.series
+    )
+    insert into totxegun.ending select series from marked on conflict do nothing";
+
+/// The hours, as stretches of time, in which there are spans in days: from the horizon on, and no far-off ones. Where
+/// hours were deleted before spans, each day that is there.
+const HOURS: &str = "select hour::int8 * 3600000000000, (hour + 1)::int8 * 3600000000000
+    from totxegun.hour, totxegun.horizon where series in (select series from totxegun.ending)
+        and hour >= div(spans_from_ns, 3600000000000) and hour < 2562047
+    union
+    select hour * 3600000000000, (hour + 24) * 3600000000000 from totxegun.horizon, (
+        select extract(epoch from to_date(right(relname, 8), 'YYYYMMDD'))::int8 / 3600 as hour
+        from pg_class join pg_namespace on pg_namespace.oid = relnamespace
+        where nspname = 'totxegun' and relkind = 'r' and relname ~ '^span_[0-9]{8}$'
+    ) as day where hour < hours_from order by 1";
+
+const OF_HOUR: &str = "delete from totxegun.span where end_ns > $1::int8 and end_ns <= $2::int8
+    and series in (select series from totxegun.ending)";
+
+const OTHERS: &str = "delete from totxegun.span_other where series in (select series from totxegun.ending)";
+
+pub(super) async fn delete(client: &Client, kept: Option<Duration>) -> Result<(), Error> {
+    // What a run that was killed has begun.
+    delete_spans(client).await?;
+    let Some(kept) = seconds(kept) else {
+        return Ok(());
+    };
+    while client.execute(BEGIN, &[&kept, &TOGETHER]).await? > 0 {
+        delete_spans(client).await?;
+    }
+    Ok(())
+}
+
+async fn delete_spans(client: &Client) -> Result<(), Error> {
+    let ending = "select exists (select from totxegun.ending)";
+    if !client.query_one(ending, &[]).await?.get::<_, bool>(0) {
+        return Ok(());
+    }
+    client.execute(OTHERS, &[]).await?;
+    for row in client.query(HOURS, &[]).await? {
+        let (from, to): (i64, i64) = (row.get(0), row.get(1));
+        client.execute(OF_HOUR, &[&from, &to]).await?;
+    }
+    client.execute("delete from totxegun.ending", &[]).await.map(drop)
+}

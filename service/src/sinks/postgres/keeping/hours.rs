@@ -1,0 +1,49 @@
+//! Hours that ended too long ago.
+//!
+//! The horizon is written down first: what begins before it, and before its series' last end, is never added again.
+
+use super::{seconds, STEP};
+use std::time::Duration;
+use tokio_postgres::{Client, Error};
+
+/// The first hour that is kept.
+const FROM: &str = "select floor((extract(epoch from now()) - $1::float8) / 3600)::int4";
+
+const HORIZON: &str = "update totxegun.horizon set hours_from = $1::int4 where hours_from < $1::int4";
+
+/// By their index, which has times.
+const PAST: &str = "delete from totxegun.past_hour where ctid = any(array(
+        select ctid from totxegun.past_hour
+        where to_timestamp(hour * 3600::double precision) < to_timestamp($1::int4 * 3600::double precision) limit $2::int8
+    ))";
+
+/// Of series that nobody posts to any more, the last hour. One that a request has just locked is left.
+const LAST: &str = "with old as (
+        select series from totxegun.series_total where hour < $1::int4 and points > before_points
+        order by series limit $2::int8 for no key update skip locked
+    )
+    update totxegun.series_total as t set before_points = points, before_total = total, before_count = count,
+        before_without_sum = without_sum, before_buckets = buckets
+    from old where old.series = t.series";
+
+/// Days of which the views have none any more.
+const DAYS: &str = "delete from totxegun.past_day where ctid = any(array(
+        select ctid from totxegun.past_day
+        where to_timestamp(day * 86400::double precision) < to_timestamp($1::int4 * 3600::double precision) limit $2::int8
+    ))";
+
+const OF_METRICS: &str = "delete from totxegun.metric_hour where ctid = any(array(
+        select ctid from totxegun.metric_hour where hour < $1::int4 limit $2::int8
+    ))";
+
+pub(super) async fn delete(client: &Client, kept: Option<Duration>) -> Result<(), Error> {
+    let Some(kept) = seconds(kept) else {
+        return Ok(());
+    };
+    let from: i32 = client.query_one(FROM, &[&kept]).await?.get(0);
+    client.execute(HORIZON, &[&from]).await?;
+    for step in [PAST, LAST, DAYS, OF_METRICS] {
+        while client.execute(step, &[&from, &STEP]).await? == STEP as u64 {}
+    }
+    Ok(())
+}

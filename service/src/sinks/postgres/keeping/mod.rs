@@ -1,0 +1,142 @@
+//! What is done beside deliveries, by a connection of its own, one service of a database at a time: days are made ahead,
+//! hours are filled in from spans of version 4, and what is kept no longer is deleted.
+//!
+//! Each step is a short transaction, and waits for locks no longer than a second; so a delivery that waits behind it
+//! waits no longer either. A kill between two steps leaves what the next round goes on with.
+
+pub(super) mod days;
+mod ending;
+mod filling;
+mod hours;
+mod reader;
+mod spans;
+
+use super::address::Server;
+use super::fault::{shown, PostgresFault};
+use super::{schema, session};
+use crate::sinks::{Keep, Memory};
+use std::sync::atomic::{AtomicBool, Ordering::Relaxed};
+use std::sync::Arc;
+use std::thread::JoinHandle;
+use std::time::Duration;
+use tokio::sync::oneshot;
+use tokio_postgres::{Client, Error};
+
+/// A start delivers first.
+const FIRST: Duration = Duration::from_secs(1);
+/// From the end of one round to the next.
+const PAUSE: Duration = Duration::from_secs(60);
+
+/// A statement may take longer than one of a delivery: nothing waits for it, but for the locks of a step.
+const SETTINGS: &str = "set lock_timeout = '1s'; set statement_timeout = '5min'";
+
+/// `totxegun` and one more, as the number of an advisory lock.
+const LOCK: i64 = schema::LOCK + 1;
+
+/// The rows of one step.
+const STEP: i64 = 10_000;
+
+/// A thread that goes on until this is dropped.
+pub(super) struct Keeper {
+    stop: Option<oneshot::Sender<()>>,
+    thread: Option<JoinHandle<()>>,
+}
+
+impl Keeper {
+    /// It touches nothing before `was_there` says that the sink is the one that is remembered.
+    pub(super) fn start(
+        server: Server,
+        keep: Keep,
+        memory: Arc<dyn Memory>,
+        was_there: Arc<AtomicBool>,
+    ) -> std::io::Result<Keeper> {
+        let runtime = tokio::runtime::Builder::new_current_thread()
+            .enable_all()
+            .build()?;
+        let (stop, stopped) = oneshot::channel();
+        let rounds = async move {
+            tokio::select! {
+                _ = stopped => {}
+                () = rounds(&server, keep, &*memory, &was_there) => {}
+            }
+        };
+        let thread = std::thread::Builder::new().name("postgres keeper".into());
+        Ok(Keeper {
+            stop: Some(stop),
+            thread: Some(thread.spawn(move || runtime.block_on(rounds))?),
+        })
+    }
+}
+
+impl Drop for Keeper {
+    /// A step that is under way is undone by the server, once it sees that its client is gone.
+    fn drop(&mut self) {
+        drop(self.stop.take());
+        let _ = self.thread.take().map(JoinHandle::join);
+    }
+}
+
+async fn rounds(server: &Server, keep: Keep, memory: &dyn Memory, was_there: &AtomicBool) {
+    let (mut wait, mut told) = (FIRST, None);
+    let mut reader = reader::Reader::default();
+    loop {
+        tokio::time::sleep(wait).await;
+        if !was_there.load(Relaxed) {
+            continue;
+        }
+        wait = PAUSE;
+        let fault = round(server, keep, memory, &mut reader).await.err();
+        let reason = fault.map(|fault| fault.to_string());
+        if let Some(reason) = reason.as_ref().filter(|_| told != reason) {
+            tracing::warn!(
+                reason,
+                "{reason}; what is to be made ahead, filled in or deleted there waits for the next minute"
+            );
+        }
+        told = reason;
+    }
+}
+
+/// Whatever fails, the others are tried: a lock that somebody keeps holds up one of them.
+async fn round(
+    server: &Server,
+    keep: Keep,
+    memory: &dyn Memory,
+    reader: &mut reader::Reader,
+) -> Result<(), PostgresFault> {
+    let name = server.to_string();
+    let fault = |error: Error| PostgresFault::told(&name, shown(&error));
+    let (mut client, _connection) = session::connect(server).await?;
+    let is_known = schema::version(&client, &name).await? == schema::KNOWN;
+    if !is_known || !is_ours(&client, memory).await.map_err(fault)? {
+        return Ok(());
+    }
+    let all = [
+        reader.let_in(&client, &name).await,
+        days::make(&mut client).await,
+        filling::fill(&mut client, &name).await,
+        spans::delete(&mut client, keep.spans).await,
+        hours::delete(&client, keep.hours).await,
+        ending::delete(&client, keep.series).await,
+        days::summarize(&client).await,
+    ];
+    all.into_iter().collect::<Result<(), Error>>().map_err(fault)
+}
+
+/// Whether this is the sink that is remembered, and no other service does the same. The lock ends with the connection.
+async fn is_ours(client: &Client, memory: &dyn Memory) -> Result<bool, Error> {
+    client.batch_execute(SETTINGS).await?;
+    let id = client.query_one("select id from totxegun.sink", &[]).await?;
+    if memory.admit(Some(id.get(0)), false).is_err() {
+        return Ok(false);
+    }
+    let row = client
+        .query_one("select pg_try_advisory_lock($1)", &[&LOCK])
+        .await?;
+    Ok(row.get(0))
+}
+
+/// How long something is kept, in seconds; none where it is kept for ever.
+fn seconds(kept: Option<Duration>) -> Option<f64> {
+    kept.map(|kept| kept.as_secs_f64())
+}

@@ -1,0 +1,56 @@
+//! The hours of a series, by a view such as the schema has.
+
+use crate::server::{histogram, sum, sum_named, Server};
+use crate::{open, taken};
+use totxegun::sinks::postgres::{by_hour, totals};
+use totxegun::sinks::Address;
+
+/// In the place of the view: each series has its total in the hour 5, and 1 in the one before.
+const VIEW: &str = "drop view if exists totxegun.by_hour;
+    create view totxegun.by_hour as select to_timestamp(5 * 3600) as hour, total, count, series from totxegun.totals
+    union all select to_timestamp(4 * 3600), 1, null, series from totxegun.totals";
+const NO_VIEW: &str = "drop view if exists totxegun.by_hour cascade";
+
+#[tokio::test(flavor = "multi_thread")]
+async fn the_hours_of_one_series_are_read() {
+    let Some(server) = Server::start() else { return };
+    let address = server.by_socket("postgres");
+    let sink = open(&address);
+    taken(&*sink, 1, sum("a", 100, 200, 5)).await;
+    taken(&*sink, 2, sum_named("a\\u0000", "x", 1, 2, 4)).await;
+    taken(&*sink, 3, sum_named("a\u{fffd}", "x", 1, 2, 8)).await;
+    taken(&*sink, 4, histogram("h", 1, 2, Some(u64::MAX), [u64::MAX, 0, 1])).await;
+    let Ok(Address::Postgres(place)) = address.parse() else {
+        panic!("{address}")
+    };
+    let all = totals::read(&place).await.unwrap();
+    assert_eq!(all.len(), 4);
+    server.ask(NO_VIEW);
+    assert_eq!(
+        by_hour::read(&place, &all[0], 0).await.unwrap(),
+        None,
+        "a schema without hours"
+    );
+    server.run_file("postgres", VIEW);
+    for series in &all {
+        let count = series.histogram.as_ref().map(|histogram| histogram.count.0);
+        let hours = by_hour::read(&place, series, 0).await.unwrap().unwrap();
+        let found: Vec<_> = hours
+            .iter()
+            .map(|it| (it.hour, it.total.0, it.count.map(|count| count.0)))
+            .collect();
+        assert_eq!(
+            found,
+            [(4, 1, None), (5, series.total.0, count)],
+            "{}",
+            series.name
+        );
+        assert_eq!(
+            by_hour::read(&place, series, 5).await.unwrap().unwrap(),
+            hours[1..]
+        );
+    }
+    let mut other = all[0].clone();
+    other.unit = "By".into();
+    assert_eq!(by_hour::read(&place, &other, 0).await.unwrap(), None);
+}

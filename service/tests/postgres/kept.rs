@@ -1,0 +1,323 @@
+//! What is made ahead and deleted in the background, while deliveries go on.
+
+use crate::points::HOUR;
+use crate::server::{sum, sums, Server};
+use crate::{open, open_with, refused, taken};
+use std::time::Duration;
+use totxegun::sinks::{Fate, Keep};
+
+const DAY: u64 = 24 * HOUR;
+
+fn now() -> u64 {
+    let now = std::time::SystemTime::now();
+    now.duration_since(std::time::UNIX_EPOCH).unwrap().as_nanos() as u64
+}
+
+fn days(days: u64) -> Option<Duration> {
+    Some(Duration::from_nanos(days * DAY))
+}
+
+async fn until(server: &Server, query: &str, answer: &str) {
+    for _ in 0..1500 {
+        if server.ask(query) == answer {
+            return;
+        }
+        tokio::time::sleep(Duration::from_millis(20)).await;
+    }
+    panic!("{query}: {} and not {answer}", server.ask(query));
+}
+
+/// A day of long ago, as it was made then.
+fn make_day(server: &Server, ns: u64) -> String {
+    let name = server.ask(&format!(
+        "select 'span_' || to_char(to_timestamp({}) at time zone 'UTC', 'YYYYMMDD')",
+        ns / 1_000_000_000
+    ));
+    let from = ns / DAY * DAY + 1;
+    server.ask(&format!(
+        "create table totxegun.{name} (like totxegun.span); alter table totxegun.span attach partition totxegun.{name} \
+         for values from ({from}) to ({})",
+        from + DAY
+    ));
+    name
+}
+
+/// Whatever was deleted is in totals and hours, and is never counted again.
+#[tokio::test(flavor = "multi_thread")]
+async fn old_spans_are_deleted_and_not_counted_again() {
+    let Some(server) = Server::start() else { return };
+    let address = server.by_socket("postgres");
+    let before = open(&address);
+    let (old, older) = (now() - 3 * DAY, now() - 40 * DAY);
+    let name = make_day(&server, old);
+    // The second lies within what the hour has of the series; so does a gap.
+    let edges = [("a", old, old + 10, 1), ("a", old + 30, old + 40, 4)];
+    taken(&*before, 1, sums(&edges)).await;
+    taken(&*before, 2, sum("a", old + 20, old + 30, 2)).await;
+    taken(&*before, 3, sum("b", older, older + 9, 8)).await;
+    taken(&*before, 4, sum("a", now() - 10, now(), 16)).await;
+    assert_eq!(server.ask(&format!("select count(*) from totxegun.{name}")), "3");
+    let hours = server.ask("select * from totxegun.hour order by series, hour");
+    drop(before);
+    let sink = open_with(
+        &address,
+        Keep {
+            spans: days(2),
+            ..Keep::default()
+        },
+    );
+    until(&server, "select count(*) from totxegun.span", "1").await;
+    assert_eq!(
+        server.ask(&format!("select to_regclass('totxegun.{name}') is null")),
+        "t"
+    );
+    // The same requests, under their own keys and under others; and a point of which nobody knows.
+    taken(&*sink, 2, sum("a", old + 20, old + 30, 2)).await;
+    refused(&*sink, 12, sum("a", old + 20, old + 30, 2), "spans were deleted").await;
+    refused(&*sink, 13, sum("a", old + 10, old + 20, 2), "spans were deleted").await;
+    refused(&*sink, 14, sum("b", older, older + 9, 8), "overlaps").await;
+    // What is before all of a series' spans is no repeat, nor is what comes between its hours.
+    taken(&*sink, 15, sum("a", older, older + 9, 32)).await;
+    taken(&*sink, 16, sum("a", old + 2 * HOUR, old + 2 * HOUR + 9, 64)).await;
+    let found = server.ask("select name, points, total from totxegun.totals order by 1");
+    assert_eq!(found, "a|6|119\nb|1|8");
+    server.ask(&format!(
+        "delete from totxegun.past_hour where (hour = {} or hour = {}) and total in (32, 64)",
+        (older + 8) / HOUR,
+        (old + 2 * HOUR + 8) / HOUR
+    ));
+    assert_eq!(
+        server.ask("select * from totxegun.hour order by series, hour"),
+        hours
+    );
+}
+
+#[tokio::test(flavor = "multi_thread")]
+async fn old_hours_are_deleted_and_not_counted_again() {
+    let Some(server) = Server::start() else { return };
+    let address = server.by_socket("postgres");
+    let before = open(&address);
+    let old = now() - 3 * DAY;
+    taken(&*before, 1, sum("a", old, old + 9, 1)).await;
+    taken(&*before, 2, sum("a", now() - 10, now(), 2)).await;
+    taken(&*before, 3, sum("b", old, old + 9, 4)).await;
+    drop(before);
+    let sink = open_with(
+        &address,
+        Keep {
+            hours: days(2),
+            ..Keep::default()
+        },
+    );
+    until(&server, "select name, total from totxegun.by_hour", "a|2").await;
+    until(&server, "select name, total from totxegun.totals_by_hour", "a|2").await;
+    refused(&*sink, 11, sum("a", old, old + 9, 1), "hours were deleted").await;
+    refused(
+        &*sink,
+        12,
+        sum("a", old + HOUR, old + HOUR + 9, 1),
+        "hours were deleted",
+    )
+    .await;
+    refused(&*sink, 13, sum("b", old + 1, old + 2, 1), "hours were deleted").await;
+    taken(&*sink, 14, sum("b", old + 9, old + 19, 8)).await;
+    assert_eq!(
+        server.ask("select name, total from totxegun.totals order by 1"),
+        "a|3\nb|12"
+    );
+    assert_eq!(server.ask("select count(*) from totxegun.span"), "4");
+}
+
+#[tokio::test(flavor = "multi_thread")]
+async fn a_series_out_of_use_loses_its_spans_alone() {
+    let Some(server) = Server::start() else { return };
+    let address = server.by_socket("postgres");
+    let before = open(&address);
+    let old = now() - DAY - HOUR;
+    let name = make_day(&server, now() - 3 * DAY);
+    let long_ago = now() - 3 * DAY;
+    let of = |start: u64| sums(&[("a", start, start + 10, 1), ("b", start, start + 10, 2)]);
+    taken(&*before, 1, of(long_ago)).await;
+    taken(&*before, 2, of(old)).await;
+    taken(&*before, 3, of(old + 20)).await;
+    taken(&*before, 4, sum("b", now() - 10, now(), 4)).await;
+    assert_eq!(server.ask(&format!("select count(*) from totxegun.{name}")), "2");
+    let all = |server: &Server| server.ask("select * from totxegun.by_hour order by series, hour");
+    let hours = all(&server);
+    drop(before);
+    let sink = open_with(
+        &address,
+        Keep {
+            series: days(1),
+            ..Keep::default()
+        },
+    );
+    let left = "select name, count(*) from totxegun.span join totxegun.series on id = series group by 1";
+    until(&server, left, "b|4").await;
+    until(&server, "select count(*) from totxegun.ending", "0").await;
+    assert_eq!(all(&server), hours);
+    // In a gap of the hour, where nobody knows what there was; and of the other series, where it is known.
+    refused(&*sink, 11, sum("a", old + 12, old + 15, 1), "spans were deleted").await;
+    taken(&*sink, 12, sum("b", old + 12, old + 15, 1)).await;
+    taken(&*sink, 13, sum("a", old + 30, old + 40, 1)).await;
+}
+
+/// Who reads for long holds up the deletion, and no delivery longer than a step waits: a second.
+#[tokio::test(flavor = "multi_thread")]
+async fn deliveries_go_on_while_a_reader_holds_up_a_deletion() {
+    let Some(server) = Server::start() else { return };
+    let address = server.by_socket("postgres");
+    drop(open(&address));
+    let name = make_day(&server, now() - 9 * DAY);
+    let held = server.hold("begin; select count(*) from totxegun.span; select pg_sleep(60)");
+    let sink = open_with(
+        &address,
+        Keep {
+            spans: days(2),
+            ..Keep::default()
+        },
+    );
+    let mut longest = Duration::ZERO;
+    for number in 0..300 {
+        let began = std::time::Instant::now();
+        taken(&*sink, number, sum("a", now() - 5, now(), 1)).await;
+        longest = longest.max(began.elapsed());
+        tokio::time::sleep(Duration::from_millis(10)).await;
+    }
+    assert!(longest < Duration::from_secs(5), "{longest:?}");
+    assert_eq!(
+        server.ask(&format!("select to_regclass('totxegun.{name}') is null")),
+        "f"
+    );
+    drop((held, sink));
+    let waits =
+        "select count(*) from pg_stat_activity where query like '%pg_sleep(60)' and pid <> pg_backend_pid()";
+    server.ask("select pg_terminate_backend(pid) from pg_stat_activity where query = 'select pg_sleep(60)'");
+    until(&server, waits, "0").await;
+    let _sink = open_with(
+        &address,
+        Keep {
+            spans: days(2),
+            ..Keep::default()
+        },
+    );
+    until(
+        &server,
+        &format!("select to_regclass('totxegun.{name}') is null"),
+        "t",
+    )
+    .await;
+}
+
+/// Spans that came before their day was made are moved into it, and a kill in between moves none of them.
+#[tokio::test(flavor = "multi_thread")]
+async fn days_are_made_ahead() {
+    let Some(server) = Server::start() else { return };
+    let address = server.by_socket("postgres");
+    let sink = open(&address);
+    let last = "select max(relname) from pg_class where relname ~ '^span_[0-9]{8}$'";
+    let today =
+        server.ask("select to_char(now() at time zone 'UTC' + interval '3 days', '\"span_\"YYYYMMDD')");
+    assert_eq!(server.ask(last), today);
+    taken(&*sink, 1, sum("a", now() - 10, now(), 1)).await;
+    assert_eq!(server.ask("select count(*) from totxegun.span_other"), "0");
+    // Whatever ends the step, nothing of it is there.
+    server.run_file(
+        "postgres",
+        "create function public.fails() returns event_trigger language plpgsql as $$ begin
+            if current_query() like '%attach partition%' then raise exception 'killed'; end if; end $$;
+        create event trigger killed on ddl_command_end when tag in ('ALTER TABLE') execute function public.fails()",
+    );
+    server.ask(&format!("drop table totxegun.{today}"));
+    // Its first nanosecond, its last one, and those beside.
+    let day = (now() / DAY + 3) * DAY;
+    for (number, end) in [day, day + 1, day + DAY, day + DAY + 1].into_iter().enumerate() {
+        taken(&*sink, 10 + number as u64, sum("b", end - 1, end, 1)).await;
+    }
+    let there = "select tableoid::regclass, count(*) from totxegun.span group by 1 order by 1";
+    let before = server.ask(there);
+    assert!(before.contains("totxegun.span_other|3"), "{before}");
+    drop(sink);
+    let killed = open(&address);
+    let log = server.folder.path().join("log");
+    while !std::fs::read_to_string(&log).unwrap().contains("ERROR:  killed") {
+        tokio::time::sleep(Duration::from_millis(20)).await;
+    }
+    assert_eq!(server.ask(there), before);
+    drop(killed);
+    server.ask("drop event trigger killed");
+    let sink = open(&address);
+    until(
+        &server,
+        &format!("select count(*) from pg_class where relname = '{today}'"),
+        "1",
+    )
+    .await;
+    until(&server, "select count(*) from totxegun.span_other", "1").await;
+    assert_eq!(server.ask(&format!("select count(*) from totxegun.{today}")), "2");
+    refused(&*sink, 30, sum("b", day, day + 1, 1), "overlaps").await;
+    assert_eq!(server.ask("select sum(points) from totxegun.hour"), "5");
+}
+
+#[tokio::test(flavor = "multi_thread")]
+async fn a_role_reads_all_and_writes_nothing() {
+    let Some(server) = Server::start() else { return };
+    let sink = open(&server.by_socket("postgres"));
+    until(
+        &server,
+        "select has_schema_privilege(oid, 'totxegun', 'usage') from pg_roles where rolname = 'totxegun_read'",
+        "t",
+    )
+    .await;
+    taken(&*sink, 1, sum("a", now() - 10, now(), 5)).await;
+    for view in [
+        "totals",
+        "by_hour",
+        "by_day",
+        "by_month",
+        "totals_by_hour",
+        "span",
+    ] {
+        let found = server.ask(&format!(
+            "set role totxegun_read; select count(*) from totxegun.{view}"
+        ));
+        assert_eq!(found, "1", "{view}");
+    }
+    let may =
+        "select bool_or(has_table_privilege('totxegun_read', oid, 'insert, update, delete, truncate')) \
+               from pg_class where relnamespace = 'totxegun'::regnamespace and relkind in ('r', 'p', 'v')";
+    assert_eq!(server.ask(may), "f");
+    // What is there says what it is.
+    let dumb = "select count(*) from pg_attribute join pg_class on pg_class.oid = attrelid \
+                where relnamespace = 'totxegun'::regnamespace and relkind in ('r', 'p', 'v') and attnum > 0 \
+                and not attisdropped and (col_description(attrelid, attnum) is null or obj_description(attrelid) is null)";
+    assert_eq!(server.ask(dumb), "0");
+    drop(sink);
+    // Whoever can't make roles delivers all the same, and the role that an administrator makes is let in.
+    server.ask("drop owned by totxegun_read; drop role totxegun_read");
+    server.ask("create role lame login password 'p'; create database lame owner lame");
+    let lame = open(&server.by_tcp("lame:p", "lame"));
+    assert_eq!(
+        lame.deliver(&crate::request(1, sum("a", 1, 2, 1))).await,
+        Fate::Taken
+    );
+    tokio::time::sleep(Duration::from_secs(3)).await;
+    assert_eq!(
+        server.ask("select count(*) from pg_roles where rolname = 'totxegun_read'"),
+        "0"
+    );
+    server.ask("create role totxegun_read nologin");
+    drop(lame);
+    let _lame = open(&server.by_tcp("lame:p", "lame"));
+    for _ in 0..500 {
+        if server.ask_of(
+            "lame",
+            "select has_schema_privilege('totxegun_read', 'totxegun', 'usage')",
+        ) == "t"
+        {
+            return;
+        }
+        tokio::time::sleep(Duration::from_millis(20)).await;
+    }
+    panic!("the role is not let in");
+}
