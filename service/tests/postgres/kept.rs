@@ -287,14 +287,23 @@ async fn a_role_reads_all_and_writes_nothing() {
         "select bool_or(has_table_privilege('totxegun_read', oid, 'insert, update, delete, truncate')) \
                from pg_class where relnamespace = 'totxegun'::regnamespace and relkind in ('r', 'p', 'v')";
     assert_eq!(server.ask(may), "f");
-    // What is there says what it is.
+}
+
+/// What is there says what it is.
+#[tokio::test(flavor = "multi_thread")]
+async fn each_table_view_and_column_has_a_comment() {
+    let Some(server) = Server::start() else { return };
+    drop(open(&server.by_socket("postgres")));
     let dumb = "select count(*) from pg_attribute join pg_class on pg_class.oid = attrelid \
                 where relnamespace = 'totxegun'::regnamespace and relkind in ('r', 'p', 'v') and attnum > 0 \
                 and not attisdropped and (col_description(attrelid, attnum) is null or obj_description(attrelid) is null)";
     assert_eq!(server.ask(dumb), "0");
-    drop(sink);
-    // Whoever can't make roles delivers all the same, and the role that an administrator makes is let in.
-    server.ask("drop owned by totxegun_read; drop role totxegun_read");
+}
+
+/// Whoever can't make roles delivers all the same, and the role that an administrator makes is let in.
+#[tokio::test(flavor = "multi_thread")]
+async fn without_a_right_to_make_roles_all_goes_on() {
+    let Some(server) = Server::start() else { return };
     server.ask("create role lame login password 'p'; create database lame owner lame");
     let lame = open(&server.by_tcp("lame:p", "lame"));
     assert_eq!(

@@ -1,7 +1,10 @@
 //! Databases of earlier versions are brought up by the next service that comes.
 
 use crate::server::{sum, Server};
-use crate::{open, refused, taken};
+use crate::{again, open, open_with, refused, request, taken};
+use std::collections::BTreeSet;
+use std::time::Duration;
+use totxegun::sinks::{Fate, Keep};
 
 /// The steps, of which each version has made so many.
 const STEPS: [&str; 4] = [
@@ -98,6 +101,46 @@ const ODD: &str = "select (select count(*) from (
         from public.wanted group by 1, 2) as odd),
     (select sum(points) - (select points from totxegun.totals where name = 'new') from totxegun.totals_by_hour)";
 
+/// A kill of the step that makes the tables leaves version 4.
+async fn kill_the_step(server: &Server, address: &str) {
+    let ask = |query: &str| server.ask_of("old", query);
+    server.run_file(
+        "old",
+        "create function public.fails() returns event_trigger language plpgsql as $$ begin
+            if current_query() like '%hour_before%' then raise exception 'killed'; end if; end $$;
+        create event trigger killed on ddl_command_end when tag in ('COMMENT') execute function public.fails()",
+    );
+    again(&*open(address), 1, sum("new", 1, 2, 1), "killed").await;
+    assert_eq!(ask("select version from totxegun.version"), "4");
+    assert_eq!(ask("select count(*) from totxegun.span"), "60020");
+    ask("drop event trigger killed");
+}
+
+/// How many hours are filled in so far.
+const FILLED: &str = "select count(*) from totxegun.past_hour";
+const IS_DONE: &str = "select to_regclass('totxegun.filling') is null";
+
+/// Takes requests, and looks at the views, until the service has made a step and is killed: its connections are cut.
+async fn run_and_be_killed(server: &Server, address: &str, number: &mut u64) {
+    let ask = |query: &str| server.ask_of("old", query);
+    let before = ask(FILLED);
+    let sink = open(address);
+    for _ in 0..8 {
+        *number += 1;
+        taken(&*sink, *number, new(*number)).await;
+    }
+    assert_eq!(ask(ODD), "0|0|0|60020");
+    while ask(FILLED) == before && ask(IS_DONE) == "f" {
+        tokio::time::sleep(Duration::from_millis(50)).await;
+    }
+    ask("select pg_terminate_backend(pid) from pg_stat_activity where application_name = 'totxegun' and datname = 'old'");
+}
+
+fn new(number: u64) -> String {
+    let start = 1_795_000_000_000_000_000 + number;
+    sum("new", start, start + 1, 1)
+}
+
 /// Each step is a transaction, so whatever ends the service the next one goes on; and at each moment all is in the views.
 #[tokio::test(flavor = "multi_thread")]
 async fn hours_are_filled_in_while_deliveries_go_on_over_kills() {
@@ -106,79 +149,49 @@ async fn hours_are_filled_in_while_deliveries_go_on_over_kills() {
     let ask = |query: &str| server.ask_of("old", query);
     server.run_file("old", MANY);
     let address = server.by_socket("old");
-    // A kill of the step that makes the tables leaves version 4.
-    server.run_file(
-        "old",
-        "create function public.fails() returns event_trigger language plpgsql as $$ begin
-            if current_query() like '%hour_before%' then raise exception 'killed'; end if; end $$;
-        create event trigger killed on ddl_command_end when tag in ('COMMENT') execute function public.fails()",
-    );
-    crate::again(&*open(&address), 1, sum("new", 1, 2, 1), "killed").await;
-    assert_eq!(ask("select version from totxegun.version"), "4");
-    assert_eq!(ask("select count(*) from totxegun.span"), "60020");
-    ask("drop event trigger killed");
+    kill_the_step(&server, &address).await;
     drop(open(&address));
     // So a run does not come to the end.
     server.run_file(
         "old",
-        "create function public.slow() returns trigger language plpgsql as $$ begin perform pg_sleep(0.5); return new; end $$;
+        "create function public.slow() returns trigger language plpgsql as $$ begin perform pg_sleep(1); return new; end $$;
         create trigger slow before update on totxegun.filling for each row execute function public.slow()",
     );
-    let (mut number, mut places) = (1, std::collections::BTreeSet::new());
-    while ask("select to_regclass('totxegun.filling') is not null") == "t" {
-        places.insert(ask("select series, start_ns from totxegun.filling"));
-        // Who is killed does not say good-bye; here its connections are cut.
-        let sink = open(&address);
-        for _ in 0..20 {
-            number += 1;
-            let start = 1_795_000_000_000_000_000 + number;
-            taken(&*sink, number, sum("new", start, start + 1, 1)).await;
-            if number % 7 == 0 {
-                assert_eq!(ask(ODD), "0|0|0|60020");
-            }
-        }
-        tokio::time::sleep(std::time::Duration::from_secs(1)).await;
-        ask("select pg_terminate_backend(pid) from pg_stat_activity where application_name = 'totxegun' and datname = 'old'");
-        drop(sink);
+    let (mut number, mut places) = (1, BTreeSet::new());
+    while ask(IS_DONE) == "f" {
+        places.insert(ask(FILLED));
+        run_and_be_killed(&server, &address, &mut number).await;
     }
     assert!(places.len() > 2, "{places:?}");
     assert_eq!(ask(ODD), "0|0|0|60020");
+    let each_once = "select count(*), count(distinct (series, hour)) from totxegun.hour where series <= 40";
     assert_eq!(
-        ask("select count(*), count(distinct (series, hour)) from totxegun.hour where series <= 40"),
+        ask(each_once),
         ask("select count(*), count(*) from public.wanted")
     );
-    assert_eq!(
-        ask("select count(*), min(end_ns) from totxegun.span_other where end_ns < 0"),
-        "20|-446744073709551607"
-    );
-    // They go together, once all of them are too old, and are never counted again.
-    let sink = crate::open_with(
-        &address,
-        totxegun::sinks::Keep {
-            spans: Some(std::time::Duration::from_secs(86_400)),
-            ..Default::default()
-        },
-    );
-    tokio::time::sleep(std::time::Duration::from_secs(3)).await;
-    assert_eq!(ask("select to_regclass('totxegun.span_before') is null"), "f");
+    let far = "select count(*), min(end_ns) from totxegun.span_other where end_ns < 0";
+    assert_eq!(ask(far), "20|-446744073709551607");
+    old_spans_go_together(&server, &address, number + 1).await;
+    assert_eq!(ask(ODD), "0|0|0|60020");
+}
+
+/// Once all of them are too old.
+async fn old_spans_go_together(server: &Server, address: &str, number: u64) {
+    let ask = |query: &str| server.ask_of("old", query);
+    let keep = Keep {
+        spans: Some(Duration::from_secs(86_400)),
+        ..Keep::default()
+    };
+    let is_gone = "select to_regclass('totxegun.span_before') is null";
+    let sink = open_with(address, keep);
+    tokio::time::sleep(Duration::from_secs(3)).await;
+    assert_eq!(ask(is_gone), "f");
     drop(sink);
     ask("update totxegun.horizon set before_to_ns = 1");
-    let sink = crate::open_with(
-        &address,
-        totxegun::sinks::Keep {
-            spans: Some(std::time::Duration::from_secs(86_400)),
-            ..Default::default()
-        },
-    );
-    while ask("select to_regclass('totxegun.span_before') is null") == "f" {
-        tokio::time::sleep(std::time::Duration::from_millis(50)).await;
+    let sink = open_with(address, keep);
+    while ask(is_gone) == "f" {
+        tokio::time::sleep(Duration::from_millis(50)).await;
     }
-    number += 1;
-    let start = 1_795_000_000_000_000_000 + number;
-    while sink
-        .deliver(&crate::request(number, sum("new", start, start + 1, 1)))
-        .await
-        != totxegun::sinks::Fate::Taken
-    {}
-    assert_eq!(ask(ODD), "0|0|0|60020");
+    // A session that has asked for them is made anew.
+    while sink.deliver(&request(number, new(number))).await != Fate::Taken {}
 }
