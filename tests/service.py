@@ -72,6 +72,8 @@ class Service:
         self.listen, self.operate = ports or (free_port(), free_port())
         places = ["--listen", f"{host}:{self.listen}", "--operate", f"{host}:{self.operate}"]
         places += [] if host.startswith("127.") else ["--behind-proxy"]
+        # Points of these tests end in 1970.
+        places += [] if sink.startswith("http") else ["--keep-spans", "forever"]
         self.words = [*before, program, "serve", "--data", data, "--sink", sink, *places, *options]
         self.log = f"{data}.log"
         self.process = None

@@ -1,7 +1,7 @@
--- What words say of points by number. Of each point come, in this order: its number, which is that of
--- its series among the names; its start and its end (nanoseconds); of a sum its value, the 64 bits of
--- a number with a sign; of a histogram its count, whether it has a sum, that sum, and its buckets,
--- one more than it has bounds.
+-- What words say of points by number. Of each point come, in this order: its number, which is that
+-- of its series among the names; its start and its end (nanoseconds); of a sum its value, the 64
+-- bits of a number with a sign; of a histogram its count, whether it has a sum, that sum, and its
+-- buckets, one more than it has bounds.
 use Rattle.std.specs.Prelude.{ℕ, zero, suc, ◌+◌, ◌==◌, List, [], ◌∷◌, length, take, drop}
 use Rattle.std.specs.Prelude.{slice_get, slice_index, if◌then◌else◌, Option, Some, None}
 use Rattle.std.specs.Int.{w64, cast_signed}
