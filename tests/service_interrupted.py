@@ -264,9 +264,11 @@ class Run:
             raise Failed(str(wrong))
 
     def went_on(self):
-        """Whether a write or a sync failed and the service did not end."""
-        call = self.calls()[0].split(" ")[1] if self.way in FAULTS and os.path.exists(self.log) else None
-        return call in WRITES_AND_SYNCS and bool(self.stages)
+        """Whether a write or a sync failed and the service did not end. It may go on without the record of acts."""
+        if self.way not in FAULTS or not os.path.exists(self.log):
+            return False
+        _, call, path = self.calls()[0].split(" ", 2)
+        return call in WRITES_AND_SYNCS and path != "/acts.jsonl" and bool(self.stages)
 
     def calls(self):
         """The calls that were noted: all of a run that was not interrupted, else those that were."""

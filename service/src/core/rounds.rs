@@ -38,9 +38,9 @@ impl Rounds {
         }
     }
 
-    /// Whether a round may have anything.
+    /// Whether a round may have anything: also one that has not come up yet of those that are being closed.
     pub fn have_entries(&self) -> bool {
-        self.entries > 0
+        self.entries > 0 || self.next.is_some()
     }
 
     pub fn count(&mut self, points: u64) {
@@ -131,6 +131,16 @@ mod tests {
             ]
         );
         assert_eq!(rounds.closed(), 0);
+    }
+
+    /// The post that begins it has closed the first book alone: a refusal by another may be cured still.
+    #[test]
+    fn what_is_not_closed_yet_has_entries() {
+        let mut rounds = Rounds::new(3);
+        assert!(!rounds.have_entries());
+        assert_eq!(behind(&mut rounds, 2_000, true), [(2_000, 0)]);
+        assert!(rounds.have_entries());
+        assert_eq!(behind(&mut rounds, 2, true), [(1, 1), (2, 2)]);
     }
 
     #[test]

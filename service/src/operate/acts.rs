@@ -10,7 +10,7 @@ use crate::log::{all_shown, cut};
 use crate::work::blocking;
 use hyper::{Body, Response, StatusCode};
 use serde::Serialize;
-use std::fs::{File, OpenOptions};
+use std::fs::OpenOptions;
 use std::future::Future;
 use std::io::Write;
 use std::path::{Path, PathBuf};
@@ -113,8 +113,8 @@ impl Acts {
         bytes.push(b'\n');
         file.write_all(&bytes)?;
         if is_first {
-            file.sync_data()?;
-            File::open(&self.folder)?.sync_all()?;
+            // Not the folder: a fault of it is for who ends the process by it.
+            file.sync_all()?;
         }
         Ok(())
     }
@@ -193,7 +193,7 @@ mod tests {
         let act = Act::new(None, "lift", "A");
         for fill in [MOST, MOST] {
             acts.begins(&act);
-            let file = File::options()
+            let file = OpenOptions::new()
                 .write(true)
                 .open(folder.path().join(NAME))
                 .unwrap();
