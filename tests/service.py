@@ -72,16 +72,16 @@ class Service:
         self.listen, self.operate = ports or (free_port(), free_port())
         places = ["--listen", f"{host}:{self.listen}", "--operate", f"{host}:{self.operate}"]
         places += [] if host.startswith("127.") else ["--behind-proxy"]
-        # Points of these tests end in 1970.
-        places += [] if sink.startswith("http") else ["--keep-spans", "forever"]
         self.words = [*before, program, "serve", "--data", data, "--sink", sink, *places, *options]
+        # Points of these tests end in 1970. An earlier version knows no such setting.
+        self.settings = {} if sink.startswith("http") else {"TOTXEGUN_KEEP_SPANS": "forever"}
         self.log = f"{data}.log"
         self.process = None
 
     def start(self, environment=None):
         with open(self.log, "ab") as log:
             self.process = subprocess.Popen(self.words, stdin=subprocess.DEVNULL, stdout=log, stderr=log,
-                                            env=dict(os.environ, **environment or {}))
+                                            env=dict(os.environ, **self.settings, **environment or {}))
 
     def is_running(self):
         return self.process is not None and self.process.poll() is None
