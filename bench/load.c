@@ -182,6 +182,16 @@ static size_t wrapped(char *bytes, size_t length, int field) {
     return before + length;
 }
 
+/* Puts a field ahead of what is there. */
+static size_t preceded(char *bytes, size_t length, int field, const char *by, size_t by_length) {
+    char ahead[1024];
+    size_t before = put_bytes(ahead, field, by, by_length);
+    memmove(bytes + before, bytes, length);
+    memcpy(bytes, ahead, before);
+    return before + length;
+}
+
+/* In the order of the fields' numbers, as encoders write them. */
 static size_t put_protobuf(char *body, int sender, long first) {
     char resource[512], scope[128], own[64], name[128];
     sprintf(own, "orders-%d", sender);
@@ -201,9 +211,9 @@ static size_t put_protobuf(char *body, int sender, long first) {
     memmove(body + of_name, body, at);
     memcpy(body, name, of_name);
     at = wrapped(body, at + of_name, 2);
-    at += put_bytes(body + at, 1, scope, of_scope);
+    at = preceded(body, at, 1, scope, of_scope);
     at = wrapped(body, at, 2);
-    at += put_bytes(body + at, 1, resource, of_resource);
+    at = preceded(body, at, 1, resource, of_resource);
     return wrapped(body, at, 1);
 }
 
