@@ -10,8 +10,10 @@ use crate::metrics::Metrics;
 use std::path::{Path, PathBuf};
 use std::sync::atomic::{AtomicBool, Ordering::SeqCst};
 use std::sync::Mutex;
+use std::time::Instant;
+use tokio::runtime::Handle;
 use tokio::sync::watch;
-use tokio::task::{JoinHandle, JoinSet};
+use tokio::task::JoinHandle;
 
 struct Run {
     slot: Arc<Slot>,
@@ -49,6 +51,24 @@ impl Run {
     /// A point of a series after those before.
     async fn post(&self, number: u64) -> Outcome {
         self.slot.post("A".into(), point("a", number).into()).await
+    }
+
+    /// A post of each of many senders, and a thread for each. None is in the journal before all others but so many were
+    /// answered, or a while has passed: the book is held.
+    fn post_at_once(&self, bodies: Vec<String>, waiting: usize) -> Vec<Outcome> {
+        let (book, begun) = (self.slot.core.lock(), Instant::now());
+        let answered = bodies.len() - waiting;
+        let post = |(number, body): (usize, String)| {
+            let (slot, runtime) = (self.slot.clone(), Handle::current());
+            std::thread::spawn(move || runtime.block_on(slot.post(format!("S{number}"), body.into())))
+        };
+        let posts: Vec<_> = bodies.into_iter().enumerate().map(post).collect();
+        let ended = || posts.iter().filter(|post| post.is_finished()).count();
+        while ended() < answered && begun.elapsed() < Duration::from_secs(10) {
+            std::thread::sleep(Duration::from_millis(1));
+        }
+        drop(book);
+        posts.into_iter().map(|post| post.join().unwrap()).collect()
     }
 
     async fn flush(&self) -> u64 {
@@ -192,34 +212,30 @@ async fn nothing_is_taken_after_the_last_checkpoint() {
 }
 
 /// Else they use up what is kept back, and no start has room for its own files until somebody makes some.
-#[tokio::test]
+#[tokio::test(flavor = "multi_thread")]
 async fn posts_that_come_at_once_leave_the_room_that_is_kept_for_commits() {
     const KEPT: u64 = 256 << 20;
     const LENGTH: usize = 100_000;
-    const FIT: u64 = 10;
+    const FIT: usize = 10;
+    let room = (FIT * LENGTH) as u64;
     let place = tempfile::tempdir().unwrap();
     let folder = Folder::open_on(Disk::default(), &place.path().join("data"), Durability::Process).unwrap();
     let journal = place.path().join("data/slot-0/journal/000000000001.seg");
     let path = journal.clone();
     let written = move || std::fs::metadata(&path).map_or(0, |file| file.len());
-    let free = move || KEPT + FIT * LENGTH as u64 - written();
+    let free = move || (KEPT + room).saturating_sub(written());
     let run = Run::begin_in(folder.in_room(free), settings()).await;
-    let mut posts = JoinSet::new();
-    for number in 0..40 {
-        let slot = run.slot.clone();
-        let body = point(&format!("n{number}"), 1) + &" ".repeat(LENGTH);
-        posts.spawn(async move { slot.post(format!("S{number}"), body.into()).await });
-    }
+    let bodies = (0..40).map(|number| point(&format!("n{number}"), 1) + &" ".repeat(LENGTH));
     let mut taken = 0;
-    while let Some(outcome) = posts.join_next().await {
-        match outcome.unwrap() {
+    for outcome in run.post_at_once(bodies.collect(), FIT) {
+        match outcome {
             Outcome::Taken { .. } => taken += 1,
             Outcome::Refused { status, message } => {
                 assert_eq!((status, &*message), (503, crate::slot::NO_ROOM));
             }
         }
     }
-    assert!((FIT - 1..=FIT).contains(&taken), "{taken}");
-    assert!(std::fs::metadata(&journal).unwrap().len() < (FIT + 1) * LENGTH as u64);
+    assert_eq!(taken, FIT);
+    assert!(std::fs::metadata(&journal).unwrap().len() < room + LENGTH as u64);
     run.end().await;
 }
