@@ -1,11 +1,13 @@
 //! A sender's connection as HTTP/1.1 frames it: heads, bodies by their length or in chunks, and answers.
 
 use super::refusal::Refusal;
+use crate::work::within;
 use bytes::{Buf, Bytes, BytesMut};
 use std::future::{poll_fn, Future};
 use std::io::{Error, Result};
 use std::pin::pin;
 use std::task::Poll;
+use std::time::Duration;
 use tokio::io::{AsyncRead, AsyncReadExt, AsyncWrite, AsyncWriteExt};
 
 /// A head is no longer than this, and a body that is no longer is read into one piece.
@@ -20,6 +22,8 @@ const KEPT: usize = 16 << 10;
 /// How long a line before a chunk may be.
 const CHUNK_LINE: usize = 4 << 10;
 pub const HEADERS: usize = 100;
+/// How long the end of a connection may take: TLS sends first what it still has, and who reads nothing takes none of it.
+const TO_END: Duration = Duration::from_secs(1);
 
 /// How a body is framed, and what of it still comes.
 #[derive(Clone, Copy, Debug, PartialEq, Eq)]
@@ -206,7 +210,7 @@ impl<S: AsyncRead + AsyncWrite + Unpin> Wire<S> {
     /// Says that nothing more comes, and throws away what has come: what is closed over unread bytes may take the
     /// answer with it.
     pub async fn end(mut self) {
-        let _ = self.stream.shutdown().await; // who has gone needs no end
+        let _ = within(TO_END, self.stream.shutdown()).await; // who has gone needs no end
         self.input.clear();
         self.input.reserve(READ_AHEAD);
         let mut reading = pin!(self.stream.read_buf(&mut self.input));
@@ -236,7 +240,6 @@ impl From<Error> for Refusal {
 #[cfg(test)]
 mod tests {
     use super::*;
-    use std::time::Duration;
     use tokio::io::{duplex, BufStream};
 
     /// TLS keeps what its socket had no room for, as such a stream does.

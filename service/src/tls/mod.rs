@@ -1,13 +1,15 @@
 //! TLS at the senders' addresses: 1.2 and 1.3, by files that are read anew when they change.
 //!
 //! `pair` is our certificate with its key, `certificate` (by `der`) what one says of its owner, `handshake` is done on a
-//! thread of its own, from which the `socket` goes to the thread that serves it. `expiry` tells when our certificate ends.
+//! thread of its own, from which the `socket` goes to the thread that serves it. `senders` believes those that they show.
+//! `expiry` tells when ours ends.
 
 mod certificate;
 mod der;
 mod expiry;
 mod handshake;
 mod pair;
+mod senders;
 mod socket;
 
 pub use certificate::Certificate;
@@ -18,8 +20,9 @@ use crate::metrics::Metrics;
 use crate::renewed::Renewed;
 use anyhow::Context;
 use pair::{certificates, Pair};
-use rustls::server::{AllowAnyAnonymousOrAuthenticatedClient, AllowAnyAuthenticatedClient, NoClientAuth};
+use rustls::server::{ClientCertVerifier, NoClientAuth};
 use rustls::{RootCertStore, ServerConfig};
+use senders::Senders;
 use std::path::PathBuf;
 use std::sync::Arc;
 use std::time::SystemTime;
@@ -61,7 +64,7 @@ impl Protocol {
 pub struct Contexts {
     http: Arc<ServerConfig>,
     grpc: Arc<ServerConfig>,
-    roots: Option<RootCertStore>,
+    senders: Option<Arc<Senders>>,
     /// Seconds since 1970 at which our certificate ends.
     ends: i64,
 }
@@ -74,11 +77,12 @@ impl Contexts {
         };
         let pair = Pair::read(chain, key)?;
         let roots = rest.first().map(|pem| roots(pem)).transpose()?;
-        let of = |protocol| config(&pair, roots.clone(), without, protocol).map(Arc::new);
+        let senders = roots.map(|roots| Arc::new(Senders::new(roots, without)));
+        let of = |protocol| config(&pair, senders.clone(), protocol).map(Arc::new);
         Ok(Contexts {
             http: of(Protocol::Http)?,
             grpc: of(Protocol::Grpc)?,
-            roots,
+            senders,
             ends: pair.ends,
         })
     }
@@ -92,11 +96,10 @@ impl Contexts {
 
     /// Whether a sender's chain is believed now.
     pub fn believes(&self, chain: &[rustls::Certificate]) -> bool {
-        let (Some(roots), Some((first, between))) = (&self.roots, chain.split_first()) else {
+        let (Some(senders), Some((first, between))) = (&self.senders, chain.split_first()) else {
             return false;
         };
-        let verifier = AllowAnyAuthenticatedClient::new(roots.clone());
-        verifier
+        senders
             .verify_client_cert(first, between, SystemTime::now())
             .is_ok()
     }
@@ -112,16 +115,10 @@ fn roots(pem: &[u8]) -> Result<RootCertStore, String> {
     Ok(roots)
 }
 
-fn config(
-    pair: &Pair,
-    roots: Option<RootCertStore>,
-    without: WithoutCertificate,
-    protocol: Protocol,
-) -> Result<ServerConfig, String> {
-    let verifier = match (roots, without) {
-        (None, _) => NoClientAuth::new(),
-        (Some(roots), WithoutCertificate::Refused) => AllowAnyAuthenticatedClient::new(roots),
-        (Some(roots), WithoutCertificate::LetIn) => AllowAnyAnonymousOrAuthenticatedClient::new(roots),
+fn config(pair: &Pair, senders: Option<Arc<Senders>>, protocol: Protocol) -> Result<ServerConfig, String> {
+    let verifier = match senders {
+        None => NoClientAuth::new(),
+        Some(senders) => senders as Arc<dyn ClientCertVerifier>,
     };
     let mut config = ServerConfig::builder()
         .with_safe_defaults()

@@ -127,6 +127,39 @@ fn a_chain_is_believed_by_its_root_alone() {
     assert!(!tls(at.path(), None).contexts().believes(&[ours]));
 }
 
+/// Who signs for others is itself signed by the root, or by who is before it.
+#[test]
+fn a_chain_is_believed_up_to_four_between_it_and_its_root() {
+    let at = folder();
+    server(at.path());
+    let names = ["ca", "b", "c", "d", "e", "f"];
+    let mut between = Vec::new();
+    for (by, name) in names.iter().zip(&names[1..]) {
+        openssl(
+            at.path(),
+            &format!("req -x509 -newkey rsa:2048 -nodes -keyout {name}.key -out {name}.pem -days 20 -subj /CN={name} -CA {by}.pem -CAkey {by}.key"),
+        );
+        let pem = std::fs::read(at.path().join(format!("{name}.pem"))).unwrap();
+        between.insert(0, certificates("--client-ca", &pem).unwrap().remove(0));
+    }
+    let of = |by| {
+        rustls::Certificate(certificate(
+            at.path(),
+            Made {
+                by: Some(by),
+                ..Made::default()
+            },
+        ))
+    };
+    let contexts = tls(at.path(), Some(WithoutCertificate::Refused)).contexts();
+    let chain = |first, between: &[rustls::Certificate]| [&[first], between].concat();
+    assert!(contexts.believes(&chain(of("e"), &between[1..])));
+    assert!(!contexts.believes(&chain(of("f"), &between)));
+    let mut long = between[1..].to_vec();
+    long[3].0.resize(16 << 10, 0);
+    assert!(!contexts.believes(&chain(of("e"), &long)));
+}
+
 #[test]
 fn the_page_says_when_the_certificate_ends() {
     let at = folder();

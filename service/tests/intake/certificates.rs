@@ -27,10 +27,15 @@ const KEY: [&str; 5] = [
 
 /// NAME.pem and NAME.key of a root.
 pub fn root(at: &Path, name: &str) {
+    root_that_says(at, name, name);
+}
+
+/// The same, with a subject that need not be its name.
+pub fn root_that_says(at: &Path, name: &str, subject: &str) {
     let (key, chain, subject) = (
         format!("{name}.key"),
         format!("{name}.pem"),
-        format!("/CN={name}"),
+        format!("/CN={subject}"),
     );
     let words = [
         "req", "-x509", "-keyout", &key, "-out", &chain, "-subj", &subject, "-days", "20",

@@ -1,6 +1,6 @@
 //! Who a sender is: by its certificate, by its token, and what it may call itself.
 
-use crate::certificates::{client, door, folder, root, signed};
+use crate::certificates::{client, door, folder, root, root_that_says, signed};
 use crate::support::{post, Answer, Client, Served, BODY};
 use std::path::Path;
 use std::time::{Duration, Instant};
@@ -183,6 +183,35 @@ async fn certificates_of_strangers_end_the_handshake() {
             }
         };
         assert_eq!(is_taken, wanted, "{shown:?}");
+    }
+    assert_eq!(senders(&served), ["sound"]);
+}
+
+/// Else all ways through thirty of one name are tried, on the one thread of handshakes, and nobody gets in any more.
+#[tokio::test]
+async fn a_long_chain_of_a_stranger_is_refused_at_once() {
+    let at = folder();
+    signed(at.path(), "ca", "sound", "20");
+    let pem = |name: &str| std::fs::read_to_string(at.path().join(format!("{name}.pem"))).unwrap();
+    let mut between = String::new();
+    for number in 0..30 {
+        let name = format!("between-{number}");
+        root_that_says(at.path(), &name, "ca");
+        between += &pem(&name);
+    }
+    signed(at.path(), "between-0", "strange", "20");
+    std::fs::write(at.path().join("strange.pem"), pem("strange") + &between).unwrap();
+    let served = Served::behind(door(at.path(), Some("ca.pem"), None)).await;
+    let request = post("Content-Type: application/json\r\n", BODY.as_bytes());
+    for (shown, wanted) in [("strange", false), ("sound", true)] {
+        let taken = async {
+            match served.secure(client(at.path(), "ca", Some(shown))).await {
+                Err(_) => false,
+                Ok(mut client) => client.takes(&request).await,
+            }
+        };
+        let taken = tokio::time::timeout(Duration::from_secs(5), taken).await;
+        assert_eq!(taken, Ok(wanted), "{shown}");
     }
     assert_eq!(senders(&served), ["sound"]);
 }

@@ -92,7 +92,7 @@ impl Served {
         Served::all(door, limits, PATIENCE, Outcome::taken(0), 64 << 20).await
     }
 
-    async fn all(
+    pub async fn all(
         door: Door,
         limits: Limits,
         patience: Duration,

@@ -1,15 +1,16 @@
 //! TLS at the senders' address: answers as without it, handshakes that stall, and certificates that change.
 
 use crate::certificates::{client, door, folder, root, signed};
-use crate::support::{gzip, json, post, Client, Served, BODY};
+use crate::support::{gzip, json, post, Client, Served, BODY, LATE};
 use std::process::{Command, Stdio};
 use std::sync::Arc;
 use std::time::{Duration, Instant};
-use tokio::io::AsyncReadExt;
-use tokio::net::TcpStream;
+use tokio::io::{AsyncReadExt, AsyncWriteExt};
+use tokio::net::{TcpSocket, TcpStream};
 use tokio_rustls::client::TlsStream;
 use tokio_rustls::TlsConnector;
 use totxegun::intake::Limits;
+use totxegun::otlp::Outcome;
 
 pub type Secure = Client<TlsStream<TcpStream>>;
 
@@ -210,6 +211,39 @@ async fn a_handshake_has_ten_seconds() {
         assert!(matches!(ending.await.expect("it ends"), Ok(0) | Err(_)));
     }
     assert!(begun.elapsed() > Duration::from_secs(8));
+}
+
+/// Else it would have its place for ever: TLS still has a part of the answer, and sends it before the end.
+#[tokio::test]
+async fn a_sender_that_does_not_read_its_answer_leaves_its_place() {
+    let at = folder();
+    let limits = Limits {
+        connections: 1,
+        head: Duration::from_secs(8), // who reads has two seconds
+        idle: Duration::from_secs(600),
+    };
+    // More than the system keeps for a sender that keeps little itself.
+    let long = Outcome::Refused {
+        status: 400,
+        message: "x".repeat(8 << 20),
+    };
+    let served = Served::all(door(at.path(), None, None), limits, LATE, long, 64 << 20).await;
+    let deaf = TcpSocket::new_v4().unwrap();
+    deaf.set_recv_buffer_size(4096).unwrap();
+    let deaf = deaf.connect(served.address).await.unwrap();
+    let connector = TlsConnector::from(Arc::new(client(at.path(), "ca", None)));
+    let mut deaf = connector
+        .connect("localhost".try_into().unwrap(), deaf)
+        .await
+        .unwrap();
+    deaf.write_all(&json(BODY.as_bytes())).await.unwrap();
+    deaf.get_ref().0.readable().await.unwrap();
+    let waiting = served.secure(client(at.path(), "ca", None));
+    let waiting = tokio::time::timeout(Duration::from_secs(20), waiting).await;
+    let mut other = waiting.expect("it comes to its turn").unwrap();
+    other.write(&json(BODY.as_bytes())).await;
+    assert_eq!(other.answer().await.status, 400);
+    drop(deaf);
 }
 
 /// Posts on connections of its own, until the new certificate is used: how many posts were taken.

@@ -1,0 +1,56 @@
+//! Whether a sender's certificate is believed.
+//!
+//! The chain is looked at before its sender has proved anything. Debian's webpki tries all ways through it, without a bound
+//! of their number, so that thirty certificates of one name would hold the thread of handshakes for ever.
+
+use super::WithoutCertificate;
+use rustls::server::{AllowAnyAuthenticatedClient, ClientCertVerified, ClientCertVerifier};
+use rustls::{Certificate, DistinguishedNames, Error, RootCertStore};
+use std::sync::Arc;
+use std::time::SystemTime;
+
+/// How many certificates may be between a sender's and its root.
+const MOST_BETWEEN: usize = 4;
+/// How long all of a chain may be, in bytes. Five certificates by RSA of 4096 bits have 8 thousand.
+const MOST_BYTES: usize = 16 << 10;
+
+/// Believes short chains to one of its roots.
+pub struct Senders {
+    inner: Arc<dyn ClientCertVerifier>,
+    without: WithoutCertificate,
+}
+
+impl Senders {
+    pub fn new(roots: RootCertStore, without: WithoutCertificate) -> Senders {
+        Senders {
+            inner: AllowAnyAuthenticatedClient::new(roots),
+            without,
+        }
+    }
+}
+
+impl ClientCertVerifier for Senders {
+    fn client_auth_mandatory(&self) -> Option<bool> {
+        Some(self.without == WithoutCertificate::Refused)
+    }
+
+    fn client_auth_root_subjects(&self) -> Option<DistinguishedNames> {
+        self.inner.client_auth_root_subjects()
+    }
+
+    fn verify_client_cert(
+        &self,
+        first: &Certificate,
+        between: &[Certificate],
+        now: SystemTime,
+    ) -> Result<ClientCertVerified, Error> {
+        let bytes = first.0.len() + between.iter().map(|shown| shown.0.len()).sum::<usize>();
+        if between.len() > MOST_BETWEEN || bytes > MOST_BYTES {
+            return Err(Error::InvalidCertificateData(format!(
+                "the chain is longer than {MOST_BETWEEN} certificates between the sender's and its root, or than \
+                 {MOST_BYTES} bytes: show a shorter one"
+            )));
+        }
+        self.inner.verify_client_cert(first, between, now)
+    }
+}
