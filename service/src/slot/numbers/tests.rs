@@ -2,9 +2,10 @@
 
 use super::*;
 use crate::core::Read;
-use crate::files::{self, Body};
+use crate::files::{self, Body, Durability, Folder};
 use crate::otlp::{posts_of_test, Rule, Whole};
 use crate::slot::request::read;
+use std::collections::HashSet;
 
 struct Both {
     slow: Arc<Core>,
@@ -88,6 +89,35 @@ fn rules(rules: &[&str]) -> Whole {
     Whole::new(rules).unwrap()
 }
 
+/// A post that takes more than it asks room for uses up what the disk keeps back, where many come at once.
+#[test]
+fn a_post_asks_for_the_room_that_it_takes_in_the_journal() {
+    const HEAD: u64 = 80; // of its record, and the mark ahead of it
+    const NAME: u64 = 12; // the record of one, beside its text
+    let place = tempfile::tempdir().unwrap();
+    let folder = Folder::open(place.path(), Durability::Process).unwrap();
+    let (journal, _) = folder.slot(0).unwrap();
+    let segment = place.path().join("slot-0/journal/000000000001.seg");
+    let written = || std::fs::metadata(&segment).unwrap().len();
+    let (reading, mut by) = (Arc::new(Reading::default()), [0; 2]);
+    for body in posts_of_test(10, 300).into_iter().map(Bytes::from) {
+        // Numbers of its own: so the journal says all its names.
+        let (core, numbers) = (Core::new(1).unwrap(), Numbers::default());
+        let text = prepare(Encoding::Protobuf, body.clone(), &reading).map(|prepared| prepared.body.into());
+        let by_number = numbers.read(&core, &body, &reading).map(Request::Numbered);
+        let requests = [by_number, text.ok()].into_iter().flatten();
+        for read in requests.flat_map(|request| read(&core, "A".into(), request)) {
+            let names: HashSet<u64> = read.post.numbers().collect();
+            let (before, asked) = (written(), read.bytes() as u64);
+            journal.append(&read.post, read.names());
+            let (took, heads) = (written() - before, HEAD + NAME * names.len() as u64);
+            assert!(took <= asked + heads, "{took} > {asked} + {heads}: {body:02x?}");
+            by[usize::from(names.is_empty())] += 1;
+        }
+    }
+    assert!(by.iter().all(|number| *number >= 50), "{by:?}");
+}
+
 /// Where there is room for few series.
 #[test]
 fn numbers_begin_anew_and_posts_under_way_keep_theirs() {
@@ -97,7 +127,7 @@ fn numbers_begin_anew_and_posts_under_way_keep_theirs() {
         kept: Duration::ZERO,
     };
     let first = Bytes::from(posts_of_test(9, 1).remove(0));
-    let mut generations = std::collections::HashSet::new();
+    let mut generations = HashSet::new();
     for (number, body) in posts_of_test(8, 2_000).into_iter().enumerate() {
         let under_way = both.numbers.read(&both.fast, &first, &both.reading);
         both.post(["A", "B"][number / 7 % 2], body);
