@@ -27,6 +27,12 @@ impl Senders {
             without,
         }
     }
+
+    /// Whether nobody can be believed, for want of roots.
+    pub fn is_empty(&self) -> bool {
+        let roots = self.inner.client_auth_root_subjects();
+        roots.is_none_or(|roots| roots.is_empty())
+    }
 }
 
 impl ClientCertVerifier for Senders {
