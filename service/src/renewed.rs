@@ -20,8 +20,26 @@ const LOOK: Duration = Duration::from_millis(250);
 /// The longest file, in bytes.
 const MOST: u64 = 4 << 20;
 
-/// How the contents of files are read. The error says what is wrong and what to do.
-pub type Reader<T> = Box<dyn Fn(&[Vec<u8>]) -> Result<T, String> + Send>;
+/// What comes of the contents of files, or what is wrong with them and what to do.
+type Reading<T> = Box<dyn Fn(&[Vec<u8>]) -> Result<T, String> + Send>;
+
+/// How the contents of files are read.
+pub struct Reader<T> {
+    pub read: Reading<T>,
+    /// Why they let nobody in, and what to do. No start is made with such files. Those that become so are used: who took
+    /// the last one out wants it out.
+    pub shut: fn(&T) -> Option<&'static str>,
+}
+
+impl<T> Reader<T> {
+    fn at_start(&self, contents: &[Vec<u8>]) -> Result<T, String> {
+        let new = (self.read)(contents)?;
+        match (self.shut)(&new) {
+            Some(why) => Err(why.into()),
+            None => Ok(new),
+        }
+    }
+}
 
 /// What the files had when they were last found to be sound.
 pub struct Renewed<T>(RwLock<Arc<T>>);
@@ -31,13 +49,13 @@ impl<T: Send + Sync + 'static> Renewed<T> {
     pub fn open(
         option: &'static str,
         paths: Vec<PathBuf>,
-        read: Reader<T>,
+        reader: Reader<T>,
         metrics: &Metrics,
     ) -> anyhow::Result<Arc<Renewed<T>>> {
         let mut files = Files {
             option,
             paths,
-            read,
+            reader,
             judged: Err(String::new()),
             seen: Err(String::new()),
             stale: metrics.stale_files.with_label_values(&[option]),
@@ -46,7 +64,7 @@ impl<T: Send + Sync + 'static> Renewed<T> {
         let contents = files.contents();
         files.judged = digests(&contents);
         files.seen = files.judged.clone();
-        let first = contents.and_then(|contents| (files.read)(&contents));
+        let first = contents.and_then(|contents| files.reader.at_start(&contents));
         let first = first.map_err(|why| anyhow!("{option} can't be used: {why}"))?;
         let renewed = Arc::new(Renewed(RwLock::new(Arc::new(first))));
         files.into = Arc::downgrade(&renewed);
@@ -74,7 +92,7 @@ type Found = Result<Vec<[u8; 32]>, String>;
 struct Files<T> {
     option: &'static str,
     paths: Vec<PathBuf>,
-    read: Reader<T>,
+    reader: Reader<T>,
     /// What was last used, or refused.
     judged: Found,
     /// What the last look found.
@@ -103,11 +121,18 @@ impl<T: Send + Sync + 'static> Files<T> {
 
     fn judge(&self, contents: Contents, into: &Renewed<T>) {
         let option = self.option;
-        match contents.and_then(|contents| (self.read)(&contents)) {
+        match contents.and_then(|contents| (self.reader.read)(&contents)) {
             Ok(new) => {
+                match (self.reader.shut)(&new) {
+                    None => tracing::info!(option, "{option} has changed, and was read anew"),
+                    Some(reason) => tracing::warn!(
+                        option,
+                        reason,
+                        "{option} has changed, and was read anew: {reason}"
+                    ),
+                }
                 into.set(new);
                 self.stale.set(0);
-                tracing::info!(option, "{option} has changed, and was read anew");
             }
             Err(reason) => {
                 self.stale.set(1);
@@ -158,7 +183,11 @@ mod tests {
             let text = String::from_utf8_lossy(&contents[0]);
             text.parse().map_err(|_| "write a number".to_string())
         };
-        Renewed::open("--number", vec![path.into()], Box::new(read), metrics)
+        let reader = Reader {
+            read: Box::new(read),
+            shut: |number| (*number == 0).then_some("0 is none: write another number"),
+        };
+        Renewed::open("--number", vec![path.into()], reader, metrics)
     }
 
     fn is_within(time: Duration, is_so: impl Fn() -> bool) -> bool {
@@ -202,6 +231,19 @@ mod tests {
     }
 
     #[test]
+    fn what_lets_nobody_in_is_used_but_for_a_start() {
+        let at = tempfile::tempdir().unwrap();
+        let (path, metrics) = (at.path().join("number"), Metrics::new().unwrap());
+        std::fs::write(&path, "0").unwrap();
+        let refused = number(&path, &metrics).err().unwrap().to_string();
+        assert_eq!(refused, "--number can't be used: 0 is none: write another number");
+        std::fs::write(&path, "1").unwrap();
+        let renewed = number(&path, &metrics).unwrap();
+        std::fs::write(&path, "0").unwrap();
+        assert!(is_within(Duration::from_secs(1), || *renewed.now() == 0));
+    }
+
+    #[test]
     fn what_goes_on_changing_is_not_used() {
         let at = tempfile::tempdir().unwrap();
         let (path, metrics) = (at.path().join("number"), Metrics::new().unwrap());
@@ -209,7 +251,10 @@ mod tests {
         let mut files = Files {
             option: "--number",
             paths: vec![path.clone()],
-            read: Box::new(|contents| Ok(contents[0].clone())),
+            reader: Reader {
+                read: Box::new(|contents| Ok(contents[0].clone())),
+                shut: |_| None,
+            },
             judged: Ok(vec![]),
             seen: Ok(vec![]),
             stale: metrics.stale_files.with_label_values(&["--number"]),

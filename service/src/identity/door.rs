@@ -3,7 +3,7 @@
 use super::who::Certified;
 use super::{Tokens, Who};
 use crate::metrics::Metrics;
-use crate::renewed::Renewed;
+use crate::renewed::{Reader, Renewed};
 use crate::tls::{Files, Shaken, Tls, WithoutCertificate};
 use anyhow::Result;
 use std::fmt;
@@ -36,10 +36,12 @@ impl Door {
         let tls = tls
             .map(|files| Tls::open(files, without, metrics.clone()))
             .transpose()?;
-        let read = |contents: &[Vec<u8>]| Tokens::read(&contents.concat());
+        let reader = || Reader {
+            read: Box::new(|contents: &[Vec<u8>]| Tokens::read(&contents.concat())),
+            shut: Tokens::shut,
+        };
         let tokens = options.tokens.as_ref();
-        let tokens =
-            tokens.map(|path| Renewed::open("--tokens", vec![path.clone()], Box::new(read), metrics));
+        let tokens = tokens.map(|path| Renewed::open("--tokens", vec![path.clone()], reader(), metrics));
         Ok(Door {
             tls: tls.map(Arc::new),
             by_certificate: options

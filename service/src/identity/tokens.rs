@@ -67,10 +67,14 @@ impl Tokens {
                 None => drop(tokens.certified.insert(sender.name.clone(), sender.into())),
             }
         }
-        match tokens.tokens.is_empty() && tokens.certified.is_empty() {
-            true => Err("it has no line: add what `totxegun token NAME` prints".into()),
-            false => Ok(tokens),
-        }
+        Ok(tokens)
+    }
+
+    /// Why nobody has a token, and what to do, where it has no line.
+    pub fn shut(&self) -> Option<&'static str> {
+        let is_empty = self.tokens.is_empty() && self.certified.is_empty();
+        is_empty
+            .then_some("it has no line, so nobody gets in by a token: add what `totxegun token NAME` prints")
     }
 
     /// Whose a token is. It is compared with all, each time for as long.
@@ -190,8 +194,6 @@ mod tests {
     fn a_faulty_line_is_named_and_not_shown() {
         let twice = format!("a {OF_ABC}\nb {}", OF_ABC.to_uppercase().replace("SHA", "sha"));
         for (text, why) in [
-            ("", "no line"),
-            ("# none\n", "no line"),
             ("\na s3cret", "line 2: behind the name write sha256:"),
             ("a sha256:s3cret", "line 1: behind the name"),
             (
@@ -214,5 +216,17 @@ mod tests {
             );
         }
         assert!(Tokens::read(b"\xff").is_err());
+    }
+
+    #[test]
+    fn a_file_without_a_line_lets_nobody_in() {
+        for text in ["", "\n", "# none\n"] {
+            let tokens = Tokens::read(text.as_bytes()).unwrap();
+            assert!(tokens.shut().is_some_and(|why| why.contains("no line")), "{text}");
+            assert_eq!(tokens.owner(b""), None);
+        }
+        for text in [format!("a {OF_ABC}"), "a/* certificate".to_string()] {
+            assert_eq!(Tokens::read(text.as_bytes()).unwrap().shut(), None, "{text}");
+        }
     }
 }

@@ -17,7 +17,7 @@ pub use handshake::{Shaken, Stream};
 
 use crate::intake::Threads;
 use crate::metrics::Metrics;
-use crate::renewed::Renewed;
+use crate::renewed::{Reader, Renewed};
 use anyhow::Context;
 use pair::{certificates, Pair};
 use rustls::server::{ClientCertVerifier, NoClientAuth};
@@ -87,6 +87,15 @@ impl Contexts {
         })
     }
 
+    /// Why nobody gets in by a certificate though senders may show one, and what to do.
+    fn shut(&self) -> Option<&'static str> {
+        let is_empty = self.senders.as_ref().is_some_and(|senders| senders.is_empty());
+        is_empty.then_some(
+            "--client-ca has no certificate in PEM, so nobody gets in by one: add that of a root, \
+             `-----BEGIN CERTIFICATE-----`",
+        )
+    }
+
     fn config(&self, protocol: Protocol) -> Arc<ServerConfig> {
         match protocol {
             Protocol::Http => self.http.clone(),
@@ -141,8 +150,11 @@ impl Tls {
     pub fn open(files: &Files, without: WithoutCertificate, metrics: Arc<Metrics>) -> anyhow::Result<Tls> {
         let mut paths = vec![files.certificate.clone(), files.key.clone()];
         paths.extend(files.client_ca.clone());
-        let read = move |contents: &[Vec<u8>]| Contexts::read(contents, without);
-        let contexts = Renewed::open("--tls-cert", paths, Box::new(read), &metrics)?;
+        let reader = Reader {
+            read: Box::new(move |contents: &[Vec<u8>]| Contexts::read(contents, without)),
+            shut: Contexts::shut,
+        };
+        let contexts = Renewed::open("--tls-cert", paths, reader, &metrics)?;
         expiry::register(&metrics, contexts.clone()).context("metrics")?;
         let threads = Threads::named("handshake", 1).context("no thread could be started")?;
         Ok(Tls {

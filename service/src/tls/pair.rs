@@ -29,7 +29,10 @@ impl Pair {
     /// Reads both in PEM.
     pub fn read(chain: &[u8], key: &[u8]) -> Result<Pair, String> {
         let chain = certificates("--tls-cert", chain)?;
-        let first = &chain[0].0;
+        let first = chain
+            .first()
+            .ok_or("--tls-cert has no certificate in PEM: `-----BEGIN CERTIFICATE-----`")?;
+        let first = &first.0;
         let ends = Certificate::read(first)
             .ok_or("the first certificate of --tls-cert is none of X.509")?
             .ends;
@@ -45,15 +48,10 @@ impl Pair {
     }
 }
 
-/// The certificates of a file in PEM, of which there is one at least.
+/// The certificates of a file in PEM.
 pub fn certificates(option: &str, mut pem: &[u8]) -> Result<Vec<rustls::Certificate>, String> {
     let found = rustls_pemfile::certs(&mut pem).map_err(|error| format!("{option} is no PEM: {error}"))?;
-    match found.is_empty() {
-        true => Err(format!(
-            "{option} has no certificate in PEM: `-----BEGIN CERTIFICATE-----`"
-        )),
-        false => Ok(found.into_iter().map(rustls::Certificate).collect()),
-    }
+    Ok(found.into_iter().map(rustls::Certificate).collect())
 }
 
 fn private_key(mut pem: &[u8]) -> Result<PrivateKey, String> {

@@ -13,6 +13,9 @@ use std::time::SystemTime;
 const MOST_BETWEEN: usize = 4;
 /// How long all of a chain may be, in bytes. Five certificates by RSA of 4096 bits have 8 thousand.
 const MOST_BYTES: usize = 16 << 10;
+/// The object `nameConstraints`, 2.5.29.30, in DER. Each is compared with each name, on all ways. Debian's webpki can't read
+/// them as RFC 5280 writes them, and believes no chain that has some.
+const NAME_CONSTRAINTS: &[u8] = &[0x06, 0x03, 0x55, 0x1d, 0x1e];
 
 /// Believes short chains to one of its roots.
 pub struct Senders {
@@ -26,6 +29,12 @@ impl Senders {
             inner: AllowAnyAuthenticatedClient::new(roots),
             without,
         }
+    }
+
+    /// Whether nobody can be believed, for want of roots.
+    pub fn is_empty(&self) -> bool {
+        let roots = self.inner.client_auth_root_subjects();
+        roots.is_none_or(|roots| roots.is_empty())
     }
 }
 
@@ -50,6 +59,16 @@ impl ClientCertVerifier for Senders {
                 "the chain is longer than {MOST_BETWEEN} certificates between the sender's and its root, or than \
                  {MOST_BYTES} bytes: show a shorter one"
             )));
+        }
+        let has_constraints = |shown: &Certificate| {
+            let mut places = shown.0.windows(NAME_CONSTRAINTS.len());
+            places.any(|place| place == NAME_CONSTRAINTS)
+        };
+        if between.iter().any(has_constraints) {
+            return Err(Error::InvalidCertificateData(
+                "a certificate between the sender's and its root has name constraints: show one without"
+                    .into(),
+            ));
         }
         self.inner.verify_client_cert(first, between, now)
     }

@@ -160,6 +160,49 @@ fn a_chain_is_believed_up_to_four_between_it_and_its_root() {
     assert!(!contexts.believes(&chain(of("e"), &long)));
 }
 
+fn der(tag: u8, body: &[u8]) -> Vec<u8> {
+    let length = u16::try_from(body.len()).unwrap().to_be_bytes();
+    [&[tag, 0x82, length[0], length[1]], body].concat()
+}
+
+/// As a value of openssl's options.
+fn shown(der: &[u8]) -> String {
+    let bytes: Vec<String> = der.iter().map(|byte| format!("{byte:02x}")).collect();
+    format!("DER:{}", bytes.join(":"))
+}
+
+/// Else names times constraints are compared, on each way: for seconds, on the one thread of handshakes.
+#[test]
+fn a_chain_with_many_constraints_of_names_is_refused_at_once() {
+    let at = folder();
+    server(at.path());
+    let (names, constraints) = (b"\x82\0".repeat(3700), b"\x30\x02\x87\0".repeat(1500));
+    let constraints = der(0x30, &der(0xa1, &der(0x30, &constraints)));
+    let of = |name: &str, words: &str| {
+        openssl(
+            at.path(),
+            &format!("req -x509 -newkey ec -pkeyopt ec_paramgen_curve:prime256v1 -nodes -keyout {name}.key -out {name}.pem -days 20 -subj /CN=ca {words}"),
+        );
+        let pem = std::fs::read(at.path().join(format!("{name}.pem"))).unwrap();
+        certificates("--client-ca", &pem).unwrap().remove(0)
+    };
+    let mut chain = vec![of("b", &format!("-addext 2.5.29.30={}", shown(&constraints)))];
+    chain.extend(["c", "d", "e"].map(|name| of(name, "")));
+    let first = certificate(
+        at.path(),
+        Made {
+            names: Some(&shown(&der(0x30, &names))),
+            by: Some("b"),
+            ..Made::default()
+        },
+    );
+    chain.insert(0, rustls::Certificate(first));
+    let contexts = tls(at.path(), Some(WithoutCertificate::Refused)).contexts();
+    let begun = std::time::Instant::now();
+    assert!(!contexts.believes(&chain));
+    assert!(begun.elapsed() < std::time::Duration::from_secs(1));
+}
+
 #[test]
 fn the_page_says_when_the_certificate_ends() {
     let at = folder();

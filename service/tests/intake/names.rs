@@ -113,8 +113,21 @@ async fn a_token_that_is_taken_out_stops_within_a_second() {
     assert_eq!((of("t0ken-1").await, of("t0ken-2").await), (401, 200));
     // An editor that empties the file before it writes must refuse nobody.
     tokens(at.path(), "");
-    tokio::time::sleep(Duration::from_secs(1)).await;
-    assert_eq!(of("t0ken-2").await, 200);
+    tokio::time::sleep(Duration::from_millis(50)).await;
+    tokens(at.path(), &format!("# shops\nshop-2 {OF_2}\n"));
+    let begun = Instant::now();
+    while begun.elapsed() < Duration::from_secs(1) {
+        assert_eq!(of("t0ken-2").await, 200);
+        tokio::time::sleep(Duration::from_millis(10)).await;
+    }
+    // The last one is as the others.
+    tokens(at.path(), "# shops\n");
+    let begun = Instant::now();
+    while of("t0ken-2").await == 200 {
+        assert!(begun.elapsed() < Duration::from_secs(1));
+        tokio::time::sleep(Duration::from_millis(10)).await;
+    }
+    assert_eq!(of("t0ken-2").await, 401);
 }
 
 #[tokio::test]
@@ -246,4 +259,23 @@ async fn a_root_that_is_taken_out_ends_its_certificates() {
         "{answer:?}"
     );
     assert_eq!(asked(&mut first, "").await.status, 200);
+    // The last one is as the others, for who is there and for who comes.
+    std::fs::write(at.path().join("roots"), "").unwrap();
+    let begun = Instant::now();
+    while asked(&mut first, "").await.status == 200 {
+        assert!(begun.elapsed() < Duration::from_secs(1));
+        tokio::time::sleep(Duration::from_millis(10)).await;
+    }
+    assert_eq!(asked(&mut first, "").await.status, 401);
+    for name in [None, Some("shop-1")] {
+        let is_taken = match served.secure(client(at.path(), "ca", name)).await {
+            Err(_) => false,
+            Ok(mut client) => {
+                client
+                    .takes(&post("Content-Type: application/json\r\n", BODY.as_bytes()))
+                    .await
+            }
+        };
+        assert!(!is_taken, "{name:?}");
+    }
 }
