@@ -40,6 +40,11 @@ impl Upkeep {
         Instant::now() >= self.due
     }
 
+    /// In a file that was just opened: it may be another one, whose series of the same numbers are others.
+    pub(super) fn begin_anew(&mut self) {
+        self.ended = Ended::default();
+    }
+
     /// One step, at this time in nanoseconds since 1970. Whether another is to follow; else it is due some time later.
     pub(super) fn go_on(&mut self, connection: &mut Connection, now: u64) -> rusqlite::Result<bool> {
         let more = self.try_step(connection, now);
@@ -48,7 +53,7 @@ impl Upkeep {
             Ok(false) => self.due = Instant::now() + EVERY,
             Err(_) => {
                 self.due = Instant::now() + EVERY;
-                self.ended = Ended::default(); // the file is not where this is
+                self.begin_anew(); // the file is not where this is
             }
         }
         more

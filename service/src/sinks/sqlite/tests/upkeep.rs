@@ -187,6 +187,31 @@ fn a_series_out_of_use_loses_its_spans() {
     trial.taken(100, metrics(&both.join(",")));
 }
 
+/// Its series have the numbers of others that were out of use.
+#[test]
+fn a_file_put_in_the_place_of_another_loses_nothing() {
+    let mut trial = Trial::new();
+    let twenty = |trial: &mut Trial, name: &str| {
+        for hour in 0..20 {
+            let start = NOVEMBER + hour * HOUR;
+            trial.taken(hour + 1, sum(name, start, start + HOUR, 1));
+        }
+    };
+    twenty(&mut trial, "former");
+    trial.keep(Keep {
+        series: days(1),
+        ..Keep::default()
+    });
+    let now = NOVEMBER + 2 * DAY;
+    assert!(trial.step(now) && trial.step(now));
+    assert_eq!(trial.ask("select count(*) from span"), "13");
+    std::fs::remove_file(trial.path()).expect("it is there");
+    twenty(&mut trial, "used");
+    trial.taken(21, sum("used", now - HOUR, now, 1));
+    trial.keep_up(now);
+    assert_eq!(trial.ask("select count(*) from span"), "21");
+}
+
 /// A delivery waits for one step, however much there is to delete.
 #[tokio::test]
 async fn deliveries_go_on_while_much_is_deleted() {
