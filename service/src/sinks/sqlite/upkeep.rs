@@ -123,9 +123,11 @@ const BY_TIME: [&str; 4] = [
      (select month, series from month where month < ?1 order by month, series limit ?2)",
 ];
 
-/// Deletes hours, days and months that ended by then: at first from the views, then their rows.
+/// Deletes hours, days and months that ended by then: at first from the views, then their rows. The last hour stays: what
+/// ends before the horizon is left out, and by a clock that was ahead once all that comes would be.
 fn hours(transaction: &Transaction, mut horizon: Horizon, until: u64, step: usize) -> rusqlite::Result<bool> {
-    let from = (until / HOUR_NS) as i64;
+    let last: Option<i64> = transaction.query_row("select max(hour) from hour", [], |row| row.get(0))?;
+    let from = last.map_or(0, |last| last.min((until / HOUR_NS) as i64));
     if from > horizon.hours_from {
         horizon.hours_from = from;
         horizon.write(transaction)?;

@@ -212,6 +212,24 @@ fn a_file_put_in_the_place_of_another_loses_nothing() {
     assert_eq!(trial.ask("select count(*) from span"), "21");
 }
 
+/// What is there goes by the clock; what comes behind the last hour of it is not left out.
+#[test]
+fn a_clock_that_was_ahead_leaves_out_nothing_that_comes() {
+    let mut trial = Trial::new();
+    two_days(&mut trial);
+    trial.keep(Keep {
+        hours: days(10),
+        ..Keep::default()
+    });
+    trial.keep_up(NOVEMBER + 4000 * DAY);
+    let hours = "select hour, total from by_hour order by 1";
+    assert_eq!(trial.ask(hours), "2026-11-02 23:00|48");
+    let (start, end) = (NOVEMBER + 2 * DAY, NOVEMBER + 2 * DAY + HOUR);
+    trial.taken(100, sum("a", start, end, 1000));
+    trial.keep_up(end);
+    assert_eq!(trial.ask(hours), "2026-11-02 23:00|48\n2026-11-03 00:00|1000");
+}
+
 /// A delivery waits for one step, however much there is to delete.
 #[tokio::test]
 async fn deliveries_go_on_while_much_is_deleted() {
