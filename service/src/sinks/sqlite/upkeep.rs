@@ -8,6 +8,7 @@ mod fill;
 use super::horizon::Horizon;
 use super::store::utc::{day_of, month_of, HOUR_NS};
 use super::whole::Whole;
+use crate::sinks::keep::tell_of_spans;
 use crate::sinks::Keep;
 use ended::Ended;
 use rusqlite::{params, Connection, OptionalExtension, Transaction, TransactionBehavior};
@@ -74,7 +75,7 @@ impl Upkeep {
         }
         let ago = |time: Duration| now.saturating_sub(u64::try_from(time.as_nanos()).unwrap_or(u64::MAX));
         if let Some(time) = self.keep.spans {
-            if spans(transaction, horizon, ago(time), self.step)? {
+            if spans(transaction, horizon, time, ago(time), self.step)? {
                 return Ok(true);
             }
         }
@@ -90,8 +91,14 @@ impl Upkeep {
     }
 }
 
-/// Deletes the spans of requests all of whose spans ended by then. The requests' keys stay.
-fn spans(transaction: &Transaction, mut horizon: Horizon, until: u64, step: usize) -> rusqlite::Result<bool> {
+/// Deletes the spans of requests all of whose spans ended by then, which is so long ago. The requests' keys stay.
+fn spans(
+    transaction: &Transaction,
+    mut horizon: Horizon,
+    kept: Duration,
+    until: u64,
+    step: usize,
+) -> rusqlite::Result<bool> {
     let mut next = transaction.prepare_cached(
         "select id, last_end_ns from request where has_spans and last_end_ns <= ?1 order by last_end_ns limit 1",
     )?;
@@ -103,6 +110,9 @@ fn spans(transaction: &Transaction, mut horizon: Horizon, until: u64, step: usiz
             .query_row([Whole(until)], |row| Ok((row.get(0)?, row.get(1)?)))
             .optional()?;
         let Some((id, end)) = found else { break };
+        if horizon.spans_from == Whole(0) {
+            tell_of_spans(kept);
+        }
         done += delete.execute([id])? + note.execute([id])?;
         horizon.spans_from = horizon.spans_from.max(end);
     }
