@@ -12,7 +12,7 @@ use hyper::{Body, Response, StatusCode};
 use serde::Serialize;
 use std::fs::OpenOptions;
 use std::future::Future;
-use std::io::Write;
+use std::io::{Read, Seek, SeekFrom, Write};
 use std::path::{Path, PathBuf};
 use std::sync::{Mutex, PoisonError};
 
@@ -104,12 +104,18 @@ impl Acts {
     /// `is_first` of an act: durable when this returns.
     fn append(&self, line: &Written, is_first: bool) -> std::io::Result<()> {
         let path = self.folder.join(NAME);
-        let mut file = OpenOptions::new().append(true).create(true).open(&path)?;
+        let mut options = OpenOptions::new();
+        options.read(true).append(true).create(true);
+        let mut file = options.open(&path)?;
         if file.metadata()?.len() >= MOST {
             std::fs::rename(&path, self.folder.join(EARLIER))?;
-            file = OpenOptions::new().append(true).create(true).open(&path)?;
+            file = options.open(&path)?;
         }
-        let mut bytes = serde_json::to_vec(line)?;
+        let mut bytes = Vec::new();
+        if is_cut(&mut file)? {
+            bytes.push(b'\n');
+        }
+        serde_json::to_writer(&mut bytes, line)?;
         bytes.push(b'\n');
         file.write_all(&bytes)?;
         if is_first {
@@ -118,6 +124,16 @@ impl Acts {
         }
         Ok(())
     }
+}
+
+/// Whether its last line was not written whole, as where the disk was full.
+fn is_cut(file: &mut File) -> std::io::Result<bool> {
+    let mut last = [b'\n'];
+    if file.seek(SeekFrom::End(0))? > 0 {
+        file.seek(SeekFrom::End(-1))?;
+        file.read_exact(&mut last)?;
+    }
+    Ok(last != [b'\n'])
 }
 
 impl Desk {
@@ -203,6 +219,25 @@ mod tests {
         }
         let length = |name: &str| std::fs::metadata(folder.path().join(name)).unwrap().len();
         assert!(length(NAME) < 1000 && length(EARLIER) == MOST);
+    }
+
+    /// As a disk that became full, or a power cut, leaves it.
+    #[test]
+    fn an_act_behind_a_line_that_was_cut_has_its_own() {
+        let folder = tempfile::tempdir().unwrap();
+        let cut = "{\"time\":\"2026-11-27T1";
+        std::fs::write(folder.path().join(NAME), cut).unwrap();
+        let acts = Acts::in_folder(folder.path());
+        let act = Act::new(None, "lift", "A");
+        acts.begins(&act);
+        acts.ended(&act, "done");
+        let text = std::fs::read_to_string(folder.path().join(NAME)).unwrap();
+        let whole = text.strip_prefix(cut).unwrap().strip_prefix('\n').unwrap();
+        let outcomes: Vec<_> = whole
+            .lines()
+            .map(|line| serde_json::from_str::<serde_json::Value>(line).unwrap()["outcome"].clone())
+            .collect();
+        assert_eq!(outcomes, [serde_json::Value::Null, "done".into()]);
     }
 
     /// As where the disk is full: what makes room goes on.

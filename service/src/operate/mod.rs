@@ -140,22 +140,30 @@ pub struct ReadOnly {
 
 impl Handler for ReadOnly {
     async fn answer(self: Arc<Self>, request: Request<Body>) -> Response<Body> {
-        match Route::of(request.uri().path()) {
+        let route = match Route::of(request.uri().path()) {
             Some((_, route)) if route.is_order() => {
                 let place = &self.orders_at;
-                message(
+                return message(
                     403,
                     &format!("this is taken at {place} alone: give `--operate {place}` to totxegun"),
-                )
+                );
             }
-            _ => self.desk.clone().answer(request).await,
-        }
+            Some((method, Route::Page(Page::Overview))) => Some((method, Route::Page(Page::Levels))),
+            route => route,
+        };
+        self.desk.answer_by(route, request).await
     }
 }
 
 impl Handler for Desk {
     async fn answer(self: Arc<Self>, request: Request<Body>) -> Response<Body> {
-        match Route::of(request.uri().path()) {
+        self.answer_by(Route::of(request.uri().path()), request).await
+    }
+}
+
+impl Desk {
+    async fn answer_by(&self, route: Option<(Method, Route)>, request: Request<Body>) -> Response<Body> {
+        match route {
             None => message(404, "no such path"),
             Some((method, route)) if is_met(&method, request.method()) => {
                 let stranger = match route {
@@ -185,14 +193,7 @@ impl Handler for Desk {
             }
         }
     }
-}
 
-/// HEAD is answered as GET is (RFC 9110, 9.3.2), but for the body, which hyper leaves out.
-fn is_met(wanted: &Method, asked: &Method) -> bool {
-    wanted == asked || *wanted == Method::GET && *asked == Method::HEAD
-}
-
-impl Desk {
     async fn go(&self, route: Route, ends: Option<Ends>, query: &str) -> Response<Body> {
         match route {
             Route::Order(Order::Checkpoint) => self.order(Order::Checkpoint).await,
@@ -232,6 +233,11 @@ impl Desk {
             Route::Page(page) => self.page(page, query).await,
         }
     }
+}
+
+/// HEAD is answered as GET is (RFC 9110, 9.3.2), but for the body, which hyper leaves out.
+fn is_met(wanted: &Method, asked: &Method) -> bool {
+    wanted == asked || *wanted == Method::GET && *asked == Method::HEAD
 }
 
 fn answered(outcome: &Outcome) -> Response<Body> {

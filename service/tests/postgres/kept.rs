@@ -92,6 +92,47 @@ async fn old_spans_are_deleted_and_not_counted_again() {
     );
 }
 
+/// As where an earlier start kept them.
+#[tokio::test(flavor = "multi_thread")]
+async fn that_old_spans_are_deleted_is_told_once() {
+    let Some(server) = Server::start() else { return };
+    let (address, folder) = (server.by_socket("postgres"), tempfile::tempdir().unwrap());
+    let operate = format!("unix:{}", folder.path().join("operate").display());
+    for (number, name) in [(1, "a"), (2, "b")] {
+        let (keeps, old) = (open(&address), now() - 40 * DAY);
+        taken(&*keeps, number, sum(name, old, old + 9, 8)).await;
+        drop(keeps);
+        let log = std::fs::File::options()
+            .create(true)
+            .append(true)
+            .open(folder.path().join("log"));
+        let mut service = std::process::Command::new(env!("CARGO_BIN_EXE_totxegun"))
+            .args([
+                "serve",
+                "--listen",
+                "127.0.0.1:0",
+                "--operate",
+                &operate,
+                "--sink",
+                &address,
+                "--data",
+            ])
+            .arg(folder.path().join("data"))
+            .stderr(log.unwrap())
+            .spawn()
+            .unwrap();
+        until(&server, "select count(*) from totxegun.span", "0").await;
+        service.kill().unwrap();
+        service.wait().unwrap();
+        let log = std::fs::read_to_string(folder.path().join("log")).unwrap();
+        let told: Vec<&str> = log
+            .lines()
+            .filter(|line| line.contains("--keep-spans forever"))
+            .collect();
+        assert!(told.len() == 1 && told[0].contains("35 d 0 h"), "{log}");
+    }
+}
+
 #[tokio::test(flavor = "multi_thread")]
 async fn old_hours_are_deleted_and_not_counted_again() {
     let Some(server) = Server::start() else { return };

@@ -76,6 +76,32 @@ fn orders_are_taken_at_the_socket_alone() {
     assert_eq!(service.end(), Some(0));
 }
 
+/// The list of them is at the socket alone.
+#[test]
+fn a_page_has_dead_requests_at_the_socket_alone() {
+    let place = Place::new();
+    let socket = place.folder.path().join("operate");
+    let (sink, operate) = (place.sink(), format!("unix:{}", socket.display()));
+    let words = ["--sink", &sink, "--operate", &operate];
+    assert_eq!(place.serve_with(&words).end(), Some(0));
+    let letter = r#"{"key":"0-a-1","since":1,"reason":"400 of host h1","bytes":2}"#;
+    std::fs::write(place.data().join("dead/0-a-1.json"), format!("{letter}\n{{}}")).unwrap();
+    let service = place.serve_with(&words);
+    let (status, page) = service.asked_for("/").unwrap();
+    assert_eq!(status, 200);
+    assert!(page.contains("<b>1</b><span>dead requests") && page.contains("totxegun dead list"));
+    assert!(!page.contains("0-a-1") && !page.contains("host h1"), "{page}");
+    let output = Command::new("curl")
+        .args(["-sS", "http://localhost/", "--unix-socket"])
+        .arg(&socket)
+        .output();
+    let page = text(&output.unwrap());
+    assert!(
+        page.contains("0-a-1") && page.contains("400 of host h1"),
+        "{page}"
+    );
+}
+
 /// Its file stays, and the next run takes its place.
 #[test]
 fn a_socket_of_a_killed_service_is_taken_over() {

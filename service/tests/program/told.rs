@@ -218,3 +218,35 @@ fn a_disk_without_room_is_told() {
     service.drain();
     assert_eq!(service.end(), Some(0));
 }
+
+/// As where an earlier version kept them.
+#[test]
+fn that_old_spans_are_deleted_is_told_once() {
+    let place = Place::new();
+    let spans = || {
+        let file = place.folder.path().join("sink.db");
+        let asked = Command::new("sqlite3")
+            .arg(file)
+            .arg("select count(*) from span")
+            .output();
+        String::from_utf8(asked.unwrap().stdout).unwrap()
+    };
+    for name in ["a", "b"] {
+        let keeps = place.serve_with(&["--sink", &place.sink(), "--keep-spans", "forever"]);
+        assert_eq!(keeps.post("A", &points(&[name], 100, 5)).unwrap().0, 200);
+        keeps.drain();
+        assert_eq!((keeps.end(), spans().as_str()), (Some(0), "1\n"));
+        let service = place.serve();
+        until("they are deleted", || spans() == "0\n");
+        assert_eq!(service.end(), Some(0));
+        let log = place.log();
+        let told: Vec<&str> = log
+            .lines()
+            .filter(|line| line.contains("--keep-spans forever"))
+            .collect();
+        assert!(
+            told.len() == 1 && told[0].contains("WARN") && told[0].contains("35 d 0 h"),
+            "{log}"
+        );
+    }
+}

@@ -38,6 +38,8 @@ const HEADERS: [(HeaderName, &str); 4] = [
 #[derive(Debug, PartialEq, Eq)]
 pub enum Page {
     Overview,
+    /// The same, of dead requests only how many they are: where they are not listed.
+    Levels,
     Series,
     Style,
     Script,
@@ -54,7 +56,8 @@ impl Desk {
     /// `query` is what stands behind the path.
     pub(super) async fn page(&self, page: Page, query: &str) -> Response<Body> {
         let mut response = match page {
-            Page::Overview => reply(200, PAGE, self.overview().await),
+            Page::Overview => reply(200, PAGE, self.overview(self.few_letters().await)),
+            Page::Levels => reply(200, PAGE, self.overview(Vec::new())),
             Page::Series => reply(200, PAGE, self.series_page(query).await),
             Page::Style => reply(200, "text/css", include_str!("page.css")),
             Page::Script => reply(200, "text/javascript", include_str!("page.js")),

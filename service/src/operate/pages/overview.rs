@@ -28,13 +28,13 @@ struct Seen<'a> {
 }
 
 impl Desk {
-    pub(super) async fn overview(&self) -> String {
+    pub(super) fn overview(&self, letters: Vec<Letter>) -> String {
         self.read_levels();
         let seen = Seen {
             desk: self,
             status: self.status(),
             senders: self.heard.last(usize::MAX),
-            letters: self.few_letters().await,
+            letters,
             now: SystemTime::now()
                 .duration_since(UNIX_EPOCH)
                 .map_or(0, |since| since.as_secs()),
@@ -52,7 +52,7 @@ impl Desk {
     }
 
     /// None where there are many, or the disk is not to be asked.
-    async fn few_letters(&self) -> Vec<Letter> {
+    pub(super) async fn few_letters(&self) -> Vec<Letter> {
         if self.dead.count() > LETTERS || !self.slot.disk_answers() {
             return Vec::new();
         }

@@ -152,7 +152,11 @@ impl Writer {
         };
         let store = match open {
             Some(store) => store,
-            None => Store::open(&self.path, &|id| self.memory.admit(id, self.was_replaced))?,
+            None => {
+                let store = Store::open(&self.path, &|id| self.memory.admit(id, self.was_replaced))?;
+                self.upkeep.begin_anew();
+                store
+            }
         };
         self.was_replaced = false;
         Ok(self.store.insert(store))

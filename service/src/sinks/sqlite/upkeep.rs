@@ -8,6 +8,7 @@ mod fill;
 use super::horizon::Horizon;
 use super::store::utc::{day_of, month_of, HOUR_NS};
 use super::whole::Whole;
+use crate::sinks::keep::tell_of_spans;
 use crate::sinks::Keep;
 use ended::Ended;
 use rusqlite::{params, Connection, OptionalExtension, Transaction, TransactionBehavior};
@@ -40,6 +41,11 @@ impl Upkeep {
         Instant::now() >= self.due
     }
 
+    /// In a file that was just opened: it may be another one, whose series of the same numbers are others.
+    pub(super) fn begin_anew(&mut self) {
+        self.ended = Ended::default();
+    }
+
     /// One step, at this time in nanoseconds since 1970. Whether another is to follow; else it is due some time later.
     pub(super) fn go_on(&mut self, connection: &mut Connection, now: u64) -> rusqlite::Result<bool> {
         let more = self.try_step(connection, now);
@@ -48,7 +54,7 @@ impl Upkeep {
             Ok(false) => self.due = Instant::now() + EVERY,
             Err(_) => {
                 self.due = Instant::now() + EVERY;
-                self.ended = Ended::default(); // the file is not where this is
+                self.begin_anew(); // the file is not where this is
             }
         }
         more
@@ -69,7 +75,7 @@ impl Upkeep {
         }
         let ago = |time: Duration| now.saturating_sub(u64::try_from(time.as_nanos()).unwrap_or(u64::MAX));
         if let Some(time) = self.keep.spans {
-            if spans(transaction, horizon, ago(time), self.step)? {
+            if spans(transaction, horizon, time, ago(time), self.step)? {
                 return Ok(true);
             }
         }
@@ -85,8 +91,14 @@ impl Upkeep {
     }
 }
 
-/// Deletes the spans of requests all of whose spans ended by then. The requests' keys stay.
-fn spans(transaction: &Transaction, mut horizon: Horizon, until: u64, step: usize) -> rusqlite::Result<bool> {
+/// Deletes the spans of requests all of whose spans ended by then, which is so long ago. The requests' keys stay.
+fn spans(
+    transaction: &Transaction,
+    mut horizon: Horizon,
+    kept: Duration,
+    until: u64,
+    step: usize,
+) -> rusqlite::Result<bool> {
     let mut next = transaction.prepare_cached(
         "select id, last_end_ns from request where has_spans and last_end_ns <= ?1 order by last_end_ns limit 1",
     )?;
@@ -98,6 +110,9 @@ fn spans(transaction: &Transaction, mut horizon: Horizon, until: u64, step: usiz
             .query_row([Whole(until)], |row| Ok((row.get(0)?, row.get(1)?)))
             .optional()?;
         let Some((id, end)) = found else { break };
+        if horizon.spans_from == Whole(0) {
+            tell_of_spans(kept);
+        }
         done += delete.execute([id])? + note.execute([id])?;
         horizon.spans_from = horizon.spans_from.max(end);
     }
@@ -118,9 +133,11 @@ const BY_TIME: [&str; 4] = [
      (select month, series from month where month < ?1 order by month, series limit ?2)",
 ];
 
-/// Deletes hours, days and months that ended by then: at first from the views, then their rows.
+/// Deletes hours, days and months that ended by then: at first from the views, then their rows. The last hour stays: what
+/// ends before the horizon is left out, and by a clock that was ahead once all that comes would be.
 fn hours(transaction: &Transaction, mut horizon: Horizon, until: u64, step: usize) -> rusqlite::Result<bool> {
-    let from = (until / HOUR_NS) as i64;
+    let last: Option<i64> = transaction.query_row("select max(hour) from hour", [], |row| row.get(0))?;
+    let from = last.map_or(0, |last| last.min((until / HOUR_NS) as i64));
     if from > horizon.hours_from {
         horizon.hours_from = from;
         horizon.write(transaction)?;

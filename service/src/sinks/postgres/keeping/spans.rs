@@ -2,13 +2,19 @@
 //!
 //! The horizon is written down first: what begins before it, and before its series' last end, is never added again.
 
-use super::{seconds, STEP};
+use super::STEP;
+use crate::sinks::keep::tell_of_spans;
 use std::time::Duration;
 use tokio_postgres::{Client, Error};
 
 /// The beginning of the first day that is kept, in nanoseconds since 1970.
 const FROM: &str = "select (extract(epoch from date_trunc('day', now() at time zone 'UTC'
         - make_interval(secs => $1::float8))) * 1000000000)::int8";
+
+/// Whether none were deleted yet, and some are too old.
+const IS_FIRST: &str = "select spans_from_ns = 0
+        and exists (select from totxegun.span where end_ns > 0 and end_ns <= $1::int8)
+    from totxegun.horizon";
 
 const HORIZON: &str =
     "update totxegun.horizon set spans_from_ns = $1::int8::numeric where spans_from_ns < $1::int8::numeric";
@@ -29,10 +35,13 @@ const BEFORE: &str =
     and (select coalesce(max(before_to_ns), 0) from totxegun.horizon) <= $1::int8";
 
 pub(super) async fn delete(client: &mut Client, kept: Option<Duration>) -> Result<(), Error> {
-    let Some(kept) = seconds(kept) else {
+    let Some(kept) = kept else {
         return Ok(());
     };
-    let from: i64 = client.query_one(FROM, &[&kept]).await?.get(0);
+    let from: i64 = client.query_one(FROM, &[&kept.as_secs_f64()]).await?.get(0);
+    if client.query_one(IS_FIRST, &[&from]).await?.get(0) {
+        tell_of_spans(kept);
+    }
     client.execute(HORIZON, &[&from]).await?;
     for row in client.query(OLD_DAYS, &[&from]).await? {
         let day: &str = row.get(0);
@@ -46,6 +55,7 @@ pub(super) async fn delete(client: &mut Client, kept: Option<Duration>) -> Resul
     }
     while client.execute(OTHERS, &[&from, &STEP]).await? == STEP as u64 {}
     if client.query_one(BEFORE, &[&from]).await?.get(0) {
+        tell_of_spans(kept);
         client.batch_execute("drop table totxegun.span_before").await?;
         tracing::info!("the spans that an earlier version had written were deleted");
     }

@@ -187,6 +187,49 @@ fn a_series_out_of_use_loses_its_spans() {
     trial.taken(100, metrics(&both.join(",")));
 }
 
+/// Its series have the numbers of others that were out of use.
+#[test]
+fn a_file_put_in_the_place_of_another_loses_nothing() {
+    let mut trial = Trial::new();
+    let twenty = |trial: &mut Trial, name: &str| {
+        for hour in 0..20 {
+            let start = NOVEMBER + hour * HOUR;
+            trial.taken(hour + 1, sum(name, start, start + HOUR, 1));
+        }
+    };
+    twenty(&mut trial, "former");
+    trial.keep(Keep {
+        series: days(1),
+        ..Keep::default()
+    });
+    let now = NOVEMBER + 2 * DAY;
+    assert!(trial.step(now) && trial.step(now));
+    assert_eq!(trial.ask("select count(*) from span"), "13");
+    std::fs::remove_file(trial.path()).expect("it is there");
+    twenty(&mut trial, "used");
+    trial.taken(21, sum("used", now - HOUR, now, 1));
+    trial.keep_up(now);
+    assert_eq!(trial.ask("select count(*) from span"), "21");
+}
+
+/// What is there goes by the clock; what comes behind the last hour of it is not left out.
+#[test]
+fn a_clock_that_was_ahead_leaves_out_nothing_that_comes() {
+    let mut trial = Trial::new();
+    two_days(&mut trial);
+    trial.keep(Keep {
+        hours: days(10),
+        ..Keep::default()
+    });
+    trial.keep_up(NOVEMBER + 4000 * DAY);
+    let hours = "select hour, total from by_hour order by 1";
+    assert_eq!(trial.ask(hours), "2026-11-02 23:00|48");
+    let (start, end) = (NOVEMBER + 2 * DAY, NOVEMBER + 2 * DAY + HOUR);
+    trial.taken(100, sum("a", start, end, 1000));
+    trial.keep_up(end);
+    assert_eq!(trial.ask(hours), "2026-11-02 23:00|48\n2026-11-03 00:00|1000");
+}
+
 /// A delivery waits for one step, however much there is to delete.
 #[tokio::test]
 async fn deliveries_go_on_while_much_is_deleted() {
