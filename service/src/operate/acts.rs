@@ -10,7 +10,7 @@ use crate::log::{all_shown, cut};
 use crate::work::blocking;
 use hyper::{Body, Response, StatusCode};
 use serde::Serialize;
-use std::fs::OpenOptions;
+use std::fs::{File, OpenOptions};
 use std::future::Future;
 use std::io::{Read, Seek, SeekFrom, Write};
 use std::path::{Path, PathBuf};
