@@ -1,5 +1,6 @@
 //! Whether a part goes beyond the stretch of time of what its book holds pending.
 ghost use Rattle.std.specs.Prelude.{◌≡◌, ◌<◌};
+ghost use Rattle.std.specs.List.{list_any};
 ghost use Rattle.book_desk.specs.Crossings as spec;
 
 use crate::find::find_cell;
@@ -39,18 +40,26 @@ fn pending_span(book: &Book, series: &SharedId) -> Option<Span>
     }
 }
 
-/// A point of the part ends in a later stretch than what the book holds pending of its series.
-pub fn crosses(stretch: u64, book: &Book, part: &Option<Part>) -> bool
+/// One of these points ends in a later stretch than what the book holds pending of its series.
+fn has_later(stretch: u64, book: &Book, points: &[Point]) -> bool
     requires { 0 < stretch }
-    ensures { result ≡ spec.crosses stretch book.now part.now }
+    ensures { result ≡ list_any (spec.goes_beyond stretch book.now) points.now }
 {
-    let Some(part) = part else {
-        return false;
-    };
-    for point in part.body.points.as_slice() {
+    for point in points {
         if is_later_than(stretch, pending_span(book, point.shared_series()), point) {
             return true;
         }
     }
     false
+}
+
+/// One of the part's points does.
+pub fn crosses(stretch: u64, book: &Book, part: &Option<Part>) -> bool
+    requires { 0 < stretch }
+    ensures { result ≡ spec.crosses stretch book.now part.now }
+{
+    match part {
+        None => false,
+        Some(part) => has_later(stretch, book, part.body.points.as_slice()),
+    }
 }

@@ -1,9 +1,9 @@
 //! When the points of a post end.
-ghost use Rattle.std.specs.Prelude.{◌≡◌, fold};
+ghost use Rattle.std.specs.Prelude.{◌≡◌, None, fold};
 ghost use Rattle.book_desk.specs.inner.EndRanges as spec;
-ghost use Rattle.book_desk.specs.Splits.{points_in};
 
 use crate::part::Part;
+use metric_events::point::Point;
 
 /// The least of the times at which points end, and the greatest; in nanoseconds.
 #[derive(Clone, Copy, Debug, PartialEq, Eq)]
@@ -28,17 +28,23 @@ fn with_end(range: Option<EndRange>, end: u64) -> Option<EndRange>
 }
 
 #[tactic(auto, using(std::proofs::lemmas::List::Sums::fold_more))]
-fn with_part(range: Option<EndRange>, part: &Option<Part>) -> Option<EndRange>
-    ensures { result ≡ spec.with_part range part.now }
+fn with_points(range: Option<EndRange>, points: &[Point]) -> Option<EndRange>
+    ensures { result ≡ fold spec.with_point range points.now }
 {
-    let Some(part) = part else {
-        return range;
-    };
     let mut all = range;
-    for point in part.body.points.as_slice() {
+    for point in points {
         all = with_end(all, point.span().end());
     }
     all
+}
+
+fn with_part(range: Option<EndRange>, part: &Option<Part>) -> Option<EndRange>
+    ensures { result ≡ spec.with_part range part.now }
+{
+    match part {
+        None => range,
+        Some(part) => with_points(range, part.body.points.as_slice()),
+    }
 }
 
 /// The range of the ends of all points; none where there are no points.

@@ -40,5 +40,8 @@ pub fn find_cell(cells: &[Cell], series: &SharedId) -> Option<usize>
     if hint < cells.len() && series.as_series().is_same(cells[hint].id()) {
         return Some(hint);
     }
-    search(cells, series.as_series()).ok()
+    match search(cells, series.as_series()) {
+        Ok(i) => Some(i),
+        Err(_) => None,
+    }
 }
