@@ -49,7 +49,7 @@ fn with_part(range: Option<EndRange>, part: &Option<Part>) -> Option<EndRange>
 
 /// The range of the ends of all points; none where there are no points.
 #[tactic(auto, using(std::proofs::lemmas::List::Sums::fold_more))]
-pub fn end_range(parts: &[Option<Part>]) -> Option<EndRange>
+pub(crate) fn end_range(parts: &[Option<Part>]) -> Option<EndRange>
     ensures { result ≡ fold spec.with_part None parts.now }
 {
     let mut all = None;
