@@ -292,8 +292,8 @@ pub extern "C" fn desk_admit(
     put_back(desk, kept);
 }
 
-/// Answers what `desk_admit` would; what was read is gone from the reader, and each book is as it was,
-/// or as if its part had never come.
+/// Answers what `desk_admit` would; what was read is gone from the reader, and each book is as it
+/// was, or as if its part had never come.
 #[unsafe(no_mangle)]
 pub extern "C" fn desk_try(alloc: Global, desk: &mut Handle, reader: &mut Handle, out: &mut Answer)
     requires desk { HasDesk desk.old }
@@ -421,8 +421,8 @@ pub extern "C" fn desk_take(
     put_back(desk, kept);
 }
 
-/// Takes a flush of at most so many series of the i-th book alone. It is in the place of that book, so
-/// whatever is done with flushes can be done with it.
+/// Takes a flush of at most so many series of the i-th book alone. It is in the place of that book,
+/// so whatever is done with flushes can be done with it.
 #[unsafe(no_mangle)]
 pub extern "C" fn desk_take_book(
     alloc: Global,

@@ -88,11 +88,12 @@ pub record IsTakenAlone (max i : ℕ) (old new : List Journal) (flushes : List (
     Type 0 where
   pub found : i < length old
   pub alone : (d : Journal) → new ≡ set old i (get_or new i d)
-  pub taken : (d : Journal) → (flush : Flush) × IsTaken (get_or old i d) (get_or new i d) 0 max flush
+  pub taken : (d : Journal) → (flush : Flush)
+      × IsTaken (get_or old i d) (get_or new i d) 0 max flush
       × (flushes ≡ set (replicate (length old) None) i (Some flush))
 
--- no flush is taken of the i-th book, and nothing changes: those before are not ended; or there is no
--- such book, or nothing to take of it; or it refuses
+-- no flush is taken of the i-th book, and nothing changes: those before are not ended; or there is
+-- no such book, or nothing to take of it; or it refuses
 abbrev pub IsNotTakenAlone :
     (max i : ℕ) → (old new : List Journal) → List (Option Flush) → TakeAllFault → Type 0
 IsNotTakenAlone max i old new before faults.NotEnded = (before ≢ []) × (new ≡ old)

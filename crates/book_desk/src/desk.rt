@@ -129,8 +129,9 @@ impl Desk {
         }
     }
 
-    /// Whether all books would take what the reader has read, which is gone from it then: the answer
-    /// is the one that `admit` would give. Each book is as it was, or as if its part had never come.
+    /// Whether all books would take what the reader has read, which is gone from it then: the
+    /// answer is the one that `admit` would give. Each book is as it was, or as if its part had
+    /// never come.
     pub fn try_admit(&mut self, reader: &mut Reader) -> Result<(), DeskFault>
         ensures rests { OnOk result (Each Rests self.old.books.items self.new.books.items
             reader.old) }
@@ -149,8 +150,8 @@ impl Desk {
         }
     }
 
-    /// The first book, from the `first`-th on, that holds something pending of a series of which the
-    /// reader has a point in a later stretch of so many nanoseconds. Takes no memory.
+    /// The first book, from the `first`-th on, that holds something pending of a series of which
+    /// the reader has a point in a later stretch of so many nanoseconds. Takes no memory.
     pub fn crosses(
         &self,
         reader: &Reader,

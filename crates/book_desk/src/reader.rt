@@ -158,8 +158,8 @@ impl Reader {
         Ok(counts)
     }
 
-    /// The least and the greatest time at which a point ends of those that it has; none where it has
-    /// no points.
+    /// The least and the greatest time at which a point ends of those that it has; none where it
+    /// has no points.
     pub fn ends(&self) -> Option<EndRange>
         ensures range { IfSome result (λ range. IsRangeOf (ends_of self.now) range) }
         ensures none { IfNone result (ends_of self.now ≡ []) }

@@ -143,8 +143,8 @@ fn take_alone(
     Ok(())
 }
 
-// Each book that is named is the one that the plain computation names, from each book on. Where they
-// are taken, nothing goes beyond any more. A try answers as the post is answered.
+// Each book that is named is the one that the plain computation names, from each book on. Where
+// they are taken, nothing goes beyond any more. A try answers as the post is answered.
 #[test]
 fn what_is_forwarded_is_within_one_stretch(rt: HostRuntime) -> Result<(), Fail> {
     let alloc = rt.alloc();

@@ -1,6 +1,6 @@
-//! Tests of many books: that each call succeeds with ample memory and at its limits, that series are
-//! spread over the books, that many books answer as one book does, and that what is forwarded of a
-//! series does not go over the edge of a stretch of time.
+//! Tests of many books: that each call succeeds with ample memory and at its limits, that series
+//! are spread over the books, that many books answer as one book does, and that what is forwarded
+//! of a series does not go over the edge of a stretch of time.
 #![tactic(auto)]
 
 #[cfg(test)]

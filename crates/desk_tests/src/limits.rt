@@ -78,8 +78,8 @@ fn a_book_has_ten_thousand_series(rt: HostRuntime) -> Result<(), Fail> {
     Ok(())
 }
 
-// The journal of a book has 65,536 entries, and each post takes two: then its round has to be closed.
-// What is refused for that changes nothing, and takes no more of it.
+// The journal of a book has 65,536 entries, and each post takes two: then its round has to be
+// closed. What is refused for that changes nothing, and takes no more of it.
 #[test]
 fn a_round_has_to_be_closed(rt: HostRuntime) -> Result<(), Fail> {
     let alloc = rt.alloc();

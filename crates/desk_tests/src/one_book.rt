@@ -1,4 +1,5 @@
-//! Worked rows of one post after the other: which book it goes beyond, and the flush of a book alone.
+//! Worked rows of one post after the other: which book it goes beyond, and the flush of a book
+//! alone.
 ghost use Rattle.std.specs.Prelude.{◌<◌};
 
 use crate::bodies::body_of_spans;
