@@ -166,7 +166,7 @@ class Causes:
 
     def settle_letters(self, deed):
         self.sink.mood(["well"])
-        _, body = ask(self.service.operate, "GET", "/dead")
+        _, body = self.service.asked("GET", "/dead")
         for letter in json.loads(body):
             self.service.order(f"/dead/{letter['key']}/{deed}")
 

@@ -70,6 +70,7 @@ fn help_names_each_command_and_option() {
         "data",
         "listen",
         "operate",
+        "operate-tokens",
         "sink",
         "flush-every",
         "durable",

@@ -14,7 +14,6 @@ mod reading;
 mod serve;
 mod settings;
 mod status;
-mod stream;
 mod table;
 mod token;
 mod totals;

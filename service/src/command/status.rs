@@ -5,9 +5,10 @@ use crate::files::Held;
 use crate::operate::{RoundedStatus, SlotStatus, Status, Stock};
 use crate::slot::{NO_ANSWER, NO_ROOM};
 use anyhow::{Context, Result};
+use hyper::Method;
 
 pub fn run(shown: &Shown) -> Result<Vec<u8>> {
-    let body = client::ask(&shown.at.operate, "GET", "/status")?;
+    let body = client::ask(&shown.at, Method::GET, "/status")?;
     if shown.form.json {
         return Ok(with_end(body));
     }

@@ -25,6 +25,15 @@ pub struct Door {
     tokens: Option<Arc<Renewed<Tokens>>>,
 }
 
+/// The file of `--operate-tokens`.
+pub fn operators(path: PathBuf, metrics: &Metrics) -> Result<Arc<Renewed<Tokens>>> {
+    let reader = Reader {
+        read: Box::new(|contents: &[Vec<u8>]| Tokens::read(&contents.concat())?.of_operators()),
+        shut: Tokens::shut,
+    };
+    Renewed::open("--operate-tokens", vec![path], reader, metrics)
+}
+
 impl Door {
     /// Reads the files. The error names what can't be used and says what to do.
     pub fn open(options: &Options, metrics: &Arc<Metrics>) -> Result<Door> {

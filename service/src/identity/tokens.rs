@@ -70,6 +70,18 @@ impl Tokens {
         Ok(tokens)
     }
 
+    /// The same as a file of operators, whose names stand alone.
+    pub fn of_operators(self) -> Result<Tokens, String> {
+        let is_of_senders = |token: &Token| !token.owner.others.is_empty();
+        match self.certified.is_empty() && !self.tokens.iter().any(is_of_senders) {
+            true => Ok(self),
+            false => Err(
+                "it has a line for senders: write `NAME sha256:HEX`, as `totxegun token NAME` prints it"
+                    .into(),
+            ),
+        }
+    }
+
     /// Why nobody has a token, and what to do, where it has no line.
     pub fn shut(&self) -> Option<&'static str> {
         let is_empty = self.tokens.is_empty() && self.certified.is_empty();
@@ -216,6 +228,15 @@ mod tests {
             );
         }
         assert!(Tokens::read(b"\xff").is_err());
+    }
+
+    #[test]
+    fn an_operator_has_a_name_alone() {
+        let of = |text: String| Tokens::read(text.as_bytes()).unwrap().of_operators();
+        assert!(of(format!("ann {OF_ABC}")).is_ok_and(|tokens| tokens.owner(b"abc").is_some()));
+        for text in [format!("ann/bob {OF_ABC}"), "ann/* certificate".to_string()] {
+            assert!(of(text).is_err_and(|why| why.contains("a line for senders")));
+        }
     }
 
     #[test]

@@ -23,7 +23,7 @@ use crate::remarks::Telling;
 use crate::sinks::{Address, Keep};
 use crate::slot::Slot;
 use anyhow::{anyhow, Context};
-use operators::Operators;
+use operators::Readers;
 use parts::Parts;
 use senders::Senders;
 use std::path::PathBuf;
@@ -111,13 +111,14 @@ pub async fn run(settings: Settings) -> Result<(), Ended> {
     let mut signals = Signals::new()?;
     let supervisor = Supervisor::from_environment();
     let senders = Senders::bind(&settings).await?;
-    let operators = Operators::bind(&settings.operate).await?;
+    let readers = Readers::bind(&settings).await?;
     let slot = Arc::new(OnceLock::<Arc<Slot>>::new());
     let begun = slot.clone();
     // Before the files are opened: that may take longer than a supervisor waits.
     let is_ready = move || begun.get().is_some_and(|slot| slot.is_ready());
     let watched = tokio::spawn(supervisor.clone().watch(is_ready));
     let folder = Arc::new(Folder::open(&settings.data, settings.durability)?);
+    let operators = readers.and_socket(&settings.operate).await?;
     let keeping = settings.keeping();
     let ending = async { tracing::info!("{}: ending", signals.received().await) };
     if !adopt::slots(&folder, settings.most_series, &keeping, ending).await? {
@@ -128,7 +129,7 @@ pub async fn run(settings: Settings) -> Result<(), Ended> {
     tracing::info!(folder, sink, "data in {folder}, sink {sink}");
     tracing::info!("{}", settings.door);
     tracing::info!(
-        "senders post to {}, operators ask {}",
+        "senders post to {}, operators {}",
         senders.shown(),
         operators.shown()
     );

@@ -151,6 +151,7 @@ impl Parts {
             heard,
             listen: senders.shown(),
             operate: settings.operate.tcp.clone().unwrap_or_default(),
+            is_local: operators.is_local(),
             data: settings.data.display().to_string(),
             most_series: settings.most_series,
             begun: Instant::now(),
