@@ -71,6 +71,8 @@ fn help_names_each_command_and_option() {
         "listen",
         "operate",
         "operate-tokens",
+        "sender-series",
+        "sender-points",
         "sink",
         "flush-every",
         "durable",

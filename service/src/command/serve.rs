@@ -303,7 +303,7 @@ impl Options {
         operate.tokens = tokens
             .map(|path| identity::operators(path, &metrics))
             .transpose()?;
-        let behind_proxy = self.of_senders.behind_proxy;
+        let (behind_proxy, of_each) = (self.of_senders.behind_proxy, self.of_senders.of_each());
         let door = self.of_senders.door(&metrics)?;
         Ok(Settings {
             data,
@@ -312,6 +312,7 @@ impl Options {
             operate,
             door,
             behind_proxy,
+            of_each,
             sink,
             keep,
             new_sink: self.new_sink,

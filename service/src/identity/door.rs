@@ -77,6 +77,11 @@ impl Door {
         }
     }
 
+    /// The file of `--tokens`.
+    pub fn tokens(&self) -> Option<Arc<Renewed<Tokens>>> {
+        self.tokens.clone()
+    }
+
     /// Whether who posts has to prove who it is.
     pub fn has_names(&self) -> bool {
         self.by_certificate || self.tokens.is_some()

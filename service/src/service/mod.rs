@@ -20,6 +20,7 @@ use crate::keeper::{Settings as Keeping, Trouble};
 use crate::metrics::Metrics;
 use crate::otlp::Reading;
 use crate::remarks::Telling;
+use crate::shares::Share;
 use crate::sinks::{Address, Keep};
 use crate::slot::Slot;
 use anyhow::{anyhow, Context};
@@ -43,6 +44,8 @@ pub struct Settings {
     pub door: Door,
     /// Others may reach these addresses although strangers can post there.
     pub behind_proxy: bool,
+    /// What a sender may have that has no share of its own.
+    pub of_each: Share,
     pub sink: Address,
     /// How long the sink keeps what it has.
     pub keep: Keep,
