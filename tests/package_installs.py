@@ -42,7 +42,6 @@ PLACES = {
     "usr/share/doc/totxegun/FORMATS.md": 0o644,
     "usr/share/doc/totxegun/SECURITY.md": 0o644,
     "usr/share/doc/totxegun/examples/haproxy.cfg": 0o644,
-    "usr/share/doc/totxegun/examples/nginx.conf": 0o644,
     "usr/share/doc/totxegun/examples/alerts.yml": 0o644,
     "usr/share/doc/totxegun/examples/dashboard.json": 0o644,
 }
