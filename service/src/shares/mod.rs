@@ -48,6 +48,13 @@ pub enum Over {
     Series { sender: String, series: u64, most: u64 },
 }
 
+impl Over {
+    /// Whether it is over once others of its series are forgotten.
+    pub fn is_of_series(&self) -> bool {
+        matches!(self, Over::Series { .. })
+    }
+}
+
 impl From<Over> for Outcome {
     fn from(over: Over) -> Outcome {
         Outcome::Later {

@@ -30,7 +30,12 @@ impl Slot {
                 .claim(&read.post.sender, read.points(), || source.text())
             {
                 Ok(claim) => self.put(read, claim),
-                Err(over) => return over.into(),
+                Err(over) => {
+                    if over.is_of_series() {
+                        self.crowded.notify_one();
+                    }
+                    return over.into();
+                }
             },
             Err(refused) => Ok(Journalled::refused(refused, &self.journal)),
         };

@@ -88,6 +88,21 @@ fn a_sender_with_all_of_its_series_gets_no_new_ones() {
     service.has_no_fault();
 }
 
+/// As where there is no room for any: else a share that is used up would stay so.
+#[test]
+fn series_that_nobody_posts_to_make_room_in_a_share() {
+    let place = Place::new();
+    let words = ["--sink", &place.sink(), "--sender-series", "3", "--forget-series", "1s"];
+    let service = place.serve_with(&words);
+    assert_eq!(service.post("A", &body(&names("a", 3), 100)).unwrap().0, 200);
+    let new = || posted(&service, "x-sender: A", &body(&names("b", 1), 100));
+    assert!(new().starts_with("HTTP/1.1 429"));
+    until("there is room", || new().starts_with("HTTP/1.1 200"));
+    service.drain();
+    assert_eq!(place.totals().values().sum::<i64>(), 4);
+    service.has_no_fault();
+}
+
 /// By its line, which is read anew.
 #[test]
 fn a_token_s_line_says_how_much_its_sender_may_have() {
