@@ -39,6 +39,8 @@ SERIES = 20
 # The alert on series fires over so many of them; one book takes 10,000.
 MOST_SERIES, TAKES = 1_000, 10_000
 TOO_MANY = in_json([(f"more.{number}", 10, 20, 1) for number in range(TAKES + 1)])
+# Points a second that a sender may post, and of one post.
+POINTS, MUCH = 100, 3_000
 SHORT = ((r"for: \d+[mh]", "for: 1s"), (r"\[\d+[mhd]\]", "[6s]"), (r"offset 1[hd]", "offset 6s"), (r"> 300", "> 3"),
          (r"> 0\.9", f"> {SERIES / MOST_SERIES}"))
 SCRAPES = """\
@@ -166,7 +168,7 @@ class Causes:
 
     def settle_letters(self, deed):
         self.sink.mood(["well"])
-        _, body = ask(self.service.operate, "GET", "/dead")
+        _, body = self.service.asked("GET", "/dead")
         for letter in json.loads(body):
             self.service.order(f"/dead/{letter['key']}/{deed}")
 
@@ -194,6 +196,12 @@ class Causes:
         headers = {"Content-Type": JSON, "x-sender": "C"}
         return ask(self.service.listen, "POST", "/v1/metrics", TOO_MANY, headers)
 
+    def post_much(self):
+        """Thousands of points of one series."""
+        start = self.time = self.time + 10 * MUCH
+        body = in_json([("much", start + 10 * number, start + 10 * number + 10, 1) for number in range(MUCH)])
+        return ask(self.service.listen, "POST", "/v1/metrics", body, {"Content-Type": JSON, "x-sender": "D"})
+
     def of_senders(self, fill):
         self.sees("NotFlushed", "nothing that flushes", self.post, lambda: self.service.order("/flush"))
         self.sees("ForeignPoints", "a value that is not whole", self.post_foreign, lambda: None)
@@ -213,6 +221,7 @@ class Causes:
         self.sees_repeated("PostsRefused", "another sender of a series", lambda: self.post("B"))
         self.sees_repeated("PostsRefused", "a clock that went back", lambda: self.post("A", start=10**9))
         self.sees_repeated("PostsTurnedAway", "more series than there may be", self.post_too_many)
+        self.sees_repeated("SenderOverShare", "a sender that posts more than it may", self.post_much)
 
 
 def write(path, text):
@@ -254,7 +263,8 @@ def run(checks, program, folder):
     services = [Service(program, f"{folder}/sink", sink.address, *every),
                 Service(program, f"{folder}/senders", f"sqlite:{folder}/senders.db", "--flush-every", "1h",
                         "--forget-series", "1s", *series),
-                Service(program, f"{folder}/refusals", f"sqlite:{folder}/refusals.db", *every, *series)]
+                Service(program, f"{folder}/refusals", f"sqlite:{folder}/refusals.db", *every, *series,
+                        "--sender-points", str(POINTS))]
     with contextlib.ExitStack() as closing:
         closing.callback(sink.close)
         for service in services:

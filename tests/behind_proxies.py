@@ -1,19 +1,20 @@
 #!/usr/bin/env python3
-"""The service behind a real haproxy and a real nginx, by the files of operate/.
+"""The service behind a real haproxy, by operate/haproxy.cfg, and a real nginx, by what docs/OPERATING.md has.
 
     tests/behind_proxies.py TOTXEGUN [haproxy|nginx ..]
 
-Names first: a sender has the name of its certificate or token, whatever name it gives itself, and without one it is
-refused. Then what is hidden, sizes, encodings, HTTP/2. Then senders, half of them by certificates, post on connections that
-they keep and repeat each post until it is answered, while the proxy, the service, and both are killed by `kill -9`. At the
-end the SQLite sink has, series by series, what the senders were told is taken, and each series has the sender that the
-proxy named.
+Names first: the proxy ends TLS, and the service names a sender by its token; another's name is refused, and haproxy wants
+one, since several services share senders by it. Then what is hidden, sizes, encodings, HTTP/2. Then senders post on
+connections that they keep and repeat each post until it is answered, while the proxy, the service, and both are killed by
+`kill -9`. At the end the SQLite sink has, series by series, what the senders were told is taken, and each series has its
+own sender.
 
 It needs haproxy, nginx, curl and openssl. Where one is missing a line says so, and the status is 77. Each other line is one
 check; the last one counts those that passed and failed, and the status is 1 where one failed.
 """
 import contextlib
 import gzip
+import hashlib
 import http.client
 import os
 import re
@@ -26,17 +27,16 @@ from loopback import SECONDS, free_port
 from service import (JSON, PROTOBUF, Sender, Service, SqliteSink, add_points, differences, in_json, in_protobuf,
                      overlaps, told_to_all)
 from service_load import post_meanwhile
-from shipped import end_group, folder, listens, missing, run_script, shipped, started, wait_until
+from shipped import end_group, folder, listens, missing, run_script, shipped, started, wait_until, with_replaced
 
 SENDERS = 6
 LOAD_SECONDS = 15
 LIMIT = 4_194_304
 HIDDEN = ["/", "/flush", "/report", "/metrics", "/status", "/dead", "/quarantine/sender-1", "//flush", "/%66lush",
           "/v1/metrics/../../flush", "/v1/metrics/"]
-# Beside those of the senders, of which every other one has a certificate, and the others tokens.
+# Of whose tokens, beside those of the senders.
 TOKENS = {"t0ken": "by-token"}
-# Of each certificate its subject.
-CERTIFICATES = {"server": "/CN=localhost", "client": "/O=x,CN=other/CN=by-certificate", "nameless": "/CN=no name"}
+PAGE = os.path.join(os.path.dirname(os.path.dirname(os.path.abspath(__file__))), "docs", "OPERATING.md")
 
 
 # --------------------------------------------------------------------------------------------------------------------
@@ -48,33 +48,21 @@ def openssl(at, *words):
 
 
 def make_names(at, senders=SENDERS):
-    """Certificates of the proxy and of clients, and tokens, as the proxies look for them; `stranger` is signed by itself."""
-    certificates = CERTIFICATES | {f"sender-{number}": f"/CN=sender-{number}" for number in range(0, senders, 2)}
-    tokens = TOKENS | {f"t0ken-{number}": f"sender-{number}" for number in range(1, senders, 2)}
+    """The proxy's certificate, and the file of --tokens."""
     key = ["-newkey", "ec", "-pkeyopt", "ec_paramgen_curve:prime256v1", "-nodes"]
-    for name in ("ca", "stranger"):
-        openssl(at, "req", "-x509", *key, "-keyout", f"{name}.key", "-out", f"{name}.pem", "-subj", f"/CN={name}", "-days", "2")
+    openssl(at, "req", "-x509", *key, "-keyout", "ca.key", "-out", "ca.pem", "-subj", "/CN=ca", "-days", "2")
     with open(f"{at}/names", "w") as file:
         file.write("subjectAltName=DNS:localhost,IP:127.0.0.1\n")
-    for name, subject in certificates.items():
-        openssl(at, "req", *key, "-keyout", f"{name}.key", "-out", f"{name}.csr", "-subj", subject)
-        openssl(at, "x509", "-req", "-in", f"{name}.csr", "-CA", "ca.pem", "-CAkey", "ca.key", "-CAcreateserial",
-                "-extfile", "names", "-out", f"{name}.crt", "-days", "2")
-        with open(f"{at}/{name}.pem", "w") as both:
-            for part in ("crt", "key"):
-                with open(f"{at}/{name}.{part}") as file:
-                    both.write(file.read())
-    with open(f"{at}/tokens.map", "w") as file:
-        file.writelines(f"{token} {name}\n" for token, name in tokens.items())
-    with open(f"{at}/tokens.nginx", "w") as file:
-        file.writelines(f'"~^Bearer \\Q{token}\\E$" {name};\n' for token, name in tokens.items())
-
-
-def context(at, certificate=None, key=None):
-    made = ssl.create_default_context(cafile=f"{at}/ca.pem")
-    if certificate:
-        made.load_cert_chain(f"{at}/{certificate}.pem", key and f"{at}/{key}.key")
-    return made
+    openssl(at, "req", *key, "-keyout", "server.key", "-out", "server.csr", "-subj", "/CN=localhost")
+    openssl(at, "x509", "-req", "-in", "server.csr", "-CA", "ca.pem", "-CAkey", "ca.key", "-CAcreateserial", "-extfile", "names",
+            "-out", "server.crt", "-days", "2")
+    with open(f"{at}/server.pem", "w") as both:
+        for part in ("crt", "key"):
+            with open(f"{at}/server.{part}") as file:
+                both.write(file.read())
+    tokens = TOKENS | {f"t0ken-{number}": f"sender-{number}" for number in range(senders)}
+    with open(f"{at}/tokens", "w") as file:
+        file.writelines(f"{name} sha256:{hashlib.sha256(token.encode()).hexdigest()}\n" for token, name in tokens.items())
 
 
 # --------------------------------------------------------------------------------------------------------------------
@@ -82,7 +70,7 @@ def context(at, certificate=None, key=None):
 
 
 class Proxy:
-    """A proxy with a copy of its shipped file, in front of the service. `replaced` is what else is another in the copy."""
+    """A proxy with a copy of its shipped file or the page's part, in front of the service. `replaced` is what else is another."""
 
     def __init__(self, stack, kind, at, listen, replaced=()):
         self.stack, self.kind, self.at = stack, kind, at
@@ -90,19 +78,21 @@ class Proxy:
         self.file = f"{at}/{kind}"
         ports = {":4318": f":{listen}", " 4320 ": f" 127.0.0.1:{self.port} ", ":4320": f"127.0.0.1:{self.port}"}
         ports.pop(":4320" if kind == "nginx" else " 4320 ")
+        text = shipped("haproxy.cfg", {}) if kind == "haproxy" else self.whole(section_of_nginx())
         with open(self.file, "w") as copy:
-            copy.write(shipped({"haproxy": "haproxy.cfg", "nginx": "nginx.conf"}[kind],
-                               {**dict(replaced), **self.own()[kind], **ports, "/etc/totxegun": at}))
+            copy.write(with_replaced(text, {**dict(replaced), **self.own()[kind], **ports, "/etc/totxegun": at}))
         self.process = None
 
     def own(self):
         """Places, and users, which only root can change; the remarks name the ports too."""
-        temporary = "".join(f"    {name}_temp_path {self.at}/{name};\n"
-                            for name in ("client_body", "proxy", "fastcgi", "uwsgi", "scgi"))
         users = {} if os.getuid() == 0 else {"    user haproxy\n": "", "    group haproxy\n": ""}
-        return {"haproxy": {"at port 4320": "", "/run/haproxy": self.at, **users},
-                "nginx": {"at port 4320": "", "/run/nginx.pid": f"{self.at}/pid", "/var/log/nginx": self.at,
-                          "http {\n": "http {\n" + temporary}}
+        return {"haproxy": {"at port 4320": "", "/run/haproxy": self.at, **users}, "nginx": {}}
+
+    def whole(self, section):
+        """What nginx has around it."""
+        temporary = "".join(f"{name}_temp_path {self.at}/{name};\n" for name in ("client_body", "proxy", "fastcgi", "uwsgi", "scgi"))
+        return (f"pid {self.at}/pid;\nerror_log {self.at}/error.log;\nevents {{ worker_connections 4096; }}\n"
+                f"http {{\naccess_log off;\n{temporary}{section}}}\n")
 
     def start(self):
         words = {"haproxy": ["haproxy", "-db", "-f", self.file],
@@ -119,8 +109,14 @@ class Proxy:
         wait_until(lambda: not listens(self.port))
 
 
-def connection(proxy, seconds=SECONDS, **by):
-    return http.client.HTTPSConnection("127.0.0.1", proxy.port, timeout=seconds, context=context(proxy.at, **by))
+def section_of_nginx():
+    with open(PAGE, encoding="utf-8") as file:
+        return re.search(r"^```\n(server \{.*?)^```$", file.read(), re.DOTALL | re.MULTILINE)[1]
+
+
+def connection(proxy, seconds=SECONDS):
+    context = ssl.create_default_context(cafile=f"{proxy.at}/ca.pem")
+    return http.client.HTTPSConnection("127.0.0.1", proxy.port, timeout=seconds, context=context)
 
 
 class Poster:
@@ -130,16 +126,16 @@ class Poster:
         self.proxy = proxy
         self.number = 0
 
-    def __call__(self, token=None, path="/v1/metrics", kind=JSON, pad=0, packed=False, headers=None, **by):
+    def __call__(self, token=None, path="/v1/metrics", kind=JSON, pad=0, packed=False, headers=None, name="by-token"):
         self.number += 1
-        point = (f"by-{token or by.get('certificate')}", 10 * self.number, 10 * self.number + 10, 1)
+        point = (f"by-{token}", 10 * self.number, 10 * self.number + 10, 1)
         body = {JSON: in_json, PROTOBUF: in_protobuf}[kind]([point]) + b" " * pad
-        headers = {"Content-Type": kind, "x-sender": "victim", **(headers or {})}
+        headers = {"Content-Type": kind, **({"x-sender": name} if name else {}), **(headers or {})}
         if token:
             headers["Authorization"] = f"Bearer {token}"
         if packed:
             body, headers["Content-Encoding"] = gzip.compress(body), "gzip"
-        with contextlib.closing(connection(self.proxy, **by)) as client:
+        with contextlib.closing(connection(self.proxy)) as client:
             try:
                 client.request("POST", path, body, headers)
                 return client.getresponse().status
@@ -148,17 +144,15 @@ class Poster:
 
 
 class Client(Sender):
-    """A sender by way of the proxy: with a certificate where its number is even, else with a token."""
+    """A sender by way of the proxy, with its token."""
 
     def __init__(self, service, proxy, number, seed=0, seconds=SECONDS):
         super().__init__(service, number, seed, seconds)
         self.proxy, self.number = proxy, number
 
     def try_once(self, body, headers):
-        by = {} if self.number % 2 else {"certificate": self.name}
-        token = {"Authorization": f"Bearer t0ken-{self.number}"} if self.number % 2 else {}
-        self.connection = self.connection or connection(self.proxy, self.seconds, **by)
-        return super().try_once(body, {**headers, **token, "x-sender": "victim"})
+        self.connection = self.connection or connection(self.proxy, self.seconds)
+        return super().try_once(body, {**headers, "Authorization": f"Bearer t0ken-{self.number}"})
 
 
 # --------------------------------------------------------------------------------------------------------------------
@@ -177,12 +171,11 @@ def names(checks, proxy, service, post):
     checks.same(f"{kind}: no name but its own", 401, post())
     checks.same(f"{kind}: a token of nobody", 401, post("no"))
     checks.same(f"{kind}: a token in other letters", 401, post("T0KEN"))
-    checks.same(f"{kind}: a certificate of no sender", 401, post(certificate="nameless"))
-    checks.same(f"{kind}: that with a token", 401, post("t0ken", certificate="nameless"))
-    checks.true(f"{kind}: a certificate that nobody signed", (found := post("t0ken", certificate="stranger", key="stranger")) != 200, found)
+    checks.same(f"{kind}: another's name", 403, post("t0ken", name="victim"))
+    # Of several services none is that of who names nobody.
+    checks.same(f"{kind}: no name beside a token", 401 if kind == "haproxy" else 200, post("t0ken", name=None))
     checks.same(f"{kind}: a token", 200, post("t0ken"))
-    checks.same(f"{kind}: a certificate", 200, post(certificate="client"))
-    checks.same(f"{kind}: whose these series are", {"by-t0ken": "by-token", "by-client": "by-certificate"}, owners(service))
+    checks.same(f"{kind}: whose these series are", {"by-t0ken": "by-token"}, owners(service))
 
 
 def encodings(checks, proxy, post):
@@ -218,6 +211,7 @@ def curl(proxy, token, *words):
     run = subprocess.run(
         ["curl", "-s", "-m", str(SECONDS), "-o", "/dev/null", "-w", "%{http_code} %{http_version}",
          "--cacert", f"{proxy.at}/ca.pem", "-H", "Content-Type: application/json", "-H", f"Authorization: Bearer {token}",
+         "-H", "x-sender: by-token",
          *words, f"https://localhost:{proxy.port}/v1/metrics"],
         capture_output=True, text=True, timeout=2 * SECONDS, check=False)
     return run.stdout
@@ -257,7 +251,7 @@ def under_load(checks, proxy, service, sink):
     add_points(found, points)
     checks.same(f"{kind}: the sink has what the senders were told, {len(wanted)} series", [], differences(wanted, found))
     checks.same(f"{kind}: no spans of a series overlap at the sink", [], overlaps(points))
-    checks.same(f"{kind}: each series has the sender that the proxy named", {name: name.partition(".")[0] for name in told_to_all(clients)},
+    checks.same(f"{kind}: each series has its own sender", {name: name.partition(".")[0] for name in told_to_all(clients)},
                 {name: owner for name, owner in owners(service).items() if not name.startswith("by-")})
     print(f"note: {kind}: {sum(it.posts for it in clients)} posts, {sum(it.repeats for it in clients)} repeats", flush=True)
 
@@ -267,7 +261,7 @@ def behind(totxegun, checks, kind):
         at = folder(stack)
         make_names(at)
         sink = SqliteSink(f"{at}/sink.db")
-        service = Service(totxegun, f"{at}/data", sink.address, "--flush-every", "1s")
+        service = Service(totxegun, f"{at}/data", sink.address, "--flush-every", "1s", "--tokens", f"{at}/tokens")
         stack.callback(service.kill)
         service.start()
         checks.true(f"{kind}: the service is ready", service.wait_ready(), service.last_lines())

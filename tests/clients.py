@@ -159,7 +159,7 @@ def compare_rounding(checks, totxegun, service, ways, found):
     checks.same("the metric has the most", max(order), greatest)
     checks.true("no total is further from the truth", all(abs(found[way.series] - way.exact) <= way.rounded_by for way in ways),
                 [(way.series, way.exact, way.rounded_by, found[way.series]) for way in ways])
-    text = subprocess.run([totxegun, "status", "--operate", f"127.0.0.1:{service.operate}"], stdout=subprocess.PIPE, text=True,
+    text = subprocess.run([totxegun, "status", "--data", service.data], stdout=subprocess.PIPE, text=True,
                           check=False).stdout
     checks.true("totxegun status shows them", all(re.search(rf"(?m)^\d+\.\d{{3}} us +\d+ +{way.series}\b", text) for way in ways), text)
 

@@ -42,7 +42,6 @@ PLACES = {
     "usr/share/doc/totxegun/FORMATS.md": 0o644,
     "usr/share/doc/totxegun/SECURITY.md": 0o644,
     "usr/share/doc/totxegun/examples/haproxy.cfg": 0o644,
-    "usr/share/doc/totxegun/examples/nginx.conf": 0o644,
     "usr/share/doc/totxegun/examples/alerts.yml": 0o644,
     "usr/share/doc/totxegun/examples/dashboard.json": 0o644,
 }
@@ -121,7 +120,7 @@ def serve(checks, what, root, folder, settings):
         headers = {"Content-Type": "application/json", "x-sender": "A"}
         checks.same(f"{what}: a point is taken", 200, ask(listen, "POST", "/v1/metrics", body.encode(), headers)[0])
         program = f"{root}/usr/bin/totxegun"
-        at = ["--operate", f"127.0.0.1:{operate}"]
+        at = ["--data", f"{folder}/totxegun"]
         checks.same(f"{what}: a flush", (0, "done: 1 request went into the outbox\n"), ran([program, "flush", *at]))
         is_there = wait_until(lambda: '"total":"5"' in ran([program, "totals", "--json", *at])[1].replace(" ", "").replace(
             '"total":5', '"total":"5"'), 20)

@@ -202,7 +202,7 @@ class Served:
         self.service.start()
         if not self.service.wait_ready():
             raise OSError(f"the service is not ready: {self.service.last_lines()}")
-        self.orders, self.connection = self.service.operate, None
+        self.orders, self.connection = self.service.socket, None
 
     def post(self, body, headers):
         if self.connection is None:

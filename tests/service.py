@@ -8,6 +8,7 @@ import json
 import os
 import random
 import signal
+import socket
 import sqlite3
 import struct
 import subprocess
@@ -26,9 +27,22 @@ OUT_OF_ORDER = b"out of order"
 AGAIN = (403, 429, 502, 503, 504)
 
 
+class AtSocket(http.client.HTTPConnection):
+    """A connection to a socket of this machine."""
+
+    def __init__(self, path, seconds=20):
+        super().__init__("localhost", timeout=seconds)
+        self.path = path
+
+    def connect(self):
+        self.sock = socket.socket(socket.AF_UNIX)
+        self.sock.settimeout(self.timeout)
+        self.sock.connect(self.path)
+
+
 def ask(port, method, path, body=b"", headers=None, seconds=20, host="127.0.0.1"):
-    """The status and the body of an answer, or (None, why)."""
-    connection = http.client.HTTPConnection(host, port, timeout=seconds)
+    """The status and the body of an answer, or (None, why). In the place of a port there may be a socket's path."""
+    connection = AtSocket(port, seconds) if isinstance(port, str) else http.client.HTTPConnection(host, port, timeout=seconds)
     try:
         connection.request(method, path, body, headers or {})
         answer = connection.getresponse()
@@ -76,6 +90,8 @@ class Service:
         # Points of these tests end in 1970. An earlier version knows no such setting.
         self.settings = {} if sink.startswith("http") else {"TOTXEGUN_KEEP_SPANS": "forever"}
         self.log = f"{data}.log"
+        elsewhere = [word.removeprefix("unix:") for word in options if word.startswith("unix:")]
+        self.data, self.socket = data, [*elsewhere, f"{data}/operate"][0]
         self.process = None
 
     def start(self, environment=None):
@@ -87,8 +103,10 @@ class Service:
         return self.process is not None and self.process.poll() is None
 
     def asked(self, method, path, seconds=20):
-        """What the operator's address answers."""
-        return ask(self.operate, method, path, seconds=seconds, host=self.host)
+        """What the operators' addresses answer, of which the socket takes orders. 0.5.0 has none."""
+        is_order = method == "POST" or path.startswith("/dead")
+        at = self.socket if is_order and os.path.exists(self.socket) else self.operate
+        return ask(at, method, path, seconds=seconds, host=self.host)
 
     def is_ready(self):
         return self.asked("GET", "/ready", 2)[0] == 200

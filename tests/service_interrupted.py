@@ -37,7 +37,7 @@ import tempfile
 import threading
 import time
 
-from service import OUT_OF_ORDER, Sender, Service, SqliteSink, add_points, ask, differences, overlaps, told_to_all, wait_until
+from service import OUT_OF_ORDER, Sender, Service, SqliteSink, add_points, differences, overlaps, told_to_all, wait_until
 
 HERE = os.path.dirname(os.path.abspath(__file__))
 WAYS = ("before", "middle", "behind", "ENOSPC", "EIO", "cut", "torn", "twice", "late", "held")
@@ -156,7 +156,8 @@ class Run:
         os.mkdir(self.shadow)
         self.sink = SqliteSink(f"{folder}/sink.db")
         durable = "process" if adopts and way not in POWER else "disk"
-        self.service = Service(program, self.data, self.sink.address, "--durable", durable, "--flush-every", "1h")
+        self.service = Service(program, self.data, self.sink.address, "--durable", durable, "--flush-every", "1h",
+                               "--operate", f"unix:{folder}/operate")
         self.senders = {name: Sender(self.service, name, seconds=5) for name in SENDERS}
         self.library = library
         # The call at which each start is interrupted; later starts are without the library.
@@ -225,7 +226,7 @@ class Run:
 
     def order(self, step):
         while True:
-            status, text = ask(self.service.operate, "POST", step, seconds=10)
+            status, text = self.service.asked("POST", step, seconds=10)
             if status == 200 or (status == 400 and b"quarantined" in text):
                 return
             if status not in (None, 503):

@@ -32,7 +32,7 @@ from contextlib import nullcontext
 
 from checks import Checks
 from own_disk import OwnDisk
-from service import (AGAIN, JSON, OUT_OF_ORDER, OtlpSink, Sender, Service, SqliteSink, add_points, ask, differences, in_json,
+from service import (AGAIN, JSON, OUT_OF_ORDER, OtlpSink, Sender, Service, SqliteSink, add_points, differences, in_json,
                      overlaps, told_to_all, wait_until)
 
 SENDERS = 6
@@ -198,7 +198,7 @@ def load(checks, what, service, sink, seconds, seed, most_series, disk):
 
 def letters(service):
     """The keys of what the sink has refused, or nothing where the service does not say."""
-    status, body = ask(service.operate, "GET", "/dead")
+    status, body = service.asked("GET", "/dead")
     return [letter["key"] for letter in json.loads(body)] if status == 200 else None
 
 

@@ -110,10 +110,13 @@ def gateway_at(stack, program, backend, *options):
 def shipped(name, replaced):
     """The text of a file of operate/ with these words replaced, each of which it has to have."""
     with open(f"{OPERATE}/{name}") as file:
-        text = file.read()
+        return with_replaced(file.read(), replaced)
+
+
+def with_replaced(text, replaced):
     for old, new in replaced.items():
         if old not in text:
-            raise OSError(f"operate/{name} has no {old}")
+            raise OSError(f"there is no {old} in {text[:60]!r}")
         text = text.replace(old, new)
     return text
 

@@ -282,8 +282,8 @@ class Operator:
         machine, self.count = self.spare.pop(), self.count + 1
         machine.plug("up")
         data = data or f"{self.at}/data-{self.count}"
-        service = Service(self.program, data, self.sinks.address(data), "--flush-every", "1s", host=machine.address,
-                          ports=(4318, 4319), before=["ip", "netns", "exec", machine.name])
+        service = Service(self.program, data, self.sinks.address(data), "--flush-every", "1s", "--tokens", f"{self.at}/tokens",
+                          host=machine.address, ports=(4318, 4319), before=["ip", "netns", "exec", machine.name])
         service.machine, service.data = machine, data
         self.sinks.folders.add(data)
         self.stack.callback(service.kill)

@@ -71,6 +71,8 @@ SERVICE_STEPS = (
     ("protobuf_bodies.py", [], 40),
     ("sdk_go.py", ["8"], 60),
     ("tls.py", ["8"], 90),
+    ("two_networks.py", ["4"], 40),
+    ("web_pages.py", [], 40),
     ("grpc_calls.py", [], 30),
     ("clients.py", [], 30),
     ("unit_tasks.py", [], 5),

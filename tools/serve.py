@@ -3,7 +3,7 @@
 
     tools/serve.py [PORT]
 
-Senders post to 127.0.0.1, port 4318 or PORT; operators ask at the port after it. What was taken is kept in
+Senders post to 127.0.0.1, port 4318 or PORT; operators read at the port after it. What was taken is kept in
 out/serve/data over runs. An interrupt ends the service.
 
 The book inside is proved and built by tools/build.py, which shows what it does and what is left; what is built and has not
@@ -23,11 +23,11 @@ PORT = 4318
 FOLDER = f"{OUT}/serve"
 LIBRARY = f"{ROOT}/crates/book_c/out/libbook_c.a"
 TRY = """
-Senders post to 127.0.0.1:{port}, operators ask at 127.0.0.1:{operate}. Post a point, flush, and see the totals:
+Senders post to 127.0.0.1:{port}, a browser reads at 127.0.0.1:{operate}. Post a point, flush, and see the totals:
 
   curl -w '\\n' -H 'Content-Type: application/json' -H 'x-sender: A' -d '{body}' http://127.0.0.1:{port}/v1/metrics
-  {totxegun} flush{at}
-  {totxegun} totals{at}
+  {totxegun} flush --data {data}
+  {totxegun} totals --data {data}
 
 The next point of this series begins where this one ends, or later. `{totxegun} --help` shows what else there is.
 What was taken is in {data}: it is there after a kill, and in the next run. Ctrl-C ends the service.
@@ -97,10 +97,9 @@ def serve(program, port):
         while service.poll() is None and not listens(port):
             time.sleep(0.1)
         if service.poll() is None:
-            at = "" if port == PORT else f" --operate 127.0.0.1:{port + 1}"
             show = os.path.relpath(program)
             data = os.path.relpath(f"{FOLDER}/data")
-            print(TRY.format(port=port, operate=port + 1, body=body(), totxegun=show, at=at, data=data), flush=True)
+            print(TRY.format(port=port, operate=port + 1, body=body(), totxegun=show, data=data), flush=True)
         return service.wait()
     except KeyboardInterrupt:
         service.terminate()

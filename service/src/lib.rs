@@ -2,7 +2,7 @@
 //!
 //! Senders post to `intake`, or call `grpc`, which read their request by `otlp` and give it to the `slot`: the book (`core`)
 //! with its journal and outbox (`files`). A `keeper` fills the book at the start, and flushes it. What was flushed
-//! is delivered to one of the `sinks`. `remarks` tells in the log what an operator may want to know of posts.
+//! is delivered to one of the `sinks`. `shares` is what each sender may have, `remarks` tells in the log what an operator may want to know of posts.
 //! `operate` is the operator's address, `command` the command line, `service` all of it as one process, `log` what it says;
 //! `switch` tells a part of it to stop, `work` is done beside the runtime.
 
@@ -34,6 +34,7 @@ pub mod otlp;
 pub mod remarks;
 pub mod renewed;
 pub mod service;
+pub mod shares;
 pub mod sinks;
 pub mod slot;
 pub mod switch;

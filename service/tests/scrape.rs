@@ -2,7 +2,7 @@
 
 use std::io::{Read, Write};
 use std::net::{TcpListener, TcpStream};
-use std::path::Path;
+use std::path::{Path, PathBuf};
 use std::process::{Child, Command, Stdio};
 use std::time::{Duration, Instant};
 
@@ -13,6 +13,7 @@ struct Service {
     child: Child,
     listen: String,
     operate: String,
+    data: PathBuf,
 }
 
 impl Drop for Service {
@@ -41,6 +42,7 @@ fn serve(data: &Path, sink: &[&str]) -> Service {
         child,
         listen,
         operate,
+        data: data.to_path_buf(),
     };
     let begun = Instant::now();
     while !matches!(asked(&service.operate, "GET", "/ready", ""), Some((200, _))) {
@@ -77,8 +79,14 @@ impl Service {
         assert_eq!(answer, (200, "{}".into()));
     }
 
-    fn order(&self, path: &str) {
-        assert_eq!(asked(&self.operate, "POST", path, "").unwrap().0, 200);
+    fn told(&self, words: &[&str]) -> std::process::Output {
+        let mut command = Command::new(env!("CARGO_BIN_EXE_totxegun"));
+        command.args(words).arg("--data").arg(&self.data);
+        command.env_remove("TOTXEGUN_SINK").output().unwrap()
+    }
+
+    fn order(&self, word: &str) {
+        assert!(self.told(&[word]).status.success());
     }
 
     /// The page's value, once the sink has all that was forwarded: it is what `totxegun totals` says.
@@ -97,11 +105,7 @@ impl Service {
         assert_eq!(status, 200, "{page}");
         let line = page.lines().find(|line| line.starts_with("orders_total "));
         let found = line.unwrap().rsplit(' ').next().unwrap().to_string();
-        let shown = Command::new(env!("CARGO_BIN_EXE_totxegun"))
-            .args(["totals", "--json", "--operate", &self.operate])
-            .env_remove("TOTXEGUN_SINK")
-            .output()
-            .unwrap();
+        let shown = self.told(&["totals", "--json"]);
         let shown: serde_json::Value = serde_json::from_slice(&shown.stdout).unwrap();
         let shown = shown[0]["total"].to_string();
         assert_eq!(shown.trim_matches('"'), found);
@@ -115,16 +119,16 @@ fn a_scrape_has_the_totals_over_a_kill_and_a_restart() {
     let data = folder.path().join("data");
     let service = serve(&data, &[]);
     service.post(20, LARGE);
-    service.order("/flush");
+    service.order("flush");
     assert_eq!(service.total(), "4611686018427387905");
     service.post(30, LARGE);
-    service.order("/flush");
+    service.order("flush");
     assert_eq!(service.total(), "9223372036854775810");
     service.post(40, 5);
     drop(service); // killed: the journal has the last post
     let service = serve(&data, &[]);
     assert_eq!(service.total(), "9223372036854775810");
-    service.order("/flush");
+    service.order("flush");
     assert_eq!(service.total(), "9223372036854775815");
 }
 

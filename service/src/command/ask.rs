@@ -1,23 +1,53 @@
 //! Orders to the running service: flush, quarantine, lift.
 
-use super::values::{counted, one_operator};
+use super::values::{counted, operator, orders_at, SOCKET};
 use super::{client, line, Form};
 use crate::slot::is_sender;
 use anyhow::{Context, Result};
 use clap::Args;
+use hyper::Method;
+use std::path::PathBuf;
 
 /// Where the running service is asked.
 #[derive(Args, Clone, Debug)]
 pub struct Address {
-    /// The operator's address of the running service: HOST:PORT, or unix:PATH
+    /// The running service's folder: in it is the socket that takes orders
     #[arg(
         long,
-        env = "TOTXEGUN_OPERATE",
-        value_name = "ADDRESS",
-        default_value = "127.0.0.1:4319",
-        value_parser = one_operator
+        env = "TOTXEGUN_DATA",
+        value_name = "DIR",
+        default_value = "/var/lib/totxegun"
     )]
-    pub operate: String,
+    data: PathBuf,
+    /// Where to ask in its place: unix:PATH, or HOST:PORT, which takes orders with --token alone. Of the variable TOTXEGUN_OPERATE, as the service has it, only a socket counts
+    #[arg(long, value_name = "ADDRESS", value_parser = operator)]
+    operate: Option<String>,
+    /// A file that has an operator's token, for HOST:PORT
+    #[arg(long, value_name = "FILE")]
+    token: Option<PathBuf>,
+}
+
+impl Address {
+    /// The address: `HOST:PORT`, or `unix:PATH`.
+    pub fn place(&self) -> String {
+        if let Some(given) = &self.operate {
+            return given.clone();
+        }
+        let of_service = std::env::var("TOTXEGUN_OPERATE").unwrap_or_default();
+        format!(
+            "{SOCKET}{}",
+            orders_at(of_service.split(','), &self.data).display()
+        )
+    }
+
+    pub fn token(&self) -> Result<Option<String>> {
+        let read = |path: &PathBuf| {
+            let text = std::fs::read_to_string(path);
+            text.with_context(|| format!("--token {} can't be read", path.display()))
+        };
+        let text = self.token.as_ref().map(read).transpose()?;
+        Ok(text.map(|text| text.trim().to_string()))
+    }
 }
 
 #[derive(Args)]
@@ -46,16 +76,16 @@ fn sender(text: &str) -> Result<String, String> {
 
 /// Gives an order.
 pub fn order(at: &Address, path: &str) -> Result<Vec<u8>> {
-    client::ask(&at.operate, "POST", path)?;
+    client::ask(at, Method::POST, path)?;
     Ok(line("done"))
 }
 
 /// Gives an order that flushes, and says what came of it.
 pub fn flush(at: &Address, path: &str) -> Result<Vec<u8>> {
-    let body = client::ask(&at.operate, "POST", path)?;
+    let body = client::ask(at, Method::POST, path)?;
     let read: serde_json::Value = serde_json::from_slice(&body).unwrap_or_default();
     let requests = read["requests"].as_u64();
-    Ok(match requests.with_context(|| client::another(&at.operate))? {
+    Ok(match requests.with_context(|| client::another(&at.place()))? {
         0 => line("done: there was nothing to put into the outbox"),
         requests => line(format_args!(
             "done: {} went into the outbox",

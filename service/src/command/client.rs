@@ -1,155 +1,178 @@
-//! Asks the running service at its operator's address.
+//! Asks the running service at its operators' addresses.
 
-use super::stream::Stream;
+use super::ask::Address;
+use super::values::SOCKET;
 use crate::log::all_shown;
 use anyhow::{anyhow, bail, Context, Result};
-use std::io::{Error, ErrorKind, Read, Write};
-use std::time::{Duration, Instant};
+use hyper::body::HttpBody;
+use hyper::client::conn;
+use hyper::header::{AUTHORIZATION, CONTENT_TYPE, HOST};
+use hyper::{Body, Method, Request, Response};
+use std::future::Future;
+use std::io;
+use std::pin::pin;
+use std::time::Duration;
+use tokio::io::{AsyncRead, AsyncWrite};
+use tokio::net::{TcpStream, UnixStream};
+use tokio::time::timeout;
 
 /// A flush of many series, or a sink that takes its time.
 const ANSWER: Duration = Duration::from_secs(120);
 /// When somebody is told that there is no answer yet.
 const SOON: Duration = Duration::from_secs(3);
+const CONNECT: Duration = Duration::from_secs(5);
 
-/// What who listens says of a path that it does not have: an operator's address has all that are asked for here.
+/// What who listens says of a path that it does not have: an operators' address has all that are asked for here.
 const NO_PATH: &str = "no such path";
 
 /// Of an answer that is not as this program reads it.
 pub const OTHER_VERSION: &str = "the running service is of another version: ask it by its own totxegun";
 
 /// What is read of an answer at most.
-const MOST: u64 = 256 << 20;
+const MOST: usize = 256 << 20;
 
 #[derive(Debug)]
-pub struct Reply {
-    pub status: u16,
-    pub is_json: bool,
-    pub body: Vec<u8>,
+struct Reply {
+    status: u16,
+    is_json: bool,
+    body: Vec<u8>,
 }
 
 /// Asks, and returns the answer's body where its status is 200, else its message. All that is asked for is JSON.
-pub fn ask(address: &str, method: &str, path: &str) -> Result<Vec<u8>> {
-    let reply = reply(address, method, path, ANSWER)?;
+pub fn ask(at: &Address, method: Method, path: &str) -> Result<Vec<u8>> {
+    let place = at.place();
+    let reply = reply(&place, at.token()?, method, path, ANSWER)?;
     match reply.status {
-        _ if !reply.is_json => bail!(another(address)),
+        _ if !reply.is_json => bail!(another(&place)),
         200 => Ok(reply.body),
         status => match message(&reply.body) {
-            said if said == NO_PATH => bail!(another(address)),
-            said => bail!("the service at {address} answered {status}: {said}"),
+            said if said == NO_PATH => bail!(another(&place)),
+            said => bail!("the service at {place} answered {status}: {said}"),
         },
     }
 }
 
-fn reply(address: &str, method: &str, path: &str, patience: Duration) -> Result<Reply> {
-    let mut stream = Stream::connect(address).with_context(|| {
-        format!("no service answers at {address}: start it, or give its operator's address by --operate")
-    })?;
-    // By its number: a name that it does not know of itself is one that a page may have given it.
-    let host = stream.host().unwrap_or_else(|| address.to_string());
-    let request =
-        format!("{method} {path} HTTP/1.1\r\nHost: {host}\r\nContent-Length: 0\r\nConnection: close\r\n\r\n");
-    stream
-        .write_all(request.as_bytes())
-        .with_context(|| format!("the service at {address} is gone"))?;
-    let bytes = answer(stream, patience, || {
-        crate::complain(format_args!(
-            "{address} has not answered yet: `totxegun status` and the log say what it waits for"
-        ));
-    });
-    let bytes = bytes.map_err(|error| unanswered(address, method, patience, error))?;
-    if bytes.is_empty() {
-        bail!("{address} ended the connection without an answer: the log of the service says why");
+fn reply(
+    place: &str,
+    token: Option<String>,
+    method: Method,
+    path: &str,
+    patience: Duration,
+) -> Result<Reply> {
+    let mut request = Request::builder().method(&method).uri(path);
+    if let Some(token) = token {
+        request = request.header(AUTHORIZATION, format!("Bearer {token}"));
     }
-    parsed(&bytes).with_context(|| another(address))
+    let request = request.body(Body::empty()).context("no request can be made")?;
+    let asking = async {
+        let answered = within(patience, place, asked(place, request)).await;
+        answered.unwrap_or_else(|| Err(late(place, &method, patience)))
+    };
+    let runtime = tokio::runtime::Builder::new_current_thread().enable_all().build();
+    runtime.context("no connection can be made")?.block_on(asking)
+}
+
+/// What comes in time. Who waits is told so once: an order waits until the book is filled.
+async fn within<T>(patience: Duration, place: &str, asking: impl Future<Output = T>) -> Option<T> {
+    let (mut asking, soon) = (pin!(asking), patience.min(SOON));
+    if let Ok(answered) = timeout(soon, &mut asking).await {
+        return Some(answered);
+    }
+    if soon < patience {
+        crate::complain(format_args!(
+            "{place} has not answered yet: `totxegun status` and the log say what it waits for"
+        ));
+    }
+    timeout(patience - soon, asking).await.ok()
+}
+
+async fn asked(place: &str, request: Request<Body>) -> Result<Reply> {
+    match place.strip_prefix(SOCKET) {
+        Some(path) => {
+            let stream = UnixStream::connect(path).await;
+            let stream = stream.map_err(|error| unreachable(place, error))?;
+            answered(place, stream, "localhost".to_string(), request).await
+        }
+        None => {
+            let stream = timeout(CONNECT, TcpStream::connect(place)).await;
+            let stream = stream.unwrap_or_else(|_| Err(io::ErrorKind::TimedOut.into()));
+            let stream = stream.map_err(|error| unreachable(place, error))?;
+            // By its number: a name that it does not know of itself is one that a page may have given it.
+            let host = stream.peer_addr()?.to_string();
+            answered(place, stream, host, request).await
+        }
+    }
+}
+
+/// Why there is no connection, and what to do.
+fn unreachable(place: &str, error: io::Error) -> anyhow::Error {
+    let what = match error.kind() {
+        io::ErrorKind::PermissionDenied => {
+            format!("{place} is closed to this user: run this as root (sudo), or as a user of the socket's group")
+        }
+        io::ErrorKind::NotFound => {
+            format!("there is no {place}: start the service, give its folder by --data, or its operators' address by --operate")
+        }
+        _ => format!(
+            "no service answers at {place}: start it, give its folder by --data, or its operators' address by --operate"
+        ),
+    };
+    anyhow::Error::new(error).context(what)
+}
+
+async fn answered<S>(place: &str, stream: S, host: String, mut request: Request<Body>) -> Result<Reply>
+where
+    S: AsyncRead + AsyncWrite + Unpin + Send + 'static,
+{
+    request.headers_mut().insert(HOST, host.parse()?);
+    let (mut sender, connection) = conn::handshake(stream).await?;
+    tokio::spawn(connection); // what is wrong with it the answer says
+    match sender.send_request(request).await {
+        Ok(response) => read(place, response).await,
+        Err(error) if error.is_parse() => bail!(another(place)),
+        Err(error) if error.is_incomplete_message() || error.is_canceled() || error.is_closed() => {
+            bail!("{place} ended the connection without an answer: the log of the service says why")
+        }
+        Err(error) => Err(part(place, error)),
+    }
+}
+
+async fn read(place: &str, response: Response<Body>) -> Result<Reply> {
+    let (head, mut body) = response.into_parts();
+    let kind = head.headers.get(CONTENT_TYPE).and_then(|kind| kind.to_str().ok());
+    let mut bytes = Vec::new();
+    while let Some(more) = body.data().await {
+        bytes.extend_from_slice(&more.map_err(|error| part(place, error))?);
+        if bytes.len() > MOST {
+            bail!(another(place));
+        }
+    }
+    Ok(Reply {
+        status: head.status.as_u16(),
+        is_json: kind.is_some_and(|kind| kind.starts_with("application/json")),
+        body: bytes,
+    })
+}
+
+fn part(place: &str, error: hyper::Error) -> anyhow::Error {
+    anyhow!("the service at {place} did not answer whole: {error}")
 }
 
 /// What is said of somebody else who listens there, such as the service to its senders.
-pub fn another(address: &str) -> String {
-    format!("what listens at {address} is no operator's address of totxegun: give that by --operate")
+pub fn another(place: &str) -> String {
+    format!("what listens at {place} is no operators' address of totxegun: give that by --operate")
 }
 
-/// What comes until the connection ends. Who waits is told so once: an order waits until the book is filled.
-fn answer(stream: Stream, patience: Duration, tell: impl FnOnce()) -> std::io::Result<Vec<u8>> {
-    let begun = Instant::now();
-    let soon = patience.min(SOON);
-    let mut bytes = Vec::new();
-    if ends_until(&stream, begun + soon, &mut bytes)? {
-        return Ok(bytes);
-    }
-    if soon < patience {
-        tell();
-        if ends_until(&stream, begun + patience, &mut bytes)? {
-            return Ok(bytes);
-        }
-    }
-    Err(ErrorKind::TimedOut.into())
-}
-
-/// Reads, and says whether the connection has ended until then: also one on which a little comes again and again.
-fn ends_until(mut stream: &Stream, until: Instant, bytes: &mut Vec<u8>) -> std::io::Result<bool> {
-    let mut part = [0; 1 << 14];
-    while (bytes.len() as u64) < MOST {
-        let left = until.saturating_duration_since(Instant::now());
-        if left.is_zero() {
-            return Ok(false);
-        }
-        stream.set_read_timeout(Some(left))?;
-        match stream.read(&mut part) {
-            Ok(0) => return Ok(true),
-            Ok(length) => bytes.extend_from_slice(&part[..length]),
-            Err(error) if is_late(error.kind()) => return Ok(false),
-            Err(error) if error.kind() == ErrorKind::Interrupted => {}
-            Err(error) => return Err(error),
-        }
-    }
-    Ok(true)
-}
-
-fn is_late(kind: ErrorKind) -> bool {
-    matches!(kind, ErrorKind::WouldBlock | ErrorKind::TimedOut)
-}
-
-/// Why there is no whole answer. An order goes on in the service though nobody waits for it.
-fn unanswered(address: &str, method: &str, patience: Duration, error: Error) -> anyhow::Error {
+/// Why there is no answer. An order goes on in the service though nobody waits for it.
+fn late(place: &str, method: &Method, patience: Duration) -> anyhow::Error {
     let seconds = patience.as_secs();
-    match (is_late(error.kind()), method) {
-        (true, "POST") => anyhow!(
-            "the service at {address} did not answer in {seconds} seconds. It goes on with the order: \
+    match *method {
+        Method::POST => anyhow!(
+            "the service at {place} did not answer in {seconds} seconds. It goes on with the order: \
              `totxegun status` shows how it is"
         ),
-        (true, _) => {
-            anyhow!("the service at {address} did not answer in {seconds} seconds: ask again")
-        }
-        _ => anyhow!("the service at {address} did not answer whole: {error}"),
+        _ => anyhow!("the service at {place} did not answer in {seconds} seconds: ask again"),
     }
-}
-
-/// An answer that ends with its connection, and says how long it is.
-fn parsed(bytes: &[u8]) -> Result<Reply> {
-    let end = bytes
-        .windows(4)
-        .position(|four| four == b"\r\n\r\n")
-        .context("there is no whole head")?;
-    let head = std::str::from_utf8(&bytes[..end])?;
-    let status = head
-        .strip_prefix("HTTP/1.1 ")
-        .and_then(|rest| rest.get(..3)?.parse().ok());
-    let field = |wanted: &str| {
-        let fields = head.split("\r\n").filter_map(|line| line.split_once(':'));
-        let mut found = fields.filter(|(name, _)| name.eq_ignore_ascii_case(wanted));
-        found.next().map(|(_, value)| value.trim())
-    };
-    let length: Option<usize> = field("content-length").and_then(|length| length.parse().ok());
-    let length = length.context("the answer does not say its length")?;
-    let body = &bytes[end + 4..];
-    if body.len() != length {
-        bail!("the answer has {} of {length} bytes", body.len());
-    }
-    Ok(Reply {
-        status: status.context("the answer has no status")?,
-        is_json: field("content-type").is_some_and(|kind| kind.starts_with("application/json")),
-        body: body.to_vec(),
-    })
 }
 
 fn message(body: &[u8]) -> String {
@@ -164,121 +187,142 @@ fn message(body: &[u8]) -> String {
 #[cfg(test)]
 mod tests {
     use super::*;
-    use std::net::TcpStream;
+    use std::io::{Read, Write};
+    use std::net::TcpListener;
+    use std::time::Instant;
+
+    fn get(place: &str, patience: Duration) -> Result<Reply> {
+        reply(place, None, Method::GET, "/status", patience)
+    }
+
+    /// The address of somebody who answers one request so.
+    fn answers(answer: impl FnOnce(&mut std::net::TcpStream) + Send + 'static) -> String {
+        let listener = TcpListener::bind("127.0.0.1:0").unwrap();
+        let place = listener.local_addr().unwrap().to_string();
+        std::thread::spawn(move || {
+            let (mut stream, _) = listener.accept().unwrap();
+            let mut request = Vec::new();
+            while !request.ends_with(b"\r\n\r\n") {
+                let mut one = [0];
+                stream.read_exact(&mut one).unwrap();
+                request.extend(one);
+            }
+            answer(&mut stream);
+        });
+        place
+    }
+
+    fn writes(bytes: &'static [u8]) -> String {
+        answers(move |stream| stream.write_all(bytes).unwrap())
+    }
 
     #[test]
-    fn an_answer_is_read_whole_or_not() -> Result<()> {
-        let reply = parsed(b"HTTP/1.1 503 Service Unavailable\r\nContent-Length: 2\r\n\r\n{}")?;
+    fn an_answer_is_read_whole_or_not() {
+        let busy = b"HTTP/1.1 503 Service Unavailable\r\nContent-Length: 2\r\n\r\n{}";
+        let reply = get(&writes(busy), ANSWER).unwrap();
         assert_eq!(
-            (reply.status, reply.is_json, reply.body.as_slice()),
+            (reply.status, reply.is_json, &reply.body[..]),
             (503, false, &b"{}"[..])
         );
-        let reply =
-            parsed(b"HTTP/1.1 200 OK\r\ncontent-type: application/json\r\ncontent-length: 0\r\n\r\n")?;
-        assert!(reply.is_json);
-        for bytes in [
-            &b""[..],
-            b"HTTP/1.1 200 OK\r\ncontent-length: 2\r\n\r\n{",
-            b"HTTP/1.1 200 OK\r\n\r\n",
-            b"HTTP/1.1 2\r\ncontent-length: 0\r\n\r\n",
-            b"SSH-2.0-OpenSSH\r\n",
+        let done = b"HTTP/1.1 200 OK\r\ncontent-type: application/json\r\ncontent-length: 0\r\n\r\n";
+        assert!(get(&writes(done), ANSWER).unwrap().is_json);
+        for (bytes, why) in [
+            (&b""[..], "without an answer"),
+            (
+                b"HTTP/1.1 200 OK\r\ncontent-length: 2\r\n\r\n{",
+                "did not answer whole",
+            ),
+            (b"SSH-2.0-OpenSSH\r\n", "no operators' address"),
         ] {
-            assert!(parsed(bytes).is_err(), "{}", String::from_utf8_lossy(bytes));
+            let said = format!("{:#}", get(&writes(bytes), ANSWER).unwrap_err());
+            assert!(said.contains(why), "{said}");
         }
-        Ok(())
     }
 
     #[test]
-    fn who_waits_is_told_once_and_gets_the_whole_answer() -> Result<()> {
-        let listener = std::net::TcpListener::bind("127.0.0.1:0")?;
-        let asking = TcpStream::connect(listener.local_addr()?)?;
-        let (mut answering, _) = listener.accept()?;
-        answering.write_all(b"a")?;
-        let (mut told, mut written) = (0, Ok(()));
-        let bytes = answer(Stream::Tcp(asking), ANSWER, || {
-            told += 1;
-            written = answering.write_all(b"b");
-            drop(answering);
-        })?;
-        written?;
-        assert_eq!((bytes.as_slice(), told), (&b"ab"[..], 1));
-        Ok(())
-    }
-
-    #[test]
-    fn who_takes_too_long_is_said_to_go_on() -> Result<()> {
-        let listener = std::net::TcpListener::bind("127.0.0.1:0")?;
-        let address = listener.local_addr()?.to_string();
+    fn who_takes_too_long_is_said_to_go_on() {
+        let listener = TcpListener::bind("127.0.0.1:0").unwrap();
+        let place = listener.local_addr().unwrap().to_string();
         let said = |method| {
-            let tried = reply(&address, method, "/flush", Duration::from_secs(1));
+            let tried = reply(&place, None, method, "/flush", Duration::from_secs(1));
             format!("{:#}", tried.unwrap_err())
         };
-        let order = said("POST");
+        let order = said(Method::POST);
         assert!(
             order.contains("did not answer in 1 seconds. It goes on with the order"),
             "{order}"
         );
-        let question = said("GET");
+        let question = said(Method::GET);
         assert!(question.contains("in 1 seconds: ask again"), "{question}");
-        Ok(())
-    }
-
-    /// A connection whose request has come.
-    fn asked(listener: &std::net::TcpListener) -> std::io::Result<TcpStream> {
-        let (mut stream, _) = listener.accept()?;
-        let mut request = Vec::new();
-        while !request.ends_with(b"\r\n\r\n") {
-            let mut one = [0];
-            stream.read_exact(&mut one)?;
-            request.extend(one);
-        }
-        Ok(stream)
     }
 
     #[test]
-    fn who_answers_bit_by_bit_holds_nobody_up() -> Result<()> {
-        let listener = std::net::TcpListener::bind("127.0.0.1:0")?;
-        let address = listener.local_addr()?.to_string();
-        let answering = std::thread::spawn(move || {
-            let mut stream = asked(&listener)?;
-            for _ in 0..50 {
-                stream.write_all(b"x")?;
+    fn who_waits_gets_the_whole_answer() {
+        let place = answers(|stream| {
+            let head = b"HTTP/1.1 200 OK\r\ncontent-length: 2\r\n\r\na";
+            stream.write_all(head).unwrap();
+            std::thread::sleep(SOON + Duration::from_millis(500));
+            stream.write_all(b"b").unwrap();
+        });
+        assert_eq!(get(&place, ANSWER).unwrap().body, b"ab");
+    }
+
+    #[test]
+    fn who_answers_bit_by_bit_holds_nobody_up() {
+        let place = answers(|stream| {
+            while stream.write_all(b"x").is_ok() {
                 std::thread::sleep(Duration::from_millis(100));
             }
-            Ok::<(), Error>(())
         });
-        let tried = reply(&address, "GET", "/status", Duration::from_secs(1));
-        let said = format!("{:#}", tried.unwrap_err());
-        assert!(said.contains("did not answer in 1 seconds"), "{said}");
-        assert!(!answering.is_finished(), "it was waited for");
-        Ok(())
+        let begun = Instant::now();
+        let said = format!("{:#}", get(&place, Duration::from_secs(1)).unwrap_err());
+        assert!(
+            begun.elapsed() < Duration::from_secs(4),
+            "it was waited for: {said}"
+        );
+    }
+
+    fn at(place: &str) -> Address {
+        #[derive(clap::Parser)]
+        struct Line {
+            #[command(flatten)]
+            at: Address,
+        }
+        <Line as clap::Parser>::parse_from(["totxegun", "--operate", place]).at
     }
 
     /// Whatever its status is: else an order would be said to be done.
     #[test]
-    fn another_server_is_told_of_as_such() -> Result<()> {
-        for status in ["200 OK", "404 Not Found"] {
-            let listener = std::net::TcpListener::bind("127.0.0.1:0")?;
-            let address = listener.local_addr()?.to_string();
-            let answering = std::thread::spawn(move || {
-                let mut stream = asked(&listener)?;
-                let head =
-                    format!("HTTP/1.1 {status}\r\nContent-Type: text/html\r\nContent-Length: 6\r\n\r\n");
-                stream.write_all(format!("{head}<html>").as_bytes())
-            });
-            let said = format!("{:#}", ask(&address, "POST", "/quarantine/A").unwrap_err());
-            assert_eq!(said, another(&address), "{status}");
-            answering.join().expect("it ended")?;
+    fn another_server_is_told_of_as_such() {
+        for bytes in [
+            &b"HTTP/1.1 200 OK\r\nContent-Type: text/html\r\nContent-Length: 6\r\n\r\n<html>"[..],
+            b"HTTP/1.1 404 Not Found\r\nContent-Type: text/html\r\nContent-Length: 6\r\n\r\n<html>",
+        ] {
+            let place = writes(bytes);
+            let said = format!(
+                "{:#}",
+                ask(&at(&place), Method::POST, "/quarantine/A").unwrap_err()
+            );
+            assert_eq!(said, another(&place));
         }
-        Ok(())
     }
 
     #[test]
-    fn who_does_not_answer_is_named() {
-        let error = format!("{:#}", ask("127.0.0.1:1", "GET", "/status").unwrap_err());
-        assert!(
-            error.contains("127.0.0.1:1") && error.contains("--operate"),
-            "{error}"
-        );
+    fn who_does_not_answer_is_named_with_what_to_do() {
+        for (place, why) in [
+            ("127.0.0.1:1", "no service answers at 127.0.0.1:1: start it"),
+            (
+                "unix:/nowhere/operate",
+                "there is no unix:/nowhere/operate: start the service",
+            ),
+        ] {
+            let said = format!("{:#}", ask(&at(place), Method::GET, "/status").unwrap_err());
+            assert!(
+                said.contains(why) && said.contains("--data") && said.contains("--operate"),
+                "{said}"
+            );
+        }
+        let closed = unreachable("unix:/d/operate", io::ErrorKind::PermissionDenied.into());
+        assert!(format!("{closed:#}").contains("run this as root"), "{closed:#}");
     }
 }

@@ -4,6 +4,7 @@ use super::{ask::Address, client, line, table::Table, values, with_end, Form};
 use crate::operate::Resent;
 use anyhow::{bail, Context, Result};
 use clap::Subcommand;
+use hyper::Method;
 use serde::Deserialize;
 
 #[derive(Subcommand)]
@@ -57,7 +58,7 @@ impl Command {
         match self {
             Command::List { at, form } => list(&at, form),
             Command::Show { key, at } => {
-                let body = client::ask(&at.operate, "GET", &format!("/dead/{}", checked(&key)?))?;
+                let body = client::ask(&at, Method::GET, &format!("/dead/{}", checked(&key)?))?;
                 Ok(with_end(body))
             }
             Command::Resend {
@@ -65,7 +66,7 @@ impl Command {
             } => resend(&key, &at),
             Command::Resend { key: None, at, .. } => resend_all(&at),
             Command::Drop { key, at } => {
-                client::ask(&at.operate, "POST", &format!("/dead/{}/drop", checked(&key)?))?;
+                client::ask(&at, Method::POST, &format!("/dead/{}/drop", checked(&key)?))?;
                 Ok(line(format_args!("done: {key} is thrown away")))
             }
         }
@@ -73,7 +74,7 @@ impl Command {
 }
 
 fn list(at: &Address, form: Form) -> Result<Vec<u8>> {
-    let body = client::ask(&at.operate, "GET", "/dead")?;
+    let body = client::ask(at, Method::GET, "/dead")?;
     if form.json {
         return Ok(with_end(body));
     }
@@ -97,13 +98,13 @@ fn read(body: &[u8]) -> Result<Vec<Letter>> {
 }
 
 fn sent(key: &str, at: &Address) -> Result<Resent> {
-    let body = client::ask(&at.operate, "POST", &format!("/dead/{}/resend", checked(key)?))?;
+    let body = client::ask(at, Method::POST, &format!("/dead/{}/resend", checked(key)?))?;
     serde_json::from_slice(&body).context(client::OTHER_VERSION)
 }
 
 /// Those that no sink takes, being a part of what it has, are left.
 fn resend_all(at: &Address) -> Result<Vec<u8>> {
-    let letters = read(&client::ask(&at.operate, "GET", "/dead")?)?;
+    let letters = read(&client::ask(at, Method::GET, "/dead")?)?;
     let (mut taken, mut left) = (0, Vec::new());
     for Letter { key, .. } in letters.iter().filter(|letter| !is_part(&letter.key)) {
         let resent = sent(key, at)?;

@@ -14,7 +14,6 @@ mod reading;
 mod serve;
 mod settings;
 mod status;
-mod stream;
 mod table;
 mod token;
 mod totals;
@@ -252,6 +251,8 @@ mod tests {
             ("serve --data d --tls-cert c", "--tls-key"),
             ("serve --data d --tls-key k", "--tls-cert"),
             ("serve --data d --client-ca c", "--tls-cert"),
+            ("serve --data d --sender-series 0", "--sender-series"),
+            ("serve --data d --sender-points 0", "--sender-points"),
             ("token a/b/c", "behind the /"),
             ("token -", "a sender's name"),
             ("serve --data d --listen nowhere", "--listen"),

@@ -1,9 +1,11 @@
 //! Options of TLS at the senders' addresses, and of who a sender is.
 
+use crate::core::MOST_SERIES;
 use crate::identity::{Door, Options};
 use crate::metrics::Metrics;
+use crate::shares::{Share, MOST_POINTS};
 use crate::tls::Files;
-use clap::Args;
+use clap::{value_parser, Args};
 use std::path::PathBuf;
 use std::sync::Arc;
 
@@ -19,9 +21,15 @@ pub(super) struct OfSenders {
     /// Roots in PEM: a sender has the name of its certificate, which one of them has signed
     #[arg(long, env = "TOTXEGUN_CLIENT_CA", value_name = "FILE", requires = "tls_cert")]
     client_ca: Option<PathBuf>,
-    /// Names of senders and digests of their tokens, as `totxegun token NAME` makes them
+    /// Names of senders and digests of their tokens, as `totxegun token NAME` makes them; behind each may stand series=N and points=N, the most that it may have, and post a second
     #[arg(long, env = "TOTXEGUN_TOKENS", value_name = "FILE")]
     tokens: Option<PathBuf>,
+    /// The most series of a sender whose line in --tokens has no series= [default: nine tenths of --most-series, once others have some]
+    #[arg(long, env = "TOTXEGUN_SENDER_SERIES", value_name = "N", value_parser = value_parser!(u64).range(1..=MOST_SERIES as u64))]
+    sender_series: Option<u64>,
+    /// The most points a second of a sender whose line has no points=, with a minute's at once [default: any number]
+    #[arg(long, env = "TOTXEGUN_SENDER_POINTS", value_name = "N", value_parser = value_parser!(u64).range(1..=MOST_POINTS))]
+    sender_points: Option<u64>,
     /// Takes posts beyond loopback without TLS or names: where nobody but a proxy that has both reaches the addresses
     #[arg(long, env = "TOTXEGUN_BEHIND_PROXY")]
     pub behind_proxy: bool,
@@ -31,6 +39,14 @@ impl OfSenders {
     /// Whether a sender has to prove who it is.
     pub fn has_names(&self) -> bool {
         self.client_ca.is_some() || self.tokens.is_some()
+    }
+
+    /// What each may have that has no line of its own.
+    pub fn of_each(&self) -> Share {
+        Share {
+            series: self.sender_series,
+            points: self.sender_points,
+        }
     }
 
     /// Reads the files.

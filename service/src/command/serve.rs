@@ -4,11 +4,12 @@ use super::keeping::OfKeeping;
 use super::of_senders::OfSenders;
 use super::reading::OfReading;
 use super::settings::Names;
-use super::values::{bytes_shown, operator, place, size, time, time_or_never, MayBeNever, SOCKET};
+use super::values::{bytes_shown, operator, orders_at, place, size, time, time_or_never, MayBeNever, SOCKET};
 use super::version::Versions;
 use super::Failure;
 use crate::core;
 use crate::files::Durability;
+use crate::identity;
 use crate::log;
 use crate::metrics::Metrics;
 use crate::otlp::Cause;
@@ -54,7 +55,7 @@ pub struct Options {
     /// Where senders call OTLP/gRPC, as 127.0.0.1:4317 [default: nowhere]
     #[arg(long, env = "TOTXEGUN_LISTEN_GRPC", value_name = "ADDRESS", value_parser = place)]
     listen_grpc: Option<String>,
-    /// Where operators ask: HOST:PORT, and unix:PATH beside it or alone, which takes all orders then. Who reaches it can do all that this program can
+    /// Where operators read: HOST:PORT; and order: unix:PATH, beside it or alone [default of this: unix:DIR/operate]
     #[arg(
         long,
         env = "TOTXEGUN_OPERATE",
@@ -64,6 +65,9 @@ pub struct Options {
         value_parser = operator
     )]
     operate: Vec<String>,
+    /// Names of operators and digests of their tokens, as `totxegun token NAME` makes them: their orders are taken over TCP too
+    #[arg(long, env = "TOTXEGUN_OPERATE_TOKENS", value_name = "FILE")]
+    operate_tokens: Option<PathBuf>,
     /// Where to deliver: sqlite:PATH, postgres://USER@HOST:PORT/DB, http://HOST:PORT/PATH or https://HOST/PATH [default: sqlite:DIR/metrics.db]
     #[arg(long, env = "TOTXEGUN_SINK", value_name = "ADDRESS", hide_env_values = true)]
     sink: Option<Address>,
@@ -294,8 +298,12 @@ impl Options {
                 "--sender-from would take a sender's word for its name: leave it out where --client-ca or --tokens name senders"
             )));
         }
-        let operate = operate(&self.operate).map_err(Failure::Line)?;
-        let behind_proxy = self.of_senders.behind_proxy;
+        let mut operate = operate(&self.operate, &data).map_err(Failure::Line)?;
+        let tokens = self.operate_tokens;
+        operate.tokens = tokens
+            .map(|path| identity::operators(path, &metrics))
+            .transpose()?;
+        let (behind_proxy, of_each) = (self.of_senders.behind_proxy, self.of_senders.of_each());
         let door = self.of_senders.door(&metrics)?;
         Ok(Settings {
             data,
@@ -304,6 +312,7 @@ impl Options {
             operate,
             door,
             behind_proxy,
+            of_each,
             sink,
             keep,
             new_sink: self.new_sink,
@@ -325,20 +334,17 @@ impl Options {
 }
 
 /// One address of TCP at most, and one socket.
-fn operate(addresses: &[String]) -> anyhow::Result<Operate> {
-    let mut operate = Operate::default();
-    for address in addresses {
-        let before = match address.strip_prefix(SOCKET) {
-            Some(path) => operate.socket.replace(absolute(Path::new(path))?).is_some(),
-            None => operate.tcp.replace(address.clone()).is_some(),
-        };
-        if before {
-            bail!(
-                "--operate has a second address like {address}: give one HOST:PORT and one unix:PATH at most"
-            );
-        }
+fn operate(addresses: &[String], data: &Path) -> anyhow::Result<Operate> {
+    let is_socket = |address: &&String| address.starts_with(SOCKET);
+    let (sockets, tcp): (Vec<&String>, Vec<&String>) = addresses.iter().partition(is_socket);
+    if let Some(second) = sockets.get(1).or(tcp.get(1)) {
+        bail!("--operate has a second address like {second}: give one HOST:PORT and one unix:PATH at most");
     }
-    Ok(operate)
+    Ok(Operate {
+        tcp: tcp.first().map(ToString::to_string),
+        socket: absolute(&orders_at(sockets.into_iter().map(String::as_str), data))?,
+        tokens: None,
+    })
 }
 
 /// Other programs are told where files are: their folder may be another.

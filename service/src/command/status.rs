@@ -3,11 +3,13 @@
 use super::{ask::Shown, client, table::Table, values, with_end};
 use crate::files::Held;
 use crate::operate::{RoundedStatus, SlotStatus, Status, Stock};
+use crate::shares::Used;
 use crate::slot::{NO_ANSWER, NO_ROOM};
 use anyhow::{Context, Result};
+use hyper::Method;
 
 pub fn run(shown: &Shown) -> Result<Vec<u8>> {
-    let body = client::ask(&shown.at.operate, "GET", "/status")?;
+    let body = client::ask(&shown.at, Method::GET, "/status")?;
     if shown.form.json {
         return Ok(with_end(body));
     }
@@ -45,8 +47,27 @@ fn text(status: &Status) -> String {
         slots.row(&row(slot));
     }
     let troubles: String = status.slots.iter().filter_map(trouble).collect();
-    let rounded = rounded_series(&status.rounded);
-    format!("{lines}\n{slots}{rounded}{troubles}")
+    let (senders, rounded) = (shares(&status.senders), rounded_series(&status.rounded));
+    format!("{lines}\n{slots}{senders}{rounded}{troubles}")
+}
+
+/// The senders that are nearest to their share, where there are shares.
+fn shares(senders: &[Used]) -> String {
+    let mut table = Table::new(&["nearest to its share", "series", "of", "points at once", "of"]);
+    let most = |most: Option<u64>| most.map_or("-".to_string(), |most| most.to_string());
+    for used in senders {
+        table.row(&[
+            used.sender.clone(),
+            used.series.to_string(),
+            most(used.most_series),
+            used.points.to_string(),
+            most(used.most_points),
+        ]);
+    }
+    match senders {
+        [] => String::new(),
+        _ => format!("\n{table}"),
+    }
 }
 
 /// Why posts are answered 503.
@@ -188,6 +209,7 @@ mod tests {
                 most_memory_bytes: 1 << 30,
             },
             slots: vec![slot],
+            senders: Vec::new(),
             rounded: Vec::new(),
         }
     }
@@ -247,6 +269,23 @@ mod tests {
         assert!(text.lines().any(|line| line.trim_end() == kept), "{text}");
         let stuck = "\nthe delivery of slot 0 stops: 1.seg, byte 9: was changed\n";
         assert!(text.ends_with(stuck), "{text}");
+    }
+
+    #[test]
+    fn senders_are_shown_beside_their_shares() {
+        let mut told = status(&[]);
+        let used = |sender: &str, most_series, most_points| Used {
+            sender: sender.into(),
+            series: 9,
+            most_series,
+            points: 50,
+            most_points,
+        };
+        told.senders = vec![used("A", Some(10), Some(600)), used("shop", None, Some(60))];
+        let wanted = "\nnearest to its share  series  of  points at once  of\n\
+                      A                     9       10  50              600\n\
+                      shop                  9       -   50              60\n";
+        assert!(text(&told).ends_with(wanted), "{}", text(&told));
     }
 
     fn rounded(rule: &str, greatest: Vec<RoundedSeriesStatus>) -> RoundedStatus {

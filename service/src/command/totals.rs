@@ -6,6 +6,7 @@ use crate::operate::Status;
 use crate::sinks::Address;
 use anyhow::{bail, Context, Result};
 use clap::Args;
+use hyper::Method;
 use rusqlite::types::Value;
 use rusqlite::{Connection, OpenFlags, Row};
 use serde_json::json;
@@ -65,7 +66,7 @@ impl Options {
             Some(_) => bail!("only a SQLite sink has totals here: ask the sink itself"),
             None => {}
         }
-        let body = client::ask(&self.at.operate, "GET", "/status")?;
+        let body = client::ask(&self.at, Method::GET, "/status")?;
         let status: Status = serde_json::from_slice(&body).context(client::OTHER_VERSION)?;
         if status.sink.starts_with("postgres ") {
             bail!(IN_POSTGRES);

@@ -1,5 +1,6 @@
 //! Values of options: times and sizes as people write them.
 
+use std::path::{Path, PathBuf};
 use std::time::Duration;
 
 const TIMES: [(&str, u64); 5] = [
@@ -79,11 +80,13 @@ pub fn operator(text: &str) -> Result<String, String> {
     }
 }
 
-/// Of several, as the service may have them, the one that takes orders.
-pub fn one_operator(text: &str) -> Result<String, String> {
-    let all: Vec<String> = text.split(',').map(operator).collect::<Result<_, _>>()?;
-    let socket = all.iter().find(|one| one.starts_with(SOCKET));
-    Ok(socket.unwrap_or(&all[0]).clone())
+/// What the socket is named in the folder, unless it is elsewhere.
+const SOCKET_NAME: &str = "operate";
+
+/// Where orders are taken, by the addresses and the folder that the service has.
+pub fn orders_at<'a>(mut operate: impl Iterator<Item = &'a str>, data: &Path) -> PathBuf {
+    let given = operate.find_map(|one| one.strip_prefix(SOCKET));
+    given.map_or_else(|| data.join(SOCKET_NAME), PathBuf::from)
 }
 
 fn scaled(text: &str, units: &[(&str, u64)]) -> Option<u64> {

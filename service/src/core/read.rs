@@ -66,6 +66,11 @@ impl Read {
         }
     }
 
+    /// Those of the profile.
+    pub fn points(&self) -> u64 {
+        self.points
+    }
+
     /// How many bytes it may take in the journal. Points are packed here, ahead of the lock.
     pub fn bytes(&self) -> usize {
         let named = self.names.as_ref().map(|names| names.length(self.post.numbers()));

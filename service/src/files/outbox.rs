@@ -7,6 +7,7 @@ mod changes;
 mod damaged;
 mod moved;
 mod open;
+mod owned;
 mod rows;
 mod state;
 mod writer;

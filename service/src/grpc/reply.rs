@@ -14,9 +14,6 @@ use std::task::{Context, Poll};
 /// What is not written as it is in a status' message.
 const ESCAPED: &AsciiSet = &CONTROLS.add(b'%');
 
-/// How long a sender that may try again is asked to wait.
-const PAUSE_SECONDS: i64 = 1;
-
 /// A body of at most one frame, and what is behind it.
 pub struct Reply {
     data: Option<Bytes>,
@@ -95,7 +92,7 @@ pub(super) fn code(status: u16) -> i32 {
         403 => 7,              // PERMISSION_DENIED
         404 | 405 | 415 => 12, // UNIMPLEMENTED: another method, another encoding
         504 => 4,              // DEADLINE_EXCEEDED
-        413 => 8,              // RESOURCE_EXHAUSTED; without RetryInfo it is not tried again
+        413 | 429 => 8,        // RESOURCE_EXHAUSTED; without RetryInfo it is not tried again
         503 => 14,             // UNAVAILABLE
         _ => 2,                // UNKNOWN
     }
@@ -113,8 +110,8 @@ pub fn response(outcome: &Outcome) -> Response<Reply> {
                 trailers: Some(trailers),
             }
         }
-        Outcome::Refused { status, message } => {
-            put_refusal(&mut headers, *status, message);
+        Outcome::Refused { message, .. } | Outcome::Later { message, .. } => {
+            put_refusal(&mut headers, outcome, message);
             Reply::nothing()
         }
     };
@@ -136,21 +133,20 @@ fn put(headers: &mut HeaderMap, name: &'static str, value: &str) {
     }
 }
 
-fn put_refusal(headers: &mut HeaderMap, status: u16, message: &str) {
-    let code = code(status);
+fn put_refusal(headers: &mut HeaderMap, outcome: &Outcome, message: &str) {
+    let code = code(outcome.status());
     put(headers, "grpc-status", &code.to_string());
     put(
         headers,
         "grpc-message",
         &utf8_percent_encode(message, ESCAPED).to_string(),
     );
-    if status == 415 {
+    if outcome.status() == 415 {
         put(headers, "grpc-accept-encoding", "identity,gzip");
     }
-    if status == 503 {
-        let retry_delay = Some(Duration {
-            seconds: PAUSE_SECONDS,
-        });
+    if let Some(seconds) = outcome.again_in() {
+        let seconds = i64::try_from(seconds).unwrap_or(i64::MAX);
+        let retry_delay = Some(Duration { seconds });
         let details = vec![Any {
             type_url: "type.googleapis.com/google.rpc.RetryInfo".into(),
             value: RetryInfo { retry_delay }.encode_to_vec(),

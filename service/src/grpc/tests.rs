@@ -191,8 +191,14 @@ async fn what_a_slot_says_is_said_as_grpc_does() {
     let partial = Served::with(Some(Outcome::taken(7)), 1 << 20).await;
     let answer = partial.export(&[], frame(0, b"")).await;
     assert_eq!(answer.data, frame(0, &Outcome::taken(7).body(Encoding::Protobuf)));
-    for (status, wanted) in [(400, 3), (403, 7), (503, 14)] {
-        let served = Served::with(Some(refused(status, "50% \u{fc}ber")), 1 << 20).await;
+    let later = Outcome::Later {
+        seconds: 7,
+        message: "50% \u{fc}ber".into(),
+    };
+    let refused = [400, 403, 503].map(|status| refused(status, "50% \u{fc}ber"));
+    for (outcome, wanted) in refused.into_iter().chain([later]).zip([3, 7, 14, 8]) {
+        let again = outcome.again_in();
+        let served = Served::with(Some(outcome), 1 << 20).await;
         let answer = served.export(&[], frame(0, b"")).await;
         assert_eq!(
             (answer.status, answer.code(), answer.data.len()),
@@ -200,17 +206,17 @@ async fn what_a_slot_says_is_said_as_grpc_does() {
         );
         assert_eq!(answer.text("grpc-message"), "50%25 %C3%BCber");
         let details = answer.text("grpc-status-details-bin");
-        assert_eq!(details.is_empty(), status != 503);
-        if status == 503 {
+        assert_eq!(details.is_empty(), again.is_none());
+        if let Some(seconds) = again {
             let bytes = base64::decode_config(details, base64::STANDARD_NO_PAD).unwrap();
             let status = Status::decode(&bytes[..]).unwrap();
-            assert_eq!((status.code, status.message.as_str()), (14, "50% \u{fc}ber"));
+            assert_eq!((status.code, status.message.as_str()), (wanted, "50% \u{fc}ber"));
             assert_eq!(
                 status.details[0].type_url,
                 "type.googleapis.com/google.rpc.RetryInfo"
             );
             let retry = RetryInfo::decode(&status.details[0].value[..]).unwrap();
-            assert_eq!(retry.retry_delay.unwrap().seconds, 1);
+            assert_eq!(retry.retry_delay.unwrap().seconds as u64, seconds);
         }
     }
     assert_eq!([413, 504, 500].map(code), [8, 4, 2]);

@@ -25,6 +25,15 @@ pub struct Door {
     tokens: Option<Arc<Renewed<Tokens>>>,
 }
 
+/// The file of `--operate-tokens`.
+pub fn operators(path: PathBuf, metrics: &Metrics) -> Result<Arc<Renewed<Tokens>>> {
+    let reader = Reader {
+        read: Box::new(|contents: &[Vec<u8>]| Tokens::read(&contents.concat())?.of_operators()),
+        shut: Tokens::shut,
+    };
+    Renewed::open("--operate-tokens", vec![path], reader, metrics)
+}
+
 impl Door {
     /// Reads the files. The error names what can't be used and says what to do.
     pub fn open(options: &Options, metrics: &Arc<Metrics>) -> Result<Door> {
@@ -66,6 +75,11 @@ impl Door {
             }
             _ => Who::Believed,
         }
+    }
+
+    /// The file of `--tokens`.
+    pub fn tokens(&self) -> Option<Arc<Renewed<Tokens>>> {
+        self.tokens.clone()
     }
 
     /// Whether who posts has to prove who it is.

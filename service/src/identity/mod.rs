@@ -5,9 +5,9 @@ mod door;
 mod tokens;
 mod who;
 
-pub use door::{Door, Options};
+pub use door::{operators, Door, Options};
 pub use tokens::{line, Sender, Tokens};
-pub use who::{Proved, Who};
+pub use who::{by_token, Proved, Who};
 
 /// Why a request is refused for who sends it. The text never has anything of a token.
 #[derive(Debug, PartialEq, Eq, thiserror::Error)]

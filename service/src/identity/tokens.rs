@@ -2,9 +2,11 @@
 //!
 //! A line is `NAME sha256:HEX`, of a token's digest, so that nobody can post by what the file says. `NAME/PATTERN` may also
 //! post as whoever the pattern says: a name, or the beginning of one and `*`. `NAME/PATTERN certificate` lets a certificate
-//! do so. Empty lines and those that begin with `#` say nothing.
+//! do so. Behind either, `series=N` and `points=N` say how many series NAME may have, and points a second; `NAME - series=N`
+//! says no more than that. Empty lines and those that begin with `#` say nothing.
 
 use crate::otlp::NO_NAME;
+use crate::shares::{Share, MOST_POINTS};
 use crate::slot::is_sender;
 use sha2::{Digest, Sha256};
 use std::collections::{HashMap, HashSet};
@@ -13,6 +15,7 @@ use subtle::ConstantTimeEq;
 
 const DIGEST: &str = "sha256:";
 const CERTIFICATE: &str = "certificate";
+const NO_PROOF: &str = "-";
 
 /// A sender by its own name.
 #[derive(Debug, PartialEq, Eq)]
@@ -44,6 +47,23 @@ pub struct Tokens {
     tokens: Vec<Token>,
     /// By name: senders of certificates that may use others' names.
     certified: HashMap<String, Arc<Sender>>,
+    /// By name.
+    shares: HashMap<String, Share>,
+}
+
+/// What a line says.
+struct Line {
+    sender: Sender,
+    proof: Proof,
+    share: Share,
+}
+
+/// By what a line's sender shows who it is.
+enum Proof {
+    Token([u8; 32]),
+    Certificate,
+    /// Another line has it.
+    None,
 }
 
 impl Tokens {
@@ -54,20 +74,54 @@ impl Tokens {
         let lines = text.lines().enumerate();
         for (number, line) in lines.filter(|(_, line)| !line.trim().is_empty() && !line.starts_with('#')) {
             let in_line = |why: &str| format!("line {}: {why}", number + 1);
-            let (sender, proof) = read_line(line).map_err(in_line)?;
-            match proof {
-                Some(digest) if !known.insert(digest) => return Err(in_line("its token has a line already")),
-                Some(digest) => tokens.tokens.push(Token {
-                    digest,
-                    owner: sender.into(),
-                }),
-                None if tokens.certified.contains_key(&sender.name) => {
-                    return Err(in_line("its name has a line for certificates already"))
+            let line = read_line(line).map_err(in_line)?;
+            if let Proof::Token(digest) = line.proof {
+                if !known.insert(digest) {
+                    return Err(in_line("its token has a line already"));
                 }
-                None => drop(tokens.certified.insert(sender.name.clone(), sender.into())),
             }
+            tokens.add(line).map_err(in_line)?;
         }
         Ok(tokens)
+    }
+
+    fn add(&mut self, line: Line) -> Result<(), &'static str> {
+        let Line { sender, proof, share } = line;
+        let name = sender.name.clone();
+        if share != Share::default() && self.shares.insert(name.clone(), share).is_some() {
+            return Err("its name has series= or points= in a line already");
+        }
+        match proof {
+            Proof::Token(digest) => self.tokens.push(Token {
+                digest,
+                owner: sender.into(),
+            }),
+            Proof::Certificate if sender.others.is_empty() => {}
+            Proof::Certificate if self.certified.contains_key(&name) => {
+                return Err("its name has a line for certificates already")
+            }
+            Proof::Certificate => drop(self.certified.insert(name, sender.into())),
+            Proof::None => {}
+        }
+        Ok(())
+    }
+
+    /// What a sender may have by a line of its own.
+    pub fn share(&self, name: &str) -> Option<Share> {
+        self.shares.get(name).copied()
+    }
+
+    /// The same as a file of operators, whose names stand alone.
+    pub fn of_operators(self) -> Result<Tokens, String> {
+        let is_of_senders = |token: &Token| !token.owner.others.is_empty();
+        let has_names_alone = self.certified.is_empty() && self.shares.is_empty();
+        match has_names_alone && !self.tokens.iter().any(is_of_senders) {
+            true => Ok(self),
+            false => Err(
+                "it has a line for senders: write `NAME sha256:HEX`, as `totxegun token NAME` prints it"
+                    .into(),
+            ),
+        }
     }
 
     /// Why nobody has a token, and what to do, where it has no line.
@@ -95,12 +149,12 @@ impl Tokens {
     }
 }
 
-/// A sender, and the digest of its token where it has one.
-fn read_line(line: &str) -> Result<(Sender, Option<[u8; 32]>), &'static str> {
+fn read_line(line: &str) -> Result<Line, &'static str> {
     let mut words = line.split_whitespace();
-    let (Some(who), Some(proof), None) = (words.next(), words.next(), words.next()) else {
+    let (Some(who), Some(proof)) = (words.next(), words.next()) else {
         return Err("write `NAME sha256:HEX`, as `totxegun token NAME` prints it");
     };
+    let share = read_share(words)?;
     let (name, other) = match who.split_once('/') {
         Some((name, other)) => (name, Some(other)),
         None => (who, None),
@@ -111,18 +165,45 @@ fn read_line(line: &str) -> Result<(Sender, Option<[u8; 32]>), &'static str> {
     if other.is_some_and(|other| other != "*" && !is_sender(other.strip_suffix('*').unwrap_or(other))) {
         return Err("behind the / write a sender's name, the beginning of one and *, or *");
     }
-    let digest = match proof {
-        CERTIFICATE if other.is_none() => {
-            return Err("a certificate needs a line for others' names alone: NAME/PATTERN")
+    let says_more = other.is_some() || share != Share::default();
+    let proof = match proof {
+        CERTIFICATE | NO_PROOF if !says_more => return Err(
+            "a certificate needs a line for others' names, NAME/PATTERN, or for series= and points= alone",
+        ),
+        CERTIFICATE => Proof::Certificate,
+        NO_PROOF if other.is_some() => {
+            return Err("behind NAME/PATTERN write a token's digest, or certificate")
         }
-        CERTIFICATE => None,
-        _ => Some(
+        NO_PROOF => Proof::None,
+        _ => Proof::Token(
             digest(proof)
                 .ok_or("behind the name write sha256: and 64 hexadecimal digits, never the token itself")?,
         ),
     };
     let (name, others) = (name.to_string(), other.map(str::to_string).into_iter().collect());
-    Ok((Sender { name, others }, digest))
+    let sender = Sender { name, others };
+    Ok(Line { sender, proof, share })
+}
+
+fn read_share<'l>(words: impl Iterator<Item = &'l str>) -> Result<Share, &'static str> {
+    let mut share = Share::default();
+    for word in words {
+        let (what, number) = word.split_once('=').unwrap_or((word, ""));
+        let number = number
+            .parse()
+            .ok()
+            .filter(|number| (1..=MOST_POINTS).contains(number));
+        let of = match what {
+            "series" => &mut share.series,
+            "points" => &mut share.points,
+            _ => return Err("behind the digest write series=N, points=N, or nothing"),
+        };
+        if number.is_none() || of.is_some() {
+            return Err("write series=N and points=N once each, of 1 to 1000000000000");
+        }
+        *of = number;
+    }
+    Ok(share)
 }
 
 fn digest(proof: &str) -> Option<[u8; 32]> {
@@ -200,7 +281,23 @@ mod tests {
                 &format!("a {}", &OF_ABC[..OF_ABC.len() - 1]),
                 "line 1: behind the name",
             ),
-            (&format!("a {OF_ABC} s3cret"), "line 1: write `NAME sha256:HEX`"),
+            ("s3cret", "line 1: write `NAME sha256:HEX`"),
+            (
+                &format!("a {OF_ABC} s3cret"),
+                "line 1: behind the digest write series=N",
+            ),
+            (
+                &format!("a {OF_ABC} series=s3cret"),
+                "line 1: write series=N and points=N once each",
+            ),
+            (&format!("a {OF_ABC} points=0"), "line 1: write series=N"),
+            (&format!("a {OF_ABC} points=1 points=2"), "line 1: write series=N"),
+            (
+                &format!("a {OF_ABC} series=1\na - points=1"),
+                "line 2: its name has series=",
+            ),
+            ("a -", "line 1: a certificate needs"),
+            ("a/* - series=1", "line 1: behind NAME/PATTERN"),
             (&format!("s3cret+ {OF_ABC}"), "line 1: a sender's name"),
             (&format!("- {OF_ABC}"), "line 1: a sender's name"),
             (&format!("a/s3cret+* {OF_ABC}"), "line 1: behind the /"),
@@ -216,6 +313,30 @@ mod tests {
             );
         }
         assert!(Tokens::read(b"\xff").is_err());
+    }
+
+    #[test]
+    fn a_line_may_say_how_much_its_name_may_have() {
+        let text = format!(
+            "a {OF_ABC} points=50 series=1000\nb certificate series=7\nc - points=9\nd/* certificate\n"
+        );
+        let tokens = Tokens::read(text.as_bytes()).unwrap();
+        let share = |series, points| Some(Share { series, points });
+        assert_eq!(tokens.share("a"), share(Some(1000), Some(50)));
+        assert_eq!(tokens.share("b"), share(Some(7), None));
+        assert_eq!(tokens.share("c"), share(None, Some(9)));
+        assert_eq!(tokens.share("d"), None);
+        assert!(tokens.certified("b").is_none() && tokens.certified("d").is_some());
+        assert!(tokens.of_operators().is_err());
+    }
+
+    #[test]
+    fn an_operator_has_a_name_alone() {
+        let of = |text: String| Tokens::read(text.as_bytes()).unwrap().of_operators();
+        assert!(of(format!("ann {OF_ABC}")).is_ok_and(|tokens| tokens.owner(b"abc").is_some()));
+        for text in [format!("ann/bob {OF_ABC}"), "ann/* certificate".to_string()] {
+            assert!(of(text).is_err_and(|why| why.contains("a line for senders")));
+        }
     }
 
     #[test]

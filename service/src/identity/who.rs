@@ -51,7 +51,8 @@ impl Proved {
     }
 }
 
-fn by_token<'h>(
+/// Whose a request is that has these values of the header `Authorization`.
+pub fn by_token<'h>(
     tokens: &Tokens,
     mut authorization: impl Iterator<Item = &'h [u8]>,
 ) -> Result<Arc<Sender>, Stranger> {

@@ -35,11 +35,12 @@ fn write_any(out: &mut Vec<u8>, outcome: &Outcome, encoding: Encoding, connectio
         Encoding::Json => "application/json",
         Encoding::Protobuf => "application/x-protobuf",
     };
+    let again = outcome.again_in();
+    let again = again.map_or(String::new(), |seconds| format!("retry-after: {seconds}\r\n"));
     let told = match status {
-        503 => "retry-after: 1\r\n",
         405 => "allow: POST\r\n",
         401 => "www-authenticate: Bearer realm=\"totxegun\"\r\n",
-        _ => "",
+        _ => &again,
     };
     let kept = match connection {
         Connection::Kept => "",
@@ -109,6 +110,16 @@ mod tests {
         assert!(
             busy.contains("\r\nconnection: keep-alive\r\n") && busy.contains("\"message\":\"why\""),
             "{busy}"
+        );
+        let later = Outcome::Later {
+            seconds: 7,
+            message: "why".into(),
+        };
+        let later = written(&later, Encoding::Json, Connection::Kept);
+        assert!(later.starts_with("HTTP/1.1 429 Too Many Requests\r\n"), "{later}");
+        assert!(
+            later.contains("\r\nretry-after: 7\r\n") && later.contains("\"message\":\"why\""),
+            "{later}"
         );
         let wrong = written(&refused(405), Encoding::Protobuf, Connection::Closed);
         assert!(

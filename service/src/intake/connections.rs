@@ -1,8 +1,8 @@
 //! How connections of an address are accepted, in a bounded number; and those of the operators' address: each serves many
 //! requests, slow and idle ones are closed, and these at once where others wait. The senders' are in `front`.
 
-use super::ends::Ends;
 use super::pace::{Overdue, Pace, Watched};
+use super::user::User;
 use super::{Intake, Listener, Taker, Threads};
 use crate::identity::{Door, Who};
 use crate::log::Seldom;
@@ -245,10 +245,10 @@ pub async fn serve<L: Listener, H: Handler>(
     let room = Room::new(limits.connections);
     let (stopped, of_room) = (stop.clone(), room.clone());
     let begin = |open: &mut JoinSet<()>, stream: L::Stream, held: Held| {
-        let ends = L::ends(&stream);
+        let user = L::user(&stream);
         let serving = connection(
             stream,
-            ends,
+            user,
             of_room.clone(),
             limits.clone(),
             handler.clone(),
@@ -264,7 +264,7 @@ pub async fn serve<L: Listener, H: Handler>(
 
 async fn connection<S: Transport, H: Handler>(
     stream: S,
-    ends: Option<Ends>,
+    user: Option<User>,
     room: Arc<Room>,
     limits: Limits,
     handler: Arc<H>,
@@ -274,8 +274,8 @@ async fn connection<S: Transport, H: Handler>(
     let of_requests = pace.clone();
     let service = service_fn(move |mut request: Request<Body>| {
         let (handler, pace) = (handler.clone(), of_requests.clone());
-        if let Some(ends) = ends {
-            request.extensions_mut().insert(ends);
+        if let Some(user) = user {
+            request.extensions_mut().insert(user);
         }
         // Boxed, so that the stream can be had back where a head is late.
         Box::pin(async move {

@@ -1,6 +1,6 @@
 //! How an address is listened on: one of TCP, or a socket of this machine.
 
-use super::ends::Ends;
+use super::user::User;
 use std::future::Future;
 use std::io::{ErrorKind, Result};
 use std::os::unix::fs::{FileTypeExt, PermissionsExt};
@@ -48,7 +48,8 @@ pub trait Listener: Send + Sync + 'static {
 
     fn accepted(&self) -> impl Future<Output = Result<Self::Stream>> + Send;
 
-    fn ends(stream: &Self::Stream) -> Option<Ends>;
+    /// Who is at the other end, where the system knows it.
+    fn user(stream: &Self::Stream) -> Option<User>;
 
     /// As people write it. Port 0 is any free one.
     fn shown(&self) -> String;
@@ -63,8 +64,8 @@ impl Listener for TcpListener {
         Ok(stream)
     }
 
-    fn ends(stream: &TcpStream) -> Option<Ends> {
-        Ends::of(stream)
+    fn user(_: &TcpStream) -> Option<User> {
+        None
     }
 
     fn shown(&self) -> String {
@@ -80,8 +81,8 @@ impl Listener for UnixListener {
         Ok(self.accept().await?.0)
     }
 
-    fn ends(stream: &UnixStream) -> Option<Ends> {
-        Ends::of_socket(stream)
+    fn user(stream: &UnixStream) -> Option<User> {
+        User::of(stream)
     }
 
     fn shown(&self) -> String {

@@ -7,7 +7,6 @@
 mod answer;
 mod body;
 pub mod connections;
-pub mod ends;
 pub mod front;
 pub(crate) mod head;
 mod listen;
@@ -15,6 +14,7 @@ mod pace;
 pub(crate) mod refusal;
 pub(crate) mod sender;
 mod threads;
+pub mod user;
 mod weight;
 mod wire;
 

@@ -228,11 +228,9 @@ async fn posts_that_come_at_once_leave_the_room_that_is_kept_for_commits() {
     let bodies = (0..40).map(|number| point(&format!("n{number}"), 1) + &" ".repeat(LENGTH));
     let mut taken = 0;
     for outcome in run.post_at_once(bodies.collect(), FIT) {
-        match outcome {
-            Outcome::Taken { .. } => taken += 1,
-            Outcome::Refused { status, message } => {
-                assert_eq!((status, &*message), (503, crate::slot::NO_ROOM));
-            }
+        match outcome.refusal() {
+            None => taken += 1,
+            Some(message) => assert_eq!((outcome.status(), message), (503, crate::slot::NO_ROOM)),
         }
     }
     assert_eq!(taken, FIT);

@@ -53,6 +53,7 @@ pub fn metrics() -> Result<Metrics> {
         rounding: maker.rounding()?,
         by_series: RoundingBySeries::new(),
         greatest_rounding: maker.greatest_rounding()?,
+        sender_share: maker.sender_share()?,
         checkpoints: maker.counters(
             "checkpoints_total",
             "Checkpoints by how they ended",
@@ -177,6 +178,13 @@ impl Maker {
         let help = "What the values of one series were rounded by together, in the finer unit, of all series the most: \
                     no total is further from the truth";
         let made = GaugeVec::new(Opts::new("totxegun_greatest_rounding_units", help), &["whole"])?;
+        self.0.register(Box::new(made.clone()))?;
+        Ok(made)
+    }
+
+    fn sender_share(&self) -> Result<GaugeVec> {
+        let help = "What a sender has of its share: of its series, or of a minute's points; of the ten that are nearest to it";
+        let made = GaugeVec::new(Opts::new("totxegun_sender_share_ratio", help), &["sender", "of"])?;
         self.0.register(Box::new(made.clone()))?;
         Ok(made)
     }

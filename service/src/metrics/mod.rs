@@ -8,6 +8,7 @@ pub use reasons::{of as reason_of, to_do};
 pub use rounding::{RoundedSeries, SeriesOfRule};
 
 use crate::otlp::{Cause, Causes, Outcome, Rounded, Rounding};
+use crate::shares::Used;
 use prometheus::core::Collector;
 use prometheus::{
     CounterVec, Encoder, Gauge, GaugeVec, IntCounter, IntCounterVec, IntGauge, IntGaugeVec, Registry,
@@ -36,6 +37,8 @@ pub struct Metrics {
     by_series: RoundingBySeries,
     /// By `whole`: the greatest of `by_series`, set where the page is made.
     greatest_rounding: GaugeVec,
+    /// By `sender` and `of`: `series`, `points`. Set where the page is made.
+    sender_share: GaugeVec,
     /// By `outcome`: `done`, `failed`.
     pub checkpoints: IntCounterVec,
     pub rounds_closed: IntCounter,
@@ -181,6 +184,20 @@ impl Metrics {
             return true;
         }
         senders.len() < SENDERS && senders.insert(sender.to_string())
+    }
+
+    /// Shows these senders' shares and no others'.
+    pub fn shares(&self, nearest: &[Used]) {
+        self.sender_share.reset();
+        for used in nearest {
+            let both = [
+                ("series", used.most_series, used.part_of_series()),
+                ("points", used.most_points, used.part_of_points()),
+            ];
+            for (of, _, part) in both.into_iter().filter(|(_, most, _)| most.is_some()) {
+                self.sender_share.with_label_values(&[&used.sender, of]).set(part);
+            }
+        }
     }
 
     /// The page, in Prometheus' text form.

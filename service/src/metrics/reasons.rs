@@ -6,7 +6,7 @@ use crate::otlp::Outcome;
 const UNREADABLE: &str = "unreadable";
 
 /// What an answer's text begins with, and what is to be done.
-const REASONS: [(&str, &str); 28] = [
+const REASONS: [(&str, &str); 29] = [
     (
         "out of order",
         "right for a repeat: it was taken before. If each post of a sender gets it, its clock was set back",
@@ -83,6 +83,10 @@ const REASONS: [(&str, &str); 28] = [
     ),
     ("no memory", "raise --book-memory"),
     (
+        "over its share",
+        "raise its series= or points= in the file of --tokens, --sender-series or --sender-points; or have it send less",
+    ),
+    (
         "full",
         "this ends by itself once what is being flushed is written",
     ),
@@ -92,13 +96,9 @@ const PACKING: &str = "only gzip or identity";
 
 /// The reason of an answer: none where points were taken.
 pub fn of(outcome: &Outcome) -> Option<&'static str> {
-    match outcome {
-        Outcome::Taken { .. } => None,
-        Outcome::Refused { message, .. } => {
-            let found = REASONS.iter().find(|(reason, _)| begins(message, reason));
-            Some(found.map_or(UNREADABLE, |(reason, _)| reason))
-        }
-    }
+    let message = outcome.refusal()?;
+    let found = REASONS.iter().find(|(reason, _)| begins(message, reason));
+    Some(found.map_or(UNREADABLE, |(reason, _)| reason))
 }
 
 /// Whether a text is a reason, or one with more behind it.

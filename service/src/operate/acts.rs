@@ -5,7 +5,7 @@
 //! log says so, and the act goes on: it may be what makes room.
 
 use super::{user, Desk};
-use crate::intake::ends::Ends;
+use crate::intake::user::User;
 use crate::log::{all_shown, cut};
 use crate::work::blocking;
 use hyper::{Body, Response, StatusCode};
@@ -26,8 +26,26 @@ const MOST: u64 = 4 << 20;
 /// Of what is written of an act, in characters.
 const SHOWN: usize = 500;
 
-/// Who acts where the connection does not say it.
+/// Who acts where the system does not know it.
 const NOBODY: &str = "operator";
+
+/// Who asks for an act.
+#[derive(Clone, Debug)]
+pub enum Actor {
+    /// By the connection, where the system knows its user.
+    User(Option<User>),
+    /// By a token.
+    Named(String),
+}
+
+impl Actor {
+    fn name(self) -> String {
+        match self {
+            Actor::User(user) => user.and_then(user::name).unwrap_or_else(|| NOBODY.to_string()),
+            Actor::Named(name) => name,
+        }
+    }
+}
 
 pub struct Acts {
     folder: PathBuf,
@@ -56,9 +74,9 @@ struct Written<'a> {
 }
 
 impl Act {
-    pub fn new(ends: Option<Ends>, what: &'static str, of: &str) -> Act {
+    pub fn new(actor: Actor, what: &'static str, of: &str) -> Act {
         Act {
-            who: ends.and_then(user::of).unwrap_or_else(|| NOBODY.to_string()),
+            who: actor.name(),
             what,
             of: all_shown(cut(of, SHOWN)),
         }
@@ -137,17 +155,17 @@ fn is_cut(file: &mut File) -> std::io::Result<bool> {
 }
 
 impl Desk {
-    /// Carries out an act of who has this connection, and records it.
+    /// Carries out an act, and records it.
     pub(super) async fn act(
         &self,
-        ends: Option<Ends>,
+        actor: Actor,
         what: &'static str,
         of: String,
         doing: impl Future<Output = Response<Body>>,
     ) -> Response<Body> {
         let acts = self.acts.clone();
         let begin = move || {
-            let act = Act::new(ends, what, &of);
+            let act = Act::new(actor, what, &of);
             acts.begins(&act);
             act
         };
@@ -188,7 +206,7 @@ mod tests {
     fn an_act_is_there_before_it_is_carried_out_and_then_how_it_ended() {
         let folder = tempfile::tempdir().unwrap();
         let acts = Acts::in_folder(folder.path());
-        let act = Act::new(None, "dead drop", "0-a-1\n{\"who\":\"root\"}");
+        let act = Act::new(Actor::User(None), "dead drop", "0-a-1\n{\"who\":\"root\"}");
         acts.begins(&act);
         let first = lines(folder.path(), NAME);
         assert_eq!(
@@ -206,7 +224,7 @@ mod tests {
     fn the_file_does_not_grow_for_ever() {
         let folder = tempfile::tempdir().unwrap();
         let acts = Acts::in_folder(folder.path());
-        let act = Act::new(None, "lift", "A");
+        let act = Act::new(Actor::User(None), "lift", "A");
         for fill in [MOST, MOST] {
             acts.begins(&act);
             let file = OpenOptions::new()
@@ -228,7 +246,7 @@ mod tests {
         let cut = "{\"time\":\"2026-11-27T1";
         std::fs::write(folder.path().join(NAME), cut).unwrap();
         let acts = Acts::in_folder(folder.path());
-        let act = Act::new(None, "lift", "A");
+        let act = Act::new(Actor::User(None), "lift", "A");
         acts.begins(&act);
         acts.ended(&act, "done");
         let text = std::fs::read_to_string(folder.path().join(NAME)).unwrap();
@@ -244,6 +262,6 @@ mod tests {
     #[test]
     fn an_act_goes_on_where_it_can_t_be_written() {
         let acts = Acts::in_folder(Path::new("/nowhere/at/all"));
-        acts.begins(&Act::new(None, "lift", "A"));
+        acts.begins(&Act::new(Actor::User(None), "lift", "A"));
     }
 }

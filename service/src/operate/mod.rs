@@ -1,26 +1,29 @@
-//! The operator's address: orders to the keeper, what the service says of itself, the dead letters.
+//! The operators' addresses: orders to the keeper, what the service says of itself, the dead letters.
 //!
-//! It is another address than the senders', loopback by default: who can post can't operate. What a browser sends for a
-//! page of somebody else is turned away by `web`; `pages` are the address's own, which only read.
+//! Orders are taken at a socket of this machine, where the system says who may connect. The address of TCP is read, and
+//! takes orders from whoever has a token (`tcp`). What a browser sends for a page of somebody else is turned away by `web`;
+//! `pages` are the address's own, which only read.
 
 mod acts;
 mod letters;
 mod orders;
 mod pages;
 mod status;
+mod tcp;
 mod totals;
 mod user;
 mod web;
 
-pub use acts::{Act, Acts};
+pub use acts::{Act, Actor, Acts};
 pub use letters::Resent;
 pub use pages::Pulse;
 pub use status::{BooksStatus, RoundedSeriesStatus, RoundedStatus, SlotStatus, Status, Stock};
+pub use tcp::AtTcp;
 pub use totals::Totals;
 
 use crate::files::{Dead, Outbox};
 use crate::intake::connections::Handler;
-use crate::intake::ends::Ends;
+use crate::intake::user::User;
 use crate::intake::Budget;
 use crate::keeper::{Order, Orders};
 use crate::metrics::Metrics;
@@ -59,8 +62,10 @@ pub struct Desk {
     pub pulse: Arc<Pulse>,
     /// Where senders post.
     pub listen: String,
-    /// Where operators ask, as it was given.
+    /// Where operators read over TCP, as it was given.
     pub operate: String,
+    /// Whether no other machine reaches that.
+    pub is_local: bool,
     pub data: String,
     /// So many fit.
     pub most_series: usize,
@@ -118,13 +123,6 @@ impl Route {
 }
 
 impl Route {
-    /// Whether it is asked for by any name, as by a scrape or a probe, and nothing is changed by it.
-    fn is_for_all(&self) -> bool {
-        matches!(self, Route::Metrics | Route::Health | Route::Ready)
-    }
-}
-
-impl Route {
     /// Whether it changes something, or shows what senders have sent.
     fn is_order(&self) -> bool {
         use Route::*;
@@ -132,49 +130,28 @@ impl Route {
     }
 }
 
-/// An address at which nothing is changed, since orders are taken elsewhere.
-pub struct ReadOnly {
-    pub desk: Arc<Desk>,
-    pub orders_at: String,
-}
-
-impl Handler for ReadOnly {
-    async fn answer(self: Arc<Self>, request: Request<Body>) -> Response<Body> {
-        let route = match Route::of(request.uri().path()) {
-            Some((_, route)) if route.is_order() => {
-                let place = &self.orders_at;
-                return message(
-                    403,
-                    &format!("this is taken at {place} alone: give `--operate {place}` to totxegun"),
-                );
-            }
-            Some((method, Route::Page(Page::Overview))) => Some((method, Route::Page(Page::Levels))),
-            route => route,
-        };
-        self.desk.answer_by(route, request).await
-    }
-}
-
 impl Handler for Desk {
     async fn answer(self: Arc<Self>, request: Request<Body>) -> Response<Body> {
-        self.answer_by(Route::of(request.uri().path()), request).await
+        let actor = Actor::User(request.extensions().get::<User>().copied());
+        self.answer_to(actor, Route::of(request.uri().path()), request)
+            .await
     }
 }
 
 impl Desk {
-    async fn answer_by(&self, route: Option<(Method, Route)>, request: Request<Body>) -> Response<Body> {
+    async fn answer_to(
+        &self,
+        actor: Actor,
+        route: Option<(Method, Route)>,
+        request: Request<Body>,
+    ) -> Response<Body> {
         match route {
             None => message(404, "no such path"),
             Some((method, route)) if is_met(&method, request.method()) => {
-                let stranger = match route {
-                    Route::Page(_) => web::stranger_to_pages(&request, &self.operate),
-                    _ => web::stranger(&request, &self.operate),
-                };
-                match stranger {
-                    Some(why) if !route.is_for_all() => message(403, &why),
-                    _ => {
-                        let ends = request.extensions().get::<Ends>().copied();
-                        self.go(route, ends, request.uri().query().unwrap_or_default())
+                match self.stranger(&route, &request) {
+                    Some(why) => message(403, &why),
+                    None => {
+                        self.go(route, actor, request.uri().query().unwrap_or_default())
                             .await
                     }
                 }
@@ -194,16 +171,27 @@ impl Desk {
         }
     }
 
-    async fn go(&self, route: Route, ends: Option<Ends>, query: &str) -> Response<Body> {
+    /// Why a request is refused as one of a web page.
+    fn stranger(&self, route: &Route, request: &Request<Body>) -> Option<String> {
+        match route {
+            Route::Health | Route::Ready => None,
+            // Where other machines come, a scrape may be by any name.
+            Route::Metrics if !self.is_local => None,
+            Route::Page(_) => web::stranger_to_pages(request, &self.operate),
+            _ => web::stranger(request, &self.operate),
+        }
+    }
+
+    async fn go(&self, route: Route, actor: Actor, query: &str) -> Response<Body> {
         match route {
             Route::Order(Order::Checkpoint) => self.order(Order::Checkpoint).await,
             Route::Order(Order::Quarantine(sender)) => {
                 let order = self.order(Order::Quarantine(sender.clone()));
-                self.act(ends, "quarantine", sender, order).await
+                self.act(actor, "quarantine", sender, order).await
             }
             Route::Order(Order::Lift(sender)) => {
                 let order = self.order(Order::Lift(sender.clone()));
-                self.act(ends, "lift", sender, order).await
+                self.act(actor, "lift", sender, order).await
             }
             Route::Report => self.report().await,
             Route::Metrics => {
@@ -223,11 +211,11 @@ impl Desk {
             Route::Letters => self.letters().await,
             Route::Letter(key) => self.letter(&key).await,
             Route::Resend(key) => {
-                self.act(ends, "dead resend", key.clone(), self.resend(&key))
+                self.act(actor, "dead resend", key.clone(), self.resend(&key))
                     .await
             }
             Route::Drop(key) => {
-                self.act(ends, "dead drop", key.clone(), self.drop_letter(&key))
+                self.act(actor, "dead drop", key.clone(), self.drop_letter(&key))
                     .await
             }
             Route::Page(page) => self.page(page, query).await,
@@ -287,7 +275,7 @@ mod tests {
         }
     }
 
-    /// With a socket, the first are taken there alone.
+    /// The first are taken at the socket, or with a token.
     #[test]
     fn orders_and_bodies_are_told_from_what_is_read() {
         let is_order = |path| Route::of(path).unwrap().1.is_order();

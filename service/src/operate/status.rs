@@ -3,6 +3,7 @@
 use super::{Desk, Left};
 use crate::files::Held;
 use crate::metrics::RoundedSeries;
+use crate::shares::Used;
 use serde::{Deserialize, Serialize};
 use std::sync::PoisonError;
 use std::time::{SystemTime, UNIX_EPOCH};
@@ -23,6 +24,9 @@ pub struct Status {
     #[serde(default)]
     pub books: BooksStatus,
     pub slots: Vec<SlotStatus>,
+    /// Those that are nearest to their share, the nearest first.
+    #[serde(default)]
+    pub senders: Vec<Used>,
     /// What `--whole` has rounded since the start.
     #[serde(default)]
     pub rounded: Vec<RoundedStatus>,
@@ -128,6 +132,7 @@ impl Desk {
             dead: self.dead.count(),
             books: self.books_status(),
             slots,
+            senders: self.slot.shares.nearest(),
             rounded: self.rounded_status(),
         }
     }
@@ -198,6 +203,7 @@ impl Desk {
         let is_stuck = slots.iter().any(|slot| slot.stuck.is_some());
         levels.delivery_stuck.set(i64::from(is_stuck));
         self.read_disk();
+        self.metrics.shares(&self.slot.shares.nearest());
         levels.series.set(sum(|slot| slot.series as u64));
         let (used, most) = crate::core::memory_used();
         levels.book_memory_bytes.set(used as i64);

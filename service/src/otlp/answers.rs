@@ -48,8 +48,8 @@ fn json(outcome: &Outcome) -> String {
             text.push_str(&format!(r#","rejectedDataPoints":"{rejected}"}}}}"#));
             text
         }
-        Outcome::Refused { status, message } => {
-            let mut text = format!(r#"{{"code":{},"message":"#, code(*status));
+        Outcome::Refused { message, .. } | Outcome::Later { message, .. } => {
+            let mut text = format!(r#"{{"code":{},"message":"#, code(outcome.status()));
             write_text(&mut text, message);
             text.push('}');
             text
@@ -67,8 +67,8 @@ fn protobuf(outcome: &Outcome) -> Vec<u8> {
             });
             ExportMetricsServiceResponse { partial_success }.encode_to_vec()
         }
-        Outcome::Refused { status, message } => Status {
-            code: code(*status),
+        Outcome::Refused { message, .. } | Outcome::Later { message, .. } => Status {
+            code: code(outcome.status()),
             message: message.clone(),
         }
         .encode_to_vec(),

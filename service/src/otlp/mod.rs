@@ -127,6 +127,8 @@ pub enum Outcome {
     Taken { rejected: u64, message: Option<String> },
     /// With this HTTP status and for this reason nothing was taken.
     Refused { status: u16, message: String },
+    /// Nothing was taken either: its sender has used up its share, and may have more in so many seconds.
+    Later { seconds: u64, message: String },
 }
 
 impl Outcome {
@@ -165,6 +167,24 @@ impl Outcome {
         match self {
             Outcome::Taken { .. } => 200,
             Outcome::Refused { status, .. } => *status,
+            Outcome::Later { .. } => 429,
+        }
+    }
+
+    /// Why nothing was taken.
+    pub fn refusal(&self) -> Option<&str> {
+        match self {
+            Outcome::Taken { .. } => None,
+            Outcome::Refused { message, .. } | Outcome::Later { message, .. } => Some(message),
+        }
+    }
+
+    /// In how many seconds the same may be taken.
+    pub fn again_in(&self) -> Option<u64> {
+        match self {
+            Outcome::Refused { status: 503, .. } => Some(1),
+            Outcome::Later { seconds, .. } => Some(*seconds),
+            _ => None,
         }
     }
 

@@ -61,8 +61,8 @@ impl Heard {
         let of_reason = of.refused.entry(reason).or_default();
         of_reason.posts += 1;
         of_reason.last = now;
-        if let Outcome::Refused { status, message } = outcome {
-            (of_reason.status, of_reason.text) = (*status, shown(message, TEXT));
+        if let Some(message) = outcome.refusal() {
+            (of_reason.status, of_reason.text) = (outcome.status(), shown(message, TEXT));
         }
         (of_reason.posts == 1).then_some(reason)
     }

@@ -123,7 +123,7 @@ impl<T: Taker> Remarks<T> {
         match outcome {
             Outcome::Taken { rejected: 0, .. } => None,
             Outcome::Taken { .. } => self.may_tell_more(sender).then_some(Remark::Foreign),
-            Outcome::Refused { message, .. } => place_of(message).map(Remark::OtherWriter),
+            _ => outcome.refusal().and_then(place_of).map(Remark::OtherWriter),
         }
     }
 
@@ -145,6 +145,7 @@ impl<T: Taker> Remarks<T> {
                 let message = message + &said.flatten().unwrap_or_default();
                 Outcome::Refused { status, message }
             }
+            Outcome::Later { .. } => outcome,
         }
     }
 
@@ -164,13 +165,11 @@ impl<T: Taker> Remarks<T> {
     /// Notes an answer. The first refusal of a sender for each reason is in the log; those that the service itself is
     /// the reason of have a line of their own.
     fn note(&self, sender: &str, outcome: &Outcome) {
-        let (Some(reason), Outcome::Refused { status, message }) =
-            (self.heard.note(sender, outcome), outcome)
-        else {
+        let (Some(reason), Some(message)) = (self.heard.note(sender, outcome), outcome.refusal()) else {
             return;
         };
-        let mut told = self.told();
-        if *status < 500 && told.refusals < REMEMBERED {
+        let (mut told, status) = (self.told(), outcome.status());
+        if status < 500 && told.refusals < REMEMBERED {
             told.refusals += 1;
             drop(told);
             let answer = shown(message, ANSWER_SHOWN);

@@ -146,7 +146,7 @@ const SPAN: &str = r#""startTimeUnixNano":"1","timeUnixNano":"2""#;
 async fn answered(remarks: &Arc<Remarks<Answering>>, metrics: &str) -> String {
     match remarks.post("a".into(), body(metrics).into()).await {
         Outcome::Taken { message, .. } => message.unwrap_or_default(),
-        Outcome::Refused { message, .. } => message,
+        Outcome::Refused { message, .. } | Outcome::Later { message, .. } => message,
     }
 }
 

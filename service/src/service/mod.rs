@@ -20,10 +20,11 @@ use crate::keeper::{Settings as Keeping, Trouble};
 use crate::metrics::Metrics;
 use crate::otlp::Reading;
 use crate::remarks::Telling;
+use crate::shares::Share;
 use crate::sinks::{Address, Keep};
 use crate::slot::Slot;
 use anyhow::{anyhow, Context};
-use operators::Operators;
+use operators::Readers;
 use parts::Parts;
 use senders::Senders;
 use std::path::PathBuf;
@@ -43,6 +44,8 @@ pub struct Settings {
     pub door: Door,
     /// Others may reach these addresses although strangers can post there.
     pub behind_proxy: bool,
+    /// What a sender may have that has no share of its own.
+    pub of_each: Share,
     pub sink: Address,
     /// How long the sink keeps what it has.
     pub keep: Keep,
@@ -111,13 +114,14 @@ pub async fn run(settings: Settings) -> Result<(), Ended> {
     let mut signals = Signals::new()?;
     let supervisor = Supervisor::from_environment();
     let senders = Senders::bind(&settings).await?;
-    let operators = Operators::bind(&settings.operate).await?;
+    let readers = Readers::bind(&settings).await?;
     let slot = Arc::new(OnceLock::<Arc<Slot>>::new());
     let begun = slot.clone();
     // Before the files are opened: that may take longer than a supervisor waits.
     let is_ready = move || begun.get().is_some_and(|slot| slot.is_ready());
     let watched = tokio::spawn(supervisor.clone().watch(is_ready));
     let folder = Arc::new(Folder::open(&settings.data, settings.durability)?);
+    let operators = readers.and_socket(&settings.operate).await?;
     let keeping = settings.keeping();
     let ending = async { tracing::info!("{}: ending", signals.received().await) };
     if !adopt::slots(&folder, settings.most_series, &keeping, ending).await? {
@@ -128,7 +132,7 @@ pub async fn run(settings: Settings) -> Result<(), Ended> {
     tracing::info!(folder, sink, "data in {folder}, sink {sink}");
     tracing::info!("{}", settings.door);
     tracing::info!(
-        "senders post to {}, operators ask {}",
+        "senders post to {}, operators {}",
         senders.shown(),
         operators.shown()
     );

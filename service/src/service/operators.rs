@@ -1,72 +1,100 @@
 //! Where operators come to.
 
-use super::senders::bind;
-use super::Ended;
+use super::senders::{bind, is_local};
+use super::{Ended, Settings};
+use crate::identity::Tokens;
 use crate::intake::connections::{serve, Limits};
 use crate::intake::{listen_at_socket, Listener};
-use crate::operate::{Desk, ReadOnly};
+use crate::operate::{AtTcp, Desk};
+use crate::renewed::Renewed;
 use anyhow::anyhow;
-use std::path::PathBuf;
+use std::path::{Path, PathBuf};
 use std::sync::Arc;
 use tokio::net::{TcpListener, UnixListener};
 use tokio::sync::watch;
 
-/// The operators' addresses, as they are given: one of them is there at least.
-#[derive(Clone, Debug, Default)]
+/// The operators' addresses, as they are given.
+#[derive(Clone)]
 pub struct Operate {
+    /// Where all may read.
     pub tcp: Option<String>,
-    /// With it what changes something is taken there alone.
-    pub socket: Option<PathBuf>,
+    /// Where orders are taken.
+    pub socket: PathBuf,
+    /// Whose orders are taken over TCP too.
+    pub tokens: Option<Arc<Renewed<Tokens>>>,
 }
+
+/// The address of TCP, before the folder is this process' own.
+pub(super) struct Readers(Option<TcpListener>);
 
 pub(super) struct Operators {
     tcp: Option<TcpListener>,
-    socket: Option<UnixListener>,
+    socket: UnixListener,
+    tokens: Option<Arc<Renewed<Tokens>>>,
+}
+
+impl Readers {
+    pub async fn bind(settings: &Settings) -> Result<Readers, Ended> {
+        let Some(address) = &settings.operate.tcp else {
+            return Ok(Readers(None));
+        };
+        let listener = bind("--operate", address).await?;
+        if settings.operate.tokens.is_some() && !settings.behind_proxy && !is_local(&listener) {
+            return Err(Ended::Open(anyhow!(
+                "--operate {address} is open to other machines, where anybody could read tokens of --operate-tokens along: \
+                 leave these out, or give --behind-proxy, if nobody but a proxy that has TLS reaches the address"
+            )));
+        }
+        Ok(Readers(Some(listener)))
+    }
+
+    /// With the socket, which may be in the folder: nobody else has it.
+    pub async fn and_socket(self, operate: &Operate) -> Result<Operators, Ended> {
+        Ok(Operators {
+            tcp: self.0,
+            socket: bind_socket(&operate.socket).await?,
+            tokens: operate.tokens.clone(),
+        })
+    }
+}
+
+async fn bind_socket(path: &Path) -> Result<UnixListener, Ended> {
+    Ok(listen_at_socket(path).await.map_err(|error| {
+        anyhow!(
+            "--operate unix:{} can't be listened at: end what listens there, or give another path, of 107 bytes at most, in a \
+             folder that is there: {error}",
+            path.display()
+        )
+    })?)
 }
 
 impl Operators {
-    pub async fn bind(operate: &Operate) -> Result<Operators, Ended> {
-        let tcp = match &operate.tcp {
-            Some(address) => Some(bind("--operate", address).await?),
-            None => None,
-        };
-        let socket = match &operate.socket {
-            Some(path) => Some(listen_at_socket(path).await.map_err(|error| {
-                anyhow!(
-                    "--operate unix:{} can't be listened at: end what listens there, or give another path: {error}",
-                    path.display()
-                )
-            })?),
-            None => None,
-        };
-        Ok(Operators { tcp, socket })
+    /// Where each is asked.
+    pub fn shown(&self) -> String {
+        let tcp = self
+            .tcp
+            .iter()
+            .map(|tcp| format!("read at {}, and ", tcp.shown()));
+        format!("{}order at {}", tcp.collect::<String>(), self.socket.shown())
     }
 
-    pub fn shown(&self) -> String {
-        let tcp = self.tcp.iter().map(Listener::shown);
-        let socket = self.socket.iter().map(Listener::shown);
-        tcp.chain(socket).collect::<Vec<_>>().join(" and ")
+    /// Whether no other machine reaches them.
+    pub fn is_local(&self) -> bool {
+        self.tcp.as_ref().is_none_or(is_local)
     }
 
     /// Until both have ended.
     pub async fn serve(self, limits: Limits, desk: Arc<Desk>, stop: watch::Receiver<bool>) {
-        let orders_at = self.socket.as_ref().map(Listener::shown);
+        let at_tcp = AtTcp {
+            desk: desk.clone(),
+            orders_at: self.socket.shown(),
+            tokens: self.tokens,
+        };
         let tcp = async {
-            let (stop, limits) = (stop.clone(), limits.clone());
-            match (self.tcp, orders_at) {
-                (Some(tcp), None) => serve(tcp, limits, desk.clone(), stop).await,
-                (Some(tcp), Some(orders_at)) => {
-                    let desk = desk.clone();
-                    serve(tcp, limits, Arc::new(ReadOnly { desk, orders_at }), stop).await
-                }
-                (None, _) => {}
+            if let Some(tcp) = self.tcp {
+                serve(tcp, limits.clone(), Arc::new(at_tcp), stop.clone()).await;
             }
         };
-        let socket = async {
-            if let Some(socket) = self.socket {
-                serve(socket, limits.clone(), desk.clone(), stop.clone()).await;
-            }
-        };
-        tokio::join!(tcp, socket);
+        tokio::join!(tcp, serve(self.socket, limits.clone(), desk, stop.clone()));
     }
 }

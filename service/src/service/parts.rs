@@ -13,6 +13,7 @@ use crate::keeper::{Keeper, Orders};
 use crate::metrics::Metrics;
 use crate::operate::{Acts, Desk, Left, Pulse, Totals};
 use crate::remarks::{Heard, Remarks};
+use crate::shares::Rules;
 use crate::sinks::{self, Delivery, Sink};
 use crate::slot::Slot;
 use anyhow::Context;
@@ -109,6 +110,12 @@ impl Parts {
             }
         };
         let slot = self.slot;
+        slot.shares.begin(Rules {
+            most_series: settings.most_series as u64,
+            of_each: settings.of_each,
+            tokens: settings.door.tokens(),
+            owned: Box::new(slot.outbox.clone()),
+        });
         let left = deliver(slot.number(), slot.outbox.clone());
         let former = self.former.into_iter();
         let former = former.map(|(number, outbox)| deliver(number, outbox)).collect();
@@ -151,6 +158,7 @@ impl Parts {
             heard,
             listen: senders.shown(),
             operate: settings.operate.tcp.clone().unwrap_or_default(),
+            is_local: operators.is_local(),
             data: settings.data.display().to_string(),
             most_series: settings.most_series,
             begun: Instant::now(),

@@ -23,12 +23,16 @@ pub(super) async fn bind(option: &str, address: &str) -> Result<TcpListener, End
     })?)
 }
 
+/// Whether no other machine reaches it.
+pub(super) fn is_local(listener: &TcpListener) -> bool {
+    let place = listener.local_addr();
+    place.is_ok_and(|place| place.ip().to_canonical().is_loopback())
+}
+
 /// Listens at an address that other machines do not reach, or at which no stranger can read along or post.
 async fn bind_closed(option: &str, address: &str, settings: &Settings) -> Result<TcpListener, Ended> {
     let listener = bind(option, address).await?;
-    let place = listener.local_addr();
-    let is_local = place.is_ok_and(|place| place.ip().to_canonical().is_loopback());
-    match is_local || settings.behind_proxy || settings.door.is_closed() {
+    match is_local(&listener) || settings.behind_proxy || settings.door.is_closed() {
         true => Ok(listener),
         false => Err(Ended::Open(anyhow!(
             "{option} {address} is open to other machines, where anybody could read along and post under any name: give \

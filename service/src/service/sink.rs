@@ -2,7 +2,7 @@
 
 use super::Ended;
 use crate::files::{Fault, Folder, KnownSink, Outbox};
-use crate::operate::{Act, Acts};
+use crate::operate::{Act, Actor, Acts};
 use crate::sinks::{self, Address, Keep, Memory, Sink};
 use anyhow::{anyhow, Context};
 use std::sync::atomic::{AtomicBool, Ordering::Relaxed};
@@ -64,9 +64,13 @@ impl Remembered {
 
     fn remember(&self, before: Option<KnownSink>, now: KnownSink) -> Result<(), Fault> {
         let left = before.filter(|before| self.takes_new.load(Relaxed) && !before.is(&now));
-        let act = left
-            .as_ref()
-            .map(|left| Act::new(None, "new sink", &format!("{now} in the place of {left}")));
+        let act = left.as_ref().map(|left| {
+            Act::new(
+                Actor::User(None),
+                "new sink",
+                &format!("{now} in the place of {left}"),
+            )
+        });
         if let Some(act) = &act {
             self.acts.begins(act);
         }

@@ -16,6 +16,7 @@ use crate::core::{Core, Refused};
 use crate::files::{Folder, Held, Journal, Outbox};
 use crate::metrics::Metrics;
 use crate::otlp::Outcome;
+use crate::shares::Shares;
 use bytes::Bytes;
 use phase::Phases;
 use std::sync::atomic::{AtomicU64, Ordering};
@@ -47,6 +48,7 @@ pub struct Slot {
     /// A post was refused because there are too many series.
     pub(crate) crowded: Notify,
     told: disk::Told,
+    pub(crate) shares: Arc<Shares>,
 }
 
 impl Slot {
@@ -71,6 +73,7 @@ impl Slot {
             ungrouped: AtomicU64::new(0),
             crowded: Notify::new(),
             told: disk::Told::default(),
+            shares: Arc::default(),
         })
     }
 

@@ -7,6 +7,7 @@ use super::verdict::{Journalled, Taken};
 use super::{is_sender, Phase, Request, Slot, NO_ROOM};
 use crate::core::{Core, Read, Refused};
 use crate::otlp::Outcome;
+use crate::shares::Claim;
 use crate::work::blocking;
 use std::sync::Arc;
 
@@ -22,8 +23,20 @@ impl Slot {
         if let Some(why) = self.unavailable() {
             return unavailable(why);
         }
+        let source = request.source();
         let said = match self.read(sender, request).await {
-            Ok(read) => self.put(read),
+            Ok(read) => match self
+                .shares
+                .claim(&read.post.sender, read.points(), || source.text())
+            {
+                Ok(claim) => self.put(read, claim),
+                Err(over) => {
+                    if over.is_of_series() {
+                        self.crowded.notify_one();
+                    }
+                    return over.into();
+                }
+            },
             Err(refused) => Ok(Journalled::refused(refused, &self.journal)),
         };
         match said {
@@ -42,7 +55,7 @@ impl Slot {
     }
 
     /// Puts a post into the book and into the journal. The error is why the book was not asked.
-    fn put(&self, mut read: Read) -> Result<Journalled, &'static str> {
+    fn put(&self, mut read: Read, claim: Claim) -> Result<Journalled, &'static str> {
         // Others may have come through the door at once.
         let Some(_room) = self.folder.room_for(read.bytes()) else {
             return Err(NO_ROOM);
@@ -52,6 +65,7 @@ impl Slot {
         if self.phase() != Phase::Serving {
             return Err(self.unavailable().unwrap_or("recovering"));
         }
+        let before = book.series();
         let admitted = book.admit(&mut read);
         self.metrics.rounds_closed.inc_by(book.rounds_closed() as u64);
         if let Err(refused) = admitted {
@@ -61,6 +75,7 @@ impl Slot {
             }
             return Ok(Journalled::refused(refused, &self.journal));
         }
+        claim.keep(&read.post.sender, book.series().saturating_sub(before));
         self.count_post();
         // Under the lock: so the journal has the book's order, and a checkpoint finds the post in both or in neither.
         let (post, names) = (&read.post, read.names());
@@ -89,7 +104,8 @@ pub(super) fn read(core: &Arc<Core>, sender: String, request: Request) -> Result
 impl Slot {
     /// The second half of a post's way.
     pub(crate) fn put_of_test(&self, read: Read) -> Result<(), &'static str> {
-        self.put(read).map(drop)
+        let claim = self.shares.claim(&read.post.sender, 0, || None);
+        self.put(read, claim.map_err(|_| "over its share")?).map(drop)
     }
 }
 

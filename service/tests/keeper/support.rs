@@ -207,8 +207,5 @@ pub fn all() -> Outcome {
 }
 
 pub fn message(outcome: &Outcome) -> (u16, &str) {
-    match outcome {
-        Outcome::Taken { .. } => (200, ""),
-        Outcome::Refused { status, message } => (*status, message),
-    }
+    (outcome.status(), outcome.refusal().unwrap_or_default())
 }

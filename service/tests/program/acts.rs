@@ -1,8 +1,7 @@
 //! What operators do is recorded in the folder and in the log.
 
-use crate::support::{until, Place, PROGRAM};
+use crate::support::Place;
 use std::os::unix::fs::MetadataExt;
-use std::process::Command;
 
 /// The name of who runs this test, as the machine knows it.
 fn own_name() -> String {
@@ -58,25 +57,4 @@ fn who_did_what_and_what_came_of_it() {
     let log = place.log();
     assert!(log.contains(&format!("quarantine A, by {who}: done")), "{log}");
     assert!(!log.contains("flush, by"), "{log}");
-}
-
-/// As the shipped unit has it, by `ProcSubset=pid`.
-#[test]
-fn who_acts_is_known_where_proc_has_processes_alone() {
-    let in_such = |program: &str| {
-        let mut command = Command::new("unshare");
-        let script = "mount -t proc -o subset=pid proc /proc && exec \"$@\"";
-        command.args(["--mount", "sh", "-c", script, "sh", program]);
-        command
-    };
-    if !in_such("true").status().is_ok_and(|status| status.success()) {
-        eprintln!("skipped: no right to mount");
-        return;
-    }
-    let place = Place::new();
-    let service = place.begin_by(in_such(PROGRAM), &["--sink", &place.sink()]);
-    until("it is ready", || service.is_ready());
-    assert_eq!(service.order("/quarantine/A").0, 200);
-    let text = std::fs::read_to_string(place.data().join("acts.jsonl")).unwrap();
-    assert!(text.contains(&format!("\"who\":\"{}\"", own_name())), "{text}");
 }

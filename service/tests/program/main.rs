@@ -9,6 +9,7 @@ mod log;
 mod memory;
 mod numbers;
 mod pages;
+mod shares;
 mod socket;
 mod stuck;
 mod support;

@@ -4,7 +4,7 @@ use crate::support::{points, Place, Service};
 use std::process::Command;
 
 /// All that changes something, or has something of the senders.
-const GUARDED: [(&str, &str); 9] = [
+const GUARDED: [(&str, &str); 10] = [
     ("POST", "/flush"),
     ("POST", "/quarantine/A"),
     ("POST", "/lift/A"),
@@ -14,15 +14,25 @@ const GUARDED: [(&str, &str); 9] = [
     ("GET", "/dead/0-a-1"),
     ("GET", "/totals"),
     ("GET", "/status"),
+    ("GET", "/metrics"),
 ];
 
 fn curl(service: &Service, method: &str, path: &str, headers: &[&str]) -> (u16, String) {
+    by(Command::new("curl"), service, method, path, headers)
+}
+
+fn at_socket(service: &Service, method: &str, path: &str, headers: &[&str]) -> (u16, String) {
     let mut command = Command::new("curl");
-    command.args(["-sS", "-X", method, "-w", "\n%{http_code}"]);
+    command.arg("--unix-socket").arg(service.socket());
+    by(command, service, method, path, headers)
+}
+
+fn by(mut curl: Command, service: &Service, method: &str, path: &str, headers: &[&str]) -> (u16, String) {
+    curl.args(["-sS", "-X", method, "-w", "\n%{http_code}"]);
     for header in headers {
-        command.args(["-H", header]);
+        curl.args(["-H", header]);
     }
-    let output = command.arg(format!("http://{}{path}", service.operate)).output();
+    let output = curl.arg(format!("http://{}{path}", service.operate)).output();
     let text = String::from_utf8(output.unwrap().stdout).unwrap();
     let (body, status) = text.rsplit_once('\n').unwrap();
     (status.parse().unwrap(), body.to_string())
@@ -43,9 +53,11 @@ fn a_page_changes_nothing_and_reads_nothing() {
         ),
     ] {
         for (method, path) in GUARDED {
-            let (status, body) = curl(&service, method, path, &[header]);
-            assert_eq!(status, 403, "{header}: {method} {path}: {body}");
-            assert!(body.contains(why), "{body}");
+            for ask in [curl, at_socket] {
+                let (status, body) = ask(&service, method, path, &[header]);
+                assert_eq!(status, 403, "{header}: {method} {path}: {body}");
+                assert!(body.contains(why), "{body}");
+            }
         }
     }
     assert_eq!(service.status()["slots"][0]["quarantined"], serde_json::json!([]));
@@ -66,10 +78,10 @@ fn programs_ask_as_before() {
             ("/lift/B", 200),
             ("/dead/0-a-1/drop", 404),
         ] {
-            let (status, body) = curl(&service, "POST", path, headers);
+            let (status, body) = at_socket(&service, "POST", path, headers);
             assert_eq!(status, wanted, "{headers:?}: {path}: {body}");
         }
-        assert_eq!(curl(&service, "GET", "/dead", headers), (200, "[]".into()));
+        assert_eq!(at_socket(&service, "GET", "/dead", headers), (200, "[]".into()));
     }
     service.drain();
     let prometheus = [
@@ -80,8 +92,8 @@ fn programs_ask_as_before() {
     for path in ["/metrics", "/totals"] {
         assert_eq!(curl(&service, "GET", path, &prometheus).0, 200, "{path}");
     }
-    // A scrape by another name, as between containers, and a probe.
-    for path in ["/metrics", "/health", "/ready"] {
+    // A probe by another name.
+    for path in ["/health", "/ready"] {
         assert_eq!(
             curl(&service, "GET", path, &["Host: totxegun:4319"]).0,
             200,

@@ -1,9 +1,11 @@
-//! Orders over a socket of this machine, beside an address that is only read.
+//! Orders at a socket of this machine, beside an address of TCP that is read, and takes orders by token.
 
 use crate::support::{points, until, Place, Service, PROGRAM};
+use std::os::unix::fs::MetadataExt;
+use std::path::Path;
 use std::process::{Command, Output};
 
-/// A command at an address of the service.
+/// A command as it is given, with a setting as the service may have it.
 fn told(words: &[&str], operate: &str) -> Output {
     let command = Command::new(PROGRAM)
         .args(words)
@@ -16,42 +18,46 @@ fn text(output: &Output) -> String {
     String::from_utf8([&output.stdout[..], &output.stderr].concat()).unwrap()
 }
 
-/// What changes something, or shows bodies, over TCP.
-fn is_refused(service: &Service, socket: &str) -> bool {
-    let orders = [
-        "/flush",
-        "/checkpoint",
-        "/quarantine/A",
-        "/lift/A",
-        "/dead/k/resend",
-        "/dead/k/drop",
-    ];
-    let refused = |answer: (u16, String)| answer.0 == 403 && answer.1.contains(socket);
-    let bodies = ["/dead", "/dead/k"].map(|path| service.asked_for(path).unwrap());
-    orders.iter().all(|path| refused(service.order(path))) && bodies.into_iter().all(refused)
+/// What is asked over TCP, with a header; a POST where it is an order.
+fn over_tcp(service: &Service, path: &str, header: &str) -> String {
+    let method = match path.starts_with("/dead") && path.matches('/').count() < 3 {
+        true => "GET",
+        false => "POST",
+    };
+    let mut command = Command::new("curl");
+    command.args(["-sS", "-i", "-X", method, "-H", header]);
+    let output = command.arg(format!("http://{}{path}", service.operate)).output();
+    text(&output.unwrap())
 }
+
+/// What changes something, or shows bodies.
+const ORDERS: [&str; 8] = [
+    "/flush",
+    "/checkpoint",
+    "/quarantine/A",
+    "/lift/A",
+    "/dead",
+    "/dead/k",
+    "/dead/k/resend",
+    "/dead/k/drop",
+];
 
 #[test]
 fn orders_are_taken_at_the_socket_alone() {
     let place = Place::new();
-    let socket = format!("unix:{}", place.folder.path().join("operate").display());
-    let words = [
-        "--sink",
-        &place.sink(),
-        "--operate",
-        &socket,
-        "--flush-every",
-        "1h",
-    ];
-    let service = place.serve_with(&words);
+    let service = place.serve_with(&["--sink", &place.sink(), "--flush-every", "1h"]);
+    let socket = service.socket();
+    assert_eq!(std::fs::metadata(&socket).unwrap().mode() & 0o777, 0o660);
     assert_eq!(service.post("A", &points(&["a"], 100, 1)).unwrap().0, 200);
-    assert!(is_refused(&service, &socket));
+    for path in ORDERS {
+        let answer = over_tcp(&service, path, "Authorization: Bearer t0ken");
+        let is_refused = answer.starts_with("HTTP/1.1 403") && answer.contains(&socket.display().to_string());
+        assert!(is_refused, "{path}: {answer}");
+    }
     assert_eq!(place.totals_if_any().len(), 0, "nothing was flushed");
     for path in ["/metrics", "/totals", "/health", "/ready", "/status", "/report"] {
         assert_eq!(service.asked_for(path).unwrap().0, 200, "{path}");
     }
-    // As the setting has both: a command takes the socket.
-    let both = format!("{},{socket}", service.operate);
     for (words, said) in [
         (&["quarantine", "A"][..], "done"),
         (&["lift", "A"], "done"),
@@ -59,43 +65,137 @@ fn orders_are_taken_at_the_socket_alone() {
         (&["dead", "list"], ""),
         (&["status"], "ready"),
     ] {
-        let output = told(words, &both);
-        assert!(
-            output.status.success() && text(&output).contains(said),
-            "{words:?}: {}",
-            text(&output)
-        );
+        assert!(service.said(words).contains(said), "{words:?}");
     }
     until("it is delivered", || place.totals_if_any().get("a") == Some(&1));
-    let refused = told(&["flush"], &service.operate);
-    assert!(
-        text(&refused).contains(&format!("give `--operate {socket}`")),
-        "{}",
-        text(&refused)
-    );
+    assert!(place
+        .log()
+        .contains(&format!("order at unix:{}", socket.display())));
     assert_eq!(service.end(), Some(0));
+}
+
+/// By the folder, by the service's own setting, or as it is told.
+#[test]
+fn a_command_finds_the_socket() {
+    let place = Place::new();
+    let elsewhere = format!("unix:{}", place.folder.path().join("elsewhere").display());
+    let service = place.serve_with(&["--sink", &place.sink(), "--operate", &elsewhere]);
+    let data = place.data().display().to_string();
+    let both = format!("{},{elsewhere}", service.operate);
+    for (words, setting) in [
+        (&["flush"][..], &*both),
+        (&["flush", "--data", &data], &elsewhere),
+        (&["flush", "--operate", &elsewhere], &service.operate),
+        (&["status", "--operate", &service.operate], &elsewhere),
+    ] {
+        let output = told(words, setting);
+        assert!(output.status.success(), "{words:?}: {}", text(&output));
+    }
+    for (words, why) in [
+        (&["flush", "--data", &data][..], "there is no unix:"),
+        (
+            &["flush", "--operate", &service.operate],
+            "run totxegun on the service's machine with its --data",
+        ),
+    ] {
+        let output = told(words, "");
+        assert!(text(&output).contains(why), "{words:?}: {}", text(&output));
+    }
+    assert_eq!(service.end(), Some(0));
+}
+
+#[test]
+fn a_token_is_taken_over_tcp() {
+    let place = Place::new();
+    let at = |name: &str| place.folder.path().join(name).display().to_string();
+    let made = Command::new(PROGRAM).args(["token", "ann"]).output().unwrap();
+    let shown = String::from_utf8(made.stderr).unwrap();
+    let token = shown.lines().last().unwrap().to_string();
+    std::fs::write(at("operators"), &made.stdout).unwrap();
+    std::fs::write(at("token"), format!("{token}\n")).unwrap();
+    let words = ["--sink", &place.sink(), "--operate-tokens", &at("operators")];
+    let service = place.serve_with(&words);
+    for path in ORDERS {
+        for header in [
+            "x: y",
+            "Authorization: Bearer t0ken",
+            &format!("Authorization: {token}"),
+        ] {
+            let answer = over_tcp(&service, path, header);
+            let is_refused =
+                answer.starts_with("HTTP/1.1 401") && answer.contains("www-authenticate: Bearer");
+            assert!(is_refused, "{path}: {answer}");
+        }
+    }
+    let both = ["--operate", &service.operate, "--token", &at("token")];
+    let by_token = |words: &[&str]| text(&told(&[words, &both].concat(), ""));
+    assert_eq!(by_token(&["quarantine", "A"]), "done\n");
+    let acts = || std::fs::read_to_string(place.data().join("acts.jsonl")).unwrap();
+    assert!(
+        acts().contains("\"who\":\"ann\",\"act\":\"quarantine\""),
+        "{}",
+        acts()
+    );
+    // A page that has it is one of somebody else all the same.
+    let mut command = Command::new("curl");
+    command.args([
+        "-sS",
+        "-X",
+        "POST",
+        "-H",
+        "Origin: null",
+        "-H",
+        &format!("Authorization: Bearer {token}"),
+    ]);
+    let answer = command.arg(format!("http://{}/lift/A", service.operate)).output();
+    assert!(text(&answer.unwrap()).contains("it has an Origin"));
+    std::fs::write(at("operators"), "").unwrap();
+    until("its line is gone", || {
+        by_token(&["lift", "A"]).contains("the token is not known")
+    });
+    assert_eq!(service.said(&["lift", "A"]), "done\n", "the socket wants none");
+    assert!(!place.log().contains(&token) && !acts().contains(&token));
+    assert_eq!(service.end(), Some(0));
+}
+
+/// Nothing is encrypted there.
+#[test]
+fn tokens_of_operators_stay_on_this_machine() {
+    let place = Place::new();
+    let file = place.folder.path().join("operators");
+    std::fs::write(&file, format!("ann sha256:{}", "0".repeat(64))).unwrap();
+    let mut command = Command::new(PROGRAM);
+    command.args([
+        "serve",
+        "--listen",
+        "127.0.0.1:0",
+        "--operate",
+        "0.0.0.0:0",
+        "--operate-tokens",
+    ]);
+    let output = command
+        .arg(&file)
+        .arg("--data")
+        .arg(place.data())
+        .output()
+        .unwrap();
+    assert_eq!(output.status.code(), Some(2));
+    assert!(text(&output).contains("--behind-proxy"), "{}", text(&output));
 }
 
 /// The list of them is at the socket alone.
 #[test]
 fn a_page_has_dead_requests_at_the_socket_alone() {
     let place = Place::new();
-    let socket = place.folder.path().join("operate");
-    let (sink, operate) = (place.sink(), format!("unix:{}", socket.display()));
-    let words = ["--sink", &sink, "--operate", &operate];
-    assert_eq!(place.serve_with(&words).end(), Some(0));
+    assert_eq!(place.serve().end(), Some(0));
     let letter = r#"{"key":"0-a-1","since":1,"reason":"400 of host h1","bytes":2}"#;
     std::fs::write(place.data().join("dead/0-a-1.json"), format!("{letter}\n{{}}")).unwrap();
-    let service = place.serve_with(&words);
+    let service = place.serve();
     let (status, page) = service.asked_for("/").unwrap();
     assert_eq!(status, 200);
     assert!(page.contains("<b>1</b><span>dead requests") && page.contains("totxegun dead list"));
     assert!(!page.contains("0-a-1") && !page.contains("host h1"), "{page}");
-    let output = Command::new("curl")
-        .args(["-sS", "http://localhost/", "--unix-socket"])
-        .arg(&socket)
-        .output();
-    let page = text(&output.unwrap());
+    let (_, page) = service.at_socket("GET", "/").unwrap();
     assert!(
         page.contains("0-a-1") && page.contains("400 of host h1"),
         "{page}"
@@ -106,13 +206,25 @@ fn a_page_has_dead_requests_at_the_socket_alone() {
 #[test]
 fn a_socket_of_a_killed_service_is_taken_over() {
     let place = Place::new();
-    let socket = format!("unix:{}", place.folder.path().join("operate").display());
-    let words = ["--sink", &place.sink(), "--operate", &socket];
-    place.serve_with(&words).kill();
-    assert!(text(&told(&["flush"], &socket)).contains("no service answers at unix:"));
-    let service = place.serve_with(&words);
-    assert!(told(&["flush"], &socket).status.success());
+    let mut service = place.serve();
+    service.kill();
+    assert!(service.said(&["flush"]).contains("no service answers at unix:"));
+    let service = place.serve();
+    assert!(service.said(&["flush"]).contains("done"));
     assert_eq!(service.end(), Some(0));
+}
+
+/// Another service on the folder leaves it where it is.
+#[test]
+fn a_second_service_takes_nobody_s_socket() {
+    let place = Place::new();
+    let service = place.serve();
+    let inode = |path: &Path| std::fs::metadata(path).unwrap().ino();
+    let before = inode(&service.socket());
+    assert_eq!(place.begin(&["--sink", &place.sink()]).status_of_end(), Some(1));
+    assert!(place.log().contains("is in use by another service"));
+    assert_eq!(inode(&service.socket()), before);
+    assert!(service.said(&["flush"]).contains("done"));
 }
 
 #[test]
@@ -143,4 +255,29 @@ fn a_socket_may_be_the_only_address() {
     }
     service.kill().unwrap();
     service.wait().unwrap();
+}
+
+/// As the package has it: the folder is root's own, and the message says so.
+#[test]
+fn who_has_no_rights_is_told_what_to_do() {
+    let place = Place::new();
+    let service = place.serve();
+    let of_nobody = |words: &[&str]| {
+        let mut command = Command::new("setpriv");
+        command.args(["--reuid=65533", "--regid=65533", "--clear-groups", "--", PROGRAM]);
+        command.args(words).arg("--data").arg(place.data()).output()
+    };
+    let Ok(output) = of_nobody(&["flush"]) else {
+        return eprintln!("skipped: no setpriv");
+    };
+    let said = text(&output);
+    if said.contains("setpriv:") {
+        return eprintln!("skipped: no right to be somebody else");
+    }
+    assert!(
+        said.contains("is closed to this user: run this as root"),
+        "{said}"
+    );
+    assert_eq!(output.status.code(), Some(1));
+    assert_eq!(service.end(), Some(0));
 }

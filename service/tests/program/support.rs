@@ -3,6 +3,7 @@
 use std::collections::BTreeMap;
 use std::io::{Read, Write};
 use std::net::{TcpListener, TcpStream};
+use std::os::unix::net::UnixStream;
 use std::path::PathBuf;
 use std::process::{Child, Command, Stdio};
 use std::sync::atomic::{AtomicBool, Ordering::Relaxed};
@@ -65,6 +66,7 @@ impl Place {
             child,
             listen,
             operate,
+            data: self.data(),
         }
     }
 
@@ -132,6 +134,7 @@ pub struct Service {
     child: Child,
     pub listen: String,
     pub operate: String,
+    data: PathBuf,
 }
 
 impl Drop for Service {
@@ -173,7 +176,8 @@ impl Service {
     pub fn said(&self, words: &[&str]) -> String {
         let output = Command::new(PROGRAM)
             .args(words)
-            .args(["--operate", &self.operate])
+            .arg("--data")
+            .arg(&self.data)
             .output()
             .unwrap();
         String::from_utf8([output.stdout, output.stderr].concat()).unwrap()
@@ -196,7 +200,17 @@ impl Service {
     }
 
     pub fn order(&self, path: &str) -> (u16, String) {
-        asked(&self.operate, "POST", path, "-", "").unwrap()
+        self.at_socket("POST", path).unwrap()
+    }
+
+    pub fn socket(&self) -> PathBuf {
+        self.data.join("operate")
+    }
+
+    pub fn at_socket(&self, method: &str, path: &str) -> Option<(u16, String)> {
+        let stream = UnixStream::connect(self.socket()).ok()?;
+        stream.set_read_timeout(Some(Duration::from_secs(20))).ok()?;
+        answered(stream, method, path, "-", "")
     }
 
     pub fn metrics(&self) -> String {
@@ -259,8 +273,18 @@ pub fn signal(pid: u32, name: &str) {
 }
 
 fn asked(address: &str, method: &str, path: &str, sender: &str, body: &str) -> Option<(u16, String)> {
-    let mut stream = TcpStream::connect(address).ok()?;
+    let stream = TcpStream::connect(address).ok()?;
     stream.set_read_timeout(Some(Duration::from_secs(20))).ok()?;
+    answered(stream, method, path, sender, body)
+}
+
+fn answered(
+    mut stream: impl Read + Write,
+    method: &str,
+    path: &str,
+    sender: &str,
+    body: &str,
+) -> Option<(u16, String)> {
     let length = body.len();
     write!(
         stream,

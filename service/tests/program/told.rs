@@ -92,7 +92,7 @@ fn letters_that_take_long_hold_up_nothing_else() {
     assert!(made.unwrap().success());
     std::thread::scope(|scope| {
         let lists: Vec<_> = (0..4)
-            .map(|_| scope.spawn(|| service.asked_for("/dead")))
+            .map(|_| scope.spawn(|| service.at_socket("GET", "/dead")))
             .collect();
         std::thread::sleep(Duration::from_millis(300));
         let (answered, answer) = std::sync::mpsc::channel();

@@ -11,10 +11,7 @@ fn names(range: std::ops::Range<usize>) -> Vec<String> {
 }
 
 fn refused(outcome: &Outcome) -> &str {
-    match outcome {
-        Outcome::Taken { .. } => "",
-        Outcome::Refused { message, .. } => message,
-    }
+    outcome.refusal().unwrap_or_default()
 }
 
 async fn post(run: &Run, sender: &str, names: &[String], start: u64) -> Outcome {

@@ -1,0 +1,65 @@
+//! The operators' address of TCP, which any program of the machine reaches: it is read by all, and takes orders from who
+//! has a token.
+
+use super::{is_met, message, Actor, Desk, Page, Route};
+use crate::identity::{by_token, Stranger, Tokens};
+use crate::intake::connections::Handler;
+use crate::renewed::Renewed;
+use hyper::header::{HeaderValue, AUTHORIZATION, WWW_AUTHENTICATE};
+use hyper::{Body, Request, Response};
+use std::sync::Arc;
+
+pub struct AtTcp {
+    pub desk: Arc<Desk>,
+    /// The socket, where orders are taken without a token.
+    pub orders_at: String,
+    pub tokens: Option<Arc<Renewed<Tokens>>>,
+}
+
+impl Handler for AtTcp {
+    async fn answer(self: Arc<Self>, request: Request<Body>) -> Response<Body> {
+        let mut route = Route::of(request.uri().path());
+        let mut actor = Actor::User(None);
+        match &mut route {
+            Some((method, route)) if route.is_order() && is_met(method, request.method()) => {
+                match self.operator(route, &request) {
+                    Ok(name) => actor = Actor::Named(name),
+                    Err(refused) => return refused,
+                }
+            }
+            Some((_, Route::Page(page))) if *page == Page::Overview => *page = Page::Levels,
+            _ => {}
+        }
+        self.desk.answer_to(actor, route, request).await
+    }
+}
+
+impl AtTcp {
+    /// Who gives an order, by the request's token.
+    fn operator(&self, route: &Route, request: &Request<Body>) -> Result<String, Response<Body>> {
+        if let Some(why) = self.desk.stranger(route, request) {
+            return Err(message(403, &why));
+        }
+        let Some(tokens) = &self.tokens else {
+            return Err(message(
+                403,
+                &format!(
+                    "this is taken at {place} alone: run totxegun on the service's machine with its --data, or give \
+                     `--operate {place}`; over TCP the service takes it with --operate-tokens",
+                    place = self.orders_at
+                ),
+            ));
+        };
+        let values = request.headers().get_all(AUTHORIZATION).iter();
+        by_token(&tokens.now(), values.map(HeaderValue::as_bytes))
+            .map(|operator| operator.name.clone())
+            .map_err(|stranger| unknown(&stranger))
+    }
+}
+
+fn unknown(stranger: &Stranger) -> Response<Body> {
+    let mut response = message(stranger.status(), &stranger.to_string());
+    let challenge = HeaderValue::from_static("Bearer realm=\"totxegun\"");
+    response.headers_mut().insert(WWW_AUTHENTICATE, challenge);
+    response
+}

@@ -1,0 +1,240 @@
+//! What each sender may have of what all share: series, and points a second.
+//!
+//! A post asks for its points once it is read, before the book is: over a sender's share it is answered 429, and nothing of
+//! it is anywhere. `bucket` counts points. Series are counted by their owners at each flush, and by what a post has added
+//! since; `rules` says how many each may have.
+
+mod bucket;
+mod count;
+mod rules;
+
+pub use rules::{Owned, Rules, Share, MOST_POINTS};
+
+use crate::otlp::Outcome;
+use bucket::{Buckets, BURST};
+use bytes::Bytes;
+use count::Counted;
+use serde::{Deserialize, Serialize};
+use std::sync::{Arc, Mutex, MutexGuard, OnceLock, PoisonError, Weak};
+use std::time::{Duration, Instant};
+
+/// How often it is looked whether series came or went.
+const LOOK: Duration = Duration::from_secs(1);
+
+/// When a sender is to come again that may have no more series: one that is in no flush yet counts as new until then.
+const AGAIN: u64 = 10;
+
+/// How many senders are shown.
+const SHOWN: usize = 10;
+
+/// Until there are rules each may have all.
+#[derive(Default)]
+pub struct Shares {
+    rules: OnceLock<Rules>,
+    buckets: Mutex<Buckets>,
+    counted: Counted,
+}
+
+/// Why a post has to wait.
+#[derive(Debug, PartialEq, Eq, thiserror::Error)]
+pub enum Over {
+    #[error("over its share: {sender} may post {points} points a second, {} at once: again in {seconds} s", points * BURST)]
+    Points {
+        sender: String,
+        points: u64,
+        seconds: u64,
+    },
+    #[error("over its share: {sender} has {series} series, and may have no new ones over {most}: drop an attribute, or raise its series=")]
+    Series { sender: String, series: u64, most: u64 },
+}
+
+impl Over {
+    /// Whether it is over once others of its series are forgotten.
+    pub fn is_of_series(&self) -> bool {
+        matches!(self, Over::Series { .. })
+    }
+}
+
+impl From<Over> for Outcome {
+    fn from(over: Over) -> Outcome {
+        Outcome::Later {
+            message: over.to_string(),
+            seconds: match over {
+                Over::Points { seconds, .. } => seconds,
+                Over::Series { .. } => AGAIN,
+            },
+        }
+    }
+}
+
+/// What a sender has of its share.
+#[derive(Clone, Debug, PartialEq, Eq, Serialize, Deserialize)]
+pub struct Used {
+    pub sender: String,
+    pub series: u64,
+    pub most_series: Option<u64>,
+    /// Points that it has posted of those that it may at once, which come back with time.
+    pub points: u64,
+    pub most_points: Option<u64>,
+}
+
+impl Used {
+    /// The greater part of one of both, 1 where there is no more.
+    pub fn part(&self) -> f64 {
+        self.part_of_series().max(self.part_of_points())
+    }
+
+    pub fn part_of_series(&self) -> f64 {
+        part(self.series, self.most_series)
+    }
+
+    pub fn part_of_points(&self) -> f64 {
+        part(self.points, self.most_points)
+    }
+}
+
+fn part(used: u64, most: Option<u64>) -> f64 {
+    most.map_or(0.0, |most| used as f64 / most.max(1) as f64)
+}
+
+/// A post's points, which are given back unless it is taken.
+#[must_use = "the points of what is taken have to be kept"]
+pub struct Claim<'s> {
+    shares: &'s Shares,
+    points: Option<(String, Duration)>,
+}
+
+impl Shares {
+    /// Sets the rules, once, and counts series from then on.
+    pub fn begin(self: &Arc<Shares>, rules: Rules) {
+        self.counted.count(&*rules.owned);
+        if self.rules.set(rules).is_ok() {
+            tokio::spawn(count(Arc::downgrade(self)));
+        }
+    }
+
+    /// Asks for a post's points. `text` is what it says, for who may have no new series.
+    pub fn claim(
+        &self,
+        sender: &str,
+        points: u64,
+        text: impl FnOnce() -> Option<Bytes>,
+    ) -> Result<Claim<'_>, Over> {
+        let mut claim = Claim {
+            shares: self,
+            points: None,
+        };
+        let Some(rules) = self.rules.get() else {
+            return Ok(claim);
+        };
+        let share = rules.of(sender);
+        self.may_have_series(rules, share, sender, text)?;
+        if let Some(most) = share.points {
+            let cost = bucket::cost(points, most);
+            let waits = self.buckets().take(sender, cost, Instant::now());
+            waits.map_err(|wait| Over::Points {
+                sender: sender.to_string(),
+                points: most,
+                seconds: wait.as_secs() + 1,
+            })?;
+            claim.points = Some((sender.to_string(), cost));
+        }
+        Ok(claim)
+    }
+
+    fn may_have_series(
+        &self,
+        rules: &Rules,
+        share: Share,
+        sender: &str,
+        text: impl FnOnce() -> Option<Bytes>,
+    ) -> Result<(), Over> {
+        if share.series.is_none() && self.counted.all() < rules.kept_for_others() {
+            return Ok(()); // nobody can be over what is left to all
+        }
+        let series = self.counted.of(sender);
+        let has_others = self.counted.all() > series;
+        let most = share.series.or(has_others.then(|| rules.kept_for_others()));
+        match most {
+            Some(most) if series >= most && !rules.knows_all(text()) => Err(Over::Series {
+                sender: sender.to_string(),
+                series,
+                most,
+            }),
+            _ => Ok(()),
+        }
+    }
+
+    /// Those that are nearest to their share, the nearest first.
+    pub fn nearest(&self) -> Vec<Used> {
+        let Some(rules) = self.rules.get() else {
+            return Vec::new();
+        };
+        let mut buckets = self.buckets().used(Instant::now());
+        let counted = self.counted.each();
+        let (all, others) = (self.counted.all(), rules.kept_for_others());
+        for sender in counted.keys() {
+            buckets.entry(sender.clone()).or_default();
+        }
+        let used = buckets.into_iter().map(|(sender, debt)| {
+            let share = rules.of(&sender);
+            let series = counted.get(&sender).copied().unwrap_or(0);
+            Used {
+                series,
+                most_series: share.series.or((all > series).then_some(others)),
+                points: share.points.map_or(0, |most| bucket::points(debt, most)),
+                most_points: share.points.map(|most| most * BURST),
+                sender,
+            }
+        });
+        let has_share = |used: &Used| used.most_series.is_some() || used.most_points.is_some();
+        let mut used: Vec<Used> = used.filter(has_share).collect();
+        used.sort_by(|a, b| {
+            b.part()
+                .total_cmp(&a.part())
+                .then_with(|| a.sender.cmp(&b.sender))
+        });
+        used.truncate(SHOWN);
+        used
+    }
+
+    fn buckets(&self) -> MutexGuard<'_, Buckets> {
+        self.buckets.lock().unwrap_or_else(PoisonError::into_inner) // times are sound at any time
+    }
+}
+
+impl Claim<'_> {
+    /// The post is in the book, with so many series that were not there.
+    pub fn keep(mut self, sender: &str, new_series: usize) {
+        self.points = None;
+        if new_series > 0 && self.shares.rules.get().is_some() {
+            self.shares.counted.add(sender, new_series as u64);
+        }
+    }
+}
+
+impl Drop for Claim<'_> {
+    fn drop(&mut self) {
+        if let Some((sender, cost)) = self.points.take() {
+            self.shares.buckets().give_back(&sender, cost);
+        }
+    }
+}
+
+async fn count(shares: Weak<Shares>) {
+    let mut looks = tokio::time::interval(LOOK);
+    loop {
+        looks.tick().await;
+        let Some(shares) = shares.upgrade() else { return };
+        let counting = move || {
+            shares
+                .rules
+                .get()
+                .map(|rules| shares.counted.count(&*rules.owned))
+        };
+        crate::work::blocking(counting).await;
+    }
+}
+
+#[cfg(test)]
+mod tests;

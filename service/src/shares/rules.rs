@@ -1,0 +1,82 @@
+//! How much each sender may have.
+
+use crate::files::Outbox;
+use crate::identity::Tokens;
+use crate::otlp::series::{posted, SeriesKey};
+use crate::renewed::Renewed;
+use bytes::Bytes;
+use std::collections::HashMap;
+use std::sync::Arc;
+
+/// The most points a second that may be named.
+pub const MOST_POINTS: u64 = 1_000_000_000_000;
+
+/// What a sender may have; none of what it may have any number of.
+#[derive(Clone, Copy, Debug, Default, PartialEq, Eq)]
+pub struct Share {
+    pub series: Option<u64>,
+    /// Points a second.
+    pub points: Option<u64>,
+}
+
+impl Share {
+    /// With that of another for what this does not say.
+    pub fn or(self, other: Share) -> Share {
+        Share {
+            series: self.series.or(other.series),
+            points: self.points.or(other.points),
+        }
+    }
+}
+
+/// Who knows whose a series is, once it was flushed.
+pub trait Owned: Send + Sync + 'static {
+    /// Another where something may have come or gone: of flushes, and how many series there are.
+    fn seen(&self) -> (u64, usize);
+
+    fn by_owner(&self) -> HashMap<String, u64>;
+
+    fn has(&self, series: &SeriesKey) -> bool;
+}
+
+impl Owned for Arc<Outbox> {
+    fn seen(&self) -> (u64, usize) {
+        (self.journal(), self.series_count())
+    }
+
+    fn by_owner(&self) -> HashMap<String, u64> {
+        self.series_by_owner()
+    }
+
+    fn has(&self, series: &SeriesKey) -> bool {
+        self.owner(series).is_some()
+    }
+}
+
+pub struct Rules {
+    /// Of the service.
+    pub most_series: u64,
+    /// Of each sender that has none of its own.
+    pub of_each: Share,
+    /// Whose are its own.
+    pub tokens: Option<Arc<Renewed<Tokens>>>,
+    pub owned: Box<dyn Owned>,
+}
+
+impl Rules {
+    pub fn of(&self, sender: &str) -> Share {
+        let own = self.tokens.as_ref().and_then(|tokens| tokens.now().share(sender));
+        own.unwrap_or_default().or(self.of_each)
+    }
+
+    /// How many series one sender may have where others have some too: a tenth is left to them.
+    pub fn kept_for_others(&self) -> u64 {
+        self.most_series - self.most_series / 10
+    }
+
+    /// Whether a post has no series but those of an earlier flush.
+    pub fn knows_all(&self, text: Option<Bytes>) -> bool {
+        let read = text.and_then(|text| posted(&text));
+        read.is_some_and(|read| read.series.keys().all(|key| self.owned.has(key)))
+    }
+}
