@@ -2,4 +2,14 @@ pub mod Rows
 pub mod Steps
 pub mod Adding
 pub mod Coming
+pub mod Replays
 pub mod WorkedRuns
+pub mod Needed
+pub mod Same
+pub mod Requests
+pub mod Once
+pub mod Sound
+pub mod Booking
+pub mod Moving
+pub mod Happening
+pub mod Totals

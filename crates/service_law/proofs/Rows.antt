@@ -85,14 +85,18 @@ added_up xs qs ts l =
     plus_assoc (minus xs qs) ts qs ∙ ap (plus (minus xs qs)) (plus_comm ts qs) ∙ sym (plus_assoc (minus xs qs) qs ts)
     ∙ ap (λ row. plus row ts) (minus_plus xs qs l) ∙ plus_comm xs ts
 
--- all of xs, and more, beside qs
-pub put_before : (xs qs ts : List ℤ) → plus (plus xs ts) qs ≡ plus qs (plus ts xs)
-put_before xs qs ts = plus_comm (plus xs ts) qs ∙ ap (plus qs) (plus_comm xs ts)
+pub plus_swap : (xs ys zs : List ℤ) → plus xs (plus ys zs) ≡ plus ys (plus xs zs)
+plus_swap xs ys zs = sym (plus_assoc xs ys zs) ∙ ap (λ row. plus row zs) (plus_comm xs ys) ∙ plus_assoc ys xs zs
 
--- with nothing beside it
-pub with_zeros : (n : ℕ) (xs ts : List ℤ) → length xs ≡ n → plus (plus xs ts) (zeros n) ≡ plus ts xs
-with_zeros n xs ts l =
-    plus_comm (plus xs ts) (zeros n) ∙ sym (plus_assoc (zeros n) xs ts) ∙ ap (λ row. plus row ts) (plus_comm (zeros n) xs ∙ plus_zeros xs n l) ∙ plus_comm xs ts
+-- the same beside bs
+pub went_up : (xs qs ts bs : List ℤ) → length xs ≡ length qs → plus (plus (minus xs qs) ts) (plus qs bs) ≡ plus ts (plus xs bs)
+went_up xs qs ts bs l = sym (plus_assoc (plus (minus xs qs) ts) qs bs) ∙ ap (λ row. plus row bs) (added_up xs qs ts l) ∙ plus_assoc ts xs bs
+
+-- all of xs, counted from nothing
+pub counted_with : (n : ℕ) (xs ts bs : List ℤ) → length xs ≡ n → plus (plus xs ts) (plus (zeros n) bs) ≡ plus ts (plus xs bs)
+counted_with n xs ts bs l =
+    ap (λ row. plus row (plus (zeros n) bs)) (plus_comm xs ts) ∙ plus_assoc ts xs (plus (zeros n) bs)
+    ∙ ap (plus ts) (sym (plus_assoc xs (zeros n) bs) ∙ ap (λ row. plus row bs) (plus_zeros xs n l))
 
 -- all of ps, and what was added up to qs, are all of qs
 pub caught_up : (ps qs zs : List ℤ) → length qs ≡ length ps → plus ps (plus (minus qs ps) zs) ≡ plus qs zs

@@ -5,7 +5,7 @@ use Rattle.service_law.specs.Runs.{Options, Since, entries}
 
 -- the folder was made at 100
 abbrev plain : Options
-plain = record { first = Since; made = 100; resets = false; may_fall = false }
+plain = record { first = Since; made = 100; forgotten = 0; resets = false; may_fall = false }
 
 abbrev resetting : Options
 resetting = record plain { resets = true }
@@ -43,3 +43,7 @@ lost_reset = refl
 
 told_reset : total 1 (entries resetting (Some (read 50 200 (pos 45))) (read 50 250 (pos 2) ∷ read 50 300 (pos 50) ∷ [])) ≡ pos 50 ∷ []
 told_reset = refl
+
+-- a run whose start is not known counts from its first point on, and anew where a word goes down; one that says where it begins but not since when counts from there
+unknown : entries plain None (read 0 120 (pos 40) ∷ read 0 200 (pos 45) ∷ read 0 250 (pos 2) ∷ read 260 260 (pos 9) ∷ read 260 300 (pos 12) ∷ []) ≡ Noted 0 120 (pos 40 ∷ []) ∷ More 120 200 (pos 5 ∷ []) ∷ Counted 0 200 250 (pos 2 ∷ []) ∷ Noted 260 260 (pos 9 ∷ []) ∷ More 260 300 (pos 3 ∷ []) ∷ []
+unknown = refl

@@ -1,2 +1,4 @@
 pub mod Runs
 pub mod Sums
+pub mod Machine
+pub mod Counted

@@ -9,8 +9,8 @@ pub record Reading : Type 0 where
   pub time : ℕ
   pub words : List ℤ
 
--- an entry of the journal: words that are not counted, since they are from before the folder; a run
--- from its start on, counted from a time on; what was added to a run that is known
+-- an entry of the journal: the words from which a run counts; a run from its start on, and from
+-- when on it counts, with all of its words; what was added to a run that is known
 pub data Entry : Type 0 where
   Noted : (start time : ℕ) (words : List ℤ) → Entry
   Counted : (start from time : ℕ) (words : List ℤ) → Entry
@@ -43,12 +43,24 @@ total n (Noted start time words ∷ es) = total n es
 total n (Counted start from time words ∷ es) = plus words (total n es)
 total n (More from time words ∷ es) = plus words (total n es)
 
--- from this time on, each begins where the one before it ended, or later, and ends after it begins
+-- a span that the book takes: it begins at t or later, and not at 0, and has a length
+pub record IsSpanFrom (t from time : ℕ) : Type 0 where
+  pub late : t ≤ from
+  pub known : 0 < from
+  pub long : from < time
+
+-- from this time on, each begins where the one before it ended, or later
 abbrev pub InTurn : ℕ → List Entry → Type 0
 InTurn t [] = Unit {0}
 InTurn t (Noted start time words ∷ es) = (t ≤ time) × InTurn time es
-InTurn t (Counted start from time words ∷ es) = (t ≤ from) × (from < time) × InTurn time es
-InTurn t (More from time words ∷ es) = (t ≤ from) × (from < time) × InTurn time es
+InTurn t (Counted start from time words ∷ es) = IsSpanFrom t from time × InTurn time es
+InTurn t (More from time words ∷ es) = IsSpanFrom t from time × InTurn time es
+
+-- when the point of an entry was read
+abbrev pub entry_time : Entry → ℕ
+entry_time (Noted start time words) = time
+entry_time (Counted start from time words) = time
+entry_time (More from time words) = time
 
 -- when the point was read that is kept
 abbrev pub time_of : Option Reading → ℕ

@@ -2,4 +2,5 @@
 //! service is in it, and no proof connects the two (`service/README.md`).
 #![tactic(auto)]
 
+pub mod counting;
 pub mod runs;

@@ -1,5 +1,6 @@
-use Rattle.service_law.proofs.Adding.{goes_on_law, sums_law, in_turn_law, replayed_law}
+use Rattle.service_law.proofs.Adding.{goes_on_law, sums_law, in_turn_law}
 use Rattle.service_law.proofs.Coming.{again_law, lost_law}
+use Rattle.service_law.proofs.Replays.{replayed_law}
 use Rattle.service_law.proofs.runs.running.Goals as goal
 
 pub returns : goal.returns
