@@ -7,6 +7,7 @@ mod acts;
 mod letters;
 mod orders;
 mod pages;
+mod periods;
 mod status;
 mod totals;
 mod user;
@@ -15,6 +16,7 @@ mod web;
 pub use acts::{Act, Acts};
 pub use letters::Resent;
 pub use pages::Pulse;
+pub use periods::ANYWAY;
 pub use status::{BooksStatus, RoundedSeriesStatus, RoundedStatus, SlotStatus, Status, Stock};
 pub use totals::Totals;
 
@@ -87,6 +89,8 @@ enum Route {
     Letter(String),
     Resend(String),
     Drop(String),
+    /// `close`, `open` or `correct`, and the parts of the path behind it.
+    Period(Vec<String>),
     Page(Page),
 }
 
@@ -108,6 +112,7 @@ impl Route {
             ["dead", key] => (Method::GET, Route::Letter(key.into())),
             ["dead", key, "resend"] => (Method::POST, Route::Resend(key.into())),
             ["dead", key, "drop"] => (Method::POST, Route::Drop(key.into())),
+            ["close" | "open" | "correct", _, ..] => (Method::POST, Route::Period(owned(&parts))),
             [""] => (Method::GET, Route::Page(Page::Overview)),
             ["series"] => (Method::GET, Route::Page(Page::Series)),
             ["page.css"] => (Method::GET, Route::Page(Page::Style)),
@@ -128,7 +133,10 @@ impl Route {
     /// Whether it changes something, or shows what senders have sent.
     fn is_order(&self) -> bool {
         use Route::*;
-        matches!(self, Order(_) | Letters | Letter(_) | Resend(_) | Drop(_))
+        matches!(
+            self,
+            Order(_) | Letters | Letter(_) | Resend(_) | Drop(_) | Period(_)
+        )
     }
 }
 
@@ -230,9 +238,14 @@ impl Desk {
                 self.act(ends, "dead drop", key.clone(), self.drop_letter(&key))
                     .await
             }
+            Route::Period(parts) => self.period(ends, &parts, query).await,
             Route::Page(page) => self.page(page, query).await,
         }
     }
+}
+
+fn owned(parts: &[&str]) -> Vec<String> {
+    parts.iter().map(|part| part.to_string()).collect()
 }
 
 /// HEAD is answered as GET is (RFC 9110, 9.3.2), but for the body, which hyper leaves out.
@@ -278,6 +291,9 @@ mod tests {
             ("/dead/0-a-1", Method::GET),
             ("/dead/0-a-1/resend", Method::POST),
             ("/dead/0-a-1/drop", Method::POST),
+            ("/close/2026-11", Method::POST),
+            ("/open/2026-11", Method::POST),
+            ("/correct/7/2026-11-05T13/-1", Method::POST),
             ("/", Method::GET),
             ("/series", Method::GET),
             ("/page.css", Method::GET),
@@ -300,6 +316,9 @@ mod tests {
             "/dead/k",
             "/dead/k/resend",
             "/dead/k/drop",
+            "/close/2026-11",
+            "/open/2026-11",
+            "/correct/7/2026-11-05T13/-1",
         ] {
             assert!(is_order(path), "{path}");
         }
@@ -317,6 +336,7 @@ mod tests {
             "/flush/",
             "/renew",
             "/quarantine",
+            "/close",
             "/quarantine/A/B",
             "/dead/0-a-1/send",
             "flush",
