@@ -60,6 +60,10 @@ fn help_names_each_command_and_option() {
         "quarantine",
         "lift",
         "dead",
+        "close",
+        "open",
+        "correct",
+        "export",
         "check",
         "version",
     ] {
@@ -288,12 +292,21 @@ fn what_is_not_possible_has_status_1_and_is_named() {
         &["totals"],
         &["lift", "A"],
         &["dead", "list"],
+        &["close", "2026-01"],
+        &["open", "2026-01"],
+        &["correct", "1", "2026-01-05T13", "-1", "x"],
+        &["export", "--month", "2026-01", "--csv"],
         &["dead", "resend", "0-a-1"],
     ] {
         refused(&[words, &["--operate", &address]].concat(), 1, &address);
     }
     refused(&["check", data], 1, "no folder of totxegun");
     refused(&["totals", "--sink", "http://h/"], 1, "SQLite");
+    refused(
+        &["export", "--month", "2026-01", "--json", "--sink", "http://h/"],
+        1,
+        "ask the sink itself",
+    );
     refused(&["totals", "--sink", "postgres://u@h/d"], 1, "PostgreSQL");
 }
 

@@ -6,9 +6,11 @@ mod ask;
 mod check;
 mod client;
 mod explain;
+mod export;
 mod keeping;
 mod letters;
 mod of_senders;
+mod periods;
 mod print;
 mod reading;
 mod serve;
@@ -61,6 +63,14 @@ enum Command {
     /// Shows requests that the sink refused for good, sends them again, throws them away
     #[command(subcommand)]
     Dead(letters::Command),
+    /// Closes a month, a day or an hour: what comes for it later counts in the hour in which it comes
+    Close(periods::Close),
+    /// Opens what was closed: what came late meanwhile stays where it was counted
+    Open(periods::Open),
+    /// Adds to what a series counted in an hour, by hand
+    Correct(periods::Correct),
+    /// Prints what each series counted in a month or a day; their count and SHA-256 go to standard error
+    Export(export::Options),
     /// Says what a start would find in a folder, and changes nothing
     Check(check::Options),
     /// Says of each point of a captured request whether it is taken, and why not
@@ -153,6 +163,10 @@ impl Command {
             Command::Quarantine(of) => Ok(ask::order(&of.at, &format!("/quarantine/{}", of.sender))?),
             Command::Lift(of) => Ok(ask::order(&of.at, &format!("/lift/{}", of.sender))?),
             Command::Dead(command) => Ok(command.run()?),
+            Command::Close(options) => Ok(options.run()?),
+            Command::Open(options) => Ok(options.run()?),
+            Command::Correct(options) => Ok(options.run()?),
+            Command::Export(options) => Ok(options.run().map(|()| Vec::new())?),
             Command::Check(options) => options.run(),
             Command::Explain(options) => options.run(),
             Command::Token(options) => Ok(token::run(&options)?),
@@ -269,6 +283,15 @@ mod tests {
             ("serve --datum d", "--datum"),
             ("quarantine", "<NAME>"),
             ("quarantine a/b", "<NAME>"),
+            ("close 2026-13", "2026-13"),
+            ("close 2026-11 --flush --anyway", "--anyway"),
+            ("open november", "no period"),
+            ("correct 7 2026-11-05T13 1.5 x", "1.5"),
+            ("correct 7 2026-11-05T13 -1", "<REASON>"),
+            ("export --month 2026-11-05 --csv", "no month"),
+            ("export --day 2026-11 --csv", "no day"),
+            ("export --csv", "--month"),
+            ("export --month 2026-11", "--csv"),
             ("dead burn", "burn"),
             ("dead resend", "<KEY>"),
             ("dead resend 0-a-1 --all", "--all"),

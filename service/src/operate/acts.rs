@@ -56,9 +56,9 @@ pub struct Acts {
 #[derive(Clone, Debug)]
 pub struct Act {
     pub who: String,
-    /// `quarantine`, `lift`, `dead drop`, `dead resend`, `new sink`.
+    /// `quarantine`, `lift`, `dead drop`, `dead resend`, `close`, `open`, `correct`, `new sink`.
     pub what: &'static str,
-    /// A sender, a key, a sink.
+    /// A sender, a key, a period, a correction, a sink.
     pub of: String,
 }
 
@@ -163,6 +163,17 @@ impl Desk {
         of: String,
         doing: impl Future<Output = Response<Body>>,
     ) -> Response<Body> {
+        self.act_by(ends, what, of, |_| doing).await
+    }
+
+    /// The same of one that is to know who it is.
+    pub(super) async fn act_by<Doing: Future<Output = Response<Body>>>(
+        &self,
+        ends: Option<Ends>,
+        what: &'static str,
+        of: String,
+        doing: impl FnOnce(String) -> Doing,
+    ) -> Response<Body> {
         let acts = self.acts.clone();
         let begin = move || {
             let act = Act::new(actor, what, &of);
@@ -170,7 +181,7 @@ impl Desk {
             act
         };
         let act = blocking(begin).await;
-        let (response, outcome) = told(doing.await).await;
+        let (response, outcome) = told(doing(act.who.clone()).await).await;
         let acts = self.acts.clone();
         blocking(move || acts.ended(&act, &outcome)).await;
         response
@@ -185,6 +196,7 @@ async fn told(response: Response<Body>) -> (Response<Body>, String) {
     let text = |name: &str| says[name].as_str().unwrap_or_default().to_string();
     let outcome = match (head.status, says["taken"].as_bool()) {
         (StatusCode::OK, Some(false)) => format!("not taken: {}", text("reason")),
+        (StatusCode::OK, _) if says["message"].is_string() => format!("done: {}", text("message")),
         (StatusCode::OK, _) => "done".to_string(),
         (status, _) => format!("{}: {}", status.as_u16(), text("message")),
     };

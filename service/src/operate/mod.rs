@@ -8,6 +8,7 @@ mod acts;
 mod letters;
 mod orders;
 mod pages;
+mod periods;
 mod status;
 mod tcp;
 mod totals;
@@ -17,6 +18,7 @@ mod web;
 pub use acts::{Act, Actor, Acts};
 pub use letters::Resent;
 pub use pages::Pulse;
+pub use periods::ANYWAY;
 pub use status::{BooksStatus, RoundedSeriesStatus, RoundedStatus, SlotStatus, Status, Stock};
 pub use tcp::AtTcp;
 pub use totals::Totals;
@@ -92,6 +94,8 @@ enum Route {
     Letter(String),
     Resend(String),
     Drop(String),
+    /// `close`, `open` or `correct`, and the parts of the path behind it.
+    Period(Vec<String>),
     Page(Page),
 }
 
@@ -113,6 +117,7 @@ impl Route {
             ["dead", key] => (Method::GET, Route::Letter(key.into())),
             ["dead", key, "resend"] => (Method::POST, Route::Resend(key.into())),
             ["dead", key, "drop"] => (Method::POST, Route::Drop(key.into())),
+            ["close" | "open" | "correct", _, ..] => (Method::POST, Route::Period(owned(&parts))),
             [""] => (Method::GET, Route::Page(Page::Overview)),
             ["series"] => (Method::GET, Route::Page(Page::Series)),
             ["page.css"] => (Method::GET, Route::Page(Page::Style)),
@@ -126,7 +131,10 @@ impl Route {
     /// Whether it changes something, or shows what senders have sent.
     fn is_order(&self) -> bool {
         use Route::*;
-        matches!(self, Order(_) | Letters | Letter(_) | Resend(_) | Drop(_))
+        matches!(
+            self,
+            Order(_) | Letters | Letter(_) | Resend(_) | Drop(_) | Period(_)
+        )
     }
 }
 
@@ -218,9 +226,14 @@ impl Desk {
                 self.act(actor, "dead drop", key.clone(), self.drop_letter(&key))
                     .await
             }
+            Route::Period(parts) => self.period(ends, &parts, query).await,
             Route::Page(page) => self.page(page, query).await,
         }
     }
+}
+
+fn owned(parts: &[&str]) -> Vec<String> {
+    parts.iter().map(|part| part.to_string()).collect()
 }
 
 /// HEAD is answered as GET is (RFC 9110, 9.3.2), but for the body, which hyper leaves out.
@@ -266,6 +279,9 @@ mod tests {
             ("/dead/0-a-1", Method::GET),
             ("/dead/0-a-1/resend", Method::POST),
             ("/dead/0-a-1/drop", Method::POST),
+            ("/close/2026-11", Method::POST),
+            ("/open/2026-11", Method::POST),
+            ("/correct/7/2026-11-05T13/-1", Method::POST),
             ("/", Method::GET),
             ("/series", Method::GET),
             ("/page.css", Method::GET),
@@ -288,6 +304,9 @@ mod tests {
             "/dead/k",
             "/dead/k/resend",
             "/dead/k/drop",
+            "/close/2026-11",
+            "/open/2026-11",
+            "/correct/7/2026-11-05T13/-1",
         ] {
             assert!(is_order(path), "{path}");
         }
@@ -305,6 +324,7 @@ mod tests {
             "/flush/",
             "/renew",
             "/quarantine",
+            "/close",
             "/quarantine/A/B",
             "/dead/0-a-1/send",
             "flush",

@@ -6,10 +6,12 @@ mod address;
 mod attributes;
 mod backoff;
 mod delivery;
+pub mod export;
 mod keep;
 mod keys;
 mod otlp;
 mod part;
+pub mod periods;
 pub mod postgres;
 mod roots;
 pub mod sqlite;
@@ -19,6 +21,7 @@ pub use delivery::{deliver, of_part, Delivery};
 pub use keep::Keep;
 pub use keys::{Held, Keys};
 pub use otlp::header_of;
+use periods::{Deed, Told};
 
 use std::future::Future;
 use std::pin::Pin;
@@ -91,9 +94,19 @@ impl Forwarded {
     }
 }
 
+/// What a sink answers.
+pub type Answer<'a, T> = Pin<Box<dyn Future<Output = T> + Send + 'a>>;
+
 /// A sink takes a request whole or not at all, and once under one key.
 pub trait Sink: Send + Sync {
-    fn deliver<'a>(&'a self, request: &'a Forwarded) -> Pin<Box<dyn Future<Output = Fate> + Send + 'a>>;
+    fn deliver<'a>(&'a self, request: &'a Forwarded) -> Answer<'a, Fate>;
+
+    /// Closes or opens a period, or corrects: wholly or not at all, between two requests.
+    fn settle<'a>(&'a self, _who: &'a str, _deed: &'a Deed) -> Answer<'a, Told> {
+        let why = "keeps no periods: only a SQLite or PostgreSQL sink can close, open and correct them";
+        let told = Told::Refused(format!("the sink {} {why}", self.name()));
+        Box::pin(std::future::ready(told))
+    }
 
     /// What it is, for `status`: `sqlite PATH`, `otlp URL`, `postgres USER@HOST:PORT/DB`. It shows no header and no
     /// password.

@@ -5,6 +5,8 @@ mod by_hour;
 mod hours;
 mod kept;
 mod lost;
+mod model;
+mod periods;
 mod points;
 mod rivals;
 mod server;
@@ -237,7 +239,7 @@ async fn what_is_told() {
             .to_string();
         assert!(error.contains(part) && error.contains(database), "{error}");
     };
-    server.ask_of("d1", "update totxegun.version set version = 6");
+    server.ask_of("d1", "update totxegun.version set version = 7");
     refuses("d1", "schema 6; this one knows 5");
     again(&*lame, 2, body(), "version").await;
     again(&*lame, 2, body(), "later version").await;

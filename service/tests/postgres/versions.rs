@@ -37,16 +37,29 @@ fn make(server: &Server, database: &str, version: usize) {
     ));
 }
 
+/// Of a database of version 4, one of version 5, which has just begun to fill in the hours of its spans.
+fn bring_to_5(server: &Server, database: &str) {
+    let step = [
+        include_str!("../../src/sinks/postgres/version5.sql"),
+        include_str!("../../src/sinks/postgres/filling.sql"),
+        "update totxegun.version set version = 5;",
+    ];
+    server.run_file(database, &format!("begin;\n{}\ncommit;", step.join("\n")));
+}
+
 #[tokio::test(flavor = "multi_thread")]
 async fn a_database_of_an_earlier_version_is_brought_up() {
     let Some(server) = Server::start() else { return };
-    for version in 1..=STEPS.len() {
+    for version in 1..=STEPS.len() + 1 {
         let database = format!("version{version}");
-        make(&server, &database, version);
+        make(&server, &database, version.min(STEPS.len()));
         let ask = |query: &str| server.ask_of(&database, query);
         ask(WRITTEN);
+        if version > STEPS.len() {
+            bring_to_5(&server, &database);
+        }
         let sink = open(&server.by_socket(&database));
-        assert_eq!(ask("select version from totxegun.version"), "5");
+        assert_eq!(ask("select version from totxegun.version"), "6");
         assert_eq!(ask("select count(*) from pg_constraint where contype = 'f' and connamespace = 'totxegun'::regnamespace"), "0");
         taken(&*sink, 1, sum("a", 100, 200, 5)).await;
         refused(&*sink, 2, sum("a", 150, 250, 1), "overlaps").await;
@@ -56,7 +69,33 @@ async fn a_database_of_an_earlier_version_is_brought_up() {
             ask("select name, points, total from totxegun.totals order by 1"),
             "a|2|7\nb|1|8"
         );
+        for view in ["by_hour", "totals_by_hour", "by_day", "by_month"] {
+            let query = format!("select sum(total), sum(billed) from totxegun.{view}");
+            assert_eq!(ask(&query), "15|15", "{view}");
+        }
     }
+}
+
+/// Whoever has a view over one of ours keeps it.
+#[tokio::test(flavor = "multi_thread")]
+async fn a_database_of_version_5_that_has_no_older_spans_is_brought_up() {
+    let Some(server) = Server::start() else { return };
+    make(&server, "version5", 4);
+    bring_to_5(&server, "version5");
+    let ask = |query: &str| server.ask_of("version5", query);
+    server.run_file(
+        "version5",
+        "drop view totxegun.hour_before cascade; drop table totxegun.filling; drop table totxegun.span_before;
+        create view public.theirs as select name, total from totxegun.totals_by_name",
+    );
+    let sink = open(&server.by_socket("version5"));
+    taken(&*sink, 1, sum("a", 100, 200, 5)).await;
+    assert_eq!(ask("select version from totxegun.version"), "6");
+    assert_eq!(ask("select name, total from public.theirs"), "a|5");
+    assert_eq!(
+        ask("select total, corrections, billed from totxegun.by_month"),
+        "5|0|5"
+    );
 }
 
 /// What version 4 had written of 40 series, half of them histograms: of each 1,500 spans of 37 s, and one in the year 2540.

@@ -1,5 +1,5 @@
 -- Where version 4 has spans: these are put into hours step by step, in the order of their key. Those up to the row of
--- `filling` are there; until all are, the views have the others beside.
+-- `filling` are there; until all are, the views of `views.sql` have the others beside.
 create table totxegun.filling (
     series bigint not null,
     start_ns numeric(20) not null,
@@ -22,39 +22,6 @@ with of_hour as (
 )
 select series, hour, points, first_start_ns, last_end_ns, total, count, without_sum, buckets
 from of_hour left join of_buckets using (series, hour);
-
-create or replace view totxegun.hour as
-select series, hour, points, first_start_ns, last_end_ns, total, count, without_sum, buckets from totxegun.past_hour
-union all
-select series, hour, points, first_start_ns, last_end_ns, total, count, without_sum, buckets from totxegun.last_hour
-union all
-select series, hour, points, first_start_ns, last_end_ns, total, count, without_sum, buckets from totxegun.hour_before;
-
-create or replace view totxegun.day as
-select series, day, points, total, count, without_sum, buckets from totxegun.past_day
-union all
-select series, hour / 24 as day, points, total, count, without_sum, buckets from totxegun.last_hour
-union all
-select series, hour / 24 as day, points, total, count, without_sum, buckets from totxegun.hour_before;
-
-create or replace view totxegun.totals_by_hour as
-select
-    to_timestamp(hour * 3600::double precision) as hour,
-    name,
-    kind,
-    unit,
-    points,
-    total,
-    case when kind = 'histogram' then of_hour.count end as count
-from (
-    select metric, hour, sum(points)::bigint as points, sum(total) as total, sum(one.count) as count
-    from (
-        select metric, hour, points, total, count from totxegun.metric_hour
-        union all
-        select metric, hour, points, total, hour_before.count
-        from totxegun.hour_before join totxegun.series on series.id = hour_before.series
-    ) as one group by metric, hour
-) as of_hour join totxegun.metric on metric.id = of_hour.metric;
 
 comment on table totxegun.span_before is 'Spans that version 4 had written';
 comment on column totxegun.span_before.series is 'Whose it is';

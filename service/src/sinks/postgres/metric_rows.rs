@@ -1,7 +1,7 @@
 //! What a request adds to the hours of metrics: of all series of one name, kind and unit.
 
-use super::rows::{hour_of, OfSeries, Total};
-use super::series::Known;
+use super::point_rows::Adding;
+use super::rows::Total;
 use super::values::{has_rows, row, Numeric, Written};
 use bytes::BytesMut;
 use std::collections::BTreeMap;
@@ -18,11 +18,11 @@ pub(super) struct MetricHourRow<'a> {
 }
 
 /// In the order of metrics and hours, in which all writers lock them.
-pub(super) fn rows<'a>(all: &[OfSeries], known: &'a [Known]) -> Vec<MetricHourRow<'a>> {
+pub(super) fn rows<'a>(all: &[Adding<'a>]) -> Vec<MetricHourRow<'a>> {
     let mut rows: BTreeMap<(&str, i32), MetricHourRow> = BTreeMap::new();
-    for (series, known) in all.iter().zip(known) {
-        for points in series.points.chunk_by(|one, next| hour_of(one) == hour_of(next)) {
-            let (metric, hour) = (known.metric.as_str(), hour_of(&points[0]));
+    for Adding { known, hours, .. } in all {
+        for in_hour in hours {
+            let (metric, hour) = (known.metric.as_str(), in_hour.hour);
             let row = rows.entry((metric, hour)).or_insert(MetricHourRow {
                 metric,
                 hour,
@@ -30,8 +30,8 @@ pub(super) fn rows<'a>(all: &[OfSeries], known: &'a [Known]) -> Vec<MetricHourRo
                 total: 0,
                 count: 0,
             });
-            let added = Total::of(points);
-            row.points += points.len() as i64;
+            let added = Total::of(in_hour.points);
+            row.points += in_hour.points.len() as i64;
             row.total += added.total;
             row.count += added.count;
         }

@@ -5,10 +5,12 @@
 
 mod address;
 pub mod by_hour;
+pub mod export;
 mod fault;
 mod keeping;
 mod metric_rows;
 mod overlap;
+mod periods;
 mod point_rows;
 mod repeat;
 mod rows;
@@ -26,13 +28,12 @@ pub use address::Server;
 pub use fault::PostgresFault;
 
 use super::part::Left;
-use super::{Fate, Forwarded, Keep, Keys, Memory, Sink};
+use super::periods::{Deed, Told};
+use super::{Answer, Fate, Forwarded, Keep, Keys, Memory, Sink};
 use fault::NotTaken;
 use keeping::Keeper;
 use rows::Content;
 use session::Session;
-use std::future::Future;
-use std::pin::Pin;
 use std::sync::atomic::{AtomicBool, Ordering::Relaxed};
 use std::sync::Arc;
 use std::time::Duration;
@@ -152,8 +153,12 @@ fn try_once(server: &Server, memory: Arc<dyn Memory>) -> anyhow::Result<Result<(
 }
 
 impl Sink for PostgresSink {
-    fn deliver<'a>(&'a self, request: &'a Forwarded) -> Pin<Box<dyn Future<Output = Fate> + Send + 'a>> {
+    fn deliver<'a>(&'a self, request: &'a Forwarded) -> Answer<'a, Fate> {
         Box::pin(self.send(request))
+    }
+
+    fn settle<'a>(&'a self, who: &'a str, deed: &'a Deed) -> Answer<'a, Told> {
+        Box::pin(periods::settle(&self.server, &*self.memory, who, deed))
     }
 
     fn name(&self) -> String {

@@ -1,6 +1,7 @@
 //! The rows of spans, and of what they come to.
 
-use super::rows::{hour_of, OfSeries, Total};
+use super::rows::{InHour, OfSeries, Total};
+use super::series::Known;
 use super::values::{has_rows, row, Numeric, Written};
 use crate::otlp::series::{ForwardedPoint, Value};
 use bytes::BytesMut;
@@ -44,35 +45,78 @@ fn array(buckets: &[u64]) -> String {
     format!("{{{}}}", buckets.join(","))
 }
 
+/// What a request adds to a series.
+#[derive(Debug)]
+pub(super) struct Adding<'a> {
+    pub(super) of: &'a OfSeries,
+    pub(super) known: &'a Known,
+    /// Its points by the hours in which they count, in order.
+    pub(super) hours: Vec<InHour<'a>>,
+}
+
+impl<'a> Adding<'a> {
+    /// The last hour of the series, with these points.
+    pub(super) fn last_hour(&self) -> i32 {
+        let last = self.hours.last().map(|last| last.hour);
+        last.max(self.known.last_hour).unwrap_or(0)
+    }
+
+    /// What counts in earlier hours than that, and the others.
+    pub(super) fn parted(&self) -> (&[InHour<'a>], &[InHour<'a>]) {
+        let last = self.last_hour();
+        self.hours
+            .split_at(self.hours.partition_point(|hour| hour.hour < last))
+    }
+}
+
+impl Adding<'_> {
+    /// What of it belongs to closed hours.
+    pub(super) fn late(&self) -> impl Iterator<Item = LateRow<'_>> {
+        let late = self.hours.iter().filter(|hour| hour.is_late());
+        late.map(|late| LateRow {
+            series: self.known.id,
+            late,
+        })
+    }
+}
+
+fn points<'a>(hours: &'a [InHour]) -> impl Iterator<Item = &'a ForwardedPoint> {
+    hours.iter().flat_map(|hour| hour.points)
+}
+
+/// Those of hours that came in time for it.
+fn in_time<'a>(hours: &'a [InHour]) -> &'a [ForwardedPoint] {
+    let found = hours.iter().find(|hour| !hour.is_late());
+    found.map_or(&[], |hour| hour.points)
+}
+
 /// A row of `totxegun.new_total`.
 #[derive(Debug)]
-pub(super) struct TotalRow<'a> {
-    pub(super) series: i64,
-    pub(super) of: &'a OfSeries,
-    /// In which the series' last span ends, with these.
-    pub(super) hour: i32,
-}
+pub(super) struct TotalRow<'a>(pub(super) &'a Adding<'a>);
 
 impl ToSql for TotalRow<'_> {
     fn to_sql(&self, of: &Type, out: &mut BytesMut) -> Written {
-        let (late, of_hour) = self.of.parted(self.hour);
-        let (all, late_total) = (Total::of(&self.of.points), Total::of(late));
+        let Adding {
+            of: series, known, ..
+        } = self.0;
+        let (earlier, last) = self.0.parted();
+        let (all, before) = (Total::of(&series.points), Total::of(points(earlier)));
         let values: [&dyn ToSql; 15] = [
-            &self.series,
-            &(self.of.points.len() as i64),
-            &first_start(&self.of.points),
-            &last_end(&self.of.points),
+            &known.id,
+            &(series.points.len() as i64),
+            &first_start(&series.points),
+            &last_end(&series.points),
             &Numeric(all.total),
             &Numeric(all.count),
             &all.without_sum,
             &all.buckets.map(numerics),
-            &self.hour,
-            &first_start(of_hour),
-            &(late.len() as i64),
-            &Numeric(late_total.total),
-            &Numeric(late_total.count),
-            &late_total.without_sum,
-            &late_total.buckets.map(numerics),
+            &self.0.last_hour(),
+            &first_start(in_time(last)),
+            &(points(earlier).count() as i64),
+            &Numeric(before.total),
+            &Numeric(before.count),
+            &before.without_sum,
+            &before.buckets.map(numerics),
         ];
         row(&values, of, out)
     }
@@ -84,22 +128,55 @@ impl ToSql for TotalRow<'_> {
     to_sql_checked!();
 }
 
-/// A row of `totxegun.new_hour`: points of one series, at least one, that end in one hour.
+/// A row of `totxegun.new_hour`: points of one series, at least one, that count in one hour.
 #[derive(Debug)]
 pub(super) struct HourRow<'a> {
     pub(super) series: i64,
-    pub(super) points: &'a [ForwardedPoint],
+    pub(super) hours: &'a [InHour<'a>],
 }
 
 impl ToSql for HourRow<'_> {
     fn to_sql(&self, of: &Type, out: &mut BytesMut) -> Written {
-        let all = Total::of(self.points);
+        let all = Total::of(points(self.hours));
+        let in_time = in_time(self.hours);
         let values: [&dyn ToSql; 9] = [
             &self.series,
-            &self.points.first().map(hour_of),
-            &(self.points.len() as i64),
-            &first_start(self.points),
-            &last_end(self.points),
+            &self.hours.first().map(|hour| hour.hour),
+            &(points(self.hours).count() as i64),
+            &first_start(in_time),
+            &last_end(in_time),
+            &Numeric(all.total),
+            &Numeric(all.count),
+            &all.without_sum,
+            &all.buckets.map(numerics),
+        ];
+        row(&values, of, out)
+    }
+
+    fn accepts(of: &Type) -> bool {
+        has_rows(of)
+    }
+
+    to_sql_checked!();
+}
+
+/// A row of `totxegun.new_late`.
+#[derive(Debug)]
+pub(super) struct LateRow<'a> {
+    pub(super) series: i64,
+    pub(super) late: &'a InHour<'a>,
+}
+
+impl ToSql for LateRow<'_> {
+    fn to_sql(&self, of: &Type, out: &mut BytesMut) -> Written {
+        let all = Total::of(self.late.points);
+        let values: [&dyn ToSql; 10] = [
+            &self.series,
+            &self.late.of,
+            &self.late.hour,
+            &(self.late.points.len() as i64),
+            &first_start(self.late.points),
+            &last_end(self.late.points),
             &Numeric(all.total),
             &Numeric(all.count),
             &all.without_sum,

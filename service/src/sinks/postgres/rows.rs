@@ -3,6 +3,7 @@
 use super::fault::NotTaken;
 use crate::otlp::series::{self, ForwardedPoint, SeriesKey, Value};
 use crate::sinks::part::shown;
+use crate::sinks::periods::Closed;
 use sha2::{Digest, Sha256};
 use std::collections::BTreeMap;
 
@@ -23,6 +24,30 @@ pub(super) struct OfSeries {
     pub(super) key: SeriesKey,
     pub(super) digest: Vec<u8>,
     pub(super) points: Vec<ForwardedPoint>,
+}
+
+/// Points of a series that end in one hour, and the hour in which they count: a later one, where theirs is closed.
+#[derive(Debug)]
+pub(super) struct InHour<'a> {
+    pub(super) of: i32,
+    pub(super) hour: i32,
+    pub(super) points: &'a [ForwardedPoint],
+}
+
+impl<'a> InHour<'a> {
+    /// Of points, at least one, that end in one hour.
+    fn of(points: &'a [ForwardedPoint], closed: &Closed) -> InHour<'a> {
+        let of = hour_of(&points[0]);
+        InHour {
+            of,
+            hour: closed.counted_in(of.into()) as i32,
+            points,
+        }
+    }
+
+    pub(super) fn is_late(&self) -> bool {
+        self.hour != self.of
+    }
 }
 
 /// What points of a series come to. Thousands of numbers of 64 bits fit 128.
@@ -119,20 +144,17 @@ impl OfSeries {
         }
     }
 
-    /// The later one of its last hour so far and that of its last point.
-    pub(super) fn last_hour(&self, so_far: Option<i32>) -> i32 {
-        self.points.last().map(hour_of).max(so_far).unwrap_or(0)
-    }
-
-    /// Its points of earlier hours than this one, and the others.
-    pub(super) fn parted(&self, hour: i32) -> (&[ForwardedPoint], &[ForwardedPoint]) {
-        let late = self.points.partition_point(|point| hour_of(point) < hour);
-        self.points.split_at(late)
+    /// By the hours in which they count, in order.
+    pub(super) fn by_hours(&self, closed: &Closed) -> Vec<InHour<'_>> {
+        let chunks = self.points.chunk_by(|one, next| hour_of(one) == hour_of(next));
+        let mut hours: Vec<InHour> = chunks.map(|points| InHour::of(points, closed)).collect();
+        hours.sort_by_key(|in_hour| in_hour.hour);
+        hours
     }
 }
 
 impl Total {
-    pub(super) fn of(points: &[ForwardedPoint]) -> Total {
+    pub(super) fn of<'a>(points: impl IntoIterator<Item = &'a ForwardedPoint>) -> Total {
         let mut all = Total::default();
         for point in points {
             match &point.value {

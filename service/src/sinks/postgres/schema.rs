@@ -15,9 +15,12 @@ const STEPS: &[&str] = &[
         include_str!("version5.sql"),
         include_str!("version5_comments.sql")
     ),
+    include_str!("version6.sql"),
 ];
 
-/// Where version 4 has spans, their hours are filled in behind the steps. Else there is nothing to keep of it.
+/// The last version that had no hours. Where it has spans, these are filled in behind the steps. Else there is nothing to
+/// keep of it.
+const WITHOUT_HOURS: i32 = 4;
 const FILLING: &str = include_str!("filling.sql");
 const NOTHING_BEFORE: &str = "drop table totxegun.span_before";
 
@@ -82,7 +85,11 @@ async fn bring_up(client: &mut Client, server: &str, was_there: bool) -> Result<
     for step in &STEPS[found.version as usize..] {
         transaction.batch_execute(step).await.map_err(fault)?;
     }
-    begin_hours(&mut transaction).await.map_err(fault)?;
+    if found.version <= WITHOUT_HOURS {
+        begin_hours(&mut transaction).await.map_err(fault)?;
+    }
+    let views = views(is_filling(&transaction).await.map_err(fault)?);
+    transaction.batch_execute(&views).await.map_err(fault)?;
     let row =
         format!("delete from totxegun.version; insert into totxegun.version values ('totxegun', {KNOWN})");
     transaction.batch_execute(&row).await.map_err(fault)?;
@@ -92,6 +99,20 @@ async fn bring_up(client: &mut Client, server: &str, was_there: bool) -> Result<
         found.version
     );
     Ok(())
+}
+
+/// The views, while hours of version 4 are filled in and behind that.
+pub(super) fn views(is_filling: bool) -> String {
+    let lines = include_str!("views.sql");
+    match is_filling {
+        true => lines.replace("--filling ", ""),
+        false => lines.into(),
+    }
+}
+
+pub(super) async fn is_filling(client: &impl GenericClient) -> Result<bool, Error> {
+    let is_there = "select to_regclass('totxegun.filling') is not null";
+    Ok(client.query_one(is_there, &[]).await?.get(0))
 }
 
 async fn begin_hours(transaction: &mut Transaction<'_>) -> Result<(), Error> {

@@ -33,6 +33,8 @@ pub(super) struct Session {
 }
 
 pub(super) struct Statements {
+    pub(super) hold_periods: Statement,
+    pub(super) closed: Statement,
     pub(super) key: Statement,
     pub(super) is_taken: Statement,
     pub(super) set_left_out: Statement,
@@ -48,6 +50,7 @@ pub(super) struct Statements {
     pub(super) first_totals: Statement,
     pub(super) hours_over: Statement,
     pub(super) past_hours: Statement,
+    pub(super) late_hours: Statement,
     pub(super) totals: Statement,
     pub(super) metric_hours: Statement,
     pub(super) before: Option<Before>,
@@ -134,6 +137,8 @@ impl Drop for Driver {
 impl Statements {
     async fn prepare(client: &Client) -> Result<Statements, tokio_postgres::Error> {
         Ok(Statements {
+            hold_periods: client.prepare(statements::HOLD_PERIODS).await?,
+            closed: client.prepare(statements::CLOSED).await?,
             key: client.prepare(statements::KEY).await?,
             is_taken: client.prepare(statements::IS_TAKEN).await?,
             set_left_out: client.prepare(statements::SET_LEFT_OUT).await?,
@@ -149,6 +154,7 @@ impl Statements {
             first_totals: client.prepare(statements::FIRST_TOTALS).await?,
             hours_over: client.prepare(statements::HOURS_OVER).await?,
             past_hours: client.prepare(statements::PAST_HOURS).await?,
+            late_hours: client.prepare(statements::LATE_HOURS).await?,
             totals: client.prepare(statements::TOTALS).await?,
             metric_hours: client.prepare(statements::METRIC_HOURS).await?,
             before: Before::prepare(client).await?,

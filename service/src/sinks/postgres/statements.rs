@@ -3,8 +3,17 @@
 //! None is a COPY: for the rest of a COPY's data a server waits without end, so a client that stalled would keep its
 //! locks. At a thousand rows it is hardly faster.
 //!
-//! Locks are taken in one order, so that no two transactions wait for each other: the key; the rows of new series, by
+//! Locks are taken in one order, so that no two transactions wait for each other: the periods; the key; the rows of new series, by
 //! their digests; those of their metrics; the totals of series that were there, by their numbers; the hours of metrics.
+
+/// Shared by all requests; who closes a period has it alone.
+pub(super) const HOLD_PERIODS: &str = "select pg_advisory_xact_lock_shared($1::int8)";
+
+/// The hour that it is, in each row, and what is closed.
+pub(super) const CLOSED: &str =
+    "select now_hour, period, from_hour, to_hour, who, extract(epoch from closed_at)::int8
+    from (select floor(extract(epoch from clock_timestamp()) / 3600)::int4 as now_hour) as clock
+    left join totxegun.closed on true order by from_hour, to_hour";
 
 /// Waits for another transaction that has the same key; no row comes where that was committed. None comes for a
 /// schema of another version either.
@@ -70,6 +79,9 @@ pub(super) const HOURS_BESIDE: &str = "select new.place, old.first_start_ns::tex
             (select h.first_start_ns, h.last_end_ns from totxegun.past_hour as h
             where h.series = new.series and h.hour >= div(new.start_ns, 3600000000000)::int4
                 and h.last_end_ns > new.start_ns order by h.hour limit 1)
+            union all (select l.first_start_ns, l.last_end_ns from totxegun.late_hour as l
+            where l.series = new.series and l.of_hour >= div(new.start_ns, 3600000000000)::int4
+                and l.last_end_ns > new.start_ns order by l.of_hour, l.first_start_ns limit 1)
             union all select t.hour_start_ns, t.last_end_ns
         ) as of_series
         where first_start_ns < new.end_ns and last_end_ns > new.start_ns order by first_start_ns limit 1
@@ -122,8 +134,9 @@ pub(super) const FIRST_TOTALS: &str =
 /// The last hours of these series are over: it is written down what they come to.
 pub(super) const HOURS_OVER: &str =
     "insert into totxegun.past_hour (series, hour, points, first_start_ns, last_end_ns,
-        total, count, without_sum, buckets)
-    select series, hour, points, first_start_ns, last_end_ns, total, count, without_sum, buckets
+        total, count, without_sum, buckets, corrections)
+    select series, hour, points, first_start_ns, last_end_ns, total, count, without_sum, buckets,
+        coalesce(corrections, 0)
     from totxegun.last_hour where series = any($1::int8[])";
 
 /// Adds to hours that are not the last ones of their series.
@@ -133,6 +146,24 @@ pub(super) const PAST_HOURS: &str =
     select series, hour, points, first_start_ns, last_end_ns, total, count, without_sum, buckets
     from unnest($1::totxegun.new_hour[])
     on conflict (series, hour) do update set
+        points = h.points + excluded.points,
+        first_start_ns = least(h.first_start_ns, excluded.first_start_ns),
+        last_end_ns = greatest(h.last_end_ns, excluded.last_end_ns),
+        total = h.total + excluded.total,
+        count = h.count + excluded.count,
+        without_sum = h.without_sum + excluded.without_sum,
+        buckets = case when excluded.buckets is null then h.buckets else array(
+            select coalesce(a, 0) + b from unnest(h.buckets, excluded.buckets)
+                with ordinality as both_of(a, b, place) order by place
+        ) end";
+
+/// To which closed hours it belongs, beside the hours in which it counts.
+pub(super) const LATE_HOURS: &str =
+    "insert into totxegun.late_hour as h (series, of_hour, hour, points, first_start_ns, last_end_ns,
+        total, count, without_sum, buckets)
+    select series, of_hour, hour, points, first_start_ns, last_end_ns, total, count, without_sum, buckets
+    from unnest($1::totxegun.new_late[])
+    on conflict (series, of_hour, hour) do update set
         points = h.points + excluded.points,
         first_start_ns = least(h.first_start_ns, excluded.first_start_ns),
         last_end_ns = greatest(h.last_end_ns, excluded.last_end_ns),
@@ -176,5 +207,6 @@ pub(super) const TOTALS: &str = "update totxegun.series_total as t set
             )
             when n.hour = t.hour then t.before_buckets
             else t.buckets
-        end
+        end,
+        hour_corrections = case when n.hour = t.hour then t.hour_corrections end
     from unnest($1::totxegun.new_total[]) as n where t.series = n.series";

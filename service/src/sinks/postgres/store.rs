@@ -2,15 +2,17 @@
 
 use super::fault::{NotTaken, PostgresFault};
 use super::metric_rows;
-use super::point_rows::{HourRow, SpanRow, TotalRow};
+use super::periods;
+use super::point_rows::{Adding, HourRow, LateRow, SpanRow, TotalRow};
 use super::repeat::{self, Taken};
-use super::rows::{hour_of, Content, OfSeries};
+use super::rows::{Content, OfSeries};
 use super::schema::KNOWN;
 use super::series::Known;
 use super::session::{Session, Statements};
 use super::values::Numeric;
 use crate::otlp::series::ForwardedPoint;
 use crate::sinks::part::Left;
+use crate::sinks::periods::Closed;
 use crate::sinks::Forwarded;
 use tokio_postgres::types::ToSql;
 use tokio_postgres::{Row, Statement, Transaction};
@@ -36,19 +38,26 @@ pub(super) async fn take(
         statements: &session.statements,
         server,
     };
-    let row = match writing.key(request, &content).await? {
+    let (_, key) = tokio::try_join!(writing.hold_periods(), writing.key(request, &content))?;
+    let row = match key {
         Key::New(row) => row,
         Key::Taken(taken) => return writing.left_of(&taken, request, &content).await,
     };
     let all = content.all;
-    let known = writing.series(&all, &session.seen).await?;
+    let (closed, known) = tokio::try_join!(writing.closed(), writing.series(&all, &session.seen))?;
     let refused = writing.overlapping(&all, &known).await?;
     let (all, known) = repeat::without(all, known, &refused);
     if all.is_empty() && !refused.is_empty() {
         return Err(NotTaken::Refused(refused.reason));
     }
+    let adding = |(of, known)| Adding {
+        of,
+        known,
+        hours: OfSeries::by_hours(of, &closed),
+    };
+    let adding: Vec<Adding> = all.iter().zip(&known).map(adding).collect();
     // The totals are written down here while the server has the spans.
-    tokio::try_join!(writing.spans(&all, &known), writing.totals(&all, &known))?;
+    tokio::try_join!(writing.spans(&all, &known), writing.totals(&adding))?;
     let left = refused.left(request)?;
     if let Some(left) = &left {
         writing.leave_out(row, repeat::points(&all), left).await?;
@@ -136,58 +145,71 @@ impl Writing<'_> {
         self.write(&self.statements.spans, &[&rows], rows.len()).await
     }
 
-    async fn totals(&self, all: &[OfSeries], known: &[Known]) -> Result<(), NotTaken> {
-        self.past_hours(all, known).await?;
-        let row = |(of, known): (_, &Known)| TotalRow {
-            series: known.id,
-            of,
-            hour: OfSeries::last_hour(of, known.last_hour),
-        };
-        let (first, more): (Vec<_>, Vec<_>) = all.iter().zip(known).partition(|(_, known)| known.is_new);
-        for (statement, part) in [
+    async fn totals(&self, all: &[Adding<'_>]) -> Result<(), NotTaken> {
+        self.past_hours(all).await?;
+        let (first, more): (Vec<_>, Vec<_>) = all.iter().map(TotalRow).partition(|row| row.0.known.is_new);
+        for (statement, rows) in [
             (&self.statements.first_totals, first),
             (&self.statements.totals, more),
         ] {
-            let rows: Vec<TotalRow> = part.into_iter().map(row).collect();
             if !rows.is_empty() {
                 self.write(statement, &[&rows], rows.len()).await?;
             }
         }
+        self.late(all).await?;
         // Behind all else, since other services wait for these rows.
-        let rows = metric_rows::rows(all, known);
+        let rows = metric_rows::rows(all);
         self.write(&self.statements.metric_hours, &[&rows], rows.len())
             .await
     }
 
     /// Writes hours that are over by this request, and adds to those what comes late.
-    async fn past_hours(&self, all: &[OfSeries], known: &[Known]) -> Result<(), NotTaken> {
-        let both = || all.iter().zip(known);
-        let is_over =
-            |(of, known): &(&OfSeries, &Known)| known.last_hour < Some(of.last_hour(known.last_hour));
-        let over: Vec<i64> = both()
-            .filter(|both| !both.1.is_new && is_over(both))
-            .map(|(_, known)| known.id)
-            .collect();
+    async fn past_hours(&self, all: &[Adding<'_>]) -> Result<(), NotTaken> {
+        let is_over = |one: &&Adding| !one.known.is_new && one.known.last_hour < Some(one.last_hour());
+        let over: Vec<i64> = all.iter().filter(is_over).map(|one| one.known.id).collect();
         if !over.is_empty() {
             self.rows(&self.statements.hours_over, &[&over]).await?;
         }
-        let late: Vec<HourRow> = both()
-            .flat_map(|(of, known)| {
-                let (late, _) = of.parted(of.last_hour(known.last_hour));
-                let hours = late.chunk_by(|one, next| hour_of(one) == hour_of(next));
-                hours.map(|points| HourRow {
-                    series: known.id,
-                    points,
-                })
+        let of_series = |one| {
+            let (earlier, _) = Adding::parted(one);
+            let hours = earlier.chunk_by(|one, next| one.hour == next.hour);
+            hours.map(|hours| HourRow {
+                series: one.known.id,
+                hours,
             })
-            .collect();
-        match late.is_empty() {
+        };
+        let rows: Vec<HourRow> = all.iter().flat_map(of_series).collect();
+        match rows.is_empty() {
             true => Ok(()),
             false => {
-                self.write(&self.statements.past_hours, &[&late], late.len())
+                self.write(&self.statements.past_hours, &[&rows], rows.len())
                     .await
             }
         }
+    }
+
+    /// Writes down to which closed hours it belongs.
+    async fn late(&self, all: &[Adding<'_>]) -> Result<(), NotTaken> {
+        let rows: Vec<LateRow> = all.iter().flat_map(Adding::late).collect();
+        match rows.is_empty() {
+            true => Ok(()),
+            false => {
+                self.write(&self.statements.late_hours, &[&rows], rows.len())
+                    .await
+            }
+        }
+    }
+
+    /// No period is closed or opened until the transaction ends.
+    async fn hold_periods(&self) -> Result<(), NotTaken> {
+        let held = self.rows(&self.statements.hold_periods, &[&periods::LOCK]).await;
+        held.map(drop)
+    }
+
+    /// What is closed, once periods are held.
+    async fn closed(&self) -> Result<Closed, NotTaken> {
+        let rows = self.rows(&self.statements.closed, &[]).await?;
+        Ok(periods::closed_of(&rows))
     }
 }
 

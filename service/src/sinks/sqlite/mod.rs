@@ -4,12 +4,15 @@
 //! again after a fault, so whatever is wrong with the file is a reason to try again: no request is lost by it.
 
 pub mod by_hour;
+pub mod export;
 mod fault;
 mod horizon;
+mod periods;
 mod schema;
 mod store;
 pub mod totals;
 mod upkeep;
+mod views;
 mod whole;
 
 #[cfg(test)]
@@ -18,11 +21,10 @@ mod tests;
 pub use fault::SqliteFault;
 pub use whole::Exact;
 
-use super::{Fate, Forwarded, Keep, Keys, Memory, Sink};
+use super::periods::{Deed, Told};
+use super::{Answer, Fate, Forwarded, Keep, Keys, Memory, Sink};
 use fault::NotTaken;
-use std::future::Future;
 use std::path::{Path, PathBuf};
-use std::pin::Pin;
 use std::sync::mpsc::{self, RecvTimeoutError};
 use std::sync::Arc;
 use std::thread::JoinHandle;
@@ -44,9 +46,13 @@ pub struct SqliteSink {
     keys: Keys,
 }
 
-struct Job {
-    request: Forwarded,
-    done: oneshot::Sender<Fate>,
+enum Job {
+    Take(Forwarded, oneshot::Sender<Fate>),
+    Settle {
+        who: String,
+        deed: Deed,
+        done: oneshot::Sender<Told>,
+    },
 }
 
 impl SqliteSink {
@@ -86,29 +92,34 @@ impl SqliteSink {
         })
     }
 
+    /// What the thread answers.
+    async fn ask<T>(&self, job: impl FnOnce(oneshot::Sender<T>) -> Job) -> Result<T, String> {
+        let ended = || format!("{}: the thread that writes it has ended", self.path.display());
+        let (done, answer) = oneshot::channel();
+        let jobs = self.jobs.as_ref().ok_or_else(ended)?;
+        jobs.send(job(done)).map_err(|_| ended())?;
+        answer.await.map_err(|_| ended())
+    }
+
     async fn send(&self, request: &Forwarded) -> Fate {
-        let (done, fate) = oneshot::channel();
-        let job = Job {
-            request: request.clone(),
-            done,
-        };
-        let ended = || {
-            Fate::again(format!(
-                "{}: the thread that writes it has ended",
-                self.path.display()
-            ))
-        };
-        let Some(jobs) = &self.jobs else { return ended() };
-        if jobs.send(job).is_err() {
-            return ended();
-        }
-        fate.await.unwrap_or_else(|_| ended())
+        let fate = self.ask(|done| Job::Take(request.clone(), done)).await;
+        fate.unwrap_or_else(Fate::again)
+    }
+
+    async fn settled(&self, who: &str, deed: &Deed) -> Told {
+        let (who, deed) = (who.to_string(), deed.clone());
+        let told = self.ask(|done| Job::Settle { who, deed, done }).await;
+        told.unwrap_or_else(Told::Later)
     }
 }
 
 impl Sink for SqliteSink {
-    fn deliver<'a>(&'a self, request: &'a Forwarded) -> Pin<Box<dyn Future<Output = Fate> + Send + 'a>> {
+    fn deliver<'a>(&'a self, request: &'a Forwarded) -> Answer<'a, Fate> {
         Box::pin(self.send(request))
+    }
+
+    fn settle<'a>(&'a self, who: &'a str, deed: &'a Deed) -> Answer<'a, Told> {
+        Box::pin(self.settled(who, deed))
     }
 
     fn name(&self) -> String {
@@ -206,7 +217,8 @@ impl Writer {
         let mut wait = LOOK;
         loop {
             match received.recv_timeout(wait) {
-                Ok(job) => drop(job.done.send(self.take(&job.request))),
+                Ok(Job::Take(request, done)) => drop(done.send(self.take(&request))),
+                Ok(Job::Settle { who, deed, done }) => drop(done.send(self.settle(&who, &deed))),
                 Err(RecvTimeoutError::Timeout) => self.look(),
                 Err(RecvTimeoutError::Disconnected) => return,
             }
@@ -271,6 +283,21 @@ impl Writer {
             Err(NotTaken::Fault(fault)) => {
                 self.close_after(&fault);
                 Fate::again(fault.to_string())
+            }
+        }
+    }
+
+    /// Where the file is opened anew meanwhile nothing is known of what was asked for: it may be asked for again.
+    fn settle(&mut self, who: &str, deed: &Deed) -> Told {
+        match self.store().and_then(|store| store.settle_period(who, deed)) {
+            Ok(_) if !self.is(Found::Whole) => Told::Later(format!(
+                "{} or its -wal was deleted meanwhile",
+                self.path.display()
+            )),
+            Ok(told) => told,
+            Err(fault) => {
+                self.close_after(&fault);
+                Told::Later(fault.to_string())
             }
         }
     }

@@ -12,10 +12,16 @@ pub(super) const STEPS: &[&str] = &[
     include_str!("version1.sql"),
     include_str!("version2.sql"),
     concat!(include_str!("version3.sql"), include_str!("version3_about.sql")),
+    concat!(include_str!("version4.sql"), include_str!("version4_about.sql")),
 ];
 
-/// Brings a file to the last version, or says why it must not be touched.
-pub(super) fn migrate(connection: &mut Connection, path: &Path, steps: &[&str]) -> Result<(), SqliteFault> {
+/// Brings a file to the last version, with its views, or says why it must not be touched.
+pub(super) fn migrate(
+    connection: &mut Connection,
+    path: &Path,
+    steps: &[&str],
+    views: &str,
+) -> Result<(), SqliteFault> {
     let fault = |error| SqliteFault::of(path, error);
     let known = steps.len() as i64;
     if check(connection, path, known)? == known {
@@ -29,6 +35,7 @@ pub(super) fn migrate(connection: &mut Connection, path: &Path, steps: &[&str]) 
     for step in &steps[version as usize..] {
         transaction.execute_batch(step).map_err(fault)?;
     }
+    transaction.execute_batch(views).map_err(fault)?;
     transaction
         .pragma_update(None, "application_id", APPLICATION)
         .map_err(fault)?;
@@ -95,10 +102,10 @@ mod tests {
     fn each_step_is_made_once() {
         let mut connection = Connection::open_in_memory().expect("memory");
         let path = Path::new("x.db");
-        migrate(&mut connection, path, &TWO[..1]).expect("version 1");
+        migrate(&mut connection, path, &TWO[..1], "").expect("version 1");
         assert_eq!(check(&connection, path, 1).expect("version"), 1);
         for _ in 0..3 {
-            migrate(&mut connection, path, TWO).expect("version 2");
+            migrate(&mut connection, path, TWO, "").expect("version 2");
             assert_eq!(rows(&connection), 1);
         }
     }
@@ -107,11 +114,11 @@ mod tests {
     fn a_step_that_fails_changes_nothing() {
         let mut connection = Connection::open_in_memory().expect("memory");
         let path = Path::new("x.db");
-        migrate(&mut connection, path, &TWO[..1]).expect("version 1");
+        migrate(&mut connection, path, &TWO[..1], "").expect("version 1");
         let steps = [TWO[0], TWO[1], "create table b (x); no sql"];
-        assert!(migrate(&mut connection, path, &steps).is_err());
+        assert!(migrate(&mut connection, path, &steps, "").is_err());
         assert_eq!(check(&connection, path, 3).expect("version"), 1);
-        migrate(&mut connection, path, TWO).expect("version 2");
+        migrate(&mut connection, path, TWO, "").expect("version 2");
         assert_eq!(rows(&connection), 1);
     }
 
@@ -119,8 +126,8 @@ mod tests {
     fn a_later_version_is_refused_by_name() {
         let mut connection = Connection::open_in_memory().expect("memory");
         let path = Path::new("/var/x.db");
-        migrate(&mut connection, path, TWO).expect("version 2");
-        let error = migrate(&mut connection, path, &TWO[..1])
+        migrate(&mut connection, path, TWO, "").expect("version 2");
+        let error = migrate(&mut connection, path, &TWO[..1], "")
             .expect_err("it is later")
             .to_string();
         assert!(
@@ -138,7 +145,7 @@ mod tests {
         ] {
             let mut connection = Connection::open_in_memory().expect("memory");
             connection.execute_batch(foreign).expect("theirs");
-            let error = migrate(&mut connection, Path::new("x.db"), TWO).expect_err("it is theirs");
+            let error = migrate(&mut connection, Path::new("x.db"), TWO, "").expect_err("it is theirs");
             assert!(matches!(error, SqliteFault::Foreign { .. }), "{error}");
         }
     }

@@ -2,11 +2,14 @@
 
 use super::fault::{NotTaken, SqliteFault};
 use super::horizon::Horizon;
+use super::periods;
 use super::schema::{self, STEPS};
 use super::upkeep::Upkeep;
+use super::views::VIEWS;
 use super::whole::Whole;
 use crate::otlp::series::{self, ForwardedPoint, SeriesKey};
 use crate::sinks::part::{shown, Left};
+use crate::sinks::periods::{Closed, Deed, Told};
 use crate::sinks::Forwarded;
 use rusqlite::{params, Connection, OpenFlags, Transaction, TransactionBehavior};
 use std::collections::HashMap;
@@ -15,7 +18,7 @@ use std::os::unix::fs::{MetadataExt, OpenOptionsExt};
 use std::path::{Path, PathBuf};
 use std::time::Duration;
 
-mod hours;
+pub(super) mod hours;
 mod repeat;
 mod series_row;
 pub(super) mod spans;
@@ -83,7 +86,7 @@ impl Store {
         connection
             .execute_batch("pragma synchronous = full; pragma foreign_keys = on")
             .map_err(fault)?;
-        schema::migrate(&mut connection, path, STEPS)?;
+        schema::migrate(&mut connection, path, STEPS, VIEWS)?;
         settle(&connection, path)?;
         admit(Some(&schema::id(&connection, path)?)).map_err(SqliteFault::Another)?;
         let place =
@@ -118,6 +121,12 @@ impl Store {
         done.map_err(|error| SqliteFault::of(&self.path, error))
     }
 
+    /// Closes or opens a period, or corrects.
+    pub(super) fn settle_period(&mut self, who: &str, deed: &Deed) -> Result<Told, SqliteFault> {
+        let done = periods::settle(&mut self.connection, who, deed);
+        done.map_err(|error| SqliteFault::of(&self.path, error))
+    }
+
     /// Takes a request that is not taken yet, but for spans that overlap: these are left.
     pub(super) fn take(&mut self, request: &Forwarded) -> Result<Option<Left>, NotTaken> {
         let points = series::forwarded(&request.body)?;
@@ -136,10 +145,12 @@ impl Store {
         }
         let taken = repeat::find(&transaction, request).map_err(fault)?;
         let horizon = Horizon::read(&transaction).map_err(fault)?;
+        let closed = periods::read(&transaction).map_err(fault)?;
         let mut writing = Writing {
             transaction,
             path: &self.path,
             horizon,
+            closed,
             known: &self.series,
             new: HashMap::new(),
             hours: Hours::default(),
@@ -231,6 +242,7 @@ struct Writing<'a> {
     transaction: Transaction<'a>,
     path: &'a Path,
     horizon: Horizon,
+    closed: Closed,
     known: &'a HashMap<SeriesKey, Known>,
     /// Of no use to others until it is committed.
     new: HashMap<SeriesKey, Known>,
@@ -306,7 +318,7 @@ impl Writing<'_> {
                 .map_err(|why| NotTaken::Refused(format!("{why}: {}", shown(point))))?,
         };
         self.of(|transaction| total.write(transaction, known.series))?;
-        self.hours.add(known, point.end, &point.value);
+        self.hours.add(known, point.end, &point.value, &self.closed);
         Ok(None)
     }
 

@@ -3,6 +3,7 @@
 mod hours;
 mod older;
 mod part;
+mod periods;
 mod speed;
 mod trouble;
 mod upkeep;

@@ -56,6 +56,24 @@ pub enum Kind {
     Histogram,
 }
 
+impl Kind {
+    pub(super) fn of(name: &str) -> Kind {
+        match name {
+            "sum" => Kind::Sum,
+            "monotonic" => Kind::Monotonic,
+            _ => Kind::Histogram,
+        }
+    }
+
+    pub fn name(self) -> &'static str {
+        match self {
+            Kind::Sum => "sum",
+            Kind::Monotonic => "monotonic",
+            Kind::Histogram => "histogram",
+        }
+    }
+}
+
 #[derive(Clone, Debug, PartialEq, Eq, Serialize)]
 pub struct Histogram {
     pub count: Exact,
@@ -163,12 +181,7 @@ fn uri(path: &Path) -> String {
 }
 
 pub(super) fn row(row: &Row) -> rusqlite::Result<SeriesTotal> {
-    let kind: String = row.get(2)?;
-    let kind = match kind.as_str() {
-        "sum" => Kind::Sum,
-        "monotonic" => Kind::Monotonic,
-        _ => Kind::Histogram,
-    };
+    let kind = Kind::of(&row.get::<_, String>(2)?);
     Ok(SeriesTotal {
         name: row.get(0)?,
         unit: row.get(1)?,

@@ -122,15 +122,17 @@ fn spans(
     Ok(done > 0)
 }
 
-const BY_TIME: [&str; 4] = [
-    "delete from hour where (hour, series) in
-     (select hour, series from hour where hour < ?1 order by hour, series limit ?2)",
+const BY_TIME: [&str; 5] = [
+    "delete from hour where (hour, metric, series) in
+     (select hour, metric, series from hour where hour < ?1 limit ?2)",
     "delete from metric_hour where (hour, metric) in
      (select hour, metric from metric_hour where hour < ?1 order by hour, metric limit ?2)",
-    "delete from day where (day, series) in
-     (select day, series from day where day < ?1 order by day, series limit ?2)",
-    "delete from month where (month, series) in
-     (select month, series from month where month < ?1 order by month, series limit ?2)",
+    "delete from day where (day, metric, series) in
+     (select day, metric, series from day where day < ?1 limit ?2)",
+    "delete from month where (month, metric, series) in
+     (select month, metric, series from month where month < ?1 limit ?2)",
+    "delete from late_hour where (series, of_hour, hour) in
+     (select series, of_hour, hour from late_hour where hour < ?1 limit ?2)",
 ];
 
 /// Deletes hours, days and months that ended by then: at first from the views, then their rows. The last hour stays: what
@@ -148,7 +150,7 @@ fn hours(transaction: &Transaction, mut horizon: Horizon, until: u64, step: usiz
     }
     let from = horizon.hours_from;
     let (day, month) = (day_of(from), month_of(day_of(from)));
-    for (delete, before) in BY_TIME.into_iter().zip([from, from, day, month]) {
+    for (delete, before) in BY_TIME.into_iter().zip([from, from, day, month, from]) {
         let few = params![before, step as i64];
         if transaction.prepare_cached(delete)?.execute(few)? > 0 {
             return Ok(true);

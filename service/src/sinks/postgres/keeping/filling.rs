@@ -2,10 +2,8 @@
 //! done so far is a row of `filling`, in the transaction of the step.
 
 use super::STEP;
+use crate::sinks::postgres::schema::{is_filling, views};
 use tokio_postgres::{Client, Error, Transaction};
-
-/// The views as they are without spans of version 4.
-const FILLED: &str = include_str!("../filled.sql");
 
 /// From where a step goes on.
 const PLACE: &str = "select series, start_ns::text from totxegun.filling for update";
@@ -90,8 +88,7 @@ const ALL_DONE: &str =
     drop view totxegun.hour_before; drop table totxegun.filling";
 
 pub(super) async fn fill(client: &mut Client, server: &str) -> Result<(), Error> {
-    let is_there = "select to_regclass('totxegun.filling') is not null";
-    if !client.query_one(is_there, &[]).await?.get::<_, bool>(0) {
+    if !is_filling(client).await? {
         return Ok(());
     }
     while step(client).await? {}
@@ -117,7 +114,7 @@ async fn step(client: &mut Client) -> Result<bool, Error> {
 }
 
 async fn end(transaction: Transaction<'_>) -> Result<(), Error> {
-    transaction.batch_execute(FILLED).await?;
+    transaction.batch_execute(&views(false)).await?;
     transaction.batch_execute(ALL_DONE).await?;
     transaction.commit().await
 }

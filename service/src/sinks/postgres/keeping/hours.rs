@@ -19,11 +19,12 @@ const PAST: &str = "delete from totxegun.past_hour where ctid = any(array(
 
 /// Of series that nobody posts to any more, the last hour. One that a request has just locked is left.
 const LAST: &str = "with old as (
-        select series from totxegun.series_total where hour < $1::int4 and points > before_points
+        select series from totxegun.series_total
+        where hour < $1::int4 and (points > before_points or hour_corrections is not null)
         order by series limit $2::int8 for no key update skip locked
     )
     update totxegun.series_total as t set before_points = points, before_total = total, before_count = count,
-        before_without_sum = without_sum, before_buckets = buckets
+        before_without_sum = without_sum, before_buckets = buckets, hour_corrections = null
     from old where old.series = t.series";
 
 /// Days of which the views have none any more.
@@ -36,13 +37,17 @@ const OF_METRICS: &str = "delete from totxegun.metric_hour where ctid = any(arra
         select ctid from totxegun.metric_hour where hour < $1::int4 limit $2::int8
     ))";
 
+const LATE: &str = "delete from totxegun.late_hour where ctid = any(array(
+        select ctid from totxegun.late_hour where hour < $1::int4 limit $2::int8
+    ))";
+
 pub(super) async fn delete(client: &Client, kept: Option<Duration>) -> Result<(), Error> {
     let Some(kept) = seconds(kept) else {
         return Ok(());
     };
     let from: i32 = client.query_one(FROM, &[&kept]).await?.get(0);
     client.execute(HORIZON, &[&from]).await?;
-    for step in [PAST, LAST, DAYS, OF_METRICS] {
+    for step in [PAST, LAST, DAYS, OF_METRICS, LATE] {
         while client.execute(step, &[&from, &STEP]).await? == STEP as u64 {}
     }
     Ok(())

@@ -7,7 +7,7 @@ use super::*;
 use rusqlite::Connection;
 
 /// As version 2 of the schema wrote it.
-fn older(path: &Path) {
+pub(super) fn older(path: &Path) {
     let file = Connection::open(path).expect("a file");
     for step in &STEPS[..2] {
         file.execute_batch(step).expect("an older step");
@@ -131,7 +131,7 @@ fn a_kill_at_any_point_of_an_update_changes_nothing_of_what_comes_out() {
 }
 
 /// Where the transactions of a log end: what is behind the last one that is whole is not there for SQLite.
-fn commits(log: &[u8]) -> Vec<usize> {
+pub(super) fn commits(log: &[u8]) -> Vec<usize> {
     let frame = 24 + 4096;
     let is_commit = |end: &usize| log[end - frame + 4..end - frame + 8] != [0; 4];
     let ends = (32 + frame..=log.len()).step_by(frame).filter(is_commit);
@@ -143,7 +143,7 @@ fn all_in_the_log(path: &Path) -> Connection {
     let mut connection = Connection::open(path).expect("it is open");
     let log = "pragma wal_autocheckpoint = 0";
     connection.query_row(log, [], |_| Ok(())).expect("a pragma");
-    schema::migrate(&mut connection, path, STEPS).expect("the last version");
+    schema::migrate(&mut connection, path, STEPS, views::VIEWS).expect("the last version");
     let mut upkeep = Upkeep::new(KEEP);
     upkeep.step = 12;
     let steps = (0..).find(|_| !upkeep.go_on(&mut connection, NOON).expect("a step"));

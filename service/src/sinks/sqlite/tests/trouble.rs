@@ -216,18 +216,18 @@ fn a_later_schema_is_refused_by_name_and_left_alone() {
     let mut trial = Trial::new();
     trial.taken(1, sum("a", 10, 20, 1));
     trial.writer.store = None;
-    trial.ask("pragma user_version = 4");
+    trial.ask("pragma user_version = 5");
     let error = SqliteSink::open(&trial.path(), Keep::default(), Arc::new(()))
         .err()
         .expect("it is later")
         .to_string();
     assert!(
-        error.contains("later version") && error.contains("schema 4"),
+        error.contains("later version") && error.contains("schema 5"),
         "{error}"
     );
     trial.again(2, sum("a", 20, 30, 2), "later version");
     assert!(read(&trial.path(), &Filter::default()).is_err());
-    trial.ask("pragma user_version = 3");
+    trial.ask("pragma user_version = 4");
     trial.taken(2, sum("a", 20, 30, 2));
 }
 

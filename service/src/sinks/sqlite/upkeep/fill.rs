@@ -4,6 +4,7 @@ use super::super::horizon::Horizon;
 use super::super::store::{spans, sums, Hours, Known};
 use super::super::whole::Whole;
 use crate::otlp::series::Value;
+use crate::sinks::periods::Closed;
 use rusqlite::{OptionalExtension, Row, Transaction};
 
 /// Adds the spans of some requests, each of them whole: those of later requests are in hours since they were taken.
@@ -49,7 +50,7 @@ fn add(transaction: &Transaction, request: i64, hours: &mut Hours) -> rusqlite::
             metric: row.get(1)?,
         };
         let end: Whole = row.get(2)?;
-        hours.add(known, end.0, &value(row)?);
+        hours.add(known, end.0, &value(row)?, &Closed::default());
         count += 1;
     }
     Ok(count)

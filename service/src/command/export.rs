@@ -1,0 +1,187 @@
+//! `totxegun export`: what a sink has of a month or a day, for a bill.
+
+use super::ask::Address as Operate;
+use super::{client, values};
+use crate::operate::Status;
+use crate::sinks::export::Line;
+use crate::sinks::periods::{Closed, Period};
+use crate::sinks::{postgres, sqlite, Address};
+use anyhow::{bail, Context, Result};
+use clap::Args;
+use sha2::{Digest, Sha256};
+use std::borrow::Cow;
+use std::io::{BufWriter, Write};
+
+const COLUMNS: &str =
+    "series,name,kind,unit,attributes,resource,scope_name,scope_version,scope_attributes,points,total,\
+    corrections,billed,count,bounds,buckets";
+
+#[derive(Args)]
+pub struct Options {
+    /// A month of UTC: 2026-11
+    #[arg(long, value_name = "MONTH", required_unless_present = "day", value_parser = month)]
+    month: Option<Period>,
+    /// A day of UTC: 2026-11-05
+    #[arg(long, value_name = "DAY", conflicts_with = "month", value_parser = day)]
+    day: Option<Period>,
+    /// Prints a head and a row for each series, with commas between cells
+    #[arg(long, required_unless_present = "json")]
+    csv: bool,
+    /// Prints a JSON object for each series, each on a line
+    #[arg(long, conflicts_with = "csv")]
+    json: bool,
+    /// The sink; without it, the running service says where it is
+    #[arg(long, env = "TOTXEGUN_SINK", value_name = "ADDRESS", hide_env_values = true)]
+    sink: Option<Address>,
+    #[command(flatten)]
+    at: Operate,
+}
+
+fn month(text: &str) -> Result<Period, String> {
+    let period: Period = text.parse()?;
+    match period.is_month() {
+        true => Ok(period),
+        false => Err(format!("{period} is no month: write 2026-11")),
+    }
+}
+
+fn day(text: &str) -> Result<Period, String> {
+    let period: Period = text.parse()?;
+    match period.is_day() {
+        true => Ok(period),
+        false => Err(format!("{period} is no day: write 2026-11-05")),
+    }
+}
+
+impl Options {
+    /// Prints; on standard error it says how many rows these were, and their SHA-256.
+    pub fn run(self) -> Result<()> {
+        let Some(period) = self.month.as_ref().or(self.day.as_ref()) else {
+            bail!("give --month or --day");
+        };
+        let mut out = Out {
+            to: BufWriter::new(std::io::stdout().lock()),
+            digest: Sha256::new(),
+            rows: 0,
+        };
+        if self.csv {
+            out.put(&format!("{COLUMNS}\n"))?;
+        }
+        let mut each = |line: Line| {
+            out.rows += 1;
+            match self.csv {
+                true => out.put(&csv(&line)),
+                false => out.put(&(serde_json::to_string(&line)? + "\n")),
+            }
+        };
+        let closed = match self.sink()? {
+            Address::Sqlite(path) => sqlite::export::read(&path, period, &mut each)?,
+            Address::Postgres(server) => postgres::export::read(&server, period, &mut each)?,
+            Address::Otlp { .. } => {
+                bail!("only a SQLite or PostgreSQL sink can be exported: ask the sink itself")
+            }
+        };
+        out.end(period, &closed)
+    }
+
+    fn sink(&self) -> Result<Address> {
+        if let Some(sink) = &self.sink {
+            return Ok(sink.clone());
+        }
+        let body = client::ask(&self.at.operate, "GET", "/status")?;
+        let status: Status = serde_json::from_slice(&body).context(client::OTHER_VERSION)?;
+        if let Some(path) = status.sink.strip_prefix("sqlite ") {
+            return Ok(Address::Sqlite(path.into()));
+        }
+        match status.sink.strip_prefix("postgres ") {
+            Some(place) => bail!(
+                "the service delivers to PostgreSQL, {place}: give --sink postgres://USER@HOST:PORT/DB and PGPASSWORD, \
+                 of any role that may read it"
+            ),
+            None => bail!("the service delivers to {}, which can't be exported: ask it", status.sink),
+        }
+    }
+}
+
+/// Standard output, counted and digested.
+struct Out<To: Write> {
+    to: BufWriter<To>,
+    digest: Sha256,
+    rows: u64,
+}
+
+impl<To: Write> Out<To> {
+    fn put(&mut self, text: &str) -> Result<()> {
+        self.digest.update(text.as_bytes());
+        self.to.write_all(text.as_bytes()).context(UNWRITTEN)
+    }
+
+    fn end(mut self, period: &Period, closed: &Closed) -> Result<()> {
+        self.to.flush().context(UNWRITTEN)?;
+        let digest = self.digest.finalize();
+        let digest: String = digest.iter().map(|byte| format!("{byte:02x}")).collect();
+        let state = match closed.of(period) {
+            Some(row) => row,
+            None => "not closed: a later export may differ".into(),
+        };
+        let rows = values::counted(self.rows, "row");
+        crate::complain(format_args!("{period}: {rows}, sha256 {digest}, {state}"));
+        Ok(())
+    }
+}
+
+const UNWRITTEN: &str = "standard output can't be written: what is there is not whole";
+
+fn csv(line: &Line) -> String {
+    let series = line.series.to_string();
+    let points = line.points.to_string();
+    let raw = |json: &Option<Box<serde_json::value::RawValue>>| {
+        json.as_ref().map_or(String::new(), |it| it.to_string())
+    };
+    let cells: [Cow<str>; 16] = [
+        series.into(),
+        cell(&line.name),
+        line.kind.name().into(),
+        cell(&line.unit),
+        cell(line.attributes.get()).into_owned().into(),
+        cell(line.resource.get()).into_owned().into(),
+        cell(&line.scope_name),
+        cell(&line.scope_version),
+        cell(line.scope_attributes.get()).into_owned().into(),
+        points.into(),
+        line.total.as_str().into(),
+        line.corrections.as_str().into(),
+        line.billed.as_str().into(),
+        line.count.as_deref().unwrap_or_default().into(),
+        cell(&raw(&line.bounds)).into_owned().into(),
+        cell(&raw(&line.buckets)).into_owned().into(),
+    ];
+    cells.join(",") + "\n"
+}
+
+/// As RFC 4180 has it: what has a comma, a quote or a line's end stands in quotes.
+fn cell(text: &str) -> Cow<'_, str> {
+    match text.contains([',', '"', '\n', '\r']) {
+        true => format!("\"{}\"", text.replace('"', "\"\"")).into(),
+        false => text.into(),
+    }
+}
+
+#[cfg(test)]
+mod tests {
+    use super::*;
+
+    #[test]
+    fn cells_are_quoted_where_they_have_to_be() {
+        for (text, written) in [
+            ("shop.revenue", "shop.revenue"),
+            ("a,b", "\"a,b\""),
+            ("{\"shop\":\"s1\"}", "\"{\"\"shop\"\":\"\"s1\"\"}\""),
+            ("two\nlines", "\"two\nlines\""),
+            ("", ""),
+        ] {
+            assert_eq!(cell(text), written);
+        }
+        assert_eq!(COLUMNS.split(',').count(), 16);
+    }
+}

@@ -1,0 +1,127 @@
+//! `totxegun close`, `open` and `correct`: periods of the sink, by which it is billed.
+
+use super::{ask::Address, client, line, values};
+use crate::operate::{Status, ANYWAY};
+use crate::sinks::periods::{Correction, Period};
+use anyhow::{anyhow, bail, Context, Result};
+use clap::Args;
+use std::time::{Duration, Instant};
+
+/// How long requests that wait may take to get into the sink.
+const DELIVERED: Duration = Duration::from_secs(60);
+const LOOK: Duration = Duration::from_millis(200);
+
+#[derive(Args)]
+pub struct Close {
+    /// A month 2026-11, a day 2026-11-05 or an hour 2026-11-05T13, of UTC, which has ended
+    period: Period,
+    /// Flushes first, and waits until the sink has all that was posted so far
+    #[arg(long, conflicts_with = "anyway")]
+    flush: bool,
+    /// Closes it although something waits that may belong to it, and would come late
+    #[arg(long)]
+    anyway: bool,
+    #[command(flatten)]
+    at: Address,
+}
+
+#[derive(Args)]
+pub struct Open {
+    /// As it was closed
+    period: Period,
+    #[command(flatten)]
+    at: Address,
+}
+
+#[derive(Args)]
+pub struct Correct {
+    /// Its number, which is the column `series` of the view by_hour
+    series: i64,
+    /// The hour of UTC that it belongs to: 2026-11-05T13
+    hour: Period,
+    /// What is added to it, a whole number
+    #[arg(allow_negative_numbers = true)]
+    value: i64,
+    /// Why
+    reason: String,
+    #[command(flatten)]
+    at: Address,
+}
+
+impl Close {
+    pub fn run(self) -> Result<Vec<u8>> {
+        if self.flush {
+            deliver(&self.at)?;
+        }
+        let query = match self.flush || self.anyway {
+            true => format!("?{ANYWAY}"),
+            false => String::new(),
+        };
+        told(&self.at, &format!("/close/{}{query}", written(&self.period)))
+    }
+}
+
+impl Open {
+    pub fn run(self) -> Result<Vec<u8>> {
+        told(&self.at, &format!("/open/{}", written(&self.period)))
+    }
+}
+
+impl Correct {
+    pub fn run(self) -> Result<Vec<u8>> {
+        let correction = Correction {
+            series: self.series,
+            hour: self.hour,
+            value: self.value,
+            reason: self.reason.trim().into(),
+        };
+        correction.check().map_err(|why| anyhow!(why))?;
+        let Correction {
+            series, hour, value, ..
+        } = &correction;
+        let set = percent_encoding::NON_ALPHANUMERIC;
+        let reason = percent_encoding::utf8_percent_encode(&correction.reason, set);
+        let path = format!("/correct/{series}/{}/{value}?reason={reason}", written(hour));
+        told(&self.at, &path)
+    }
+}
+
+/// In a path.
+fn written(period: &Period) -> String {
+    period.to_string().replace(' ', "T")
+}
+
+fn told(at: &Address, path: &str) -> Result<Vec<u8>> {
+    let body = client::ask(&at.operate, "POST", path)?;
+    let read: serde_json::Value = serde_json::from_slice(&body).unwrap_or_default();
+    let message = read["message"].as_str().context(client::OTHER_VERSION)?;
+    Ok(line(format_args!("done: {message}")))
+}
+
+/// Flushes, and waits until nothing of it waits.
+fn deliver(at: &Address) -> Result<()> {
+    client::ask(&at.operate, "POST", "/flush")?;
+    let begun = Instant::now();
+    loop {
+        let body = client::ask(&at.operate, "GET", "/status")?;
+        let status: Status = serde_json::from_slice(&body).context(client::OTHER_VERSION)?;
+        let waiting: u64 = status.slots.iter().map(|slot| slot.waiting).sum();
+        if waiting == 0 {
+            return Ok(());
+        }
+        if begun.elapsed() > DELIVERED {
+            let trouble = status.slots.iter().find_map(|slot| slot.trouble.clone());
+            bail!(
+                "nothing was closed: after {} s {} for {} still: {}",
+                DELIVERED.as_secs(),
+                match waiting {
+                    1 => "1 request waits".to_string(),
+                    _ => format!("{} wait", values::counted(waiting, "request")),
+                },
+                status.sink,
+                trouble.unwrap_or_else(|| "`totxegun status` shows how it goes on".into())
+            );
+        }
+        std::thread::sleep(LOOK);
+    }
+}

@@ -1,0 +1,166 @@
+//! Periods of the sink are closed and opened, and what it counted is corrected.
+
+use super::{message, reply, Desk, JSON};
+use crate::intake::ends::Ends;
+use crate::sinks::periods::{Correction, Deed, Told};
+use hyper::{Body, Response};
+use serde_json::json;
+
+/// Closes a period although something waits that may belong to it.
+pub const ANYWAY: &str = "anyway";
+
+impl Desk {
+    pub(super) async fn period(&self, ends: Option<Ends>, parts: &[String], query: &str) -> Response<Body> {
+        let (what, of, deed) = match read(parts, query) {
+            Ok(read) => read,
+            Err(why) => return message(400, &why),
+        };
+        let is_anyway = query == ANYWAY;
+        self.act_by(ends, what, of, |who| self.settle(who, deed, is_anyway))
+            .await
+    }
+
+    async fn settle(&self, who: String, deed: Deed, is_anyway: bool) -> Response<Body> {
+        if let (Deed::Close(period), false) = (&deed, is_anyway) {
+            if let Some(what) = self.not_in_the_sink() {
+                let late = format!("{what}: what it has of {period} would come late");
+                return message(
+                    409,
+                    &format!("{late}; close it with --flush, which waits for it, or --anyway"),
+                );
+            }
+        }
+        match self.sink.settle(&who, &deed).await {
+            Told::Done(told) => {
+                let told = match &deed {
+                    Deed::Close(_) => told + &self.kept_back(),
+                    _ => told,
+                };
+                reply(200, JSON, json!({ "message": told }).to_string())
+            }
+            Told::Refused(why) => message(409, &why),
+            Told::Later(why) => message(503, &why),
+        }
+    }
+
+    /// What was taken of senders and goes to the sink, but is not there yet.
+    fn not_in_the_sink(&self) -> Option<String> {
+        let waiting: u64 = std::iter::once(&self.left)
+            .chain(&self.former)
+            .map(|left| left.outbox.waiting().0)
+            .sum();
+        let (_, posted) = self.slot.journal_size();
+        match (waiting, posted) {
+            (0, None) => None,
+            (0, Some(_)) => Some("there are posts that are not flushed".into()),
+            (1, _) => Some("1 request waits for the sink".into()),
+            (more, _) => Some(format!("{more} requests wait for the sink")),
+        }
+    }
+
+    /// What stays out of the sink until an operator acts.
+    fn kept_back(&self) -> String {
+        let (dead, held) = (self.dead.count(), self.slot.held().posts);
+        let mut text = String::new();
+        for (count, what) in [
+            (dead, "requests in dead/"),
+            (held, "posts of quarantined senders"),
+        ] {
+            if count > 0 {
+                text += &format!("; {count} {what} would come late");
+            }
+        }
+        text
+    }
+}
+
+/// What is asked for, as an act names it, and of what.
+fn read(parts: &[String], query: &str) -> Result<(&'static str, String, Deed), String> {
+    let parts: Vec<&str> = parts.iter().map(String::as_str).collect();
+    match parts[..] {
+        ["close", period] => Ok(("close", period.into(), Deed::Close(period.parse()?))),
+        ["open", period] => Ok(("open", period.into(), Deed::Open(period.parse()?))),
+        ["correct", series, hour, value] => {
+            let correction = correction(series, hour, value, query)?;
+            let of = format!("{series} {hour} {value}: {}", correction.reason);
+            Ok(("correct", of, Deed::Correct(correction)))
+        }
+        _ => Err("this takes /close/PERIOD, /open/PERIOD and /correct/SERIES/HOUR/VALUE?reason=TEXT".into()),
+    }
+}
+
+fn correction(series: &str, hour: &str, value: &str, query: &str) -> Result<Correction, String> {
+    let number = |what: &str, text: &str| {
+        let number = text.parse::<i64>();
+        number.map_err(|_| format!("the {what} `{text}` is no whole number of 64 bits"))
+    };
+    let reason = query.strip_prefix("reason=").unwrap_or_default();
+    let reason = percent_encoding::percent_decode_str(reason).decode_utf8();
+    let reason = reason.map_err(|_| "the reason is no text in UTF-8".to_string())?;
+    let correction = Correction {
+        series: number("series", series)?,
+        hour: hour.parse()?,
+        value: number("value", value)?,
+        reason: reason.trim().into(),
+    };
+    correction.check()?;
+    Ok(correction)
+}
+
+#[cfg(test)]
+mod tests {
+    use super::*;
+    use crate::sinks::periods::MOST_REASON;
+
+    fn of(path: &str, query: &str) -> Result<Deed, String> {
+        let parts: Vec<String> = path.split('/').map(String::from).collect();
+        read(&parts, query).map(|(_, _, deed)| deed)
+    }
+
+    #[test]
+    fn what_is_asked_for_is_read() {
+        let hour = "2026-11-05T13".parse().unwrap();
+        let reason = "counted twice, by hand".to_string();
+        assert_eq!(
+            of("close/2026-11", ANYWAY),
+            Ok(Deed::Close("2026-11".parse().unwrap()))
+        );
+        assert_eq!(
+            of("open/2026-11-05", ""),
+            Ok(Deed::Open("2026-11-05".parse().unwrap()))
+        );
+        assert_eq!(
+            of(
+                "correct/7/2026-11-05T13/-250",
+                "reason=counted%20twice%2C%20by%20hand"
+            ),
+            Ok(Deed::Correct(Correction {
+                series: 7,
+                hour,
+                value: -250,
+                reason
+            }))
+        );
+    }
+
+    #[test]
+    fn what_is_faulty_is_named() {
+        let long = format!("reason={}", "x".repeat(MOST_REASON + 1));
+        for (path, query, part) in [
+            ("close/november", "", "no period"),
+            ("close/2026-11/05", "", "/close/PERIOD"),
+            ("correct/7/2026-11-05T13/-2.5", "reason=x", "no whole number"),
+            ("correct/x/2026-11-05T13/1", "reason=x", "the series `x`"),
+            ("correct/7/2026-11-05/1", "reason=x", "more than an hour"),
+            ("correct/7/2026-11-05T13/0", "reason=x", "0"),
+            ("correct/7/2026-11-05T13/1", "", "reason"),
+            ("correct/7/2026-11-05T13/1", "reason=%20", "reason"),
+            ("correct/7/2026-11-05T13/1", "reason=a%00b", "reason"),
+            ("correct/7/2026-11-05T13/1", "reason=%ff", "UTF-8"),
+            ("correct/7/2026-11-05T13/1", &long, "1000 bytes"),
+        ] {
+            let why = of(path, query).expect_err(path);
+            assert!(why.contains(part), "{path}: {why}");
+        }
+    }
+}

@@ -1,0 +1,301 @@
+//! Periods of a sink: which are closed, what comes for them later, and what is corrected.
+//!
+//! What a sink has of a closed hour does not change any more. What comes for it later counts in the first hour from now on
+//! that is open, beside a row that says to which hour it belongs. All of it is in the sink, and is read in the transaction
+//! that takes a request: so a close and a delivery are one after the other, and a close is there or not.
+
+mod period;
+
+pub use period::{hour_shown, Period};
+
+use crate::log::utc;
+
+/// What an operator does.
+#[derive(Clone, Debug, PartialEq, Eq)]
+pub enum Deed {
+    Close(Period),
+    Open(Period),
+    Correct(Correction),
+}
+
+/// What is added to what a series counted in an hour.
+#[derive(Clone, Debug, PartialEq, Eq)]
+pub struct Correction {
+    /// Its number in the sink.
+    pub series: i64,
+    pub hour: Period,
+    pub value: i64,
+    pub reason: String,
+}
+
+/// So many bytes of a reason.
+pub const MOST_REASON: usize = 1000;
+
+/// What became of a deed; each with what is said of it.
+#[derive(Clone, Debug, PartialEq, Eq)]
+pub enum Told {
+    Done(String),
+    Refused(String),
+    /// The sink did not answer: the same may be asked again.
+    Later(String),
+}
+
+/// A row of the table `closed`.
+#[derive(Clone, Debug, PartialEq, Eq)]
+pub(super) struct Row {
+    /// As it was written.
+    pub(super) period: String,
+    /// From this hour since 1970 to before that one.
+    pub(super) from: i64,
+    pub(super) to: i64,
+    pub(super) who: String,
+    /// In seconds since 1970.
+    pub(super) at: i64,
+}
+
+impl Row {
+    fn has(&self, period: &Period) -> bool {
+        self.from <= period.from && period.to <= self.to
+    }
+
+    fn shown(&self) -> String {
+        format!(
+            "{}, closed by {} at {}",
+            self.period,
+            self.who,
+            utc(self.at.unsigned_abs())
+        )
+    }
+}
+
+/// All that is closed, and the hour that it is.
+#[derive(Clone, Debug, Default, PartialEq, Eq)]
+pub struct Closed {
+    pub(super) rows: Vec<Row>,
+    pub(super) now: i64,
+}
+
+impl Closed {
+    /// In which hour counts what belongs to this one: in itself while it is open, else in the first open one from now on.
+    pub(super) fn counted_in(&self, hour: i64) -> i64 {
+        match self.end(hour) {
+            None => hour,
+            Some(_) => {
+                let mut open = self.now;
+                while let Some(end) = self.end(open) {
+                    open = end;
+                }
+                open
+            }
+        }
+    }
+
+    /// What is said of a period that is closed.
+    pub fn of(&self, period: &Period) -> Option<String> {
+        self.rows.iter().find(|row| row.has(period)).map(Row::shown)
+    }
+
+    /// Where a closed period ends that has this hour.
+    fn end(&self, hour: i64) -> Option<i64> {
+        let has = |row: &&Row| row.from <= hour && hour < row.to;
+        self.rows.iter().filter(has).map(|row| row.to).max()
+    }
+
+    /// Whether it is closed now, else what to say: that it was before, or that it can't be.
+    pub(super) fn close(&self, period: &Period) -> Result<(), Told> {
+        if let Some(row) = self.rows.iter().find(|row| row.has(period)) {
+            return Err(Told::Done(format!("{period} was closed before: {}", row.shown())));
+        }
+        if period.to > self.now {
+            let (end, now) = (hour_shown(period.to), hour_shown(self.now));
+            return Err(Told::Refused(format!(
+                "{period} ends at {end} UTC, and it is {now}: what has not ended can't be closed"
+            )));
+        }
+        Ok(())
+    }
+
+    /// Whether it is opened now, else what to say.
+    pub(super) fn open(&self, period: &Period) -> Result<(), Told> {
+        let is_it = |row: &&Row| (row.from, row.to) == (period.from, period.to);
+        if self.rows.iter().any(|row| is_it(&row)) {
+            return Ok(());
+        }
+        match self
+            .rows
+            .iter()
+            .find(|row| row.from < period.to && period.from < row.to)
+        {
+            None => Err(Told::Done(format!("{period} was open"))),
+            Some(row) => Err(Told::Refused(format!(
+                "{period} was not closed by itself: open what was, {}",
+                row.shown()
+            ))),
+        }
+    }
+
+    /// What to say of one that is opened: what else is closed of it.
+    pub(super) fn opened(&self, period: &Period) -> String {
+        let others = self.rows.iter().filter(|row| {
+            row.from < period.to && period.from < row.to && (row.from, row.to) != (period.from, period.to)
+        });
+        let still: Vec<String> = others.map(Row::shown).collect();
+        let rest = match still.is_empty() {
+            true => String::new(),
+            false => format!("; of it there still is {}", still.join("; ")),
+        };
+        format!("{period} is open: what came late meanwhile stays where it was counted{rest}")
+    }
+}
+
+pub(super) fn closed(period: &Period) -> String {
+    format!(
+        "{period} is closed: what comes for it from now on is late, and counts in the hour in which it comes"
+    )
+}
+
+pub(super) const NOT_FILLED: &str =
+    "hours of an older version are being filled in: wait until the log says that all are";
+
+/// Of corrections together, without their signs: so sums of any of them fit 64 bits.
+pub(super) const MOST_CORRECTED: i64 = 1 << 62;
+
+impl Correction {
+    /// Whether it is one.
+    pub fn check(&self) -> Result<(), String> {
+        let Correction {
+            hour, value, reason, ..
+        } = self;
+        if hour.to - hour.from > 1 {
+            return Err(format!("{hour} is more than an hour: write one as 2026-11-05T13"));
+        }
+        if *value == 0 {
+            return Err("a correction of 0 corrects nothing".into());
+        }
+        let is_reason =
+            !reason.is_empty() && reason.len() <= MOST_REASON && !reason.contains(char::is_control);
+        match is_reason {
+            true => Ok(()),
+            false => Err(format!(
+                "a correction has a reason, in one line of up to {MOST_REASON} bytes"
+            )),
+        }
+    }
+
+    pub(super) fn of_none(&self) -> Told {
+        let Correction { series, hour, .. } = self;
+        Told::Refused(format!(
+            "series {series} has nothing in {hour}: its number is the column `series` of by_hour, which has its hours"
+        ))
+    }
+
+    pub(super) fn too_great(&self) -> Told {
+        Told::Refused(format!(
+            "corrections may come to {MOST_CORRECTED} together, without their signs"
+        ))
+    }
+
+    pub(super) fn made(&self, counted_in: i64) -> Told {
+        let Correction {
+            series, hour, value, ..
+        } = self;
+        let where_to = match counted_in == hour.from {
+            true => String::new(),
+            false => format!(
+                ", counted in {}, since its own hour is closed",
+                hour_shown(counted_in)
+            ),
+        };
+        Told::Done(format!("series {series} has {value:+} in {hour}{where_to}"))
+    }
+
+    /// It was made by an earlier call, whose answer may have been lost.
+    pub(super) fn was_there(&self, who: &str, at: i64) -> Told {
+        let at = utc(at.unsigned_abs());
+        Told::Done(format!(
+            "this correction is there already, by {who} at {at}: another one of the same value needs another reason"
+        ))
+    }
+}
+
+#[cfg(test)]
+mod tests {
+    use super::*;
+
+    fn period(text: &str) -> Period {
+        text.parse().expect(text)
+    }
+
+    fn closed_at(now: &str, periods: &[&str]) -> Closed {
+        let row = |text: &&str| Row {
+            period: text.to_string(),
+            from: period(text).from,
+            to: period(text).to,
+            who: "alice".into(),
+            at: 0,
+        };
+        Closed {
+            rows: periods.iter().map(row).collect(),
+            now: period(now).from,
+        }
+    }
+
+    #[test]
+    fn what_is_closed_counts_in_the_first_open_hour_from_now_on() {
+        let closed = closed_at("2026-12-03T05", &["2026-10", "2026-11", "2026-12-01"]);
+        for (hour, counted) in [
+            ("2026-11-05T13", "2026-12-03T05"),
+            ("2026-12-01T00", "2026-12-03T05"),
+            ("2026-12-02T00", "2026-12-02T00"),
+            ("2026-09-30T23", "2026-09-30T23"),
+        ] {
+            assert_eq!(
+                closed.counted_in(period(hour).from),
+                period(counted).from,
+                "{hour}"
+            );
+        }
+        // By a clock that was set back.
+        let back = Closed {
+            now: period("2026-10-31T23").from,
+            ..closed
+        };
+        assert_eq!(
+            back.counted_in(period("2026-10-01T00").from),
+            period("2026-12-02T00").from
+        );
+    }
+
+    #[test]
+    fn only_what_has_ended_is_closed_and_once() {
+        let closed = closed_at("2026-12-03T05", &["2026-11"]);
+        assert_eq!(closed.close(&period("2026-12-02")), Ok(()));
+        for (text, part) in [
+            ("2026-12", "2027-01-01 00:00"),
+            ("2026-12-03T05", "it is 2026-12-03 05:00"),
+        ] {
+            let Err(Told::Refused(why)) = closed.close(&period(text)) else {
+                panic!("{text}")
+            };
+            assert!(why.contains(part), "{why}");
+        }
+        for text in ["2026-11", "2026-11-05"] {
+            let Err(Told::Done(said)) = closed.close(&period(text)) else {
+                panic!("{text}")
+            };
+            assert!(said.contains("by alice"), "{said}");
+        }
+    }
+
+    #[test]
+    fn what_was_closed_is_opened_as_it_was() {
+        let closed = closed_at("2026-12-03T05", &["2026-11", "2026-11-05"]);
+        assert_eq!(closed.open(&period("2026-11")), Ok(()));
+        assert!(closed.opened(&period("2026-11")).contains("2026-11-05"));
+        assert!(matches!(closed.open(&period("2026-10")), Err(Told::Done(_))));
+        let Err(Told::Refused(why)) = closed.open(&period("2026-11-06")) else {
+            panic!()
+        };
+        assert!(why.contains("2026-11, closed by alice"), "{why}");
+    }
+}

@@ -1,0 +1,148 @@
+//! How a month, a day and an hour are written.
+
+use crate::log::utc;
+use std::fmt;
+use std::str::FromStr;
+
+/// A month, a day or an hour of UTC.
+#[derive(Clone, Debug, PartialEq, Eq)]
+pub struct Period {
+    text: String,
+    /// From this hour since 1970 to before that one.
+    pub from: i64,
+    pub to: i64,
+}
+
+const WRITTEN: &str = "write a month 2026-11, a day 2026-11-05 or an hour 2026-11-05T13";
+
+impl Period {
+    pub fn is_month(&self) -> bool {
+        self.to - self.from > 24
+    }
+
+    pub fn is_day(&self) -> bool {
+        self.to - self.from == 24
+    }
+}
+
+impl FromStr for Period {
+    type Err = String;
+
+    fn from_str(text: &str) -> Result<Period, String> {
+        let faulty = || format!("`{text}` is no period: {WRITTEN}");
+        let (date, hour) = match text.split_once(['T', ' ']) {
+            Some((date, hour)) => (date, Some(number(hour.strip_suffix(":00").unwrap_or(hour), 2))),
+            None => (text, None),
+        };
+        let parts: Vec<&str> = date.split('-').collect();
+        let [year, month, ref day @ ..] = parts[..] else {
+            return Err(faulty());
+        };
+        let (year, month) = number(year, 4).zip(number(month, 2)).ok_or_else(faulty)?;
+        let is_year = (1970..=9999).contains(&year) && (1..=12).contains(&month);
+        let first = days(year, month);
+        let last = days(year, month + 1);
+        let (from, to) = match (day, hour) {
+            ([], None) => (first * 24, last * 24),
+            ([day], hour) => {
+                let day = number(day, 2)
+                    .filter(|day| (1..=last - first).contains(day))
+                    .ok_or_else(faulty)?;
+                let begin = (first + day - 1) * 24;
+                match hour {
+                    None => (begin, begin + 24),
+                    Some(hour) => {
+                        let hour = hour.filter(|hour| (0..24).contains(hour)).ok_or_else(faulty)?;
+                        (begin + hour, begin + hour + 1)
+                    }
+                }
+            }
+            _ => return Err(faulty()),
+        };
+        if !is_year {
+            return Err(faulty());
+        }
+        let shown = hour_shown(from);
+        let length = match to - from {
+            1 => 16,
+            24 => 10,
+            _ => 7,
+        };
+        Ok(Period {
+            text: shown[..length].into(),
+            from,
+            to,
+        })
+    }
+}
+
+impl fmt::Display for Period {
+    fn fmt(&self, formatter: &mut fmt::Formatter<'_>) -> fmt::Result {
+        formatter.write_str(&self.text)
+    }
+}
+
+/// An hour since 1970, as `2026-11-05 13:00`.
+pub fn hour_shown(hour: i64) -> String {
+    utc(hour.unsigned_abs() * 3600)[..16].into()
+}
+
+fn number(text: &str, digits: usize) -> Option<i64> {
+    let is_number = text.len() == digits && text.bytes().all(|byte| byte.is_ascii_digit());
+    is_number.then(|| text.parse().ok()).flatten()
+}
+
+/// Days from 1970 to the first of a month: years begin with March here, so that a leap day is a year's last.
+fn days(year: i64, month: i64) -> i64 {
+    let (year, month) = (year + (month - 3).div_euclid(12), (month - 3).rem_euclid(12));
+    365 * year + year / 4 - year / 100 + year / 400 + (153 * month + 2) / 5 - 719_468
+}
+
+#[cfg(test)]
+mod tests {
+    use super::*;
+
+    #[test]
+    fn periods_are_read_as_they_are_shown() {
+        for (text, shown, from, hours) in [
+            ("1970-01", "1970-01", 0, 31 * 24),
+            ("2026-11", "2026-11", 498_192, 30 * 24),
+            ("2024-02", "2024-02", 474_096, 29 * 24),
+            ("2026-12-31", "2026-12-31", 499_632, 24),
+            ("2026-11-05T13", "2026-11-05 13:00", 498_301, 1),
+            ("2026-11-05 13:00", "2026-11-05 13:00", 498_301, 1),
+        ] {
+            let period: Period = text.parse().expect(text);
+            assert_eq!(
+                (period.to_string().as_str(), period.from, period.to - period.from),
+                (shown, from, hours)
+            );
+            assert_eq!(shown.parse(), Ok(period));
+        }
+    }
+
+    #[test]
+    fn what_is_no_period_is_refused() {
+        for text in [
+            "",
+            "2026",
+            "2026-13",
+            "2026-00",
+            "2026-1",
+            "2026-02-29",
+            "2026-11-31",
+            "2026-11-00",
+            "2026-11T05",
+            "2026-11-05T24",
+            "2026-11-05T5",
+            "2026-11-05T13:30",
+            "1969-12",
+            "2026-11-05-06",
+            "+026-11",
+            "2026-11-05 ",
+        ] {
+            let error = text.parse::<Period>().expect_err(text);
+            assert!(error.contains("2026-11-05T13"), "{error}");
+        }
+    }
+}

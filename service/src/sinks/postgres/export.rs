@@ -1,0 +1,89 @@
+//! Reads what a database has of a month or a day, as of one moment.
+
+use super::address::Server;
+use super::fault::PostgresFault;
+use super::totals::parts_of;
+use super::{periods, schema, session, statements};
+use crate::sinks::export::{view_of, Each, Line};
+use crate::sinks::periods::{Closed, Period};
+use anyhow::{bail, Result};
+use serde_json::value::{to_raw_value, RawValue};
+use tokio_postgres::{Row, Transaction};
+
+/// Rows that are in memory at once.
+const ROWS: i32 = 1000;
+
+/// It lasts as long as whoever reads it takes.
+const SETTINGS: &str = "set statement_timeout = '1h'; set idle_in_transaction_session_timeout = '1h'";
+const ONE_MOMENT: &str = "set transaction isolation level repeatable read, read only";
+
+/// Each line; and what of it is closed.
+pub fn read(server: &Server, period: &Period, each: Each<'_>) -> Result<Closed> {
+    let runtime = tokio::runtime::Builder::new_current_thread()
+        .enable_all()
+        .build()?;
+    runtime.block_on(lines(server, period, each))
+}
+
+async fn lines(server: &Server, period: &Period, each: Each<'_>) -> Result<Closed> {
+    let name = server.to_string();
+    let fault = |error| PostgresFault::of(&name, &error);
+    let (mut client, _connection) = session::connect(server).await?;
+    if schema::version(&client, &name).await? != schema::KNOWN {
+        bail!("{name} is of an older version: start the service, which updates it");
+    }
+    client.batch_execute(SETTINGS).await.map_err(fault)?;
+    let transaction = client.transaction().await.map_err(fault)?;
+    transaction.batch_execute(ONE_MOMENT).await.map_err(fault)?;
+    each_line(&transaction, &name, period, each).await?;
+    let closed = transaction.query(statements::CLOSED, &[]).await;
+    Ok(periods::closed_of(&closed.map_err(fault)?))
+}
+
+async fn each_line(transaction: &Transaction<'_>, name: &str, period: &Period, each: Each<'_>) -> Result<()> {
+    let fault = |error| PostgresFault::of(name, &error);
+    let (time, at) = view_of(period);
+    let query = format!(
+        "select of.series, identity, points, total::text, corrections::text, billed::text, count::text,
+            to_json(buckets)::text
+        from totxegun.by_{time} as of join totxegun.series on series.id = of.series
+        where {time} = ($1::text || ' 00:00+00')::timestamptz order by of.name collate \"C\", of.series"
+    );
+    let portal = transaction.bind(&query, &[&at]).await.map_err(fault)?;
+    loop {
+        let rows = transaction.query_portal(&portal, ROWS).await.map_err(fault)?;
+        if rows.is_empty() {
+            return Ok(());
+        }
+        for row in rows {
+            each(line(&row)?)?;
+        }
+    }
+}
+
+/// The identity is exact where the other columns are not.
+fn line(row: &Row) -> Result<Line> {
+    let of = parts_of(row.try_get(1)?)?;
+    let buckets: Option<String> = row.try_get(7)?;
+    Ok(Line {
+        series: row.try_get(0)?,
+        name: of.name,
+        kind: of.kind,
+        unit: of.unit,
+        attributes: to_raw_value(&of.attributes)?,
+        resource: to_raw_value(&of.resource)?,
+        scope_name: of.scope_name,
+        scope_version: of.scope_version,
+        scope_attributes: to_raw_value(&of.scope_attributes)?,
+        points: row.try_get(2)?,
+        total: row.try_get(3)?,
+        corrections: row.try_get(4)?,
+        billed: row.try_get(5)?,
+        count: row.try_get(6)?,
+        bounds: match of.histogram {
+            Some(histogram) => Some(to_raw_value(&histogram.bounds)?),
+            None => None,
+        },
+        buckets: buckets.map(RawValue::from_string).transpose()?,
+    })
+}

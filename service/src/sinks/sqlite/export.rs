@@ -1,0 +1,77 @@
+//! Reads what a file has of a month or a day, as of one moment.
+
+use super::fault::SqliteFault;
+use super::schema::{self, STEPS};
+use super::totals::{open, Kind};
+use crate::sinks::export::{view_of, Each, Line};
+use crate::sinks::periods::{Closed, Period};
+use rusqlite::{Row, Transaction};
+use serde_json::value::RawValue;
+use std::path::Path;
+
+/// Each line; and what of it is closed.
+pub fn read(path: &Path, period: &Period, each: Each<'_>) -> anyhow::Result<Closed> {
+    let fault = |error| SqliteFault::of(path, error);
+    let mut connection = open(path)?;
+    let known = STEPS.len() as i64;
+    if schema::check(&connection, path, known)? < known {
+        return Err(SqliteFault::told(
+            path,
+            "it is of an older version: start the service, which updates it",
+        )
+        .into());
+    }
+    let transaction = connection.transaction().map_err(fault)?;
+    lines(&transaction, period, each, &fault)?;
+    Ok(super::periods::read(&transaction).map_err(fault)?)
+}
+
+fn lines(
+    transaction: &Transaction,
+    period: &Period,
+    each: Each<'_>,
+    fault: &dyn Fn(rusqlite::Error) -> SqliteFault,
+) -> anyhow::Result<()> {
+    let (time, at) = view_of(period);
+    let query = format!(
+        "select of.series, of.name, of.kind, of.unit, of.attributes, of.resource, of.scope_name, of.scope_version,
+         of.scope_attributes, points, cast(total as text), cast(corrections as text), cast(billed as text),
+         cast(count as text), bounds, buckets
+         from by_{time} as of join series on series.id = of.series where {time} = ?1 order by of.name, of.series"
+    );
+    let mut query = transaction.prepare(&query).map_err(fault)?;
+    for line in query.query_map([at], line).map_err(fault)? {
+        each(line.map_err(fault)?)?;
+    }
+    Ok(())
+}
+
+fn line(row: &Row) -> rusqlite::Result<Line> {
+    let json = |column| {
+        let text: Option<String> = row.get(column)?;
+        text.map(RawValue::from_string).transpose().map_err(|error| {
+            rusqlite::Error::FromSqlConversionFailure(column, rusqlite::types::Type::Text, Box::new(error))
+        })
+    };
+    let object = |column| json(column).map(|found| found.unwrap_or_default());
+    let kind = Kind::of(&row.get::<_, String>(2)?);
+    let is_histogram = kind == Kind::Histogram;
+    Ok(Line {
+        series: row.get(0)?,
+        name: row.get(1)?,
+        kind,
+        unit: row.get(3)?,
+        attributes: object(4)?,
+        resource: object(5)?,
+        scope_name: row.get(6)?,
+        scope_version: row.get(7)?,
+        scope_attributes: object(8)?,
+        points: row.get(9)?,
+        total: row.get(10)?,
+        corrections: row.get(11)?,
+        billed: row.get(12)?,
+        count: row.get(13)?,
+        bounds: json(14)?.filter(|_| is_histogram),
+        buckets: json(15)?,
+    })
+}

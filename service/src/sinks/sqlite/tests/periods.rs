@@ -1,0 +1,202 @@
+//! A close, and what follows it, over kills and in files of older versions. What counts where is tried for both sinks in
+//! `service/tests/postgres/periods.rs`.
+
+use super::super::schema::STEPS;
+use super::older::{commits, older};
+use super::*;
+use crate::sinks::periods::Correction;
+use rusqlite::Connection;
+
+const HOUR: u64 = 3_600_000_000_000;
+/// 2024-02-29 22:00.
+const OLD: u64 = 1_709_244_000_000_000_000;
+
+impl Trial {
+    fn done(&mut self, deed: Deed) {
+        let told = self.writer.settle("alice", &deed);
+        assert!(matches!(told, Told::Done(_)), "{told:?}");
+    }
+}
+
+fn now() -> u64 {
+    let since = SystemTime::now().duration_since(UNIX_EPOCH);
+    since.expect("a clock").as_secs() / 3600
+}
+
+fn steps(trial: &mut Trial) {
+    let leap_day = || "2024-02-29".parse().expect("a day");
+    trial.taken(1, sum("a", OLD, OLD + 9, 5));
+    trial.done(Deed::Close(leap_day()));
+    trial.taken(2, sum("a", OLD + HOUR, OLD + 2 * HOUR, 7));
+    trial.taken(3, sum("a", OLD + 2 * HOUR, OLD + 3 * HOUR, 11));
+    let correction = |hour: &str, value| {
+        Deed::Correct(Correction {
+            series: 1,
+            hour: hour.parse().expect("an hour"),
+            value,
+            reason: "by hand".into(),
+        })
+    };
+    trial.done(correction("2024-02-29T22", -2));
+    trial.done(correction("2024-03-01T00", 3));
+    trial.taken(4, histogram("h", OLD, OLD + 9, Some(5), [1, 2, 3]));
+    trial.done(Deed::Open(leap_day()));
+    trial.taken(5, sum("a", OLD + 9, OLD + 10, 13));
+    trial.done(Deed::Close("2024-02-28".parse().expect("a day")));
+}
+
+/// All but when it was done.
+fn found(trial: &Trial) -> String {
+    let tables = [
+        "hour",
+        "day",
+        "month",
+        "metric_hour",
+        "late_hour",
+        "series_total",
+        "by_day",
+        "totals_by_hour",
+    ];
+    let rows = tables.map(|table| format!("select * from {table};")).join(" ");
+    let closed = "select from_hour, to_hour, period, who from closed;";
+    let corrections = "select series, of_hour, hour, value, reason, who from corrections;";
+    trial.ask(&format!("{rows} {closed} {corrections}"))
+}
+
+/// The file as it lies there when its log ends behind any commit: all that is asked for again comes to the same.
+fn tried() -> bool {
+    let hour = now();
+    let mut trial = Trial::new();
+    trial.taken(0, sum("a", 1, 2, 1));
+    trial.writer.store = None; // so the file has all of it
+    let file = std::fs::read(trial.path()).expect("the file");
+    let store = trial.writer.store().expect("it is open");
+    let log = "pragma wal_autocheckpoint = 0";
+    store.connection.query_row(log, [], |_| Ok(())).expect("a pragma");
+    steps(&mut trial);
+    let whole = found(&trial);
+    let log = std::fs::read(trial.folder.path().join("totals.db-wal")).expect("the log");
+    let ends = commits(&log);
+    assert!(ends.len() >= 10, "{}", ends.len());
+    for end in ends {
+        let copy = tempfile::tempdir().expect("a folder");
+        std::fs::write(copy.path().join("totals.db"), &file).expect("a copy");
+        std::fs::write(copy.path().join("totals.db-wal"), &log[..end]).expect("a torn log");
+        let mut killed = Trial {
+            writer: writer(&copy.path().join("totals.db")),
+            folder: copy,
+        };
+        steps(&mut killed);
+        if now() != hour {
+            return false;
+        }
+        assert_eq!(found(&killed), whole, "{end}");
+    }
+    true
+}
+
+#[test]
+fn a_kill_at_any_point_leaves_a_deed_whole_or_not_at_all() {
+    while !tried() {}
+}
+
+#[test]
+fn what_came_late_is_in_one_hour_and_says_whose_it_is() {
+    let mut trial = Trial::new();
+    steps(&mut trial);
+    for (query, wanted) in [
+        ("select day, total, corrections, billed from by_day where day < '2025' and name = 'a' order by 1",
+            "2024-02-29|18|0|18\n2024-03-01|11|3|14"),
+        ("select belongs_to, name, sum(total), sum(corrections), max(buckets) from late group by 1, 2 order by 1, 2",
+            "2024-02-29 22:00|a|0|-2|\n2024-02-29 22:00|h|5|0|[1,2,3]\n2024-02-29 23:00|a|7|0|"),
+        ("select count(distinct hour) from late", "1"),
+        ("select name, total, corrections, billed from totals_by_name order by 1", "a|36|1|37\nh|5|0|5"),
+        ("select sum(billed) from by_month", "42"),
+        ("select instance is null, series, last_seen from senders", "1|2|2024-03-01 01:00:00"),
+        ("select name, last_seen from series_seen order by 1", "a|2024-03-01 01:00:00\nh|2024-02-29 22:00:00"),
+    ] {
+        assert_eq!(trial.ask(query), wanted, "{query}");
+    }
+}
+
+/// Of totals that no integer of SQLite holds.
+#[test]
+fn what_is_billed_is_exact() {
+    let mut trial = Trial::new();
+    for (number, value) in [(1, i64::MAX), (2, i64::MAX), (3, i64::MIN)] {
+        trial.taken(number, sum(&format!("m{number}"), OLD, OLD + 1, value));
+        trial.taken(10 + number, sum(&format!("m{number}"), OLD + 1, OLD + 2, value));
+        let correction = Correction {
+            series: number as i64,
+            hour: "2024-02-29T22".parse().expect("an hour"),
+            value: [1, -(1 << 60), -7_000_000_000_001][number as usize - 1],
+            reason: "x".into(),
+        };
+        trial.done(Deed::Correct(correction));
+    }
+    let wanted = [
+        2 * i128::from(i64::MAX) + 1,
+        2 * i128::from(i64::MAX) - (1 << 60),
+        2 * i128::from(i64::MIN) - 7_000_000_000_001,
+    ];
+    for view in [
+        "by_hour",
+        "by_day",
+        "by_month",
+        "totals",
+        "totals_by_name",
+        "totals_by_hour",
+    ] {
+        let found = trial.ask(&format!("select billed from {view} order by name"));
+        assert_eq!(
+            found,
+            wanted.map(|billed| billed.to_string()).join("\n"),
+            "{view}"
+        );
+    }
+}
+
+/// While hours are filled in, a month that is closed would grow.
+#[test]
+fn nothing_is_closed_while_an_older_file_is_filled_in() {
+    let mut trial = Trial::new();
+    older(&trial.path());
+    let close = Deed::Close("2024-02".parse().expect("a month"));
+    let told = trial.writer.settle("alice", &close);
+    assert!(
+        matches!(&told, Told::Refused(why) if why.contains("filled in")),
+        "{told:?}"
+    );
+    while trial.step(OLD) {}
+    trial.done(close);
+}
+
+#[test]
+fn a_file_of_version_3_is_brought_up() {
+    let mut trial = Trial::new();
+    let file = Connection::open(trial.path()).expect("a file");
+    for step in &STEPS[..3] {
+        file.execute_batch(step).expect("an older step");
+    }
+    file.execute_batch(
+        "pragma application_id = 1953461368; pragma user_version = 3;
+         insert into series values (1, 'a', '1', 'sum', '[]', '{\"code\":200}', '{\"host\":\"h1\"}', 's', '1', '{}');
+         insert into metric values (1, 'a', 'sum', '1');
+         insert into request values (1, 0, 'e', 1, 0, 1, 1709244000000000000, 1709244000000000009, 1);
+         insert into span_row values (1, 1, 0, 9, 5, null, null, null);
+         insert into series_total values (1, 1, 1709244000000000000, 1709244000000000009, 0, 5, 0, 0, 0, null, 0);
+         insert into hour values (474790, 1, 1, 0, 5, 0, 0, 0, null);
+         insert into day values (19782, 1, 1, 0, 5, 0, 0, 0, null);
+         insert into month values (649, 1, 1, 0, 5, 0, 0, 0, null);
+         insert into metric_hour values (474790, 1, 1, 0, 5, 0, 0);
+         insert into utc_hour values (474790, '2024-02-29 22:00');
+         insert into utc_day values (19782, '2024-02-29');
+         insert into utc_month values (649, '2024-02-01');",
+    )
+    .expect("its rows");
+    drop(file);
+    steps(&mut trial);
+    let mut fresh = Trial::new();
+    steps(&mut fresh);
+    assert_eq!(found(&trial), found(&fresh));
+}

@@ -1,0 +1,334 @@
+//! Periods that are closed, late points and corrections, in both sinks, beside a plain list of what was done.
+
+use crate::model::{Counted, Database, Model, NAMES, PLACES};
+use crate::points::{body, value, Point, Random, Value, HOUR};
+use crate::server::{sum, Server};
+use crate::{open, refused, request, taken};
+use std::collections::BTreeSet;
+use std::sync::Arc;
+use totxegun::sinks::periods::{hour_shown, Correction, Deed, Period, Told};
+use totxegun::sinks::{Fate, Sink};
+
+fn now() -> u64 {
+    let since = std::time::SystemTime::now().duration_since(std::time::UNIX_EPOCH);
+    since.unwrap().as_secs() / 3600
+}
+
+fn period(from: u64, hours: u64) -> Period {
+    let text = hour_shown(from as i64);
+    let text = if hours == 1 { &text[..13] } else { &text[..10] };
+    text.replace(' ', "T").parse().unwrap()
+}
+
+async fn done(sink: &dyn Sink, deed: Deed) -> String {
+    match sink.settle("alice", &deed).await {
+        Told::Done(told) => told,
+        other => panic!("{deed:?}: {other:?}"),
+    }
+}
+
+async fn not_done(sink: &dyn Sink, deed: Deed, part: &str) {
+    match sink.settle("alice", &deed).await {
+        Told::Refused(why) => assert!(why.contains(part), "{why}"),
+        other => panic!("{deed:?}: {other:?}"),
+    }
+}
+
+/// One of a series' places in the hours around now, some hours of which are to come.
+fn place(random: &mut Random, now: u64) -> (&'static str, u64) {
+    let hour = now - 60 + random.below(63);
+    (
+        NAMES[random.below(4) as usize],
+        hour * PLACES + random.below(PLACES),
+    )
+}
+
+fn point(name: &str, place: u64, value: Value) -> Point {
+    let length = HOUR / PLACES;
+    Point {
+        name: name.into(),
+        start: place * length,
+        end: (place + 1) * length,
+        value,
+    }
+}
+
+/// What is done in one step, at random.
+async fn step(model: &mut Model, sink: &dyn Sink, database: &Database<'_>, random: &mut Random, now: u64) {
+    match random.below(20) {
+        0..=9 => {
+            let places: BTreeSet<_> = (0..1 + random.below(8)).map(|_| place(random, now)).collect();
+            let new: Vec<_> = places.difference(&model.taken).copied().collect();
+            if new.is_empty() {
+                return;
+            }
+            let mut points = Vec::new();
+            for (name, place) in new {
+                let point = point(name, place, value(name, random));
+                let mut counted = Counted::default();
+                counted.add(&point);
+                model.add(name, place / PLACES, now, &counted);
+                model.taken.insert((name, place));
+                points.push(point);
+            }
+            let number = model.requests.len() as u64;
+            taken(sink, number, body(&points)).await;
+            model.requests.push((number, body(&points)));
+        }
+        10 | 11 => {
+            if let Some((number, body)) = model.requests.get(random.below(1000) as usize) {
+                taken(sink, *number, body.clone()).await;
+            }
+        }
+        12 | 13 => overlap(model, sink, random).await,
+        14 => {
+            let hours = [1, 24][random.below(2) as usize];
+            let from = (now - 60 + random.below(60)) / hours * hours;
+            if from + hours <= now {
+                done(sink, Deed::Close(period(from, hours))).await;
+                let is_in = model
+                    .closed
+                    .iter()
+                    .any(|one| one.0 <= from && from + hours <= one.1);
+                if !is_in {
+                    model.closed.insert((from, from + hours));
+                }
+            }
+        }
+        15 => {
+            if let Some((from, to)) = model.closed.iter().next().copied() {
+                done(sink, Deed::Open(period(from, to - from))).await;
+                model.closed.remove(&(from, to));
+            }
+        }
+        _ => correct(model, sink, database, random, now).await,
+    }
+}
+
+/// A span that is half of one that is there.
+async fn overlap(model: &Model, sink: &dyn Sink, random: &mut Random) {
+    let all: Vec<_> = model.taken.iter().collect();
+    let Some((name, place)) = all.get(random.below(200) as usize) else {
+        return;
+    };
+    let whole = point(name, *place, value(name, random));
+    let half = Point {
+        end: whole.start + HOUR / PLACES / 2,
+        ..whole
+    };
+    refused(sink, 100_000 + random.below(1 << 30), body(&[half]), "overlaps").await;
+}
+
+async fn correct(model: &mut Model, sink: &dyn Sink, database: &Database<'_>, random: &mut Random, now: u64) {
+    let all: Vec<_> = model.taken.iter().copied().collect();
+    let Some((name, place)) = all.get(random.below(60) as usize).copied() else {
+        return;
+    };
+    let series = database.ask(&format!("select id from t.series where name = '{name}'"));
+    let (hour, value) = (place / PLACES, random.below(2001) as i64 - 1000);
+    model.corrected += 1;
+    let correction = Correction {
+        series: series.parse().unwrap(),
+        hour: period(hour, 1),
+        value: if value == 0 { 1 } else { value },
+        reason: format!("reason {}", model.corrected),
+    };
+    let counted = Counted {
+        corrections: correction.value,
+        ..Counted::default()
+    };
+    model.add(name, hour, now, &counted);
+    for _ in 0..1 + random.below(2) {
+        done(sink, Deed::Correct(correction.clone())).await;
+    }
+}
+
+/// Whether all of it was done within one hour.
+async fn tried(database: &Database<'_>, seed: u64) -> bool {
+    let (mut model, mut random, now_) = (Model::default(), Random(seed), now());
+    let address = database.address();
+    let mut sink = open(&address);
+    for count in 0..80 {
+        step(&mut model, &*sink, database, &mut random, now_).await;
+        if now() != now_ {
+            return false;
+        }
+        if count % 20 == 19 {
+            model.agree(database, &format!("seed {seed}, {count} steps"));
+            drop(sink);
+            sink = open(&address);
+        }
+    }
+    assert!(!model.late.is_empty() && model.corrected > 5);
+    true
+}
+
+#[tokio::test(flavor = "multi_thread")]
+async fn what_counts_where_is_right_over_closes_late_points_and_corrections() {
+    let server = Server::start();
+    for seed in 1..4 {
+        let lite = || Database::Lite(tempfile::tempdir().unwrap());
+        while !tried(&lite(), seed).await {}
+        let Some(server) = &server else { continue };
+        let database = Database::Postgres(server, "postgres");
+        server.ask("drop schema if exists totxegun cascade");
+        while !tried(&database, seed).await {
+            server.ask("drop schema if exists totxegun cascade");
+        }
+    }
+}
+
+#[tokio::test(flavor = "multi_thread")]
+async fn what_can_t_be_done_is_named_and_changes_nothing() {
+    let server = Server::start();
+    let mut all = vec![Database::Lite(tempfile::tempdir().unwrap())];
+    all.extend(
+        server
+            .as_ref()
+            .map(|server| Database::Postgres(server, "postgres")),
+    );
+    for database in all {
+        let sink = open(&database.address());
+        let (now, old) = (now(), 100);
+        taken(&*sink, 1, sum("a", old * HOUR, old * HOUR + 1, 5)).await;
+        not_done(&*sink, Deed::Close(period(now + 1, 1)), "has not ended").await;
+        let told = done(&*sink, Deed::Open(period(old, 1))).await;
+        assert!(told.ends_with("was open"), "{told}");
+        for _ in 0..2 {
+            let told = done(&*sink, Deed::Close(period(96, 24))).await;
+            assert!(told.contains("1970-01-05"), "{told}");
+        }
+        not_done(&*sink, Deed::Open(period(old, 1)), "1970-01-05, closed by alice").await;
+        let correction = |series, hour, value, reason: &str| {
+            Deed::Correct(Correction {
+                series,
+                hour: period(hour, 1),
+                value,
+                reason: reason.into(),
+            })
+        };
+        not_done(
+            &*sink,
+            correction(1, old + 1, 1, "x"),
+            "has nothing in 1970-01-05 05:00",
+        )
+        .await;
+        not_done(&*sink, correction(2, old, 1, "x"), "series 2 has nothing").await;
+        done(&*sink, correction(1, old, i64::MAX / 2, "x")).await;
+        not_done(&*sink, correction(1, old, i64::MIN, "y"), "may come to").await;
+        let told = done(&*sink, correction(1, old, i64::MAX / 2, "x")).await;
+        assert!(told.contains("is there already, by alice"), "{told}");
+        assert_eq!(database.ask("select count(*) from t.corrections"), "1");
+        let half = i64::MAX / 2;
+        assert_eq!(
+            database.ask("select total, corrections, billed from t.totals"),
+            format!("5|{half}|{}", half + 5)
+        );
+    }
+    let otlp = open("http://127.0.0.1:1/v1/metrics");
+    not_done(
+        &*otlp,
+        Deed::Close(period(1, 1)),
+        "otlp http://127.0.0.1:1/v1/metrics keeps no periods",
+    )
+    .await;
+}
+
+/// Deliveries that were answered before a close are in the period, and those that begin behind it are late.
+#[tokio::test(flavor = "multi_thread")]
+async fn a_close_comes_between_two_deliveries() {
+    let Some(server) = Server::start() else { return };
+    let address = server.by_socket("postgres");
+    let hour = now() - 5;
+    let of_hour = |what: &str| {
+        server.ask(&format!(
+            "select coalesce(sum(total), 0) from totxegun.{what} where hour = {hour}"
+        ))
+    };
+    let stop = Arc::new(std::sync::atomic::AtomicBool::new(false));
+    let services: Vec<_> = (0..3u64)
+        .map(|service| {
+            let (sink, stop) = (open(&address), stop.clone());
+            tokio::spawn(async move {
+                let mut count = 0;
+                while !stop.load(std::sync::atomic::Ordering::Relaxed) {
+                    let start = hour * HOUR + (count * 3 + service) * 1000;
+                    let name = format!("n{}", count % 7);
+                    let mut one = request(count, sum(&name, start, start + 1000, 1));
+                    one.slot = service as u16;
+                    assert_eq!(sink.deliver(&one).await, Fate::Taken);
+                    count += 1;
+                }
+                count
+            })
+        })
+        .collect();
+    let sink = open(&address);
+    tokio::time::sleep(std::time::Duration::from_millis(700)).await;
+    done(&*sink, Deed::Close(period(hour, 1))).await;
+    let closed = of_hour("hour");
+    tokio::time::sleep(std::time::Duration::from_millis(700)).await;
+    stop.store(true, std::sync::atomic::Ordering::Relaxed);
+    let mut all = 0;
+    for service in services {
+        all += service.await.unwrap();
+    }
+    assert_eq!(of_hour("hour"), closed);
+    let late = server.ask("select coalesce(sum(total), 0) from totxegun.late");
+    assert_eq!(
+        closed.parse::<u64>().unwrap() + late.parse::<u64>().unwrap(),
+        all,
+        "{closed} in time, {late} late"
+    );
+    assert_ne!((closed.as_str(), late.as_str()), ("0", "0"));
+}
+
+/// Whatever connection is cut, a deed is there wholly or not at all, and asked again it comes to the same.
+#[tokio::test(flavor = "multi_thread")]
+async fn deeds_and_late_points_over_cut_connections() {
+    let Some(server) = Server::start() else { return };
+    let address = server.by_socket("postgres");
+    let sink = open(&address);
+    let hour = now() - 30;
+    taken(&*sink, 0, sum("a", hour * HOUR, hour * HOUR + 1, 1)).await;
+    let cut = "select pg_terminate_backend(pid) from pg_stat_activity where application_name = 'totxegun'";
+    let mut number = 0;
+    for round in 0..12u64 {
+        let deed = match round % 3 {
+            0 => Deed::Close(period(hour, 1)),
+            1 => Deed::Correct(Correction {
+                series: 1,
+                hour: period(hour, 1),
+                value: 1,
+                reason: format!("{round}"),
+            }),
+            _ => Deed::Open(period(hour, 1)),
+        };
+        let mut tries = 0;
+        loop {
+            tries += 1;
+            if tries < 4 {
+                let wait = std::time::Duration::from_millis(3 * tries + round);
+                let (told, ()) = tokio::join!(sink.settle("alice", &deed), async {
+                    tokio::time::sleep(wait).await;
+                    server.ask(cut);
+                });
+                if !matches!(told, Told::Done(_) | Told::Later(_)) {
+                    panic!("{told:?}");
+                }
+            } else if matches!(sink.settle("alice", &deed).await, Told::Done(_)) {
+                break;
+            }
+        }
+        number += 1;
+        let start = hour * HOUR + number * 10;
+        let one = request(number, sum("a", start, start + 10, 100));
+        while sink.deliver(&one).await != Fate::Taken {}
+    }
+    // Four corrections of 1, and twelve spans of 100, of which eight came while the hour was closed.
+    let found = "select sum(total), sum(corrections), sum(billed) from totxegun.";
+    assert_eq!(server.ask(&format!("{found}totals")), "1201|4|1205");
+    assert_eq!(server.ask(&format!("{found}by_hour")), "1201|4|1205");
+    assert_eq!(server.ask(&format!("{found}by_month")), "1201|4|1205");
+    assert_eq!(server.ask(&format!("{found}late")), "800|4|804");
+}
