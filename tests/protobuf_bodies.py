@@ -308,7 +308,8 @@ class Served:
         stack.callback(self.sink.close)
         data = stack.enter_context(tempfile.TemporaryDirectory(prefix="bodies-"))
         # No flush but those that are ordered.
-        self.service = Service(totxegun, f"{data}/data", self.sink.address, "--sink-protobuf", "--flush-every", "1h")
+        self.service = Service(totxegun, f"{data}/data", self.sink.address, "--sink-protobuf", "--flush-every", "1h",
+                               "--whole", "off")
         stack.callback(self.service.kill)
         self.service.start()
         if not self.service.wait_ready():

@@ -69,6 +69,7 @@ SERVICE_STEPS = (
     ("pages.py", [], 40),
     ("influxdb.py", ["15"], 40),
     ("protobuf_bodies.py", [], 40),
+    ("handed_on.py", [], 60),
     ("sdk_go.py", ["8"], 60),
     ("tls.py", ["8"], 90),
     ("two_networks.py", ["4"], 40),

@@ -31,6 +31,7 @@ mod log;
 pub mod metrics;
 pub mod operate;
 pub mod otlp;
+pub mod pass;
 pub mod remarks;
 pub mod renewed;
 pub mod service;

@@ -85,6 +85,8 @@ fn help_names_each_command_and_option() {
         "keep-hours",
         "keep-series",
         "drop-attribute",
+        "whole",
+        "pass",
         "most-series",
         "book-memory",
         "most-bytes",
@@ -125,6 +127,12 @@ fn a_faulty_line_has_status_2() {
         (
             &[&serve[..], &["--whole", "s=us,s=ms"]].concat(),
             "two rules for the unit `s`",
+        ),
+        (&[&serve[..], &["--whole", "auto,off"]].concat(), "both auto and off"),
+        (&[&serve[..], &["--pass", "h:4318"]].concat(), "--pass takes http://HOST:PORT"),
+        (
+            &[&serve[..], &["--pass", "http://127.0.0.1:4318"]].concat(),
+            "points would come again for ever",
         ),
         (
             &["explain", "-", "--whole", "s=us,s=ms"],

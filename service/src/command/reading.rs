@@ -1,6 +1,6 @@
 //! Options that say how requests are read, for what takes posts and for what explains them.
 
-use crate::otlp::{Reading, Rule, Whole};
+use crate::otlp::{Choice, Reading, Whole};
 use anyhow::anyhow;
 use clap::builder::NonEmptyStringValueParser;
 use clap::Args;
@@ -17,9 +17,9 @@ pub(super) struct OfReading {
         value_parser = NonEmptyStringValueParser::new()
     )]
     drop_attributes: Vec<String>,
-    /// Takes what is measured in one unit as whole numbers of a finer one, rounded: s=us, By, FROM=FACTOR:TO; may be given again
+    /// Takes what is measured in one unit as whole numbers of a finer one, rounded: s=us, By, FROM=FACTOR:TO; may be given again. `auto` is for doubles and histograms of known units without such a rule, `off` leaves these out [default: auto]
     #[arg(long, env = "TOTXEGUN_WHOLE", value_name = "FROM=TO", value_delimiter = ',')]
-    whole: Vec<Rule>,
+    whole: Vec<Choice>,
     /// The resource attribute that names a sender without the header x-sender: service.instance.id
     #[arg(long, env = "TOTXEGUN_SENDER_FROM", value_name = "ATTRIBUTE", value_parser = NonEmptyStringValueParser::new())]
     sender_from: Option<String>,
@@ -29,7 +29,7 @@ impl OfReading {
     pub fn reading(self) -> anyhow::Result<Reading> {
         Ok(Reading {
             dropped: self.drop_attributes,
-            whole: Whole::new(self.whole).map_err(|why| anyhow!(why))?,
+            whole: Whole::of(self.whole).map_err(|why| anyhow!(why))?,
             sender_from: self.sender_from,
         })
     }

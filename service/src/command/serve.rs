@@ -13,6 +13,7 @@ use crate::identity;
 use crate::log;
 use crate::metrics::Metrics;
 use crate::otlp::Cause;
+use crate::pass::Pass;
 use crate::remarks::Telling;
 use crate::service::{self, init, Operate, Settings};
 use crate::sinks::{header_of, Address};
@@ -101,6 +102,9 @@ pub struct Options {
         value_enum
     )]
     expect_foreign: Vec<Cause>,
+    /// Hands points that are outside the profile to another OTLP receiver, http://HOST:PORT, at most once: so they are no fault
+    #[arg(long, env = "TOTXEGUN_PASS", value_name = "ADDRESS")]
+    pass: Option<String>,
     /// Writes each line of the log as a JSON object, with `time`, `level`, `text` and what it is about
     #[arg(long, env = "TOTXEGUN_LOG_JSON")]
     log_json: bool,
@@ -304,6 +308,13 @@ impl Options {
             .map(|path| identity::operators(path, &metrics))
             .transpose()?;
         let (behind_proxy, of_each) = (self.of_senders.behind_proxy, self.of_senders.of_each());
+        let pass = self.pass.map(|address| Pass::to(&address, metrics.clone()));
+        let pass = pass.transpose().map_err(|bad| Failure::Line(bad.into()))?;
+        if pass.as_ref().is_some_and(|pass| pass.is_to(&self.listen)) {
+            return Err(Failure::Line(anyhow!(
+                "--pass is the address where senders post: points would come again for ever"
+            )));
+        }
         let door = self.of_senders.door(&metrics)?;
         Ok(Settings {
             data,
@@ -324,6 +335,7 @@ impl Options {
                 log_foreign: self.log_foreign as usize,
                 expected: self.expect_foreign,
             },
+            pass,
             most_bytes: usize::try_from(self.most_bytes).unwrap_or(usize::MAX),
             most_connections,
             threads: usize::from(self.threads),

@@ -26,7 +26,7 @@ pub use weight::Budget;
 pub(crate) use weight::Hold;
 
 use crate::metrics::Metrics;
-use crate::otlp::{self, Encoding, Outcome, Reading, Rounded};
+use crate::otlp::{self, Encoding, Original, Outcome, Reading, Rounded};
 use crate::slot::{ByNumber, Request, Slot};
 use bytes::Bytes;
 use head::{Head, Packing};
@@ -65,6 +65,21 @@ pub trait Taker: Send + Sync + 'static {
 
     fn post(self: &Arc<Self>, sender: String, request: Request) -> impl Future<Output = Outcome> + Send;
 
+    /// Whether requests are wanted as they came, too.
+    fn wants_originals(&self) -> bool {
+        false
+    }
+
+    /// The same as `post`, with the request as it came where that is wanted.
+    fn post_with(
+        self: &Arc<Self>,
+        sender: String,
+        request: Request,
+        _original: Option<Original>,
+    ) -> impl Future<Output = Outcome> + Send {
+        self.post(sender, request)
+    }
+
     /// Hears of what was answered without asking it.
     fn turned_away(&self, _sender: &str, _outcome: &Outcome) {}
 }
@@ -94,6 +109,7 @@ pub struct Intake<T> {
 struct Post {
     sender: String,
     request: Request,
+    original: Option<Original>,
     rounded: Rounded,
     /// Of memory, until the post is answered.
     hold: Hold,
@@ -205,7 +221,10 @@ impl<T: Taker> Intake<T> {
 
     /// The memory is held until the post is answered: a connection looks for its sender only then.
     async fn take(&self, post: Post) -> Outcome {
-        let outcome = self.taker.post(post.sender, post.request).await;
+        let outcome = self
+            .taker
+            .post_with(post.sender, post.request, post.original)
+            .await;
         drop(post.hold);
         if let Outcome::Taken { .. } = outcome {
             self.metrics.rounded(&post.rounded);
@@ -243,21 +262,31 @@ fn prepare(
     let times = if reading.whole.is_empty() { 1 } else { 2 }; // it is written once more
     hold.set(times * grows * plain.len())?;
     let sender = otlp::sender(head.sender, head.encoding, &plain, reading)?;
+    let encoding = head.encoding;
+    let original = taker.wants_originals().then(|| Original {
+        encoding,
+        body: plain.clone(),
+    });
     let numbered = match head.encoding {
         Encoding::Json => None,
         Encoding::Protobuf => taker.numbered(&plain, reading),
     };
     let (request, rounded) = match numbered {
-        Some(points) => (Request::Numbered(points), Rounded::default()),
+        Some(mut points) => {
+            let rounded = std::mem::take(&mut points.rounded);
+            (Request::Numbered(points), rounded)
+        }
         None => {
             let prepared = otlp::prepare(head.encoding, plain, reading)?;
             (Request::Text(prepared.body), prepared.rounded)
         }
     };
-    hold.set(request.bytes() + rounded.bytes())?;
+    let came = original.as_ref().map_or(0, |original| original.body.len());
+    hold.set(request.bytes() + rounded.bytes() + came)?;
     Ok(Post {
         sender,
         request,
+        original,
         rounded,
         hold,
     })

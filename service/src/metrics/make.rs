@@ -44,6 +44,12 @@ pub fn metrics() -> Result<Metrics> {
             &["cause"],
             &[],
         )?,
+        passed_points: maker.counters(
+            "passed_points_total",
+            "Points outside the profile that --pass was to hand on, by what became of them",
+            &["outcome"],
+            &[&["taken"], &["refused"], &["lost"], &["dropped"]],
+        )?,
         rounded_values: maker.counters(
             "rounded_values_total",
             "Values of posts that were taken that `--whole` has rounded, by its rule",

@@ -31,6 +31,8 @@ pub struct Metrics {
     pub foreign_points: IntCounterVec,
     /// The same that are meant to be left out, by `cause`.
     pub expected_foreign_points: IntCounterVec,
+    /// Points outside the profile that were handed on, by `outcome`.
+    pub passed_points: IntCounterVec,
     /// By `whole`, the rule: values that were not whole, and what they were rounded by together.
     pub rounded_values: IntCounterVec,
     pub rounding: CounterVec,

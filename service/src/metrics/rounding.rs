@@ -117,14 +117,15 @@ impl Table {
     fn add(&mut self, rounded: &Rounded) {
         for point in &rounded.points {
             self.points += 1;
-            let series = match self.rules.get_mut(&*point.rule) {
+            let of = &point.of;
+            let series = match self.rules.get_mut(&*of.rule) {
                 Some(series) => series,
-                None => self.rules.entry(point.rule.clone()).or_default(),
+                None => self.rules.entry(of.rule.clone()).or_default(),
             };
-            let one = series.entry(point.series).or_insert_with(|| RoundedSeries {
-                metric: point.metric.clone(),
-                attributes: point.attributes.clone(),
-                resource: point.resource.clone(),
+            let one = series.entry(of.series).or_insert_with(|| RoundedSeries {
+                metric: of.metric.clone(),
+                attributes: of.attributes.clone(),
+                resource: of.resource.clone(),
                 rounding: Rounding::default(),
                 last: 0,
             });

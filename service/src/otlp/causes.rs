@@ -43,12 +43,24 @@ impl Causes {
                 }
             });
         }
-        match foreign.checked_sub(causes.0.values().sum()) {
+        match foreign.checked_sub(causes.count()) {
             Some(0) => {}
             Some(unknown) => causes.add(Cause::Other, unknown),
             None => causes = Causes([(Cause::Other, foreign)].into()),
         }
         causes
+    }
+
+    /// A point of each.
+    pub(super) fn of_points(points: impl Iterator<Item = Cause>) -> Causes {
+        let mut causes = Causes::default();
+        points.for_each(|cause| causes.add(cause, 1));
+        causes
+    }
+
+    /// How many points these are.
+    pub fn count(&self) -> u64 {
+        self.0.values().sum()
     }
 
     fn add(&mut self, cause: Cause, points: u64) {
@@ -98,6 +110,16 @@ impl Cause {
             What::NotRecorded | What::NoNumber => Cause::NoValue,
             _ => Cause::Other,
         })
+    }
+
+    /// Whether such points are handed on where there is somebody who takes them: nothing is wrong with them.
+    pub(super) fn is_passed(self) -> bool {
+        match self {
+            Cause::Gauge | Cause::Summary | Cause::ExponentialHistogram => true,
+            Cause::CumulativeSum | Cause::CumulativeHistogram | Cause::UpDownCounter => true,
+            Cause::Double | Cause::Fraction => true,
+            Cause::Attribute | Cause::Span | Cause::NoValue | Cause::Other => false,
+        }
     }
 
     /// As it is written in labels and options.

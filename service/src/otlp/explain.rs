@@ -2,6 +2,7 @@
 
 use super::causes::{is_monotonic, Cause};
 use super::json::{Document, Value};
+use super::outside::is_of_no_series;
 use super::series::{visit, Seen, SeriesKey, What};
 use serde::Serialize;
 use std::sync::Arc;
@@ -26,6 +27,13 @@ pub struct Explained {
     /// The same as it is counted.
     #[serde(skip)]
     pub cause: Option<Cause>,
+}
+
+impl Explained {
+    /// Whether it is handed on where there is somebody who takes it.
+    pub fn is_passed(&self) -> bool {
+        is_of_no_series(self.kind) || self.cause.is_some_and(Cause::is_passed)
+    }
 }
 
 /// The points of a body, in order; `None` where the book refuses it whole.

@@ -7,7 +7,8 @@
 use super::json::{Document, Value};
 use super::number::{book_whole, is_plain, mapped_double, mapped_whole, whole_double, MAX_WHOLE_DOUBLE};
 use super::output::{Output, Written, SHORT_LIST};
-use super::schema::{Kind, Message, KEY_VALUE, REQUEST};
+use super::schema::{Kind, Message, KEY_VALUE, METRIC, REQUEST};
+use super::whole::changes;
 use super::{Reading, Refused};
 
 /// Why a walk ended before the end.
@@ -81,6 +82,9 @@ impl Walk<'_, '_> {
 
     /// A message that is an object.
     fn message(&mut self, of: &'static Message, value: Value<'_>) -> Result<(), Stop> {
+        if self.out.is_none() && std::ptr::eq(of, &METRIC) && changes(&self.reading.whole, value) {
+            self.changed()?;
+        }
         self.push("{");
         let inside = self.length();
         let mut found: u32 = 0;
@@ -197,7 +201,7 @@ impl Walk<'_, '_> {
                     }
                 }
             }
-            Kind::Unit => self.unit(value)?,
+            Kind::Unit => self.unit(value),
             // A number is as wrong a truth as any.
             Kind::Bool => self.push(
                 value
@@ -235,19 +239,12 @@ impl Walk<'_, '_> {
         Ok(())
     }
 
-    /// A metric whose unit is one of `--whole` is written anew.
-    fn unit(&mut self, value: Value<'_>) -> Result<(), Stop> {
-        let Some(unit) = value.text() else {
-            self.push("false");
-            return Ok(());
-        };
-        if self.reading.whole.rule(&unit).is_some() {
-            self.changed()?;
+    fn unit(&mut self, value: Value<'_>) {
+        let Some(out) = &mut self.out else { return };
+        match value.text() {
+            Some(unit) => out.unit(&unit),
+            None => out.push("false"),
         }
-        if let Some(out) = &mut self.out {
-            out.unit(&unit);
-        }
-        Ok(())
     }
 
     fn whole(&mut self, value: Value<'_>) -> Result<(), Stop> {

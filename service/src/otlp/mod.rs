@@ -4,7 +4,7 @@
 //! by the tables of `schema`, over the readers `wire` and `json`; `usual` sees at once most JSON that goes on as it came;
 //! `numbered` reads nearly all protobuf without that, by the numbers of series that are known;
 //! `whole` takes fractions as whole numbers of a finer unit. `series` reads bodies as the book does, and what it forwards.
-//! `answers` is what senders are answered.
+//! `outside` is what of a request is handed on to another receiver, `answers` what senders are answered.
 
 mod answers;
 mod causes;
@@ -16,6 +16,7 @@ mod messages;
 mod number;
 mod numbered;
 mod output;
+mod outside;
 mod schema;
 mod sender;
 pub mod series;
@@ -28,8 +29,9 @@ pub use causes::{Cause, Causes};
 pub use explain::{explained, foreign_points, point_at, Explained};
 pub(crate) use messages::ExportMetricsServiceResponse;
 pub use numbered::{Learnt, Numbered, Series};
+pub use outside::{Original, Outside};
 pub use sender::{legal, sender, NO_NAME};
-pub use whole::{Rounded, Rounding, Rule, Whole};
+pub use whole::{Choice, Rounded, Rounding, Rule, Whole};
 
 use bytes::Bytes;
 

@@ -10,7 +10,7 @@ mod identity;
 mod levels;
 mod walk;
 
-use super::Reading;
+use super::{Reading, Rounded};
 use crate::files::Points;
 use bytes::Bytes;
 use identity::{Learn, Learner};
@@ -28,11 +28,12 @@ pub enum Learnt {
 }
 
 /// Points of a request.
-#[derive(Debug, Default, PartialEq, Eq)]
+#[derive(Debug, Default, PartialEq)]
 pub struct Numbered {
     pub points: Points,
     /// How many points are not among them, since they are outside the profile.
     pub foreign: u64,
+    pub rounded: Rounded,
 }
 
 /// All that is known by its bytes, under one way of reading.

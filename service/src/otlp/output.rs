@@ -22,7 +22,7 @@ pub struct Output<'r> {
 /// A whole request.
 pub struct Written {
     pub text: Vec<u8>,
-    /// Whether a metric has a unit of `--whole`.
+    /// Whether a metric has a unit that `--whole` is about.
     pub is_measured: bool,
 }
 
@@ -103,7 +103,7 @@ impl<'r> Output<'r> {
     }
 
     pub fn unit(&mut self, unit: &str) {
-        self.is_measured |= self.reading.whole.rule(unit).is_some();
+        self.is_measured |= self.reading.whole.is_about(unit);
         self.quoted(unit.as_bytes());
     }
 

@@ -6,7 +6,7 @@
 mod points;
 
 use super::json::{digits_length, is_text, plain_length};
-use super::schema::{Field, Kind, Message, HISTOGRAM_POINT, KEY_VALUE, NUMBER_POINT, REQUEST};
+use super::schema::{Field, Kind, Message, HISTOGRAM_POINT, KEY_VALUE, METRIC, NUMBER_POINT, REQUEST};
 use super::Reading;
 
 /// More than a request has, but for values in values.
@@ -25,6 +25,9 @@ pub fn is_usual(body: &[u8], reading: &Reading) -> bool {
         reading,
         last: [&[]; ATTRIBUTES],
         bounds: &[],
+        metric: &[],
+        is_measured: false,
+        has_doubles: false,
     };
     let is_known = !reading.whole.has_no_unit() && look.message(&REQUEST, 0).is_some();
     is_known && look.peek().is_none() && look.rest.is_empty() && is_text(body)
@@ -38,6 +41,12 @@ struct Look<'a> {
     last: [&'a [u8]; ATTRIBUTES],
     /// The bounds that were looked at last.
     bounds: &'a [u8],
+    /// From the metric on that it is in,
+    metric: &'a [u8],
+    /// whose unit is one that `--whole` is about,
+    is_measured: bool,
+    /// and of which a point has a double.
+    has_doubles: bool,
 }
 
 impl<'a> Look<'a> {
@@ -222,23 +231,46 @@ impl<'a> Look<'a> {
             Kind::Messages(inner) if std::ptr::eq(inner, &HISTOGRAM_POINT) => {
                 self.list(|look| look.point(inner, depth, Self::point_of_histogram))
             }
+            Kind::Messages(inner) if std::ptr::eq(inner, &METRIC) => self.list(|look| look.metric(depth)),
             Kind::Messages(inner) | Kind::Parts(inner) => self.list(|look| look.message(inner, depth)),
             Kind::ResourceAttributes => self.attributes(depth),
             Kind::Text | Kind::Bytes => self.text().map(|_| ()),
-            Kind::Unit => {
-                let unit = std::str::from_utf8(self.text()?).ok()?;
-                self.reading.whole.rule(unit).is_none().then_some(())
-            }
+            Kind::Unit => self.unit(),
             Kind::Bool => self.truth(),
             Kind::Temporality => self.number(1),
             Kind::Whole(_) => self.whole(),
             Kind::Wholes => self.wholes(),
             Kind::Double => self.number(DIGITS_OF_DOUBLE),
             Kind::Doubles => self.bounds(),
-            Kind::Fraction => self.scalar(),
+            Kind::Fraction => {
+                self.has_doubles |= field.name == "asDouble";
+                self.scalar()
+            }
             Kind::Exemplars => self.list(|_| None),
             Kind::Foreign(_) => None,
         }
+    }
+}
+
+impl Look<'_> {
+    fn metric(&mut self, depth: usize) -> Option<()> {
+        (self.metric, self.is_measured, self.has_doubles) = (self.rest, false, false);
+        self.message(&METRIC, depth)?;
+        (!(self.is_measured && self.has_doubles)).then_some(())
+    }
+
+    /// A metric that is taken in another unit is written anew. Where its unit says that it may be, its name has to be plain.
+    fn unit(&mut self) -> Option<()> {
+        let unit = std::str::from_utf8(self.text()?).ok()?;
+        let whole = &self.reading.whole;
+        if !whole.is_about(unit) {
+            return Some(());
+        }
+        self.is_measured = true;
+        let name = self.metric.strip_prefix(b"{\"name\":\"")?;
+        let (name, behind) = name.split_at(plain_length(name));
+        let is_left = behind.starts_with(b"\"") && whole.leaves(std::str::from_utf8(name).ok()?, unit);
+        is_left.then_some(())
     }
 }
 

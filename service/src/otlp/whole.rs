@@ -2,18 +2,28 @@
 //!
 //! `rewrite` does it to a request in the book's form, so it is the same for both encodings. `decimal` has the
 //! numbers: a double counts as its shortest decimal, which is what a program wrote or meant, and is multiplied
-//! exactly. `rounded` is what was rounded meanwhile.
+//! exactly. `rounded` is what was rounded meanwhile. `units` decides for metrics that no rule is for, and `scale` is the same
+//! for points that are read by number.
 
 mod decimal;
+mod known;
+mod plan;
 mod rewrite;
 mod rounded;
+mod scale;
+mod units;
 
+pub(super) use plan::changes;
 pub(super) use rewrite::rewritten;
+pub(super) use rounded::{shown_of, RoundedPoint, ShownSeries};
 pub use rounded::{Rounded, Rounding};
+pub(super) use scale::{scale_of, InFiner, Scale, Scaled};
 
 use std::collections::BTreeMap;
 use std::fmt;
 use std::str::FromStr;
+use std::sync::Arc;
+use units::{Unit, Units};
 
 /// The largest factor: with it the product of any double's digits fits 128 bits.
 const MAX_FACTOR: u64 = 1_000_000_000_000_000_000;
@@ -21,7 +31,7 @@ const MAX_FACTOR: u64 = 1_000_000_000_000_000_000;
 /// How long a unit's name may be, as OpenTelemetry has it.
 const MAX_UNIT: usize = 63;
 
-/// Units of times and of bytes, with how many of the finest one of their kind they are.
+/// Units of times, of bytes and of parts of one, with how many of the finest one of their kind they are.
 const TIMES: [(&str, u64); 7] = [
     ("d", 86_400_000_000_000),
     ("h", 3_600_000_000_000),
@@ -42,6 +52,8 @@ const BYTES: [(&str, u64); 9] = [
     ("kBy", 1_000),
     ("By", 1),
 ];
+/// UCUM has `[ppm]` for 10^-6.
+const PARTS: [(&str, u64); 3] = [("1", 1_000_000), ("%", 10_000), ("[ppm]", 1)];
 
 /// One rule: a unit, the finer one, and how many of it one is.
 #[derive(Clone, Debug, PartialEq, Eq)]
@@ -77,6 +89,13 @@ impl FromStr for Rule {
     }
 }
 
+impl Rule {
+    /// Whether whole numbers stay as they are.
+    fn is_same(&self) -> bool {
+        self.factor == 1 && self.from == self.to
+    }
+}
+
 fn factor_of(text: &str) -> Result<u64, String> {
     let factor = text
         .parse()
@@ -94,7 +113,7 @@ fn known_factor(from: &str, to: &str) -> Result<u64, String> {
     }
     let size = |units: &[(&str, u64)], unit| units.iter().find(|known| known.0 == unit).map(|known| known.1);
     let pair = |units| Some((size(units, from)?, size(units, to)?));
-    match pair(&TIMES).or_else(|| pair(&BYTES)) {
+    match pair(&TIMES).or_else(|| pair(&BYTES)).or_else(|| pair(&PARTS)) {
         Some((from, to)) if from % to == 0 => Ok(from / to),
         Some(_) => Err(format!(
             "`{to}` is not finer than `{from}`, or no whole part of it"
@@ -111,12 +130,36 @@ impl fmt::Display for Rule {
     }
 }
 
+/// What `--whole` is given: a rule, or how metrics without one are taken.
+#[derive(Clone, Debug, PartialEq, Eq)]
+pub enum Choice {
+    Auto,
+    Off,
+    Rule(Rule),
+}
+
+impl FromStr for Choice {
+    type Err = String;
+
+    fn from_str(text: &str) -> Result<Choice, String> {
+        match text {
+            "auto" => Ok(Choice::Auto),
+            "off" => Ok(Choice::Off),
+            rule => rule.parse().map(Choice::Rule),
+        }
+    }
+}
+
 /// All rules, one for a unit.
-#[derive(Clone, Debug, Default, PartialEq, Eq)]
-pub struct Whole(BTreeMap<String, Rule>);
+#[derive(Clone, Default)]
+pub struct Whole {
+    rules: BTreeMap<String, Rule>,
+    /// For known units without a rule; none where these are off.
+    units: Option<Arc<Units>>,
+}
 
 impl Whole {
-    /// The error names the unit that has two rules.
+    /// Rules alone. The error names the unit that has two.
     pub fn new(rules: impl IntoIterator<Item = Rule>) -> Result<Whole, String> {
         let mut all = BTreeMap::new();
         for rule in rules {
@@ -124,20 +167,63 @@ impl Whole {
                 return Err(format!("--whole has two rules for the unit `{}`", other.from));
             }
         }
-        Ok(Whole(all))
+        Ok(Whole {
+            rules: all,
+            units: None,
+        })
     }
 
+    /// As the option has it: `auto` unless it is off.
+    pub fn of(choices: impl IntoIterator<Item = Choice>) -> Result<Whole, String> {
+        let (mut rules, mut said) = (Vec::new(), [false; 2]);
+        for choice in choices {
+            match choice {
+                Choice::Auto => said[0] = true,
+                Choice::Off => said[1] = true,
+                Choice::Rule(rule) => rules.push(rule),
+            }
+        }
+        match said {
+            [true, true] => Err("--whole is both auto and off: leave one out".to_string()),
+            [_, true] => Whole::new(rules),
+            _ => Ok(Whole {
+                units: Some(Arc::default()),
+                ..Whole::new(rules)?
+            }),
+        }
+    }
+
+    /// Whether nothing is taken in another unit.
     pub fn is_empty(&self) -> bool {
-        self.0.is_empty()
+        self.rules.is_empty() && self.units.is_none()
     }
 
     /// Whether metrics without a unit have a rule, also where their field is not there.
     pub fn has_no_unit(&self) -> bool {
-        self.0.contains_key("")
+        self.rules.contains_key("")
     }
 
-    pub fn rule(&self, unit: &str) -> Option<&Rule> {
-        self.0.get(unit)
+    /// Whether metrics of this unit may be taken in another one.
+    pub fn is_about(&self, unit: &str) -> bool {
+        self.rules.contains_key(unit) || (self.units.is_some() && Unit::of(unit).is_some())
+    }
+
+    /// Whether whole numbers of a metric's sums stay as they are, which is known without a look at its points.
+    pub fn leaves(&self, metric: &str, unit: &str) -> bool {
+        match (self.rules.contains_key(unit), &self.units, Unit::of(unit)) {
+            (true, ..) => false,
+            (_, Some(units), Some(unit)) => {
+                unit.finest() == unit || units.decided(metric, unit) == Some(unit)
+            }
+            _ => true,
+        }
+    }
+}
+
+impl fmt::Debug for Whole {
+    fn fmt(&self, out: &mut fmt::Formatter<'_>) -> fmt::Result {
+        let auto = if self.units.is_some() { "auto" } else { "off" };
+        out.debug_tuple("Whole").field(&auto).field(&self.rules).finish()
     }
 }
 

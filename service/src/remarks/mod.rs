@@ -14,7 +14,8 @@ use crate::intake::Taker;
 use crate::log::{all_shown, cut, shown};
 use crate::metrics::Metrics;
 use crate::otlp::series::SeriesKey;
-use crate::otlp::{foreign_points, point_at, Cause, Causes, Explained, Outcome, Reading};
+use crate::otlp::{foreign_points, point_at, Cause, Causes, Explained, Original, Outcome, Reading};
+use crate::pass::Pass;
 use crate::slot::{ByNumber, Request, Source};
 use crate::work::blocking;
 use bytes::Bytes;
@@ -51,6 +52,7 @@ pub struct Remarks<T> {
     telling: Telling,
     metrics: Arc<Metrics>,
     heard: Arc<Heard>,
+    pass: Option<Arc<Pass>>,
     readers: Semaphore,
     is_reading: AtomicBool,
     told: Mutex<Told>,
@@ -99,13 +101,14 @@ enum Remark {
 }
 
 impl<T: Taker> Remarks<T> {
-    /// `heard` is noted of each post.
+    /// `heard` is noted of each post. To `pass` points are handed on that are outside the profile.
     pub fn new(
         taker: Arc<T>,
         owners: impl Owners,
         telling: Telling,
         metrics: Arc<Metrics>,
         heard: Arc<Heard>,
+        pass: Option<Arc<Pass>>,
     ) -> Arc<Remarks<T>> {
         Arc::new(Remarks {
             taker,
@@ -113,6 +116,7 @@ impl<T: Taker> Remarks<T> {
             telling,
             metrics,
             heard,
+            pass,
             readers: Semaphore::new(READERS),
             is_reading: AtomicBool::new(false),
             told: Mutex::new(Told::default()),
@@ -128,14 +132,19 @@ impl<T: Taker> Remarks<T> {
     }
 
     /// The answer, with what its sender's owner needs to know. What is wholly taken is answered as it is.
-    async fn in_words(&self, sender: &str, source: &Source, outcome: Outcome) -> Outcome {
+    async fn in_words(
+        &self,
+        sender: &str,
+        source: &Source,
+        original: Option<Original>,
+        outcome: Outcome,
+    ) -> Outcome {
         match outcome {
             Outcome::Taken { rejected: 0, .. } => outcome,
             Outcome::Taken { rejected, .. } => {
-                let causes = self.read(source, move |body| Causes::of(body, rejected)).await;
-                let causes = causes.unwrap_or_else(|| Causes::of(b"", rejected));
+                let causes = self.causes(source, original, rejected).await;
                 self.metrics.foreign(sender, &causes, &self.telling.expected);
-                outcome.with_causes(&causes)
+                Outcome::taken(causes.count()).with_causes(&causes)
             }
             Outcome::Refused { status, message } => {
                 let Some(place) = place_of(&message) else {
@@ -149,17 +158,39 @@ impl<T: Taker> Remarks<T> {
         }
     }
 
+    /// Why so many points were not taken, without those that are handed on.
+    async fn causes(&self, source: &Source, original: Option<Original>, foreign: u64) -> Causes {
+        let (Some(pass), Some(original)) = (&self.pass, original) else {
+            let causes = self.read(source, move |body| Causes::of(body, foreign)).await;
+            return causes.unwrap_or_else(|| Causes::of(b"", foreign));
+        };
+        let (length, source) = (source.length(), source.clone());
+        let find = move || original.outside(foreign, || source.text());
+        let (outside, causes) = self.work(length, find).await;
+        if let Some(outside) = outside {
+            pass.hand_on(outside);
+        }
+        causes
+    }
+
     async fn read<R: Send + 'static>(
         &self,
         source: &Source,
         read: impl FnOnce(&[u8]) -> R + Send + 'static,
     ) -> Option<R> {
         let source = source.clone();
-        if source.length() <= SHORT {
-            return source.text().map(|body| read(&body));
+        let length = source.length();
+        self.work(length, move || source.text().map(|body| read(&body)))
+            .await
+    }
+
+    /// Does what takes time by the length of a body.
+    async fn work<R: Send + 'static>(&self, length: usize, work: impl FnOnce() -> R + Send + 'static) -> R {
+        if length <= SHORT {
+            return work();
         }
         let _turn = self.readers.acquire().await; // it is never closed
-        blocking(move || source.text().map(|body| read(&body))).await
+        blocking(work).await
     }
 
     /// Notes an answer. The first refusal of a sender for each reason is in the log; those that the service itself is
@@ -214,10 +245,8 @@ impl<T: Taker> Remarks<T> {
         let known = |told: &Told| told.foreign.get(sender).map(|of| of.reasons.clone());
         let mut reasons = known(&self.told()).unwrap_or_default();
         foreign_points(body, |point| {
-            if point
-                .cause
-                .is_some_and(|cause| self.telling.expected.contains(&cause))
-            {
+            let is_expected = |cause| self.telling.expected.contains(&cause);
+            if point.cause.is_some_and(is_expected) || (self.pass.is_some() && point.is_passed()) {
                 return false;
             }
             let reason = reason(&point);
@@ -285,12 +314,26 @@ impl<T: Taker> Taker for Remarks<T> {
     }
 
     fn post(self: &Arc<Self>, sender: String, request: Request) -> impl Future<Output = Outcome> + Send {
+        self.post_with(sender, request, None)
+    }
+
+    fn wants_originals(&self) -> bool {
+        self.pass.is_some()
+    }
+
+    fn post_with(
+        self: &Arc<Self>,
+        sender: String,
+        request: Request,
+        original: Option<Original>,
+    ) -> impl Future<Output = Outcome> + Send {
         let remarks = self.clone();
         async move {
             let source = request.source();
             let outcome = remarks.taker.post(sender.clone(), request).await;
             let remark = remarks.remark(&sender, &outcome);
-            let outcome = remarks.in_words(&sender, &source, outcome).await;
+            let outcome = remarks.in_words(&sender, &source, original, outcome).await;
+            let remark = remark.filter(|_| outcome != Outcome::taken(0));
             remarks.note(&sender, &outcome);
             if let Some(remark) = remark {
                 if !remarks.is_reading.swap(true, Relaxed) {

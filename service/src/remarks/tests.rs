@@ -29,6 +29,7 @@ fn remarks(outcome: Outcome, owner: Option<&'static str>, telling: Telling) -> A
         telling,
         metrics,
         Arc::default(),
+        None,
     )
 }
 

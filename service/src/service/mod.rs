@@ -19,6 +19,7 @@ use crate::identity::Door;
 use crate::keeper::{Settings as Keeping, Trouble};
 use crate::metrics::Metrics;
 use crate::otlp::Reading;
+use crate::pass::Pass;
 use crate::remarks::Telling;
 use crate::shares::Share;
 use crate::sinks::{Address, Keep};
@@ -56,6 +57,8 @@ pub struct Settings {
     pub forget: Option<Duration>,
     pub reading: Reading,
     pub telling: Telling,
+    /// Who gets points that are outside the profile.
+    pub pass: Option<Arc<Pass>>,
     pub most_bytes: usize,
     pub most_connections: usize,
     /// How many serve senders.

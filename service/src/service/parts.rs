@@ -51,6 +51,7 @@ impl Parts {
         let (journal, outbox) = folder.slot(0)?;
         let former = former_slots(&folder)?;
         let dead = Arc::new(folder.dead()?);
+        settings.reading.whole.know(&outbox, &journal)?;
         let outbox = Arc::new(outbox);
         let mut outboxes = vec![outbox.clone()];
         outboxes.extend(former.iter().map(|(_, outbox)| outbox.clone()));
@@ -131,6 +132,10 @@ impl Parts {
             ..limits.clone()
         };
         let heard = Arc::<Heard>::default();
+        if let Some(pass) = &settings.pass {
+            tracing::info!("points outside the profile are passed on to {}", pass.url());
+            tokio::spawn(pass.clone().run());
+        }
         let intake = Intake::new(
             Remarks::new(
                 slot.clone(),
@@ -138,6 +143,7 @@ impl Parts {
                 settings.telling.clone(),
                 self.metrics.clone(),
                 heard.clone(),
+                settings.pass.clone(),
             ),
             settings.reading.clone(),
             self.budget.clone(),

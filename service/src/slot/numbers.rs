@@ -7,7 +7,7 @@
 use super::Slot;
 use crate::core::{memory_used, Core, Names, Refused};
 use crate::files::Points;
-use crate::otlp::{prepare, Encoding, Learnt, Numbered, Reading, Series};
+use crate::otlp::{prepare, Encoding, Learnt, Numbered, Reading, Rounded, Series};
 use bytes::Bytes;
 use std::sync::{Arc, PoisonError, RwLock};
 use std::time::{Duration, Instant};
@@ -41,6 +41,7 @@ pub struct ByNumber {
     pub points: Points,
     /// How many points are not among them, since they are outside the profile.
     pub foreign: u64,
+    pub rounded: Rounded,
     pub names: Arc<Names>,
     pub source: Source,
 }
@@ -178,10 +179,15 @@ impl Numbers {
         if !Arc::ptr_eq(now.series.reading(), reading) {
             return None;
         }
-        let Numbered { points, foreign } = now.read(body)?;
+        let Numbered {
+            points,
+            foreign,
+            rounded,
+        } = now.read(body)?;
         Some(ByNumber {
             points,
             foreign,
+            rounded,
             names: now.names.clone(),
             source: Source::Protobuf {
                 body: body.clone(),

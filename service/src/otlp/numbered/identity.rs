@@ -5,10 +5,11 @@ use super::walk::{Find, Known, Own, Path, Stop};
 use super::Learnt;
 use crate::otlp::from_protobuf;
 use crate::otlp::output::Written;
+use crate::otlp::whole::{rewritten, scale_of, shown_of, Scale, Scaled, ShownSeries};
 use crate::otlp::Reading;
 use bytes::Bytes;
 use std::sync::atomic::{AtomicBool, Ordering::Relaxed};
-use std::sync::{PoisonError, RwLock, RwLockReadGuard};
+use std::sync::{Arc, PoisonError, RwLock, RwLockReadGuard};
 
 /// Names a series by a request of one point.
 pub type Learn<'s> = dyn Fn(Bytes) -> Option<Learnt> + 's;
@@ -27,28 +28,57 @@ impl Find for Learner<'_> {
             Err(Stop::Unknown) => {}
             known => return known,
         }
-        if self.written(&request(path, &[]))?.is_measured {
-            self.fitting(|levels| levels.slow(within, bytes))?;
-            return Err(Stop::Slow);
+        let written = self.written(&request(path, &[]))?;
+        let scaled = match written.is_measured {
+            true => scale_of(&written.text, &self.reading.whole).ok_or(Stop::Slow)?,
+            false => Scaled::Plain,
+        };
+        match scaled {
+            Scaled::Plain => self.fitting(|levels| levels.level(within, bytes)),
+            Scaled::By(scale) => self.fitting(|levels| levels.scaled(within, bytes, scale)),
+            Scaled::Undecided => Err(Stop::Slow), // what reads it as a text decides
         }
-        self.fitting(|levels| levels.level(within, bytes))
     }
 
     fn bounds(&mut self, within: Level, bounds: &[u8]) -> Result<Level, Stop> {
         self.fitting(|levels| levels.level(within, bounds))
     }
 
-    fn series(&mut self, path: &Path<'_>, within: Level, own: Own<'_>) -> Result<u32, Stop> {
+    fn series(
+        &mut self,
+        path: &Path<'_>,
+        within: Level,
+        own: Own<'_>,
+        scale: Option<&Scale>,
+    ) -> Result<u32, Stop> {
         if let Some(number) = self.known().find(within, own.attributes) {
             return Ok(number);
         }
-        let text = self.written(&request(path, &field(1, &point(own))))?.text;
+        let written = self.written(&request(path, &field(1, &point(own))))?;
+        let text = match scale {
+            Some(_) => self.in_finer(&written.text)?,
+            None => written.text,
+        };
+        let series = scale
+            .filter(|scale| scale.is_finer())
+            .and_then(|scale| shown_of(&text, scale.rule.clone()));
         self.fitting(|levels| levels.take_room(own.attributes, text.len()))?;
         let number = match (self.learn)(text.into_boxed_slice().into()).ok_or(Stop::Slow)? {
             Learnt::Foreign => FOREIGN,
             Learnt::Number(number) => u32::try_from(number).map_err(|_| Stop::Slow)?,
         };
+        if let Some(series) = series {
+            self.fitting(|levels| levels.show(number, series))?;
+        }
         self.fitting(|levels| Ok(levels.put(within, own.attributes, number)))
+    }
+
+    fn scale(&self, level: Level) -> Option<Arc<Scale>> {
+        self.known().scale(level)
+    }
+
+    fn shown(&self, number: u32) -> Option<Arc<ShownSeries>> {
+        self.known().shown(number)
     }
 }
 
@@ -63,6 +93,14 @@ impl Learner<'_> {
             self.is_full.store(true, Relaxed);
             Stop::Slow
         })
+    }
+
+    /// A request in the finer unit. What can't be had in it is named by who reads the whole request.
+    fn in_finer(&self, text: &[u8]) -> Result<Vec<u8>, Stop> {
+        match rewritten(text, &self.reading.whole) {
+            Ok((text, rounded)) if rounded.unfit.is_none() => Ok(text.into_bytes()),
+            _ => Err(Stop::Slow),
+        }
     }
 
     /// A request as it is written for the book.

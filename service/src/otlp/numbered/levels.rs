@@ -1,8 +1,10 @@
 //! What is known by its bytes: resources, in each its scopes, in each its metrics, in a histogram its bounds, and then the
 //! points' attributes, which have the number of their series.
 
+use crate::otlp::whole::{Scale, ShownSeries};
 use ahash::RandomState;
 use std::collections::HashMap;
+use std::sync::Arc;
 
 /// The place of a level.
 pub type Level = u32;
@@ -11,8 +13,6 @@ pub type Level = u32;
 pub const TOP: Level = 0;
 /// In the place of a number: no point of the series is taken.
 pub const FOREIGN: u32 = u32::MAX;
-/// In the place of a level: what is below is read otherwise.
-pub const SLOW: Level = u32::MAX;
 
 /// What an entry takes beside its bytes: its place in a table that is half full, its length, and what the allocator adds.
 const ENTRY: usize = 96;
@@ -24,6 +24,10 @@ pub struct Levels {
     all: Vec<HashMap<Box<[u8]>, u32, RandomState>>,
     hasher: RandomState,
     left: usize,
+    /// Of metrics that are taken in another unit, by their level.
+    scales: HashMap<Level, Arc<Scale>, RandomState>,
+    /// Of the series of these, by their number.
+    shown: HashMap<u32, Arc<ShownSeries>, RandomState>,
 }
 
 /// There is no room.
@@ -35,6 +39,8 @@ impl Levels {
         let hasher = RandomState::new();
         Levels {
             all: vec![HashMap::with_hasher(hasher.clone())],
+            scales: HashMap::with_hasher(hasher.clone()),
+            shown: HashMap::with_hasher(hasher.clone()),
             hasher,
             left: most,
         }
@@ -57,11 +63,33 @@ impl Levels {
         Ok(level)
     }
 
-    /// What is below these bytes is read otherwise from now on.
-    pub fn slow(&mut self, within: Level, bytes: &[u8]) -> Result<(), Full> {
-        self.take_room(bytes, 0)?;
-        self.put(within, bytes, SLOW);
+    /// The level of a metric that is taken in another unit.
+    pub fn scaled(&mut self, within: Level, bytes: &[u8], scale: Scale) -> Result<Level, Full> {
+        let level = self.level(within, bytes)?;
+        self.left = self.left.checked_sub(ENTRY).ok_or(Full)?;
+        self.scales.entry(level).or_insert_with(|| Arc::new(scale));
+        Ok(level)
+    }
+
+    /// How the points of a metric are taken, where it is in another unit.
+    #[inline]
+    pub fn scale(&self, level: Level) -> Option<Arc<Scale>> {
+        match self.scales.is_empty() {
+            true => None,
+            false => self.scales.get(&level).cloned(),
+        }
+    }
+
+    /// How a series of such a metric is shown.
+    pub fn show(&mut self, number: u32, series: ShownSeries) -> Result<(), Full> {
+        let takes = 2 * ENTRY + series.metric.len() + series.attributes.len();
+        self.left = self.left.checked_sub(takes).ok_or(Full)?;
+        self.shown.insert(number, Arc::new(series));
         Ok(())
+    }
+
+    pub fn shown(&self, number: u32) -> Option<Arc<ShownSeries>> {
+        self.shown.get(&number).cloned()
     }
 
     /// Takes room for a series, before it is named. `text` is what its name takes elsewhere.

@@ -1,14 +1,16 @@
 //! Looks a request through: its fields in the order in which nearly all encoders write them, each once. Of anything else
 //! it says `Slow`, and then the request is read as any other.
 
-use super::levels::{Level, Levels, FOREIGN, SLOW, TOP};
+use super::levels::{Level, Levels, FOREIGN, TOP};
 use super::Numbered;
 use crate::files::Points;
 use crate::otlp::from_protobuf::is_exemplar;
 use crate::otlp::number::whole_double;
 use crate::otlp::schema::{Message, METRIC, REQUEST, RESOURCE_METRICS, SCOPE_METRICS};
+use crate::otlp::whole::{InFiner, RoundedPoint, Scale, ShownSeries};
 use crate::otlp::wire::{Fields, Payload};
-use crate::otlp::Reading;
+use crate::otlp::{Reading, Rounded};
+use std::sync::Arc;
 
 /// The fields of a metric that have points.
 const DATA: [u32; 5] = [5, SUM, HISTOGRAM, 10, 11];
@@ -65,7 +67,17 @@ pub trait Find {
     /// The level of a histogram's bounds.
     fn bounds(&mut self, within: Level, bounds: &[u8]) -> Result<Level, Stop>;
     /// The number of a series.
-    fn series(&mut self, path: &Path<'_>, within: Level, own: Own<'_>) -> Result<u32, Stop>;
+    fn series(
+        &mut self,
+        path: &Path<'_>,
+        within: Level,
+        own: Own<'_>,
+        scale: Option<&Scale>,
+    ) -> Result<u32, Stop>;
+    /// How the points of a metric are taken, where it is in another unit.
+    fn scale(&self, level: Level) -> Option<Arc<Scale>>;
+    /// How a series of such a metric is shown.
+    fn shown(&self, number: u32) -> Option<Arc<ShownSeries>>;
 }
 
 /// Who learns nothing.
@@ -74,11 +86,7 @@ pub struct Known<'l>(pub &'l Levels);
 impl Find for Known<'_> {
     #[inline]
     fn level(&mut self, _: &Path<'_>, within: Level, bytes: &[u8]) -> Result<Level, Stop> {
-        match self.0.find(within, bytes) {
-            None => Err(Stop::Unknown),
-            Some(SLOW) => Err(Stop::Slow),
-            Some(level) => Ok(level),
-        }
+        self.0.find(within, bytes).ok_or(Stop::Unknown)
     }
 
     #[inline]
@@ -87,8 +95,17 @@ impl Find for Known<'_> {
     }
 
     #[inline]
-    fn series(&mut self, _: &Path<'_>, within: Level, own: Own<'_>) -> Result<u32, Stop> {
+    fn series(&mut self, _: &Path<'_>, within: Level, own: Own<'_>, _: Option<&Scale>) -> Result<u32, Stop> {
         self.0.find(within, own.attributes).ok_or(Stop::Unknown)
+    }
+
+    #[inline]
+    fn scale(&self, level: Level) -> Option<Arc<Scale>> {
+        self.0.scale(level)
+    }
+
+    fn shown(&self, number: u32) -> Option<Arc<ShownSeries>> {
+        self.0.shown(number)
     }
 }
 
@@ -103,6 +120,7 @@ pub struct Walk<'b, F> {
     words: Vec<u64>,
     ends: Vec<usize>,
     foreign: u64,
+    rounded: Vec<RoundedPoint>,
 }
 
 /// Gives each message of a list that is in another. Whatever else is there must say nothing.
@@ -152,14 +170,19 @@ impl<'b, F: Find> Walk<'b, F> {
             words: Vec::with_capacity(length / BYTES_OF_A_WORD),
             ends: Vec::with_capacity(length / BYTES_OF_A_POINT),
             foreign: 0,
+            rounded: Vec::new(),
         }
     }
 
     pub fn request(mut self, body: &'b [u8]) -> Result<Numbered, Stop> {
         each(&REQUEST, 1, Fields::of(body), |resource| self.resource(resource))?;
         let points = Points::new(self.words, self.ends).ok_or(Stop::Slow)?;
-        let foreign = self.foreign;
-        Ok(Numbered { points, foreign })
+        let (foreign, rounded) = (self.foreign, Rounded::of_points(self.rounded));
+        Ok(Numbered {
+            points,
+            foreign,
+            rounded,
+        })
     }
 
     fn resource(&mut self, message: &'b [u8]) -> Result<(), Stop> {
@@ -225,10 +248,12 @@ impl<'b, F: Find> Walk<'b, F> {
     }
 
     fn points(&mut self, level: Level, data: u32, mut points: Fields<'b>) -> Result<(), Stop> {
+        let scale = self.find.scale(level);
+        let scale = scale.as_deref();
         while let Some(point) = points.bytes(POINTS) {
             match data {
-                SUM => self.sum(level, point)?,
-                HISTOGRAM => self.histogram(level, point)?,
+                SUM => self.sum(level, scale, point)?,
+                HISTOGRAM => self.histogram(level, scale, point)?,
                 // Of no other kind a point is taken.
                 _ if Fields::of(point).all(|field| field.is_ok()) => self.foreign += 1,
                 _ => return Err(Stop::Slow),
@@ -237,21 +262,30 @@ impl<'b, F: Find> Walk<'b, F> {
         Ok(())
     }
 
-    fn sum(&mut self, level: Level, point: &'b [u8]) -> Result<(), Stop> {
+    fn sum(&mut self, level: Level, scale: Option<&Scale>, point: &'b [u8]) -> Result<(), Stop> {
         let mut fields = Fields::of(point);
         let (start, end) = span(&mut fields);
         // Some encoders have it before the exemplars, some behind them, some last.
-        let value = whole(&mut fields);
+        let value = number(&mut fields);
         self.exemplars(&mut fields, 5)?;
-        let value = value.or_else(|| whole(&mut fields));
+        let value = value.or_else(|| number(&mut fields));
         let attributes = run(&mut fields, 7);
         let flags = fields.number(8);
-        let value = value.or_else(|| whole(&mut fields)).flatten();
+        let value = value.or_else(|| number(&mut fields));
         let own = Own {
             bounds: None,
             attributes,
         };
-        let number = self.series(level, own, &fields)?;
+        let number = self.series(level, own, scale, &fields)?;
+        let value = match (value, scale) {
+            (Some(Number::Whole(bits)), None) => Some(bits),
+            (None | Some(Number::Double(_)), None) | (None, Some(_)) => None,
+            (Some(_), Some(_)) if !(is_recorded(number, flags) && is_span(start, end)) => {
+                return Err(Stop::Slow)
+            }
+            (Some(Number::Whole(bits)), Some(scale)) => Some(self.rounded(number, scale.whole(bits))?),
+            (Some(Number::Double(double)), Some(scale)) => Some(self.rounded(number, scale.double(double))?),
+        };
         match value {
             Some(value) if is_recorded(number, flags) => {
                 let words = [u64::from(number), start, end, value];
@@ -263,11 +297,11 @@ impl<'b, F: Find> Walk<'b, F> {
         Ok(())
     }
 
-    fn histogram(&mut self, level: Level, point: &'b [u8]) -> Result<(), Stop> {
+    fn histogram(&mut self, level: Level, scale: Option<&Scale>, point: &'b [u8]) -> Result<(), Stop> {
         let mut fields = Fields::of(point);
         let (start, end) = span(&mut fields);
         let count = fields.fixed64(4).unwrap_or(0);
-        let sum = has_sum(fields.fixed64(5));
+        let sum = fields.fixed64(5).map(f64::from_bits);
         // One kind of encoder has them here, another at the end.
         pass_extremes(&mut fields);
         let buckets = eights(fields.bytes(6))?;
@@ -282,11 +316,22 @@ impl<'b, F: Find> Walk<'b, F> {
             bounds: Some(bounds),
             attributes,
         };
-        let number = self.series(level, own, &fields)?;
+        let number = self.series(level, own, scale, &fields)?;
         let whole = [count.to_le_bytes()];
         let buckets = match buckets.is_empty() && bound_count == 0 {
             true => &whole, // one bucket has all
             false => buckets,
+        };
+        let sum = match (sum, scale) {
+            (None, _) => Some([0, 0]),
+            (Some(sum), None) => whole_sum(sum),
+            (Some(_), Some(_))
+                if !(is_recorded(number, flags) && is_span(start, end) && adds_up(buckets, count)) =>
+            {
+                return Err(Stop::Slow)
+            }
+            (Some(sum), Some(scale)) if scale.is_finer() => Some([1, self.rounded(number, scale.sum(sum))?]),
+            (Some(sum), Some(_)) => Some(whole_sum(sum).ok_or(Stop::Slow)?),
         };
         match sum {
             Some([has, sum]) if is_recorded(number, flags) && buckets.len() == bound_count + 1 => {
@@ -299,6 +344,17 @@ impl<'b, F: Find> Walk<'b, F> {
             _ => self.foreign += 1,
         }
         Ok(())
+    }
+
+    /// A number in the finer unit. What it was rounded by is noted of its series; a request with one that is not taken is
+    /// read as a text, which names it.
+    fn rounded(&mut self, number: u32, in_finer: InFiner) -> Result<u64, Stop> {
+        let (value, by) = in_finer.ok_or(Stop::Slow)?;
+        if by > 0.0 {
+            let of = self.find.shown(number).ok_or(Stop::Slow)?;
+            self.rounded.push(RoundedPoint { of, by });
+        }
+        Ok(value)
     }
 
     /// Passes the exemplars that come next. They are new each time, and say nothing.
@@ -325,9 +381,15 @@ impl<'b, F: Find> Walk<'b, F> {
 
     /// The number of a point's series, where nothing is left of the point.
     #[inline]
-    fn series(&mut self, level: Level, own: Own<'b>, rest: &Fields<'b>) -> Result<u32, Stop> {
+    fn series(
+        &mut self,
+        level: Level,
+        own: Own<'b>,
+        scale: Option<&Scale>,
+        rest: &Fields<'b>,
+    ) -> Result<u32, Stop> {
         match rest.rest().is_empty() {
-            true => self.find.series(&self.path, level, own),
+            true => self.find.series(&self.path, level, own, scale),
             false => Err(Stop::Slow),
         }
     }
@@ -347,19 +409,37 @@ fn pass_extremes(fields: &mut Fields<'_>) {
     let _ = fields.fixed64(12);
 }
 
-/// Whether a histogram's point has a sum, as a word, and the sum; none of one that is not taken.
+/// That a histogram's point has a sum, as a word, and the sum; none of one that is not taken.
 #[inline]
-fn has_sum(bits: Option<u64>) -> Option<[u64; 2]> {
-    let Some(bits) = bits else { return Some([0, 0]) };
-    let sum = whole_double(f64::from_bits(bits))?;
-    Some([1, u64::try_from(sum).ok()?])
+fn whole_sum(sum: f64) -> Option<[u64; 2]> {
+    Some([1, u64::try_from(whole_double(sum)?).ok()?])
 }
 
-/// Passes the value of a sum's point, if it is next: none of a double, whose point is not taken.
+/// The value of a sum's point.
+enum Number {
+    /// Its bits.
+    Whole(u64),
+    Double(f64),
+}
+
+/// Passes the value of a sum's point, if it is next.
 #[inline]
-fn whole(fields: &mut Fields<'_>) -> Option<Option<u64>> {
-    let value = fields.fixed64(6).map(Some);
-    value.or_else(|| fields.fixed64(4).map(|_| None))
+fn number(fields: &mut Fields<'_>) -> Option<Number> {
+    let value = fields.fixed64(6).map(Number::Whole);
+    value.or_else(|| fields.fixed64(4).map(|bits| Number::Double(f64::from_bits(bits))))
+}
+
+/// Whether a point has a span.
+fn is_span(start: u64, end: u64) -> bool {
+    0 < start && start < end
+}
+
+/// Whether buckets add up to their count.
+fn adds_up(buckets: &[[u8; 8]], count: u64) -> bool {
+    let all = buckets
+        .iter()
+        .map(|bucket| u128::from(u64::from_le_bytes(*bucket)));
+    all.sum::<u128>() == u128::from(count)
 }
 
 /// Whether a point may be taken, by its series and its flags. Of these 32 bits are read, and the lowest is that nothing

@@ -211,6 +211,16 @@ fn both_encodings_mean_the_same_in_finer_units() {
     );
 }
 
+/// What is decided by the one encoding holds for the other.
+#[test]
+fn both_encodings_mean_the_same_in_units_that_are_decided() {
+    let rounded = both_mean_the_same(&Reading {
+        whole: Whole::of([Choice::Auto]).unwrap(),
+        ..Reading::default()
+    });
+    assert!(rounded.values().any(|one| one.values > 10), "{rounded:?}");
+}
+
 fn both_mean_the_same(reading: &Reading) -> BTreeMap<String, Rounding> {
     let prepared = |encoding, body: Vec<u8>| prepare(encoding, body.into(), reading).unwrap();
     let mut random = Random(0x9e37_79b9_7f4a_7c15);

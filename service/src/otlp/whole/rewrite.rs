@@ -4,6 +4,7 @@
 //! for a number. Nothing is changed in a metric that is foreign as a whole, but its unit.
 
 use super::decimal::Decimal;
+use super::plan::{elements, first_double, is_delta, member, taken, Taken, DATA};
 use super::rounded::{resource_shown, rounded, Mark};
 use super::{Rounded, Rule, Whole};
 use crate::otlp::json::{write_text, Document, NotJson, Value};
@@ -13,7 +14,6 @@ use std::cell::OnceCell;
 use std::ops::Range;
 use std::sync::Arc;
 
-const DATA: [&str; 5] = ["sum", "histogram", "gauge", "exponentialHistogram", "summary"];
 /// How a request in the book's form has the name before its value.
 const AS_DOUBLE: &str = "\"asDouble\":";
 /// How much of a metric's name stands in an answer.
@@ -36,17 +36,6 @@ pub fn rewritten(text: &[u8], whole: &Whole) -> Result<(String, Rounded), NotJso
     } = rewriting;
     let rounded = rounded(&out, marks)?;
     Ok((out, Rounded { unfit, ..rounded }))
-}
-
-fn member<'d>(object: Value<'d>, name: &str) -> Option<Value<'d>> {
-    object.named([name])?[0]
-}
-
-fn elements<'d>(object: Value<'d>, name: &str) -> impl Iterator<Item = Value<'d>> {
-    member(object, name)
-        .and_then(Value::elements)
-        .into_iter()
-        .flatten()
 }
 
 struct Rewriting<'r> {
@@ -106,12 +95,10 @@ impl<'r> Rewriting<'r> {
     }
 
     fn metric<'d>(&mut self, value: Value<'d>, resource: &'d Resource<'d>) {
-        let unit = match member(value, "unit") {
-            None => Some(Cow::Borrowed("")),
-            Some(unit) => unit.text(),
-        };
-        let Some(rule) = unit.and_then(|unit| self.whole.rule(&unit)) else {
-            return;
+        let rule = match taken(self.whole, value) {
+            Taken::AsItIs => return,
+            Taken::Whole(unit) => return self.first_double(value, unit.name()),
+            Taken::In(rule) => rule,
         };
         let metric = Metric {
             rule,
@@ -120,15 +107,14 @@ impl<'r> Rewriting<'r> {
         };
         let there = value.named(DATA).into_iter().flatten().flatten().count();
         for (name, part) in value.members().into_iter().flatten() {
-            let is_delta = member(part, "aggregationTemporality").and_then(Value::number) == Some("1");
             match &*name {
                 "unit" => {
                     let mut unit = String::new();
                     write_text(&mut unit, &rule.to);
                     self.put((part.range(), unit));
                 }
-                "sum" if is_delta && there == 1 => self.sum(&metric, part),
-                "histogram" if is_delta && there == 1 => {
+                "sum" if there == 1 && is_delta(part) => self.sum(&metric, part),
+                "histogram" if there == 1 && is_delta(part) => {
                     for point in elements(part, "dataPoints") {
                         self.histogram_point(&metric, point);
                     }
@@ -150,6 +136,9 @@ impl<'r> Rewriting<'r> {
     }
 
     fn whole(&mut self, metric: &Metric<'r, '_>, value: Value<'_>) {
+        if metric.rule.is_same() {
+            return;
+        }
         let Some(text) = digits(value) else { return };
         let product = Decimal::times(&text, metric.rule.factor).and_then(|product| product.whole());
         match product.filter(is_word) {
@@ -225,12 +214,22 @@ impl<'r> Rewriting<'r> {
         }
     }
 
+    /// Names the first double of a metric that was first taken in whole numbers of its own unit.
+    fn first_double(&mut self, metric: Value<'_>, unit: &str) {
+        if let (None, Some((what, value))) = (&self.unfit, first_double(metric)) {
+            let name = name_shown(member(metric, "name"));
+            let value = shown(value).unwrap_or_default();
+            self.unfit = Some(format!(
+                "{what} {value} of `{name}` is a double, and it was first taken in whole {unit}"
+            ));
+        }
+    }
+
     fn note(&mut self, metric: &Metric<'r, '_>, value: Value<'_>, what: &str) {
         let (None, Some(shown)) = (&self.unfit, shown(value)) else {
             return;
         };
-        let name = metric.name.and_then(Value::text).unwrap_or_default();
-        let name: String = name.chars().take(NAME_SHOWN).collect();
+        let name = name_shown(metric.name);
         let Rule { from, to, .. } = metric.rule;
         let value = format!("{what} {shown} {from}");
         let unit = if to.is_empty() { "numbers" } else { to };
@@ -239,6 +238,11 @@ impl<'r> Rewriting<'r> {
             value.trim_end()
         ));
     }
+}
+
+fn name_shown(name: Option<Value<'_>>) -> String {
+    let name = name.and_then(Value::text).unwrap_or_default();
+    name.chars().take(NAME_SHOWN).collect()
 }
 
 /// A number or a text, which may have one.
@@ -264,11 +268,11 @@ fn shown(value: Value<'_>) -> Option<String> {
 }
 
 /// Whether a sum's point may have it.
-fn is_word(whole: &i128) -> bool {
+pub(super) fn is_word(whole: &i128) -> bool {
     whole.unsigned_abs() <= i64::MAX as u128
 }
 
 /// Whether a histogram may have it as a bound or a sum.
-fn is_whole_double(whole: &i128) -> bool {
+pub(super) fn is_whole_double(whole: &i128) -> bool {
     whole.unsigned_abs() <= u128::from(MAX_WHOLE_DOUBLE)
 }

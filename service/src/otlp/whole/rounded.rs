@@ -4,6 +4,7 @@
 //! marks, the new text is read once more as the service reads it: that says which series a marked point is of, and
 //! whether it can be taken.
 
+use super::plan::{elements, member};
 use super::Rule;
 use crate::otlp::json::{Document, NotJson, Value};
 use crate::otlp::series::{visit, Seen};
@@ -34,9 +35,30 @@ pub struct Rounded {
 impl Rounded {
     /// Of memory, more or less.
     pub fn bytes(&self) -> usize {
-        let of =
-            |point: &RoundedPoint| size_of::<RoundedPoint>() + point.metric.len() + point.attributes.len();
+        let of = |point: &RoundedPoint| {
+            let shown = point.of.metric.len() + point.of.attributes.len();
+            size_of::<RoundedPoint>() + size_of::<ShownSeries>() + shown
+        };
         self.points.iter().map(of).sum()
+    }
+
+    /// Of points that are all taken.
+    pub(crate) fn of_points(points: Vec<RoundedPoint>) -> Rounded {
+        let mut by_rule: BTreeMap<String, Rounding> = BTreeMap::new();
+        for point in &points {
+            match by_rule.get_mut(&*point.of.rule) {
+                Some(rounding) => rounding.add(point.by),
+                None => by_rule
+                    .entry(point.of.rule.to_string())
+                    .or_default()
+                    .add(point.by),
+            }
+        }
+        Rounded {
+            by_rule,
+            points,
+            unfit: None,
+        }
     }
 }
 
@@ -57,11 +79,17 @@ impl Rounding {
 /// A point that can be taken, and whose value or sum was rounded.
 #[derive(Clone, Debug, PartialEq)]
 pub struct RoundedPoint {
-    pub rule: Arc<str>,
-    /// A hash of its series' key. Series of one hash are taken for one: what they were rounded by is added up.
-    pub series: u64,
+    pub of: Arc<ShownSeries>,
     /// In the finer unit: over 0, at most a half.
     pub by: f64,
+}
+
+/// The series of such a point.
+#[derive(Debug, PartialEq)]
+pub struct ShownSeries {
+    pub rule: Arc<str>,
+    /// A hash of its key. Series of one hash are taken for one: what they were rounded by is added up.
+    pub series: u64,
     /// How people know its series again: the metric's name, and attributes as `key=value, ..`, in the order in which
     /// they came. What is long is cut.
     pub metric: String,
@@ -108,15 +136,37 @@ pub(super) fn rounded(text: &str, marks: Vec<Mark<'_>>) -> Result<Rounded, NotJs
 }
 
 fn point(mark: Mark<'_>, seen: &Seen<'_, '_>, rules: &Rules<'_>) -> RoundedPoint {
-    let name = seen.metric.named(["name"]).and_then(|[name]| name?.text());
     RoundedPoint {
-        rule: rules.text(mark.rule),
-        series: hash(seen.key),
+        of: Arc::new(series_shown(seen, rules.text(mark.rule), mark.resource)),
         by: mark.by,
+    }
+}
+
+fn series_shown(seen: &Seen<'_, '_>, rule: Arc<str>, resource: Arc<str>) -> ShownSeries {
+    let name = seen.metric.named(["name"]).and_then(|[name]| name?.text());
+    ShownSeries {
+        rule,
+        series: hash(seen.key),
         metric: cut(&name.unwrap_or_default()),
         attributes: attributes(seen.point, SHOWN_OF_POINT),
-        resource: mark.resource,
+        resource,
     }
+}
+
+/// The series of a request of one point, in the book's form.
+pub fn shown_of(request: &[u8], rule: Arc<str>) -> Option<ShownSeries> {
+    let document = Document::parse(request).ok()?;
+    let resource = elements(document.root(), "resourceMetrics").next()?;
+    let resource = member(resource, "resource")
+        .map(resource_shown)
+        .unwrap_or_default();
+    let mut series = None;
+    visit(&document, |seen| {
+        if seen.found.is_ok() {
+            series = Some(series_shown(&seen, rule.clone(), resource.clone()));
+        }
+    })?;
+    series
 }
 
 /// The rules of a request, of which there are few.

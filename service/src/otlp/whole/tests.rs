@@ -5,6 +5,7 @@ use super::*;
 use crate::otlp::series::posted;
 use crate::otlp::{prepare, Encoding, Prepared, Reading};
 
+mod auto;
 mod rounded;
 
 fn reading(rules: &[&str]) -> Reading {
@@ -49,6 +50,7 @@ fn rules_are_read_or_refused() {
         ("1", "1=1:1"),
         ("=", "=1:"),
         ("KiBy=By", "KiBy=1024:By"),
+        ("1=[ppm]", "1=1000000:[ppm]"),
         ("{a}/s=25:{b}/s", "{a}/s=25:{b}/s"),
     ] {
         assert_eq!(text.parse::<Rule>().unwrap().to_string(), whole);
@@ -62,6 +64,7 @@ fn rules_are_read_or_refused() {
         "s=By",
         "x=y",
         "kBy=KiBy",
+        "[ppm]=%",
         "s=0:us",
         "s=-1:us",
         "s=1.5:us",

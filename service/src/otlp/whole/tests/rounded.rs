@@ -49,7 +49,7 @@ fn a_rounded_point_has_its_series() {
     let about: Vec<_> = found
         .points
         .iter()
-        .map(|one| (one.metric.as_str(), one.attributes.as_str(), one.by))
+        .map(|one| (one.of.metric.as_str(), one.of.attributes.as_str(), one.by))
         .collect();
     assert_eq!(
         about,
@@ -60,7 +60,7 @@ fn a_rounded_point_has_its_series() {
             ("", "", 0.25),
         ]
     );
-    let series: Vec<u64> = found.points.iter().map(|one| one.series).collect();
+    let series: Vec<u64> = found.points.iter().map(|one| one.of.series).collect();
     assert_eq!(
         series[0], series[1],
         "the order of attributes makes no other series"
@@ -69,7 +69,7 @@ fn a_rounded_point_has_its_series() {
     assert!(found
         .points
         .iter()
-        .all(|one| &*one.resource == "service.name=shop" && &*one.rule == "s=1000000:us"));
+        .all(|one| &*one.of.resource == "service.name=shop" && &*one.of.rule == "s=1000000:us"));
     let together = Rounding {
         values: 4,
         together: 1.5,
@@ -116,9 +116,9 @@ fn rules_are_told_apart_and_one_series_is_one() {
     let one = sum(r#""asDouble":0.0000015"#);
     let finer = one.replace(r#""unit":"s""#, r#""unit":"ms""#);
     let found = rounded(request(&[one, finer]), &["s=us", "ms=us"]);
-    let rules: Vec<&str> = found.points.iter().map(|one| &*one.rule).collect();
+    let rules: Vec<&str> = found.points.iter().map(|one| &*one.of.rule).collect();
     assert_eq!(rules, ["s=1000000:us", "ms=1000:us"]);
-    assert_eq!(found.points[0].series, found.points[1].series);
+    assert_eq!(found.points[0].of.series, found.points[1].of.series);
     assert_eq!(found.by_rule.len(), 2);
 }
 
@@ -133,9 +133,9 @@ fn what_is_long_is_cut_and_still_told_apart() {
         sum(&point)
     };
     let found = rounded(request(&[long("a"), long("b"), long("a")]), &["s=us"]);
-    let series: Vec<u64> = found.points.iter().map(|one| one.series).collect();
+    let series: Vec<u64> = found.points.iter().map(|one| one.of.series).collect();
     assert!(series[0] == series[2] && series[0] != series[1]);
-    let attributes = &found.points[0].attributes;
+    let attributes = &found.points[0].of.attributes;
     let value = format!("{}..", "é".repeat(100));
     assert_eq!(*attributes, format!("key0={value}, key1={value}, .."));
 }
@@ -155,6 +155,6 @@ fn values_of_attributes_are_shown() {
     ] {
         let point = format!(r#""asDouble":0.00000125,"attributes":[{{"key":"k","value":{value}}}]"#);
         let found = rounded(request(&[sum(&point)]), &["s=us"]);
-        assert_eq!(found.points[0].attributes, format!("k={shown}"));
+        assert_eq!(found.points[0].of.attributes, format!("k={shown}"));
     }
 }

@@ -1,0 +1,144 @@
+//! What of a request is handed on to another receiver: the request as it came, with those points alone that are outside the
+//! profile and have nothing wrong. Resources, scopes and metrics keep whatever else they have, byte for byte.
+//!
+//! `visit` says of each point of the request in the book's form whether it is one; `protobuf` and `json` take these out of the
+//! request as it came, which has the same points in the same order.
+
+mod json;
+mod protobuf;
+
+use super::causes::{Cause, Causes};
+use super::json::Document;
+use super::series::visit;
+use super::Encoding;
+use bytes::Bytes;
+
+/// A request as it came, unpacked.
+#[derive(Clone, Debug)]
+pub struct Original {
+    pub encoding: Encoding,
+    pub body: Bytes,
+}
+
+/// What of it is handed on.
+#[derive(Debug, PartialEq)]
+pub struct Outside {
+    pub encoding: Encoding,
+    pub body: Bytes,
+    pub points: u64,
+}
+
+/// The kinds of data that have points, in the order in which a metric's are visited. The first are of no series.
+const KINDS: [Kind; 5] = [
+    Kind::new("gauge", "gauge", 5),
+    Kind::new("exponentialHistogram", "exponential_histogram", 10),
+    Kind::new("summary", "summary", 11),
+    Kind::new("sum", "sum", 7),
+    Kind::new("histogram", "histogram", 9),
+];
+const OF_NO_SERIES: usize = 3;
+
+struct Kind {
+    name: &'static str,
+    proto_name: &'static str,
+    number: u32,
+}
+
+impl Kind {
+    const fn new(name: &'static str, proto_name: &'static str, number: u32) -> Kind {
+        Kind {
+            name,
+            proto_name,
+            number,
+        }
+    }
+}
+
+/// Says of each point in turn whether it is handed on, by the place of its kind.
+type Choose<'c> = dyn FnMut(usize) -> bool + 'c;
+
+impl Original {
+    /// What is handed on of a request with so many foreign points, and the causes of the others. `text` is the request in the
+    /// book's form.
+    pub fn outside(&self, foreign: u64, text: impl FnOnce() -> Option<Bytes>) -> (Option<Outside>, Causes) {
+        // As a rule all of them are of kinds that are of no series.
+        if self.encoding == Encoding::Protobuf {
+            let (body, points) = self.with(|kind| kind < OF_NO_SERIES);
+            if points == foreign {
+                return (self.made(body, points), Causes::default());
+            }
+        }
+        let text = text().unwrap_or_default();
+        let Some(found) = points(&text) else {
+            return (None, Causes::of(&text, foreign));
+        };
+        let (passed, rest): (Vec<&Point>, Vec<&Point>) = found.iter().partition(|point| point.is_passed());
+        let rest = rest.into_iter().filter_map(|point| point.cause);
+        let mut of_each = found.iter();
+        let (body, points) = self.with(|_| of_each.next().is_some_and(|point| point.is_passed()));
+        let is_same = of_each.next().is_none() && points == passed.len() as u64;
+        let causes = Causes::of_points(rest);
+        match is_same && points + causes.count() == foreign {
+            true => (self.made(body, points), causes),
+            false => (None, Causes::of(&text, foreign)),
+        }
+    }
+
+    fn with(&self, mut choose: impl FnMut(usize) -> bool) -> (Option<Vec<u8>>, u64) {
+        let mut points = 0;
+        let mut counted = |kind| {
+            let is_chosen = choose(kind);
+            points += u64::from(is_chosen);
+            is_chosen
+        };
+        let body = match self.encoding {
+            Encoding::Protobuf => protobuf::with(&self.body, &mut counted),
+            Encoding::Json => json::with(&self.body, &mut counted),
+        };
+        (body, points)
+    }
+
+    fn made(&self, body: Option<Vec<u8>>, points: u64) -> Option<Outside> {
+        let (encoding, body) = (self.encoding, body?.into());
+        Some(Outside {
+            encoding,
+            body,
+            points,
+        })
+    }
+}
+
+/// Whether a metric's data is of a kind that no series has.
+pub fn is_of_no_series(kind: &str) -> bool {
+    KINDS[..OF_NO_SERIES].iter().any(|known| known.name == kind)
+}
+
+/// A point of a request.
+#[derive(Clone, Copy)]
+struct Point {
+    is_of_no_series: bool,
+    /// Why it is foreign.
+    cause: Option<Cause>,
+}
+
+impl Point {
+    fn is_passed(self) -> bool {
+        self.is_of_no_series || self.cause.is_some_and(Cause::is_passed)
+    }
+}
+
+/// All points of a request in the book's form; none where it can't be read.
+fn points(text: &[u8]) -> Option<Vec<Point>> {
+    let document = Document::parse(text).ok()?;
+    let mut points = Vec::new();
+    visit(&document, |seen| {
+        points.push(Point {
+            is_of_no_series: is_of_no_series(seen.kind),
+            cause: Cause::of(&seen),
+        });
+    })?;
+    Some(points)
+}
+
+#[cfg(test)]
+mod tests;

@@ -1,0 +1,93 @@
+//! The same in protobuf: fields are copied as they are, but the lists on the way to a point.
+
+use super::{Choose, KINDS};
+use crate::otlp::wire::{Fields, Payload};
+
+/// The fields of lists: a request's resources, a resource's scopes, a scope's metrics, and points of any kind of data.
+const RESOURCES: u32 = 1;
+const SCOPES: u32 = 2;
+const METRICS: u32 = 2;
+const POINTS: u32 = 1;
+
+/// The request with the points that are chosen; nothing where none is, or where it can't be read.
+pub fn with(request: &[u8], choose: &mut Choose<'_>) -> Option<Vec<u8>> {
+    list(request, RESOURCES, |resource| {
+        list(resource, SCOPES, |scope| {
+            list(scope, METRICS, |one| metric(one, choose))
+        })
+    })
+}
+
+/// A message with what `each` makes of the elements of one list, and all else that it has; nothing where none is left.
+fn list<'b>(
+    message: &'b [u8],
+    number: u32,
+    mut each: impl FnMut(&'b [u8]) -> Option<Vec<u8>>,
+) -> Option<Vec<u8>> {
+    let mut out = Vec::new();
+    let mut is_any = false;
+    for (field, payload, raw) in fields(message)? {
+        match payload {
+            Payload::Bytes(element) if field == number => {
+                if let Some(element) = each(element) {
+                    is_any = true;
+                    put(&mut out, number, &element);
+                }
+            }
+            _ => out.extend_from_slice(raw),
+        }
+    }
+    is_any.then_some(out)
+}
+
+fn metric(message: &[u8], choose: &mut Choose<'_>) -> Option<Vec<u8>> {
+    let fields = fields(message)?;
+    let mut chosen = Vec::new();
+    for (place, kind) in KINDS.iter().enumerate() {
+        for (number, payload, _) in &fields {
+            if let (true, Payload::Bytes(data)) = (*number == kind.number, payload) {
+                chosen.push((kind.number, data_with(data, &mut || choose(place))));
+            }
+        }
+    }
+    if chosen.iter().all(|(_, data)| data.is_none()) {
+        return None;
+    }
+    let mut out = Vec::with_capacity(message.len());
+    for (number, payload, raw) in &fields {
+        let place = chosen.iter().position(|(kind, _)| kind == number);
+        match (place, payload) {
+            (Some(place), Payload::Bytes(_)) => {
+                if let (_, Some(data)) = chosen.remove(place) {
+                    put(&mut out, *number, &data);
+                }
+            }
+            _ => out.extend_from_slice(raw),
+        }
+    }
+    Some(out)
+}
+
+fn data_with(data: &[u8], is_chosen: &mut impl FnMut() -> bool) -> Option<Vec<u8>> {
+    list(data, POINTS, |point| is_chosen().then(|| point.to_vec()))
+}
+
+/// The fields of a message, each with its bytes.
+fn fields(message: &[u8]) -> Option<Vec<(u32, Payload<'_>, &[u8])>> {
+    let mut fields = Fields::of(message);
+    let mut all = Vec::new();
+    loop {
+        let here = fields.rest();
+        let Some(field) = fields.next() else {
+            return Some(all);
+        };
+        let (number, payload) = field.ok()?;
+        all.push((number, payload, &here[..here.len() - fields.rest().len()]));
+    }
+}
+
+fn put(out: &mut Vec<u8>, number: u32, bytes: &[u8]) {
+    prost::encoding::encode_key(number, prost::encoding::WireType::LengthDelimited, out);
+    prost::encoding::encode_varint(bytes.len() as u64, out);
+    out.extend_from_slice(bytes);
+}

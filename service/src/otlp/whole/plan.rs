@@ -1,0 +1,165 @@
+//! In which unit a metric of a request is taken: by a rule for its unit, or as `units` decides. Its request is in the book's
+//! form, or in another of which nothing is said here.
+
+use super::units::{Unit, Units};
+use super::{Rule, Whole};
+use crate::otlp::json::Value;
+use crate::otlp::number::book_whole;
+
+pub(super) const DATA: [&str; 5] = ["sum", "histogram", "gauge", "exponentialHistogram", "summary"];
+/// No series has a longer name.
+const MAX_NAME: usize = 4096;
+
+/// In which unit.
+#[derive(Clone, Copy)]
+pub(super) enum Taken<'r> {
+    /// Nothing is known of its unit, or of how it adds up.
+    AsItIs,
+    /// In whole numbers of its own, in which it was first taken.
+    Whole(Unit),
+    In(&'r Rule),
+}
+
+/// What a metric has, if it is one kind of data that is added up.
+pub(super) struct Delta<'d> {
+    pub kind: &'static str,
+    pub data: Value<'d>,
+}
+
+impl<'d> Delta<'d> {
+    pub fn of(metric: Value<'d>) -> Option<Delta<'d>> {
+        let found = metric.named(DATA)?;
+        let mut there = DATA
+            .into_iter()
+            .zip(found)
+            .filter_map(|(kind, data)| Some((kind, data?)));
+        let (kind, data) = there.next()?;
+        let is_one = there.next().is_none() && DATA[..2].contains(&kind);
+        (is_one && is_delta(data)).then_some(Delta { kind, data })
+    }
+
+    pub fn points(&self) -> impl Iterator<Item = Value<'d>> {
+        elements(self.data, "dataPoints")
+    }
+
+    pub fn is_monotonic(&self) -> bool {
+        member(self.data, "isMonotonic").and_then(Value::truth) == Some(true)
+    }
+
+    /// Whether its numbers are doubles. Those of a histogram say nothing of that: some are whole by chance.
+    fn has_doubles(&self) -> bool {
+        self.kind == "histogram" || self.points().any(is_double)
+    }
+}
+
+pub(super) fn is_delta(data: Value<'_>) -> bool {
+    member(data, "aggregationTemporality").and_then(Value::number) == Some("1")
+}
+
+/// Whether a sum's point has a double and no whole number.
+fn is_double(point: Value<'_>) -> bool {
+    matches!(point.named(["asInt", "asDouble"]), Some([None, Some(_)]))
+}
+
+/// Whether a histogram's point has a sum or a bound that is no whole number.
+fn has_fraction(point: Value<'_>) -> bool {
+    let Some([sum, bounds]) = point.named(["sum", "explicitBounds"]) else {
+        return false;
+    };
+    let bounds = bounds.and_then(Value::elements).into_iter().flatten();
+    sum.into_iter()
+        .chain(bounds)
+        .any(|value| book_whole(value).is_none())
+}
+
+pub(super) fn member<'d>(object: Value<'d>, name: &str) -> Option<Value<'d>> {
+    object.named([name])?[0]
+}
+
+pub(super) fn elements<'d>(object: Value<'d>, name: &str) -> impl Iterator<Item = Value<'d>> {
+    member(object, name)
+        .and_then(Value::elements)
+        .into_iter()
+        .flatten()
+}
+
+/// How a metric is taken. Where nothing is known of its name yet, its points decide.
+pub(super) fn taken<'r>(whole: &'r Whole, metric: Value<'_>) -> Taken<'r> {
+    plan(whole, metric, |units, name, unit, delta| {
+        Some(units.decide(name, unit, delta.has_doubles()))
+    })
+    .unwrap_or(Taken::AsItIs)
+}
+
+/// The same of a metric without points; none where nothing is decided yet.
+pub(super) fn decided<'r>(whole: &'r Whole, metric: Value<'_>) -> Option<Taken<'r>> {
+    plan(whole, metric, |units, name, unit, _| units.decided(name, unit))
+}
+
+fn plan<'r, 'd>(
+    whole: &'r Whole,
+    metric: Value<'d>,
+    unit_of: impl FnOnce(&Units, &str, Unit, &Delta<'d>) -> Option<Unit>,
+) -> Option<Taken<'r>> {
+    let own = match member(metric, "unit") {
+        None => Some("".into()),
+        Some(unit) => unit.text(),
+    };
+    let Some(own) = own else {
+        return Some(Taken::AsItIs);
+    };
+    let name = || member(metric, "name").map_or(Some("".into()), Value::text);
+    if let Some(rule) = whole.rules.get(&*own) {
+        if let (Some(units), Some(to), Some(_)) = (&whole.units, Unit::of(&rule.to), Delta::of(metric)) {
+            name().iter().for_each(|name| units.note(name, to));
+        }
+        return Some(Taken::In(rule));
+    }
+    let (Some(units), Some(unit)) = (&whole.units, Unit::of(&own)) else {
+        return Some(Taken::AsItIs);
+    };
+    let name = name().filter(|name| name.len() <= MAX_NAME);
+    let (Some(name), Some(delta)) = (name, Delta::of(metric)) else {
+        return Some(Taken::AsItIs);
+    };
+    let wanted = unit_of(units, &name, unit, &delta)?;
+    Some(match units.rule(unit, wanted) {
+        // Of the finest unit doubles are rounded.
+        Some(rule) if wanted == unit.finest() => Taken::In(rule),
+        Some(rule) if wanted != unit => Taken::In(rule),
+        _ => Taken::Whole(unit),
+    })
+}
+
+/// Whether a metric is taken otherwise than it is, or has something that can't be taken.
+pub fn changes(whole: &Whole, metric: Value<'_>) -> bool {
+    let is_about = match member(metric, "unit") {
+        None => whole.has_no_unit(),
+        Some(unit) => unit.text().is_some_and(|unit| whole.is_about(&unit)),
+    };
+    is_about
+        && match taken(whole, metric) {
+            Taken::AsItIs => false,
+            Taken::In(rule) if !rule.is_same() => true,
+            Taken::Whole(_) | Taken::In(_) => Delta::of(metric).is_some_and(|delta| match delta.kind {
+                "sum" => delta.points().any(is_double),
+                _ => delta.points().any(has_fraction),
+            }),
+        }
+}
+
+/// The first double of a metric that is taken in whole numbers alone, and what it is.
+pub(super) fn first_double<'d>(metric: Value<'d>) -> Option<(&'static str, Value<'d>)> {
+    let delta = Delta::of(metric)?;
+    if delta.kind == "sum" {
+        let point = delta.points().find(|point| is_double(*point))?;
+        return Some(("the value", member(point, "asDouble")?));
+    }
+    delta.points().find_map(|point| {
+        let [sum, bounds] = point.named(["sum", "explicitBounds"])?;
+        let mut bounds = bounds.and_then(Value::elements).into_iter().flatten();
+        let is_fraction = |value: &Value<'d>| book_whole(*value).is_none();
+        let sum = sum.filter(is_fraction).map(|sum| ("the sum", sum));
+        bounds.find(is_fraction).map(|bound| ("the bound", bound)).or(sum)
+    })
+}

@@ -1,0 +1,192 @@
+//! Metrics of known units without a rule.
+
+use super::*;
+
+fn auto(choices: &[&str]) -> Reading {
+    Reading {
+        whole: Whole::of(choices.iter().map(|choice| choice.parse().unwrap())).unwrap(),
+        ..Reading::default()
+    }
+}
+
+fn request(metrics: &[String]) -> String {
+    format!(
+        r#"{{"resourceMetrics":[{{"scopeMetrics":[{{"metrics":[{}]}}]}}]}}"#,
+        metrics.join(",")
+    )
+}
+
+fn sum(name: &str, unit: &str, points: &[&str]) -> String {
+    let point = |value: &&str| format!(r#"{{"startTimeUnixNano":"1","timeUnixNano":"2",{value}}}"#);
+    let points: Vec<String> = points.iter().map(point).collect();
+    format!(
+        r#"{{"name":"{name}","unit":"{unit}","sum":{{"aggregationTemporality":1,"dataPoints":[{}]}}}}"#,
+        points.join(",")
+    )
+}
+
+fn histogram(name: &str, unit: &str, says: &str) -> String {
+    format!(
+        r#"{{"name":"{name}","unit":"{unit}","histogram":{{"aggregationTemporality":1,"dataPoints":[{{"startTimeUnixNano":"1","timeUnixNano":"2",{says}}}]}}}}"#
+    )
+}
+
+/// Of the first metric its unit and what its points have; how many points are foreign, and the first that is named.
+fn taken(reading: &Reading, metrics: &[String]) -> (String, Vec<String>, u64, Option<String>) {
+    let body = request(metrics);
+    let prepared = prepare(Encoding::Json, body.into(), reading).unwrap();
+    let read: serde_json::Value = serde_json::from_slice(&prepared.body).unwrap();
+    let metric = &read["resourceMetrics"][0]["scopeMetrics"][0]["metrics"][0];
+    let points = metric["sum"]["dataPoints"].as_array().into_iter().flatten();
+    let plain = |value: &serde_json::Value| value.to_string().replace('"', "");
+    let values = points.map(|point| point.get("asInt").map_or("foreign".into(), plain));
+    (
+        metric["unit"].as_str().unwrap().to_string(),
+        values.collect(),
+        foreign(&prepared),
+        prepared.rounded.unfit,
+    )
+}
+
+fn values(values: &[&str]) -> Vec<String> {
+    values.iter().map(|value| value.to_string()).collect()
+}
+
+const DOUBLE: &str = r#""asDouble":0.25"#;
+const WHOLE: &str = r#""asInt":"7""#;
+
+#[test]
+fn the_first_points_of_a_sum_decide() {
+    let reading = auto(&[]);
+    let doubles = |unit, whole, points: &[&str]| {
+        let found = taken(&reading, &[sum(&format!("d {unit}"), unit, points)]);
+        assert_eq!(found, (whole, found.1.clone(), 0, None));
+        found.1
+    };
+    for (unit, finest, two) in [
+        ("s", "ns", ["250000000", "7000000000"]),
+        ("us", "ns", ["250", "7000"]),
+        ("KiBy", "By", ["256", "7168"]),
+        ("By", "By", ["0", "7"]),
+        ("%", "[ppm]", ["2500", "70000"]),
+        ("1", "[ppm]", ["250000", "7000000"]),
+    ] {
+        // Any double of the first request, also behind a whole number.
+        assert_eq!(
+            doubles(unit, finest.into(), &[WHOLE, DOUBLE])[..],
+            [two[1], two[0]]
+        );
+        assert_eq!(doubles(unit, finest.into(), &[WHOLE])[..], [two[1]]);
+    }
+    assert_eq!(
+        taken(&reading, &[sum("w", "s", &[WHOLE])]),
+        ("s".into(), values(&["7"]), 0, None)
+    );
+    let named = "the value 0.25 of `w` is a double, and it was first taken in whole s";
+    assert_eq!(
+        taken(&reading, &[sum("w", "s", &[WHOLE, DOUBLE])]),
+        ("s".into(), values(&["7", "foreign"]), 1, Some(named.into()))
+    );
+    // One unit a name: also where it comes in another.
+    assert_eq!(
+        taken(&reading, &[sum("d s", "ms", &[WHOLE])]),
+        ("ns".into(), values(&["7000000"]), 0, None)
+    );
+    for unit in ["", "{request}", "EUR"] {
+        assert_eq!(
+            taken(&reading, &[sum("x", unit, &[DOUBLE])]),
+            (unit.into(), values(&["foreign"]), 1, None)
+        );
+    }
+}
+
+#[test]
+fn histograms_are_taken_in_the_finest_unit_since_some_are_whole_by_chance() {
+    let reading = auto(&[]);
+    let of = |says: &str| taken(&reading, &[histogram("h", "s", says)]);
+    let whole = of(r#""count":1,"sum":3,"bucketCounts":[1,0],"explicitBounds":[5]"#);
+    assert_eq!((&*whole.0, whole.2), ("ns", 0));
+    let fraction = of(r#""count":1,"sum":0.3,"bucketCounts":[1,0],"explicitBounds":[0.005]"#);
+    assert_eq!((&*fraction.0, fraction.2), ("ns", 0));
+    let too_fine = of(r#""count":1,"sum":0.3,"bucketCounts":[1,0],"explicitBounds":[1e-10]"#);
+    assert_eq!(too_fine.2, 1);
+    assert_eq!(
+        too_fine.3.as_deref(),
+        Some("the bound 1e-10 s of `h` can't be had in whole ns")
+    );
+}
+
+#[test]
+fn rules_win_and_off_is_off() {
+    let taken_by = |choices: &[&str], unit| taken(&auto(choices), &[sum("a", unit, &[DOUBLE])]).0;
+    assert_eq!(
+        [
+            taken_by(&["s=us"], "s"),
+            taken_by(&["s=us"], "ms"),
+            taken_by(&["auto", "s=us"], "ms")
+        ],
+        ["us", "ns", "ns"]
+    );
+    assert_eq!(
+        [taken_by(&["off"], "s"), taken_by(&["off", "s=us"], "s")],
+        ["s", "us"]
+    );
+    assert!(Whole::of([Choice::Auto, Choice::Off])
+        .unwrap_err()
+        .contains("both auto and off"));
+    // A rule's unit is one that the metric is in from then on.
+    let reading = auto(&["s=us"]);
+    assert_eq!(taken(&reading, &[sum("a", "s", &[DOUBLE])]).0, "us");
+    assert_eq!(taken(&reading, &[sum("a", "ms", &[DOUBLE])]).0, "us");
+}
+
+/// What is not changed goes on as it came, with no look at all of it.
+#[test]
+fn what_stays_as_it_is_is_not_written_anew() {
+    let reading = auto(&[]);
+    for metrics in [
+        vec![sum("a", "By", &[WHOLE]), sum("b", "", &[DOUBLE])],
+        vec![histogram("c", "By", r#""count":1,"sum":3"#)],
+        vec![sum("d", "1", &[WHOLE])],
+        vec![sum("d", "1", &[WHOLE]), sum("a", "By", &[WHOLE])],
+    ] {
+        let body = request(&metrics);
+        let prepared = prepare(Encoding::Json, body.clone().into(), &reading).unwrap();
+        assert_eq!(prepared.body, body.as_bytes());
+    }
+    for (metric, is_usual) in [
+        (sum("a", "By", &[WHOLE]), true),
+        (sum("a", "By", &[WHOLE, DOUBLE]), false),
+        (sum("d", "1", &[WHOLE]), true),
+        (sum("d", "1", &[DOUBLE]), false),
+        (sum("new", "1", &[WHOLE]), false),
+        (sum("new", "{request}", &[DOUBLE]), true),
+    ] {
+        let body = request(&[metric]);
+        let found = crate::otlp::usual::is_usual(body.as_bytes(), &reading);
+        assert_eq!(found, is_usual, "{body}");
+    }
+}
+
+/// As a start does it.
+#[test]
+fn what_a_folder_knows_decides() {
+    let before = auto(&[]);
+    let request = request(&[sum("a", "s", &[DOUBLE]), sum("b", "s", &[WHOLE])]);
+    let posted = prepare(Encoding::Json, request.into(), &before).unwrap();
+    let after = auto(&[]);
+    after.whole.know_request(&posted.body);
+    after
+        .whole
+        .know_series(r#"[[],"","",[],"c","ms","monotonic",[]]"#);
+    let unit = |name, unit, point| taken(&after, &[sum(name, unit, &[point])]).0;
+    assert_eq!(
+        [
+            unit("a", "s", WHOLE),
+            unit("b", "s", DOUBLE),
+            unit("c", "s", DOUBLE),
+            unit("d", "s", WHOLE)
+        ],
+        ["ns", "s", "ms", "s"]
+    );
+}

@@ -1,0 +1,178 @@
+//! Hands points that are outside the profile to another OTLP receiver (`--pass`): at most once, and nobody waits for it.
+//!
+//! What is handed on waits in memory, of which there is a bound; what finds no room there, and what the receiver does not
+//! take, is counted and gone. One request is under way at a time, so a series' points keep their order.
+
+mod send;
+
+use crate::log::Seldom;
+use crate::metrics::Metrics;
+use crate::otlp::{Encoding, Outside};
+use bytes::Bytes;
+use send::Receiver;
+use std::collections::VecDeque;
+use std::sync::{Arc, Mutex, MutexGuard, PoisonError};
+use std::time::Duration;
+use tokio::sync::Notify;
+
+pub use send::BadReceiver;
+
+/// How many bytes may wait, and how many points are sent at a time where many wait.
+const MOST_WAITING: usize = 16 << 20;
+const MOST_OF_A_REQUEST: usize = 1 << 20;
+/// What waits takes beside its bytes.
+const ENTRY: usize = 128;
+
+pub struct Pass {
+    receiver: Receiver,
+    waiting: Mutex<Waiting>,
+    arrived: Notify,
+    metrics: Arc<Metrics>,
+    seldom: Seldom,
+}
+
+#[derive(Default)]
+struct Waiting {
+    all: VecDeque<Outside>,
+    bytes: usize,
+}
+
+/// What became of points, as it is counted.
+#[derive(Clone, Copy, Debug, PartialEq, Eq)]
+pub enum Passed {
+    Taken,
+    /// The receiver said that it does not take them.
+    Refused,
+    /// It gave no answer, or none in time: it may have them.
+    Lost,
+    /// Too much waited already.
+    Dropped,
+}
+
+impl Passed {
+    pub fn name(self) -> &'static str {
+        match self {
+            Passed::Taken => "taken",
+            Passed::Refused => "refused",
+            Passed::Lost => "lost",
+            Passed::Dropped => "dropped",
+        }
+    }
+}
+
+impl Pass {
+    /// To `http://HOST:PORT`, or a whole URL.
+    pub fn to(address: &str, metrics: Arc<Metrics>) -> Result<Arc<Pass>, BadReceiver> {
+        Ok(Arc::new(Pass {
+            receiver: Receiver::at(address)?,
+            waiting: Mutex::default(),
+            arrived: Notify::new(),
+            metrics,
+            seldom: Seldom::every(Duration::from_secs(60)),
+        }))
+    }
+
+    /// Whether it hands on to this address, HOST:PORT.
+    pub fn is_to(&self, address: &str) -> bool {
+        self.receiver.is_at(address)
+    }
+
+    pub fn url(&self) -> String {
+        self.receiver.url()
+    }
+
+    /// Waits for nothing.
+    pub fn hand_on(&self, outside: Outside) {
+        let points = outside.points;
+        match self.lock().put(outside) {
+            true => self.arrived.notify_one(),
+            false => self.count(points, Passed::Dropped, "too much waits already"),
+        }
+    }
+
+    /// Sends what waits, for ever.
+    pub async fn run(self: Arc<Self>) {
+        loop {
+            let next = self.lock().take();
+            let Some(next) = next else {
+                self.arrived.notified().await; // a call that came between is kept for this one
+                continue;
+            };
+            let points = next.points;
+            let (refused, passed, why) = self.receiver.send(next).await;
+            let refused = refused.min(points);
+            self.count(points - refused, passed, &why);
+            self.count(refused, Passed::Refused, &why);
+        }
+    }
+
+    fn count(&self, points: u64, passed: Passed, why: &str) {
+        if points == 0 {
+            return;
+        }
+        let name = passed.name();
+        self.metrics
+            .passed_points
+            .with_label_values(&[name])
+            .inc_by(points);
+        if passed != Passed::Taken && self.seldom.is_due() {
+            let url = self.url();
+            tracing::warn!(
+                url,
+                reason = why,
+                points,
+                "{points} points outside the profile are {name}, and not passed on to {url}: {why}; totxegun_passed_points_total \
+                 has how many there are"
+            );
+        }
+    }
+
+    fn lock(&self) -> MutexGuard<'_, Waiting> {
+        self.waiting.lock().unwrap_or_else(PoisonError::into_inner) // each change of it is whole
+    }
+}
+
+impl Waiting {
+    /// Whether there was room.
+    fn put(&mut self, outside: Outside) -> bool {
+        let takes = outside.body.len() + ENTRY;
+        let has_room = self.bytes + takes <= MOST_WAITING;
+        if has_room {
+            self.bytes += takes;
+            self.all.push_back(outside);
+        }
+        has_room
+    }
+
+    /// The next request. To protobuf several behind one another are one.
+    fn take(&mut self) -> Option<Outside> {
+        let mut next = self.take_one()?;
+        let mut body = Vec::new();
+        while let Some(other) = self.all.front() {
+            let length = next.body.len().max(body.len()) + other.body.len();
+            let are_protobuf = [&next, other].map(|one| one.encoding) == [Encoding::Protobuf; 2];
+            if !are_protobuf || length > MOST_OF_A_REQUEST {
+                break;
+            }
+            let Some(other) = self.take_one() else { break };
+            if body.is_empty() {
+                body.extend_from_slice(&next.body);
+            }
+            body.extend_from_slice(&other.body);
+            next.points += other.points;
+        }
+        if !body.is_empty() {
+            next.body = Bytes::from(body);
+        }
+        Some(next)
+    }
+
+    fn take_one(&mut self) -> Option<Outside> {
+        let one = self.all.pop_front()?;
+        self.bytes -= one.body.len() + ENTRY;
+        Some(one)
+    }
+}
+
+#[cfg(test)]
+mod tests;

@@ -1,0 +1,317 @@
+#!/usr/bin/env python3
+"""One address for all that an SDK sends: doubles and seconds are taken in whole numbers of a finer unit without a word said of
+it, and what is not added up is handed on to another receiver.
+
+    tests/handed_on.py TOTXEGUN [SEED]
+
+First the units: sums and histograms of doubles, in both encodings, over kills and flushes. The sink has what this program
+added up by its own exact numbers, each metric in the one unit that it was first taken in, also where whole numbers came
+first, and where an earlier run was told `--whole off`. Then `--pass`: a receiver gets the gauges of each post as they came,
+byte for byte and each once, by way of a second service too; no answer rejects them, no metric calls them foreign, and
+neither a receiver that stalls nor one that is gone holds up a post.
+
+Each line is one check; the last one counts those that passed and failed, and the status is 1 where one failed.
+"""
+import contextlib
+import decimal
+import http.server
+import json
+import os
+import random
+import sqlite3
+import struct
+import sys
+import tempfile
+import threading
+import time
+
+from checks import Checks
+from loopback import free_port
+from service import JSON, PROTOBUF, Service, ask, field, fixed, wait_until
+
+DELTA, CUMULATIVE = 1, 2
+BOUNDS = [0.005, 0.25, 5]
+POSTS = 60
+
+
+def nearest(value, factor):
+    """A number in the finer unit: of two that are as near the even one."""
+    exact = decimal.Decimal(repr(value)) * factor
+    return int(exact.to_integral_value(rounding=decimal.ROUND_HALF_EVEN))
+
+
+# --------------------------------------------------------------------------------------------------------------------
+# Requests: metrics are (name, unit, kind, [value ..]), of a histogram's point (buckets, sum)
+
+
+def json_point(kind, value, start):
+    point = {"startTimeUnixNano": str(start), "timeUnixNano": str(start + 10)}
+    if kind == "histogram":
+        return point | {"count": str(sum(value[0])), "sum": value[1], "bucketCounts": value[0], "explicitBounds": BOUNDS}
+    return point | ({"asInt": str(value)} if isinstance(value, int) else {"asDouble": value})
+
+
+def in_json(metrics, start):
+    made = []
+    for name, unit, kind, values in metrics:
+        data = {"dataPoints": [json_point(kind, value, start) for value in values]}
+        data |= {} if kind == "gauge" else {"aggregationTemporality": DELTA}
+        made.append({"name": name, "unit": unit, "description": "of a test", kind: data})
+    return {"resourceMetrics": [{"schemaUrl": "u", "scopeMetrics": [{"scope": {"name": "s"}, "metrics": made}]}]}
+
+
+def binary_point(kind, value, start):
+    point = fixed(2, "<Q", start) + fixed(3, "<Q", start + 10)
+    if kind == "histogram":
+        point += fixed(4, "<Q", sum(value[0])) + fixed(5, "<d", value[1])
+        return point + field(6, struct.pack("<4Q", *value[0])) + field(7, struct.pack("<3d", *BOUNDS))
+    return point + (fixed(6, "<q", value) if isinstance(value, int) else fixed(4, "<d", value))
+
+
+def in_protobuf(metrics, start):
+    made = b""
+    for name, unit, kind, values in metrics:
+        data = b"".join(field(1, binary_point(kind, value, start)) for value in values)
+        data += b"" if kind == "gauge" else field(2, DELTA)
+        head = field(1, name.encode()) + field(2, b"of a test") + field(3, unit.encode())
+        made += field(2, head + field({"gauge": 5, "sum": 7, "histogram": 9}[kind], data))
+    return field(1, field(1, b"") + field(2, field(1, field(1, b"s")) + made) + field(3, b"u"))
+
+
+class Posts:
+    """Posts in both encodings in turn, later and later."""
+
+    def __init__(self, service, sender="A"):
+        self.service, self.sender, self.start = service, sender, 1000
+
+    def post(self, metrics, encoding=None):
+        """The status, how many points are rejected, and why."""
+        self.start += 10
+        encoding = encoding or (JSON if self.start // 10 % 2 else PROTOBUF)
+        body = json.dumps(in_json(metrics, self.start)).encode() if encoding == JSON else in_protobuf(metrics, self.start)
+        headers = {"Content-Type": encoding, "x-sender": self.sender}
+        status, answer = ask(self.service.listen, "POST", "/v1/metrics", body, headers)
+        if encoding == PROTOBUF:
+            return status, len(answer), answer.decode(errors="replace")
+        said = json.loads(answer).get("partialSuccess", {})
+        return status, int(said.get("rejectedDataPoints", 0)), said.get("errorMessage", "")
+
+
+def totals(path):
+    """What a sink has, by name: the units, and the total."""
+    with contextlib.closing(sqlite3.connect(f"file:{path}?mode=ro", uri=True)) as database:
+        rows = database.execute("select name, unit, total from totals").fetchall()
+    found = {}
+    for name, unit, total in rows:
+        found.setdefault(name, {})[unit] = found.get(name, {}).get(unit, 0) + int(total)
+    return found
+
+
+def flushed(checks, service, what):
+    service.order("/flush")
+    checks.true(f"{what}: all is delivered", wait_until(service.is_drained), service.last_lines())
+
+
+def again(checks, service, options=()):
+    service.kill()
+    service.words = [*service.words[:-2], *options] if options else service.words
+    service.start()
+    checks.true("it is ready again after a kill", service.wait_ready(), service.last_lines())
+
+
+# --------------------------------------------------------------------------------------------------------------------
+# The parts
+
+
+def units(checks, totxegun, chance, folder):
+    sink = f"{folder}/units.db"
+    service = Service(totxegun, f"{folder}/units", f"sqlite:{sink}", "--flush-every", "1h", "--whole", "auto")
+    try:
+        service.start()
+        checks.true("the service is ready", service.wait_ready(), service.last_lines())
+        posts, wanted, wrong = Posts(service), {"busy": 0, "latency": 0, "ticks": 0, "size": 0, "share": 0}, []
+        for number in range(POSTS):
+            busy = chance.choice([chance.expovariate(10), chance.randrange(5)]) if number else 0.1
+            sums = [0, chance.expovariate(3)] if number else [3.0]  # whole by chance
+            size, share = chance.expovariate(0.001), chance.choice([0.5, 1.0, 0.123456])
+            buckets = [chance.randrange(5) for _ in range(4)]
+            metrics = [("busy", "s", "sum", [busy]), ("latency", "s", "histogram", [(buckets, chance.choice(sums))]),
+                       ("ticks", "s", "sum", [number]), ("size", "By", "sum", [size]), ("share", "1", "sum", [share])]
+            answer = posts.post(metrics)
+            wrong += [answer] if answer[:2] != (200, 0) else []
+            wanted["busy"] += nearest(busy, 10**9)
+            wanted["latency"] += sum(buckets)
+            wanted["ticks"] += number
+            wanted["size"] += nearest(size, 1)
+            wanted["share"] += nearest(share, 10**6)
+            if number % 10 == 4:
+                again(checks, service)
+            if number % 20 == 9:
+                service.order("/flush")
+        checks.same("all is taken", [], wrong[:2])
+        later = [posts.post([("ticks", "s", "sum", [0.5])], encoding) for encoding in (JSON, PROTOBUF)]
+        named = "the value 0.5 s of `ticks` is a double, and it was first taken in whole s"
+        checks.true("doubles behind whole numbers are foreign by name, in both encodings",
+                    all(status == 200 and named in why for status, _, why in later), later)
+        flushed(checks, service, "units")
+        found, kind = totals(sink), {"busy": "ns", "latency": "ns", "ticks": "s", "size": "By", "share": "[ppm]"}
+        checks.same("each metric is in one unit", {name: [unit] for name, unit in kind.items()},
+                    {name: list(units) for name, units in found.items()})
+        sums = {name: found[name][kind[name]] for name in wanted if name in found and name != "latency"}
+        checks.same("its totals are what was added up here", {name: wanted[name] for name in sums}, sums)
+        with contextlib.closing(sqlite3.connect(sink)) as database:
+            count = database.execute("select count from totals where name = 'latency'").fetchone()[0]
+        checks.same("the histogram has all values", wanted["latency"], int(count))
+        checks.same("the service found nothing that must not be", [], service.faults())
+    finally:
+        service.kill()
+
+
+def kept_units(checks, totxegun, folder):
+    """A folder of an earlier version, and other options."""
+    sink = f"{folder}/kept.db"
+    service = Service(totxegun, f"{folder}/kept", f"sqlite:{sink}", "--flush-every", "1h", "--whole", "off")
+    whole, half = ("size", "ms", "histogram", [([1, 0, 0, 0], 2.0)]), ("wait", "s", "sum", [0.5])
+    try:
+        service.start()
+        service.wait_ready()
+        posts = Posts(service)
+        posts.post([("wait", "s", "sum", [2]), ("age", "ms", "sum", [2])])
+        again(checks, service, ["--whole", "auto"])
+        metrics = [("wait", "s", "sum", [2]), ("age", "s", "sum", [0.25]), ("new", "s", "sum", [0.25]), whole]
+        checks.same("a metric goes on in its unit, a new one is in a finer one", (200, 1), posts.post(metrics[:3] + [half], JSON)[:2])
+        service.order("/flush")
+        again(checks, service, ["--whole", "s=us"])
+        posts.post([("new", "ms", "sum", [0.25]), ("wait", "s", "sum", [0.5])])
+        flushed(checks, service, "other options")
+        wanted = {"wait": {"s": 4, "us": 500_000}, "age": {"ms": 252}, "new": {"ns": 250_250_000}}
+        checks.same("a rule wins, and without one the unit stays", wanted, totals(sink))
+    finally:
+        service.kill()
+
+
+class Receiver:
+    """Takes what comes, or stalls."""
+
+    def __init__(self):
+        self.bodies, self.stalls, self.port = [], threading.Event(), free_port()
+        receiver = self
+
+        class Handler(http.server.BaseHTTPRequestHandler):
+            protocol_version = "HTTP/1.1"
+
+            def do_POST(self):
+                body = self.rfile.read(int(self.headers["Content-Length"]))
+                while receiver.stalls.is_set():
+                    time.sleep(0.05)
+                receiver.bodies.append((self.headers["Content-Type"], body))
+                with contextlib.suppress(OSError):
+                    self.send_response(200)
+                    self.send_header("Content-Length", "0")
+                    self.end_headers()
+
+            def log_message(self, *_):
+                pass
+
+        self.server = http.server.ThreadingHTTPServer(("127.0.0.1", self.port), Handler)
+        threading.Thread(target=self.server.serve_forever, daemon=True).start()
+
+    def got(self):
+        """All that came in protobuf, and each in JSON."""
+        binary = b"".join(body for kind, body in self.bodies if kind == PROTOBUF)
+        return binary, [json.loads(body) for kind, body in self.bodies if kind == JSON]
+
+    def close(self):
+        self.stalls.clear()
+        self.server.shutdown()
+        self.server.server_close()
+
+
+def count_of(service, name):
+    """The sum of a metric's values, and whether it is there."""
+    page = service.asked("GET", "/metrics")[1].decode()
+    return sum(float(line.rpartition(" ")[2]) for line in page.splitlines() if line.startswith(name))
+
+
+def hands_on(checks, totxegun, chance, folder):
+    receiver = Receiver()
+    second = Service(totxegun, f"{folder}/second", f"sqlite:{folder}/second.db", "--pass", f"http://127.0.0.1:{receiver.port}")
+    service = Service(totxegun, f"{folder}/first", f"sqlite:{folder}/first.db", "--flush-every", "1h",
+                      "--pass", f"http://127.0.0.1:{second.listen}")
+    try:
+        for one in (second, service):
+            one.start()
+            checks.true("a service that passes on is ready", one.wait_ready(), one.last_lines())
+        posts, answers, binary, texts, points = Posts(service), [], b"", [], 0
+        for number in range(POSTS):
+            gauges = [("load", "1", "gauge", [chance.random(), 5][:chance.randrange(1, 3)]), ("heat", "Cel", "gauge", [chance.random()])]
+            euros = ("money", "EUR", "sum", [1.25])
+            metrics = [gauges[0], ("sold", "{item}", "sum", [number]), gauges[1], ("busy", "s", "sum", [0.25])]
+            metrics += [euros] if number % 3 == 0 else []
+            left = [*gauges, *([euros] if number % 3 == 0 else [])]
+            answers.append(posts.post(metrics))
+            points += sum(len(values) for *_, values in left)
+            if posts.start // 10 % 2:
+                texts.append(in_json(left, posts.start))
+            else:
+                binary += in_protobuf(left, posts.start)
+        checks.same("no point is rejected", {(200, 0, "")}, set(answers))
+        checks.true("all is handed on", wait_until(lambda: count_of(second, 'totxegun_passed_points_total{outcome="taken"}') >= points),
+                    (points, second.last_lines()))
+        found = receiver.got()
+        checks.true("the receiver has each post's points as they came, each once", found == (binary, texts),
+                    (len(found[0]), len(binary), len(found[1]), len(texts)))
+        for one in (service, second):
+            checks.same("none of them is called foreign", 0, count_of(one, "totxegun_foreign_points_total{"))
+        checks.same("nothing of it is lost", 0, sum(count_of(service, f'totxegun_passed_points_total{{outcome="{outcome}"}}')
+                                                    for outcome in ("refused", "lost", "dropped")))
+        service.order("/flush")
+        wait_until(service.is_drained)
+        checks.same("the sums are counted here", {"sold": {"{item}": sum(range(POSTS))}, "busy": {"ns": POSTS * 250_000_000}},
+                    totals(f"{folder}/first.db"))
+        bad = posts.post([("sold", "{item}", "sum", [1]), ("sold", "{item}", "gauge", [1])], JSON)
+        checks.same("a post that has both is taken", (200, 0), bad[:2])
+        away(checks, service, second, receiver, posts)
+    finally:
+        service.kill()
+        second.kill()
+        receiver.close()
+
+
+def away(checks, service, second, receiver, posts):
+    """The receiver stalls, and then is gone."""
+    receiver.stalls.set()
+    second.signal(19)  # it stops
+    gauges = [("load", "1", "gauge", [0.5] * 2000)]
+    begun, slowest, statuses = time.monotonic(), 0, set()
+    lost = lambda: sum(count_of(service, f'totxegun_passed_points_total{{outcome="{outcome}"}}') for outcome in ("lost", "dropped"))
+    while time.monotonic() - begun < 60 and not count_of(service, 'totxegun_passed_points_total{outcome="dropped"}'):
+        for _ in range(20):
+            before = time.monotonic()
+            statuses.add(posts.post(gauges, PROTOBUF)[0])
+            slowest = max(slowest, time.monotonic() - before)
+    checks.true("what finds no room is dropped, with a count", lost() > 0, service.last_lines())
+    checks.same("posts are taken meanwhile", {200}, statuses)
+    checks.true("and none is held up", slowest < 3, slowest)
+    second.kill()
+    checks.true("who is gone loses what waits", wait_until(
+        lambda: count_of(service, 'totxegun_passed_points_total{outcome="lost"}') > 0, 30), service.last_lines())
+    with open(service.log, encoding="utf-8", errors="replace") as file:
+        lines = [line for line in file if "not passed on to" in line]
+    checks.true("the log says so, a line a minute at most", 1 <= len(lines) <= 3, lines[:4])
+    checks.same("it ends when it is told to", 0, service.end()[0])
+
+
+def main(totxegun, seed="1"):
+    checks, chance = Checks(), random.Random(seed)
+    with tempfile.TemporaryDirectory(prefix="handed-on-") as folder:
+        units(checks, totxegun, chance, folder)
+        kept_units(checks, totxegun, folder)
+        hands_on(checks, totxegun, chance, folder)
+    return checks.end()
+
+
+if __name__ == "__main__":
+    if len(sys.argv) < 2:
+        sys.exit(f"usage: {sys.argv[0]} TOTXEGUN [SEED]")
+    sys.exit(main(os.path.abspath(sys.argv[1]), *sys.argv[2:3]))
