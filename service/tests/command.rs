@@ -187,11 +187,11 @@ fn a_flush_is_done_once_somebody_says_so() {
     for (answer, wanted) in [
         (
             "HTTP/1.1 200 OK\r\nContent-Length: 2\r\n\r\n{}",
-            "no operator's address",
+            "no operators' address",
         ),
         (
             "HTTP/1.1 404 Not Found\r\nContent-Length: 26\r\n\r\n{\"message\":\"no such path\"}",
-            "no operator's address",
+            "no operators' address",
         ),
         ("", "without an answer"),
     ] {

@@ -24,7 +24,7 @@ impl Handler for AtTcp {
             Some((method, route)) if route.is_order() && is_met(method, request.method()) => {
                 match self.operator(route, &request) {
                     Ok(name) => actor = Actor::Named(name),
-                    Err(refused) => return refused,
+                    Err(refused) => return refused.answer(),
                 }
             }
             Some((_, Route::Page(page))) if *page == Page::Overview => *page = Page::Levels,
@@ -36,30 +36,41 @@ impl Handler for AtTcp {
 
 impl AtTcp {
     /// Who gives an order, by the request's token.
-    fn operator(&self, route: &Route, request: &Request<Body>) -> Result<String, Response<Body>> {
+    fn operator(&self, route: &Route, request: &Request<Body>) -> Result<String, Refused> {
         if let Some(why) = self.desk.stranger(route, request) {
-            return Err(message(403, &why));
+            return Err(Refused::Ever(why));
         }
         let Some(tokens) = &self.tokens else {
-            return Err(message(
-                403,
-                &format!(
-                    "this is taken at {place} alone: run totxegun on the service's machine with its --data, or give \
-                     `--operate {place}`; over TCP the service takes it with --operate-tokens",
-                    place = self.orders_at
-                ),
-            ));
+            return Err(Refused::Ever(format!(
+                "this is taken at {place} alone: run totxegun on the service's machine with its --data, or give \
+                 `--operate {place}`; over TCP the service takes it with --operate-tokens",
+                place = self.orders_at
+            )));
         };
         let values = request.headers().get_all(AUTHORIZATION).iter();
-        by_token(&tokens.now(), values.map(HeaderValue::as_bytes))
+        let operator = by_token(&tokens.now(), values.map(HeaderValue::as_bytes));
+        operator
             .map(|operator| operator.name.clone())
-            .map_err(|stranger| unknown(&stranger))
+            .map_err(Refused::Unknown)
     }
 }
 
-fn unknown(stranger: &Stranger) -> Response<Body> {
-    let mut response = message(stranger.status(), &stranger.to_string());
-    let challenge = HeaderValue::from_static("Bearer realm=\"totxegun\"");
-    response.headers_mut().insert(WWW_AUTHENTICATE, challenge);
-    response
+/// Why an order is not taken.
+enum Refused {
+    Ever(String),
+    Unknown(Stranger),
+}
+
+impl Refused {
+    fn answer(self) -> Response<Body> {
+        match self {
+            Refused::Ever(why) => message(403, &why),
+            Refused::Unknown(stranger) => {
+                let mut response = message(stranger.status(), &stranger.to_string());
+                let challenge = HeaderValue::from_static("Bearer realm=\"totxegun\"");
+                response.headers_mut().insert(WWW_AUTHENTICATE, challenge);
+                response
+            }
+        }
+    }
 }

@@ -151,7 +151,7 @@ fn a_token_is_taken_over_tcp() {
     assert!(text(&answer.unwrap()).contains("it has an Origin"));
     std::fs::write(at("operators"), "").unwrap();
     until("its line is gone", || {
-        by_token(&["lift", "A"]).contains("the token is not known")
+        by_token(&["flush"]).contains("the token is not known")
     });
     assert_eq!(service.said(&["lift", "A"]), "done\n", "the socket wants none");
     assert!(!place.log().contains(&token) && !acts().contains(&token));

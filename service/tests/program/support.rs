@@ -207,8 +207,14 @@ impl Service {
         self.data.join("operate")
     }
 
+    /// The socket, from outside of where the service runs.
+    pub fn reached(&self) -> PathBuf {
+        let path = self.socket();
+        self.root().join(path.strip_prefix("/").unwrap_or(&path))
+    }
+
     pub fn at_socket(&self, method: &str, path: &str) -> Option<(u16, String)> {
-        let stream = UnixStream::connect(self.socket()).ok()?;
+        let stream = UnixStream::connect(self.reached()).ok()?;
         stream.set_read_timeout(Some(Duration::from_secs(20))).ok()?;
         answered(stream, method, path, "-", "")
     }

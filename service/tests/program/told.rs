@@ -198,7 +198,8 @@ fn a_disk_without_room_is_told() {
         "{text}"
     );
     assert!(service.metrics().contains("totxegun_ready 0"));
-    let said = service.said(&["status"]);
+    let socket = format!("unix:{}", service.reached().display());
+    let said = service.said(&["status", "--operate", &socket]);
     let lines: Vec<&str> = said.lines().collect();
     assert!(lines[0].contains("not ready"), "{said}");
     let why = format!(
