@@ -17,7 +17,8 @@ In each state in which nothing is on its way:
 
 With all rules kept no state breaks this, over all states of two faults and one checkpoint, and of one fault and two
 checkpoints. Without any one of the rules some state does: so the rule is needed, and the model can see it. The search
-goes by breadth, so what is printed is a shortest way. It takes a minute.
+goes by breadth, so what is printed is a shortest way. It takes a minute. That no state at all breaks it is proved of a
+coarser machine, in crates/service_law; this is what finds a way where a rule is missing.
 
 Each line is one check; the last line counts those that passed and failed, and the status is 0 where none failed.
 """

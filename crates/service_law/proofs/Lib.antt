@@ -13,3 +13,4 @@ pub mod Booking
 pub mod Moving
 pub mod Happening
 pub mod Totals
+pub mod Bookkeeping

@@ -84,7 +84,7 @@ after_own x a b e g c =
     same : same_series a.point.series b.point.series ≡ true
     same = same_of a.point.series b.point.series (same_series-exact a.point.series x e ∙ sym (same_series-exact b.point.series x g))
 
-all_own : (x : Identity) (a : Accepted) (bs us : List Accepted) → is_of x a ≡ true → list_all (is_of x) us ≡ true → are_in_turn (a ∷ bs) us ≡ true → list_all (λ b. same_sender a.sender b.sender) us ≡ true
+pub all_own : (x : Identity) (a : Accepted) (bs us : List Accepted) → is_of x a ≡ true → list_all (is_of x) us ≡ true → are_in_turn (a ∷ bs) us ≡ true → list_all (λ b. same_sender a.sender b.sender) us ≡ true
 all_own x a bs [] e g h = refl
 all_own x a bs (b ∷ us) e g h =
     let l = and_parts (list_all (λ q. is_clear b.sender b.point q.point q.sender) (a ∷ bs)) (are_in_turn (a ∷ (bs ++ b ∷ [])) us) h in

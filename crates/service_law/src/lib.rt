@@ -2,5 +2,6 @@
 //! service is in it, and no proof connects the two (`service/README.md`).
 #![tactic(auto)]
 
+pub mod books;
 pub mod counting;
 pub mod runs;
