@@ -53,13 +53,17 @@ extern "C" {
         until: u64,
         out: *mut Answer,
     );
+    fn reader_ends(reader: *mut Handle, out: *mut Answer);
     fn names_new(out: *mut Handle) -> bool;
     fn names_free(names: *mut Handle);
     fn names_learn(names: *mut Handle, body: *const u8, length: usize, out: *mut Answer);
     fn desk_new(books: usize, out: *mut Handle) -> bool;
     fn desk_free(desk: *mut Handle);
     fn desk_admit(desk: *mut Handle, reader: *mut Handle, out: *mut Answer);
+    fn desk_try(desk: *mut Handle, reader: *mut Handle, out: *mut Answer);
+    fn desk_crosses(desk: *mut Handle, reader: *mut Handle, stretch: u64, first: usize, out: *mut Answer);
     fn desk_take(desk: *mut Handle, flushes: *mut Handle, most: usize, out: *mut Answer);
+    fn desk_take_book(desk: *mut Handle, flushes: *mut Handle, book: usize, most: usize, out: *mut Answer);
     fn desk_settle(desk: *mut Handle, flushes: *mut Handle) -> u32;
     fn desk_give_back(desk: *mut Handle, flushes: *mut Handle) -> u32;
     fn desk_quarantine(desk: *mut Handle, sender: *const u8, length: usize) -> u32;
@@ -139,6 +143,15 @@ impl Reader {
         };
         answer
     }
+
+    /// When its points end: `number` is the least of these times, `at` the greatest, in nanoseconds. Another status where it
+    /// has no points.
+    pub fn ends(&mut self) -> Answer {
+        let mut answer = Answer::default();
+        // SAFETY: the handle is live and lent for this call alone; the answer is there through it.
+        unsafe { reader_ends(&mut self.0, &mut answer) };
+        answer
+    }
 }
 
 impl Drop for Reader {
@@ -188,12 +201,40 @@ impl Desk {
         answer
     }
 
+    /// What `admit` would answer. Each book is as it was, or as if its part had never come; what was read is gone.
+    pub fn try_admit(&mut self, reader: &mut Reader) -> Answer {
+        let mut answer = Answer::default();
+        // SAFETY: both handles are live and lent for this call alone.
+        unsafe { desk_try(&mut self.0, &mut reader.0, &mut answer) };
+        answer
+    }
+
+    /// The first book, from this one on, that holds something pending of a series of which the reader has a point in a later
+    /// stretch of so many nanoseconds: `number`. Nothing changes.
+    pub fn crosses(&mut self, reader: &mut Reader, stretch: u64, first: usize) -> Answer {
+        let mut answer = Answer::default();
+        // SAFETY: both handles are live and lent for this call alone; a stretch is not 0.
+        unsafe { desk_crosses(&mut self.0, &mut reader.0, stretch.max(1), first, &mut answer) };
+        answer
+    }
+
     /// Takes a flush of each book that has something, of at most so many series.
     pub fn take(&mut self, flushes: &mut Flushes, most: usize) -> Answer {
         let most = most.clamp(1, MOST_TAKEN);
         let mut answer = Answer::default();
         // SAFETY: both handles are live and lent for this call alone; the number is from 1 to 1,000.
         memory::forwarding(|| unsafe { desk_take(&mut self.0, &mut flushes.0, most, &mut answer) });
+        answer
+    }
+
+    /// As `take`, of one book alone.
+    pub fn take_book(&mut self, flushes: &mut Flushes, book: usize, most: usize) -> Answer {
+        let most = most.clamp(1, MOST_TAKEN);
+        let mut answer = Answer::default();
+        // SAFETY: both handles are live and lent for this call alone; the number is from 1 to 1,000.
+        memory::forwarding(|| unsafe {
+            desk_take_book(&mut self.0, &mut flushes.0, book, most, &mut answer)
+        });
         answer
     }
 

@@ -6,7 +6,7 @@ use crate::otlp::Outcome;
 const UNREADABLE: &str = "unreadable";
 
 /// What an answer's text begins with, and what is to be done.
-const REASONS: [(&str, &str); 28] = [
+const REASONS: [(&str, &str); 29] = [
     (
         "out of order",
         "right for a repeat: it was taken before. If each post of a sender gets it, its clock was set back",
@@ -59,6 +59,10 @@ const REASONS: [(&str, &str); 28] = [
     (
         "body too long",
         "have the sender post fewer points at a time (a Collector: send_batch_max_size)",
+    ),
+    (
+        "too many hours in a post",
+        "have the sender post fewer points at a time, or serve with --never-across day",
     ),
     ("the deadline has passed", "give the exporter a longer timeout"),
     (

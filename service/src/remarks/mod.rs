@@ -81,6 +81,8 @@ impl Owners for Arc<Outbox> {
 #[derive(Default)]
 struct Told {
     foreign: HashMap<String, ToldOf>,
+    /// Senders whose clock is off.
+    clocks: HashSet<String>,
     series: HashSet<SeriesKey>,
     refusals: usize,
 }
@@ -122,6 +124,7 @@ impl<T: Taker> Remarks<T> {
     fn remark(&self, sender: &str, outcome: &Outcome) -> Option<Remark> {
         match outcome {
             Outcome::Taken { rejected: 0, .. } => None,
+            Outcome::Taken { rejected, off, .. } if *rejected == off.points() => None,
             Outcome::Taken { .. } => self.may_tell_more(sender).then_some(Remark::Foreign),
             Outcome::Refused { message, .. } => place_of(message).map(Remark::OtherWriter),
         }
@@ -131,9 +134,13 @@ impl<T: Taker> Remarks<T> {
     async fn in_words(&self, sender: &str, source: &Source, outcome: Outcome) -> Outcome {
         match outcome {
             Outcome::Taken { rejected: 0, .. } => outcome,
-            Outcome::Taken { rejected, .. } => {
-                let causes = self.read(source, move |body| Causes::of(body, rejected)).await;
-                let causes = causes.unwrap_or_else(|| Causes::of(b"", rejected));
+            Outcome::Taken { rejected, off, .. } => {
+                let foreign = rejected - off.points();
+                let causes = match foreign {
+                    0 => None,
+                    _ => self.read(source, move |body| Causes::of(body, foreign)).await,
+                };
+                let causes = causes.unwrap_or_else(|| Causes::of(b"", foreign)).and(off);
                 self.metrics.foreign(sender, &causes, &self.telling.expected);
                 outcome.with_causes(&causes)
             }
@@ -179,6 +186,27 @@ impl<T: Taker> Remarks<T> {
                 reason,
                 status,
                 "a post of {sender} is refused with {status}: {answer}"
+            );
+        }
+    }
+
+    /// A sender whose clock is off is in the log, once.
+    fn note_clock(&self, sender: &str, outcome: &Outcome) {
+        let Outcome::Taken { off, .. } = outcome else {
+            return;
+        };
+        if off.points() == 0 {
+            return;
+        }
+        let mut told = self.told();
+        if told.clocks.len() < REMEMBERED && told.clocks.insert(sender.to_string()) {
+            drop(told);
+            let (points, reason) = (off.points(), off.to_string());
+            tracing::warn!(
+                sender,
+                points,
+                reason,
+                "points of {sender} are not taken: {reason}"
             );
         }
     }
@@ -290,6 +318,7 @@ impl<T: Taker> Taker for Remarks<T> {
         async move {
             let source = request.source();
             let outcome = remarks.taker.post(sender.clone(), request).await;
+            remarks.note_clock(&sender, &outcome);
             let remark = remarks.remark(&sender, &outcome);
             let outcome = remarks.in_words(&sender, &source, outcome).await;
             remarks.note(&sender, &outcome);

@@ -18,7 +18,8 @@ use crate::files::{Durability, Fault, Folder, FolderFault};
 use crate::identity::Door;
 use crate::keeper::{Settings as Keeping, Trouble};
 use crate::metrics::Metrics;
-use crate::otlp::Reading;
+use crate::core::Across;
+use crate::otlp::{Clock, Reading};
 use crate::remarks::Telling;
 use crate::sinks::{Address, Keep};
 use crate::slot::Slot;
@@ -52,6 +53,10 @@ pub struct Settings {
     pub every: Duration,
     pub forget: Option<Duration>,
     pub reading: Reading,
+    /// How far from the service's clock points may end.
+    pub clock: Clock,
+    /// What a forwarded point never covers two of.
+    pub across: Across,
     pub telling: Telling,
     pub most_bytes: usize,
     pub most_connections: usize,
