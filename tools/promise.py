@@ -18,9 +18,9 @@ from crates import ROOT, read_crates
 
 # The contracts that docs/MODEL.md begins with: a crate, and its functions, or a file of definitions.
 TOP = (
-    ("book_c", ["desk_new", "names_learn", "reader_read", "reader_put", "desk_admit", "desk_take", "flushes_text",
-                "flushes_copy", "desk_settle", "desk_drop", "desk_give_back", "desk_quarantine", "desk_lift",
-                "desk_close_round", "desk_report"]),
+    ("book_c", ["desk_new", "names_learn", "reader_read", "reader_put", "reader_ends", "desk_admit", "desk_try",
+                "desk_crosses", "desk_take", "desk_take_book", "flushes_text", "flushes_copy", "desk_settle",
+                "desk_drop", "desk_give_back", "desk_quarantine", "desk_lift", "desk_close_round", "desk_report"]),
     ("delta_book", ["specs/Calls"]),
     ("play_script", ["play"]),
     ("gate_workers", ["serve_with", "serve_book", "flush_turn", "book_turn"]),

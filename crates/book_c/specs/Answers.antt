@@ -11,6 +11,7 @@ use Rattle.book_desk.specs.declared.desk.EndFault.{EndFault}
 use Rattle.book_desk.specs.declared.desk.EndFault.TheVariants as end
 use Rattle.book_desk.specs.declared.desk.TakeAllFault.{TakeAllFault}
 use Rattle.book_desk.specs.declared.desk.TakeAllFault.TheVariants as all
+use Rattle.book_desk.specs.declared.end_range.EndRange.{EndRange}
 use Rattle.book_desk.specs.declared.flushes.TextFault.{TextFault}
 use Rattle.book_desk.specs.declared.flushes.TextFault.TheVariants as texts
 use Rattle.book_desk.specs.declared.flushes.Written.{Written}
@@ -93,10 +94,13 @@ hold_status hold.Already = ALREADY
 hold_status hold.Full = FULL
 hold_status hold.NoMemory = NO_MEMORY
 
--- the counts and the text that an answer tells of
+-- the counts, the text and the range that an answer tells of
 abbrev pub counts_of : Answer → Counts
 counts_of answer =
     record { points = answer.number; foreign = answer.at; outside = answer.frontier }
 
 abbrev pub written_of : Answer → Written
 written_of answer = record { bytes = answer.number; series = answer.at }
+
+abbrev pub range_of : Answer → EndRange
+range_of answer = record { least = answer.number; greatest = answer.at }

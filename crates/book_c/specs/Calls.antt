@@ -1,17 +1,19 @@
 -- What the calls answer, and what they leave: each answer but DONE tells why.
-use Rattle.std.specs.Prelude.{◌≡◌, ◌≢◌, ◌⊎◌, ℕ, List, [], Option, None, false}
+use Rattle.std.specs.Prelude.{◌≡◌, ◌≢◌, ◌⊎◌, ℕ, List, [], length, Option, None, false}
 use Rattle.series_id.specs.Identity.{Identity}
 use Rattle.metric_events.specs.Senders.{name_fault}
 use Rattle.delta_book.specs.Journal.{Journal}
 use Rattle.delta_book.specs.declared.faults.QuarantineFault.{QuarantineFault}
 use Rattle.delta_book.specs.declared.flush.Flush.{Flush}
+use Rattle.book_desk.specs.Crossings.{NoneCrosses}
 use Rattle.book_desk.specs.Each.{EachBook}
+use Rattle.book_desk.specs.EndRanges.{ends_of}
 use Rattle.book_desk.specs.Ends.{IsNotEnded}
 use Rattle.book_desk.specs.Holds.{RestsFrom, HoldFails, hold_refusal, is_held_in}
 use Rattle.book_desk.specs.Learning.{IsNotLearnt}
 use Rattle.book_desk.specs.Reads.{IsUnread, IsNotPut}
 use Rattle.book_desk.specs.Refusals.{IsNotAdmitted}
-use Rattle.book_desk.specs.Takes.{IsNotTaken}
+use Rattle.book_desk.specs.Takes.{IsNotTaken, IsNotTakenAlone}
 use Rattle.book_desk.specs.Written.{IsNotForwarded, IsNotReported}
 use Rattle.book_desk.specs.declared.by_number.PutFault.{PutFault}
 use Rattle.book_desk.specs.declared.desk.DeskFault.{DeskFault}
@@ -26,7 +28,8 @@ use Rattle.book_c.specs.Answers.{plain, admit_answer, post_status, take_status, 
 use Rattle.book_c.specs.Answers.{text_status, hold_status, put_status, learn_status}
 use Rattle.book_c.specs.declared.answers.Answer.{Answer}
 use Rattle.book_c.specs.declared.statuses.TheConstants.{BAD_SENDER, NO_MEMORY}
-use Rattle.book_c.specs.declared.statuses.TheConstants.{NOT_QUARANTINED}
+use Rattle.book_c.specs.declared.statuses.TheConstants.{NOT_QUARANTINED, NOTHING}
+use Rattle.book_c.specs.declared.statuses.TheConstants.{NONE_CROSSES}
 
 -- a post was not read, and the reader has nothing
 abbrev pub TellsUnread : (sender bytes : List ℕ) → Answer → List (Option Part) → Type 0
@@ -50,11 +53,29 @@ abbrev pub TellsNotAdmitted : (old new : List Journal) → List (Option Part) �
 TellsNotAdmitted old new parts answer =
     (e : DeskFault) × (answer ≡ admit_answer e) × IsNotAdmitted old new parts e
 
+-- the reader has no points
+abbrev pub TellsNoPoints : List (Option Part) → Answer → Type 0
+TellsNoPoints parts answer = (answer ≡ plain NOTHING) × (ends_of parts ≡ [])
+
+-- nothing was read for so many books; or no part goes beyond what its book holds pending
+abbrev pub TellsNoCrossing :
+    (stretch : ℕ) → List Journal → List (Option Part) → (first : ℕ) → Answer → Type 0
+TellsNoCrossing stretch books parts first answer =
+    ((answer ≡ plain NOTHING) × (length parts ≢ length books))
+    ⊎ ((answer ≡ plain NONE_CROSSES) × (length parts ≡ length books)
+    × NoneCrosses stretch books parts first (length books))
+
 -- flushes were not taken
 abbrev pub TellsNotTaken :
     (max : ℕ) → (old new : List Journal) → List (Option Flush) → Answer → Type 0
 TellsNotTaken max old new before answer =
     (e : TakeAllFault) × (answer ≡ plain (take_status e)) × IsNotTaken max old new before e
+
+-- no flush was taken of the i-th book
+abbrev pub TellsNotTakenAlone :
+    (max i : ℕ) → (old new : List Journal) → List (Option Flush) → Answer → Type 0
+TellsNotTakenAlone max i old new before answer =
+    (e : TakeAllFault) × (answer ≡ plain (take_status e)) × IsNotTakenAlone max i old new before e
 
 -- flushes were not ended
 abbrev pub TellsNotEnded :

@@ -3,17 +3,20 @@ ghost use Rattle.std.specs.Prelude.{◌≡◌, ◌≢◌, ◌≤◌, ◌<◌, []
 ghost use Rattle.book_desk.specs.Each.{Each, EachBook};
 ghost use Rattle.book_desk.specs.Ends.{IsEndedBy};
 ghost use Rattle.book_desk.specs.Holds.{Holds, Releases, hold_refusal, is_held_in};
-ghost use Rattle.book_desk.specs.Posts.{Keeps};
+ghost use Rattle.book_desk.specs.Crossings.{IsCrossing};
+ghost use Rattle.book_desk.specs.EndRanges.{IsRangeOf, ends_of};
+ghost use Rattle.book_desk.specs.Posts.{Keeps, Rests};
 ghost use Rattle.book_desk.specs.Learning.{Learns};
 ghost use Rattle.book_desk.specs.Reads.{IsRead, IsPut};
 ghost use Rattle.book_desk.specs.Refusals.{post_refusal};
 ghost use Rattle.book_desk.specs.Takes as takes;
-ghost use Rattle.book_desk.specs.Takes.{Takes, take_all_refusal};
+ghost use Rattle.book_desk.specs.Takes.{Takes, take_all_refusal, IsTakenAlone};
 ghost use Rattle.book_desk.specs.Written.{IsForwarded, IsReported};
-ghost use Rattle.book_c.specs.Answers.{counts_of, written_of, left_of};
+ghost use Rattle.book_c.specs.Answers.{counts_of, written_of, left_of, range_of};
 ghost use Rattle.book_c.specs.Calls.{TellsUnread, TellsNotAdmitted, TellsNotTaken, TellsNotEnded};
 ghost use Rattle.book_c.specs.Calls.{TellsNotForwarded, TellsNotReported, TellsNotPut};
-ghost use Rattle.book_c.specs.Calls.{TellsNotLearnt};
+ghost use Rattle.book_c.specs.Calls.{TellsNotLearnt, TellsNoPoints, TellsNoCrossing};
+ghost use Rattle.book_c.specs.Calls.{TellsNotTakenAlone};
 ghost use Rattle.book_c.specs.inner.Names as names;
 ghost use Rattle.book_c.specs.Calls.{TellsNotHeld, TellsNotLifted};
 
@@ -21,7 +24,7 @@ use crate::answers::{
     Answer, admit_answer, end_status, hold_status, learn_status, post_status, put_status,
     take_status, text_status,
 };
-use crate::statuses::{BAD_SENDER, DONE, NO_MEMORY, NOT_QUARANTINED};
+use crate::statuses::{BAD_SENDER, DONE, NO_MEMORY, NONE_CROSSES, NOT_QUARANTINED, NOTHING};
 use book_desk::desk::Desk;
 use book_desk::draft::Counts;
 use book_desk::end::End;
@@ -95,6 +98,22 @@ pub fn learn(names: &mut Names, body: &[u8]) -> Answer
     }
 }
 
+/// The least and the greatest end of the points that the reader has.
+pub fn ends(reader: &Reader) -> Answer
+    ensures range { result.status ≡ DONE → IsRangeOf (ends_of reader.now) (range_of result) }
+    ensures none { result.status ≢ DONE → TellsNoPoints reader.now result }
+{
+    match reader.ends() {
+        Some(range) => Answer {
+            status: DONE,
+            number: range.least,
+            at: range.greatest,
+            frontier: 0,
+        },
+        None => Answer::plain(NOTHING),
+    }
+}
+
 pub fn admit(desk: &mut Desk, reader: &mut Reader) -> Answer
     ensures taken { result.status ≡ DONE → Each Keeps desk.old.books.items desk.new.books.items
         reader.old }
@@ -106,6 +125,39 @@ pub fn admit(desk: &mut Desk, reader: &mut Reader) -> Answer
     match desk.admit(reader) {
         Ok(()) => Answer::plain(DONE),
         Err(fault) => admit_answer(fault),
+    }
+}
+
+pub fn try_admit(desk: &mut Desk, reader: &mut Reader) -> Answer
+    ensures rests { result.status ≡ DONE → Each Rests desk.old.books.items desk.new.books.items
+        reader.old }
+    ensures none { result.status ≡ DONE → post_refusal desk.old.books.items reader.old ≡ None }
+    ensures refused { result.status ≢ DONE → TellsNotAdmitted desk.old.books.items
+        desk.new.books.items reader.old result }
+    ensures gone { reader.new ≡ [] }
+{
+    match desk.try_admit(reader) {
+        Ok(()) => Answer::plain(DONE),
+        Err(fault) => admit_answer(fault),
+    }
+}
+
+pub fn crosses(desk: &Desk, reader: &Reader, stretch: u64, first: usize) -> Answer
+    requires { 0 < stretch }
+    ensures crossing { result.status ≡ DONE → IsCrossing stretch desk.now.books.items reader.now
+        first result.number }
+    ensures none { result.status ≢ DONE → TellsNoCrossing stretch desk.now.books.items reader.now
+        first result }
+{
+    match desk.crosses(reader, stretch, first) {
+        Ok(Some(i)) => Answer {
+            status: DONE,
+            number: i as u64,
+            at: 0,
+            frontier: 0,
+        },
+        Ok(None) => Answer::plain(NONE_CROSSES),
+        Err(_) => Answer::plain(NOTHING),
     }
 }
 
@@ -127,6 +179,28 @@ pub fn take(desk: &mut Desk, flushes: &mut Flushes, max: usize) -> Answer
         Ok(found) => Answer {
             status: DONE,
             number: found as u64,
+            at: 0,
+            frontier: 0,
+        },
+        Err(fault) => Answer::plain(take_status(fault)),
+    }
+}
+
+pub fn take_book(desk: &mut Desk, flushes: &mut Flushes, i: usize, max: usize) -> Answer
+    requires low { 1 ≤ max }
+    requires high { max ≤ MAX_TAKEN }
+    ensures taken { result.status ≡ DONE → IsTakenAlone max i desk.old.books.items
+        desk.new.books.items flushes.new.flushes.items }
+    ensures count { result.status ≡ DONE → result.number ≡ 1 }
+    ensures refused { result.status ≢ DONE → TellsNotTakenAlone max i desk.old.books.items
+        desk.new.books.items flushes.old.flushes.items result }
+    ensures same { result.status ≢ DONE → flushes.new ≡ flushes.old }
+    ensures text { flushes.new.text ≡ flushes.old.text }
+{
+    match desk.take_book(flushes, i, max) {
+        Ok(()) => Answer {
+            status: DONE,
+            number: 1,
             at: 0,
             frontier: 0,
         },

@@ -8,20 +8,23 @@ ghost use Rattle.std.specs.List.{All};
 ghost use Rattle.std.specs.Ptr.{null_ptr};
 ghost use Rattle.metric_events.specs.Opening.{first_opening};
 ghost use Rattle.delta_book.specs.Journal.{journal_of};
+ghost use Rattle.book_desk.specs.Crossings.{IsCrossing};
 ghost use Rattle.book_desk.specs.Each.{Each, EachBook};
+ghost use Rattle.book_desk.specs.EndRanges.{IsRangeOf, ends_of};
 ghost use Rattle.book_desk.specs.Ends.{IsEndedBy};
 ghost use Rattle.book_desk.specs.Holds.{Holds, Releases, hold_refusal, is_held_in};
-ghost use Rattle.book_desk.specs.Posts.{Keeps};
+ghost use Rattle.book_desk.specs.Posts.{Keeps, Rests};
 ghost use Rattle.book_desk.specs.Learning.{Learns};
 ghost use Rattle.book_desk.specs.Reads.{IsRead, IsPut};
 ghost use Rattle.book_desk.specs.Refusals.{post_refusal};
 ghost use Rattle.book_desk.specs.Rounds.{IsClosedAlone};
-ghost use Rattle.book_desk.specs.Takes.{Takes, count, take_all_refusal};
+ghost use Rattle.book_desk.specs.Takes.{Takes, IsTakenAlone, count, take_all_refusal};
 ghost use Rattle.book_desk.specs.Written.{IsForwarded, IsReported, all_series};
-ghost use Rattle.book_c.specs.Answers.{counts_of, written_of, left_of};
+ghost use Rattle.book_c.specs.Answers.{counts_of, written_of, left_of, range_of};
 ghost use Rattle.book_c.specs.Calls.{TellsUnread, TellsNotAdmitted, TellsNotTaken, TellsNotEnded};
 ghost use Rattle.book_c.specs.Calls.{TellsNotForwarded, TellsNotReported, TellsNotPut};
-ghost use Rattle.book_c.specs.Calls.{TellsNotLearnt};
+ghost use Rattle.book_c.specs.Calls.{TellsNotLearnt, TellsNoPoints, TellsNoCrossing};
+ghost use Rattle.book_c.specs.Calls.{TellsNotTakenAlone};
 ghost use Rattle.book_c.specs.Calls.{TellsNotHeld, TellsNotLifted};
 ghost use Rattle.book_c.specs.Kinds.{HasReader, HasDesk, HasFlushes, HasNames};
 ghost use Rattle.book_c.specs.Kinds.{parts_of, books_of, flushes_of, text_of, names_of};
@@ -126,6 +129,24 @@ pub extern "C" fn reader_read(
         unreachable!()
     };
     *out = calls::read(it, sender, body, books, Window { from, until });
+    put_back(reader, kept);
+}
+
+/// Says when the points end that the reader has: the least of these times, and the greatest.
+#[unsafe(no_mangle)]
+pub extern "C" fn reader_ends(alloc: Global, reader: &mut Handle, out: &mut Answer)
+    requires { HasReader reader.old }
+    ensures reader { HasReader reader.new }
+    ensures range { out.new.status ≡ DONE → IsRangeOf (ends_of (parts_of reader.old.kept))
+        (range_of out.new) }
+    ensures none { out.new.status ≢ DONE → TellsNoPoints (parts_of reader.old.kept) out.new }
+    ensures same { reader.new.kept ≡ reader.old.kept }
+{
+    let kept = out_of(alloc, reader);
+    let Kept::Reader(it) = &*kept else {
+        unreachable!()
+    };
+    *out = calls::ends(it);
     put_back(reader, kept);
 }
 
@@ -271,6 +292,71 @@ pub extern "C" fn desk_admit(
     put_back(desk, kept);
 }
 
+/// Answers what `desk_admit` would; what was read is gone from the reader, and each book is as it
+/// was, or as if its part had never come.
+#[unsafe(no_mangle)]
+pub extern "C" fn desk_try(alloc: Global, desk: &mut Handle, reader: &mut Handle, out: &mut Answer)
+    requires desk { HasDesk desk.old }
+    requires reader { HasReader reader.old }
+    ensures desk { HasDesk desk.new }
+    ensures reader { HasReader reader.new }
+    ensures rests { out.new.status ≡ DONE → Each Rests (books_of desk.old.kept)
+        (books_of desk.new.kept) (parts_of reader.old.kept) }
+    ensures none { out.new.status ≡ DONE → post_refusal (books_of desk.old.kept)
+        (parts_of reader.old.kept) ≡ None }
+    ensures refused { out.new.status ≢ DONE → TellsNotAdmitted (books_of desk.old.kept)
+        (books_of desk.new.kept) (parts_of reader.old.kept) out.new }
+    ensures gone { parts_of reader.new.kept ≡ [] }
+{
+    let mut kept = out_of(alloc, desk);
+    let mut post = out_of(alloc, reader);
+    let Kept::Desk(books) = &mut *kept else {
+        unreachable!()
+    };
+    let Kept::Reader(it) = &mut *post else {
+        unreachable!()
+    };
+    *out = calls::try_admit(books, it);
+    put_back(reader, post);
+    put_back(desk, kept);
+}
+
+/// Names the first book, from the `first`-th on, that holds something pending of a series of which
+/// the reader has a point in a later stretch of so many nanoseconds.
+#[unsafe(no_mangle)]
+pub extern "C" fn desk_crosses(
+    alloc: Global,
+    desk: &mut Handle,
+    reader: &mut Handle,
+    stretch: u64,
+    first: usize,
+    out: &mut Answer,
+)
+    requires desk { HasDesk desk.old }
+    requires reader { HasReader reader.old }
+    requires stretch { 0 < stretch }
+    ensures desk { HasDesk desk.new }
+    ensures reader { HasReader reader.new }
+    ensures crossing { out.new.status ≡ DONE → IsCrossing stretch (books_of desk.old.kept)
+        (parts_of reader.old.kept) first out.new.number }
+    ensures none { out.new.status ≢ DONE → TellsNoCrossing stretch (books_of desk.old.kept)
+        (parts_of reader.old.kept) first out.new }
+    ensures same { desk.new.kept ≡ desk.old.kept }
+    ensures left { reader.new.kept ≡ reader.old.kept }
+{
+    let kept = out_of(alloc, desk);
+    let post = out_of(alloc, reader);
+    let Kept::Desk(books) = &*kept else {
+        unreachable!()
+    };
+    let Kept::Reader(it) = &*post else {
+        unreachable!()
+    };
+    *out = calls::crosses(books, it, stretch, first);
+    put_back(reader, post);
+    put_back(desk, kept);
+}
+
 /// Makes room for flushes. True where there was memory.
 #[unsafe(no_mangle)]
 pub extern "C" fn flushes_new(alloc: Global, out: &mut Handle) -> bool
@@ -331,6 +417,45 @@ pub extern "C" fn desk_take(
         unreachable!()
     };
     *out = calls::take(books, it, max);
+    put_back(flushes, taken);
+    put_back(desk, kept);
+}
+
+/// Takes a flush of at most so many series of the i-th book alone. It is in the place of that book,
+/// so whatever is done with flushes can be done with it.
+#[unsafe(no_mangle)]
+pub extern "C" fn desk_take_book(
+    alloc: Global,
+    desk: &mut Handle,
+    flushes: &mut Handle,
+    i: usize,
+    max: usize,
+    out: &mut Answer,
+)
+    requires desk { HasDesk desk.old }
+    requires flushes { HasFlushes flushes.old }
+    requires low { 1 ≤ max }
+    requires high { max ≤ MAX_TAKEN }
+    ensures desk { HasDesk desk.new }
+    ensures flushes { HasFlushes flushes.new }
+    ensures taken { out.new.status ≡ DONE → IsTakenAlone max i (books_of desk.old.kept)
+        (books_of desk.new.kept) (flushes_of flushes.new.kept) }
+    ensures count { out.new.status ≡ DONE → out.new.number ≡ 1 }
+    ensures refused { out.new.status ≢ DONE → TellsNotTakenAlone max i (books_of desk.old.kept)
+        (books_of desk.new.kept) (flushes_of flushes.old.kept) out.new }
+    ensures same { out.new.status ≢ DONE → flushes_of flushes.new.kept
+        ≡ flushes_of flushes.old.kept }
+    ensures text { text_of flushes.new.kept ≡ text_of flushes.old.kept }
+{
+    let mut kept = out_of(alloc, desk);
+    let mut taken = out_of(alloc, flushes);
+    let Kept::Desk(books) = &mut *kept else {
+        unreachable!()
+    };
+    let Kept::Flushes(it) = &mut *taken else {
+        unreachable!()
+    };
+    *out = calls::take_book(books, it, i, max);
     put_back(flushes, taken);
     put_back(desk, kept);
 }

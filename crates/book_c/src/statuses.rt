@@ -34,3 +34,5 @@ pub const NOT_QUARANTINED: u32 = 14;
 pub const NOT_ENDED: u32 = 15;
 /// The body has not one point alone, of the profile.
 pub const NOT_ONE: u32 = 16;
+/// No book holds something pending that a part goes beyond.
+pub const NONE_CROSSES: u32 = 17;

@@ -8,3 +8,6 @@ pub mod Flights
 pub mod Counts
 pub mod WordsRead
 pub mod Drafted
+pub mod Crossings
+pub mod EndRanges
+pub mod Pending

@@ -1,5 +1,7 @@
+pub mod Crossings
 pub mod Drafts
 pub mod Each
+pub mod EndRanges
 pub mod Ends
 pub mod Holds
 pub mod Homes

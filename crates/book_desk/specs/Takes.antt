@@ -1,6 +1,6 @@
 -- What a take over many books does to each.
 use Rattle.std.specs.Prelude.{◌≡◌, ◌≢◌, ℕ, ◌+◌, ◌-◌, ◌==◌, Option, Some, None, ◌⊎◌, List, [], ◌∷◌}
-use Rattle.std.specs.Prelude.{if◌then◌else◌}
+use Rattle.std.specs.Prelude.{if◌then◌else◌, ◌<◌, ◌≤◌, length, get_or, set, replicate}
 use Rattle.delta_book.specs.Journal.{Journal, history, takes}
 use Rattle.delta_book.specs.Flushes.{IsTaken, take_refusal}
 use Rattle.delta_book.specs.declared.faults.TakeFault.{TakeFault}
@@ -74,3 +74,30 @@ IsNotTaken max old new before faults.NotEnded = (before ≢ []) × (new ≡ old)
 IsNotTaken max old new before faults.Nothing = EachBook (HasNothing max) old new
 IsNotTaken max old new before (faults.Refused fault) =
     EachBook (RestsTaken max) old new × TakeFails fault (take_all_refusal old max)
+
+-- why a flush is not taken of one book: those before are not ended, or there is nothing to take; or
+-- it is refused
+abbrev pub IsNotTakenOf : ℕ → Journal → TakeAllFault → Type 0
+IsNotTakenOf max book faults.NotEnded = ⊥
+IsNotTakenOf max book faults.Nothing = pick (history book) max ≡ []
+IsNotTakenOf max book (faults.Refused fault) =
+    TakeFails fault (refusal_of (pick (history book) max) (take_refusal (history book)))
+
+-- a flush of the i-th book was taken, and no other: each other book is as it was
+pub record IsTakenAlone (max i : ℕ) (old new : List Journal) (flushes : List (Option Flush)) :
+    Type 0 where
+  pub found : i < length old
+  pub alone : (d : Journal) → new ≡ set old i (get_or new i d)
+  pub taken : (d : Journal) → (flush : Flush)
+      × IsTaken (get_or old i d) (get_or new i d) 0 max flush
+      × (flushes ≡ set (replicate (length old) None) i (Some flush))
+
+-- no flush is taken of the i-th book, and nothing changes: those before are not ended; or there is
+-- no such book, or nothing to take of it; or it refuses
+abbrev pub IsNotTakenAlone :
+    (max i : ℕ) → (old new : List Journal) → List (Option Flush) → TakeAllFault → Type 0
+IsNotTakenAlone max i old new before faults.NotEnded = (before ≢ []) × (new ≡ old)
+IsNotTakenAlone max i old new before faults.Nothing =
+    ((length old ≤ i) ⊎ ((d : Journal) → pick (history (get_or old i d)) max ≡ [])) × (new ≡ old)
+IsNotTakenAlone max i old new before (faults.Refused fault) =
+    ((d : Journal) → IsNotTakenOf max (get_or old i d) (faults.Refused fault)) × (new ≡ old)

@@ -1,4 +1,5 @@
 pub mod Alone
+pub mod EndRanges
 pub mod Faults
 pub mod Opened
 pub mod Returned

@@ -1,6 +1,6 @@
 //! The books of a desk, each with the series that belong to it.
 ghost use Rattle.std.specs.Prelude.{◌≡◌, ◌≢◌, ◌≤◌, [], None, length, true, false};
-ghost use Rattle.std.specs.Prelude.{OnOk, OnErr, IfErr, IfOk};
+ghost use Rattle.std.specs.Prelude.{OnOk, OnErr, IfErr, IfOk, IfSome, IfNone, ◌<◌};
 ghost use Rattle.std.specs.List.{All};
 ghost use Rattle.delta_book.specs.Journal.{journal_of};
 ghost use Rattle.metric_events.specs.Opening.{first_opening};
@@ -8,14 +8,17 @@ ghost use Rattle.book_desk.specs.Each.{Each, EachBook};
 ghost use Rattle.book_desk.specs.Ends.{IsEndedBy, IsNotEnded, AreLeft};
 ghost use Rattle.book_desk.specs.Holds.{Holds, RestsFrom, Releases, HoldFails, hold_refusal};
 ghost use Rattle.book_desk.specs.Holds.{is_held_in};
-ghost use Rattle.book_desk.specs.Posts.{Keeps};
+ghost use Rattle.book_desk.specs.Crossings.{IsCrossing, NoneCrosses};
+ghost use Rattle.book_desk.specs.Posts.{Keeps, Rests};
 ghost use Rattle.book_desk.specs.Takes as takes;
 ghost use Rattle.book_desk.specs.Takes.{Takes, IsNotTaken, take_all_refusal};
+ghost use Rattle.book_desk.specs.Takes.{IsTakenAlone, IsNotTakenAlone};
 ghost use Rattle.book_desk.specs.Rounds.{IsClosedAlone};
 ghost use Rattle.book_desk.specs.Written as written;
 ghost use Rattle.book_desk.specs.Written.{IsReported, IsNotReported, all_series};
 ghost use Rattle.book_desk.specs.Refusals.{post_refusal, IsNotAdmitted};
 
+use crate::cross::crosses;
 use crate::end::{End, end_each};
 use crate::flushes::{Flushes, TextFault, count};
 use crate::hold::{hold_each, lift_each};
@@ -23,7 +26,7 @@ use crate::none::none_of;
 use crate::post::admit_each;
 use crate::reader::Reader;
 use crate::rounds::close_long;
-use crate::take::take_each;
+use crate::take::{take_each, take_one};
 use delta_book::book::Book;
 use delta_book::faults::{AdmitFault, QuarantineFault, TakeFault};
 use metric_events::limits::MAX_TAKEN;
@@ -46,6 +49,10 @@ pub enum DeskFault {
     /// The post is refused.
     Refused(AdmitFault),
 }
+
+/// Nothing was read for so many books.
+#[derive(Clone, Copy, Debug, PartialEq, Eq)]
+pub struct NothingRead;
 
 /// Why flushes are not taken.
 #[derive(Clone, Copy, Debug, PartialEq, Eq)]
@@ -122,6 +129,55 @@ impl Desk {
         }
     }
 
+    /// Whether all books would take what the reader has read, which is gone from it then: the
+    /// answer is the one that `admit` would give. Each book is as it was, or as if its part had
+    /// never come.
+    pub fn try_admit(&mut self, reader: &mut Reader) -> Result<(), DeskFault>
+        ensures rests { OnOk result (Each Rests self.old.books.items self.new.books.items
+            reader.old) }
+        ensures none { OnOk result (post_refusal self.old.books.items reader.old ≡ None) }
+        ensures refused { IfErr result (λ e. IsNotAdmitted self.old.books.items
+            self.new.books.items reader.old e) }
+        ensures gone { reader.new ≡ [] }
+    {
+        let mut parts = reader.take_parts();
+        if parts.len() != self.books.len() {
+            return Err(DeskFault::Nothing);
+        }
+        match admit_each(&mut self.books, &mut parts, true) {
+            None => Ok(()),
+            Some(fault) => Err(DeskFault::Refused(fault)),
+        }
+    }
+
+    /// The first book, from the `first`-th on, that holds something pending of a series of which
+    /// the reader has a point in a later stretch of so many nanoseconds. Takes no memory.
+    pub fn crosses(
+        &self,
+        reader: &Reader,
+        stretch: u64,
+        first: usize,
+    ) -> Result<Option<usize>, NothingRead>
+        requires { 0 < stretch }
+        ensures crossing { IfOk result (λ found. IfSome found (λ i. IsCrossing stretch
+            self.now.books.items reader.now first i)) }
+        ensures none { IfOk result (λ found. IfNone found (NoneCrosses stretch
+            self.now.books.items reader.now first (length self.now.books.items))) }
+        ensures read { OnOk result (length reader.now ≡ length self.now.books.items) }
+        ensures nothing { OnErr result (length reader.now ≢ length self.now.books.items) }
+    {
+        let parts = reader.parts();
+        if parts.len() != self.books.len() {
+            return Err(NothingRead);
+        }
+        for i in first..parts.len() {
+            if crosses(stretch, &self.books[i], &parts[i]) {
+                return Ok(Some(i));
+            }
+        }
+        Ok(None)
+    }
+
     /// Takes a flush of at most so many series of each book that has some, and returns how many
     /// flushes came. Where one refuses, the others get back what they gave.
     pub fn take(&mut self, flushes: &mut Flushes, max: usize) -> Result<usize, TakeAllFault>
@@ -152,6 +208,41 @@ impl Desk {
                     Ok(found)
                 }
             },
+        }
+    }
+
+    /// As `take`, of the i-th book alone: one flush, in the place of that book.
+    pub fn take_book(
+        &mut self,
+        flushes: &mut Flushes,
+        i: usize,
+        max: usize,
+    ) -> Result<(), TakeAllFault>
+        requires low { 1 ≤ max }
+        requires high { max ≤ MAX_TAKEN }
+        ensures taken { OnOk result (IsTakenAlone max i self.old.books.items self.new.books.items
+            flushes.new.flushes.items) }
+        ensures refused { IfErr result (λ e. IsNotTakenAlone max i self.old.books.items
+            self.new.books.items flushes.old.flushes.items e) }
+        ensures same { OnErr result (flushes.new ≡ flushes.old) }
+        ensures text { flushes.new.text ≡ flushes.old.text }
+    {
+        if !flushes.flushes.is_empty() {
+            return Err(TakeAllFault::NotEnded);
+        }
+        if i >= self.books.len() {
+            return Err(TakeAllFault::Nothing);
+        }
+        let Ok(mut taken) = none_of(self.alloc, self.books.len()) else {
+            return Err(TakeAllFault::Refused(TakeFault::NoMemory));
+        };
+        match take_one(&mut self.books[i], max) {
+            Ok(flush) => {
+                taken[i] = Some(flush);
+                flushes.flushes = taken;
+                Ok(())
+            }
+            Err(fault) => Err(fault),
         }
     }
 

@@ -4,11 +4,14 @@
 #![tactic(auto)]
 
 pub mod by_number;
+mod cross;
 pub mod desk;
 pub mod draft;
 mod draft_of;
 mod earlier;
 pub mod end;
+pub mod end_range;
+mod find;
 pub mod flushes;
 mod hold;
 mod home;

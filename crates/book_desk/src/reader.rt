@@ -1,13 +1,15 @@
 //! Reads posts. A reader has no lock: each thread has one of its own.
-ghost use Rattle.std.specs.Prelude.{◌≡◌, ◌<◌, [], IfOk, IfErr, OnErr};
+ghost use Rattle.std.specs.Prelude.{◌≡◌, ◌<◌, [], IfOk, IfErr, OnErr, IfSome, IfNone};
 ghost use Rattle.std.specs.List.{All};
 ghost use Rattle.book_desk.specs.inner.Opened.{HasPoints};
 ghost use Rattle.book_desk.specs.inner.Faults as faults;
+ghost use Rattle.book_desk.specs.EndRanges.{IsRangeOf, ends_of};
 ghost use Rattle.book_desk.specs.Reads.{IsRead, IsUnread, IsPut, IsNotPut};
 
 use crate::by_number::{PutFault, draft_said};
 use crate::draft::Counts;
 use crate::draft_of::draft_of;
+use crate::end_range::{EndRange, end_range};
 use crate::names::Names;
 use crate::part::Part;
 use crate::window::Window;
@@ -154,6 +156,22 @@ impl Reader {
         let counts = draft.counts;
         self.parts = draft.into_parts();
         Ok(counts)
+    }
+
+    /// The least and the greatest time at which a point ends of those that it has; none where it
+    /// has no points.
+    pub fn ends(&self) -> Option<EndRange>
+        ensures range { IfSome result (λ range. IsRangeOf (ends_of self.now) range) }
+        ensures none { IfNone result (ends_of self.now ≡ []) }
+    {
+        end_range(&self.parts)
+    }
+
+    /// The parts.
+    pub(crate) fn parts(&self) -> &[Option<Part>]
+        ensures { result.now ≡ self.now }
+    {
+        self.parts.as_slice()
     }
 
     /// The parts, which are gone from the reader then.
