@@ -14,26 +14,32 @@ const MOST_PARTS: usize = 1000;
 /// A request that was read, and what of it the book is not given.
 pub struct Posted {
     pub read: Read,
-    pub off: OffClock,
-    /// The places of points that are off, among those of the profile; ascending.
-    left_out: Vec<u64>,
+    left_out: LeftOut,
+}
+
+/// Points that are off by their clock.
+#[derive(Default)]
+pub struct LeftOut {
+    off: OffClock,
+    /// Among all points of the profile; ascending.
+    places: Vec<u64>,
 }
 
 impl Posted {
     pub fn whole(read: Read) -> Posted {
         Posted {
             read,
-            off: OffClock::default(),
-            left_out: Vec::new(),
+            left_out: LeftOut::default(),
         }
+    }
+
+    pub fn off(&self) -> OffClock {
+        self.left_out.off
     }
 
     /// A refusal, which names a point by its place in the request.
     pub fn refused(&self, refused: Refused) -> Refused {
-        let placed = |point| {
-            let before = |point, out: &u64| point + u64::from(*out <= point);
-            self.left_out.iter().fold(point, before)
-        };
+        let placed = |point| self.left_out.place_of(point);
         match refused {
             Refused::OtherWriter { point } => Refused::OtherWriter { point: placed(point) },
             Refused::OutOfOrder { point, frontier } => Refused::OutOfOrder {
@@ -42,6 +48,36 @@ impl Posted {
             },
             other => other,
         }
+    }
+}
+
+impl LeftOut {
+    /// Takes them out of these points.
+    fn of(points: &mut Points, window: &Window) -> LeftOut {
+        let mut left_out = LeftOut::default();
+        if points.each().all(|point| window.off(point[2]).is_none()) {
+            return left_out;
+        }
+        let mut within = Points::default();
+        for (place, point) in (0..).zip(points.each()) {
+            match (window.off(point[2]), point) {
+                (None, [number, start, end, says @ ..]) => {
+                    within.push(*number, *start, *end, says.iter().copied());
+                }
+                (found, _) => {
+                    found.into_iter().for_each(|found| left_out.off.count(found));
+                    left_out.places.push(place);
+                }
+            }
+        }
+        *points = within;
+        left_out
+    }
+
+    /// Where among all is a point that has this place among those that are left.
+    fn place_of(&self, point: u64) -> u64 {
+        let passed = |point, out: &u64| point + u64::from(*out <= point);
+        self.places.iter().fold(point, passed)
     }
 }
 
@@ -94,24 +130,9 @@ fn read_points(
     sender: String,
     mut by: ByNumber,
 ) -> Result<Posted, Refused> {
-    let (mut off, mut left_out) = (OffClock::default(), Vec::new());
-    if by.points.each().any(|point| window.off(point[2]).is_some()) {
-        let mut within = Points::default();
-        for (place, point) in by.points.each().enumerate() {
-            match (window.off(point[2]), point) {
-                (None, [number, start, end, says @ ..]) => {
-                    within.push(*number, *start, *end, says.iter().copied());
-                }
-                (found, _) => {
-                    found.into_iter().for_each(|found| off.count(found));
-                    left_out.push(place as u64);
-                }
-            }
-        }
-        by.points = within;
-    }
+    let left_out = LeftOut::of(&mut by.points, window);
     let read = core.read_points(sender, by.points, by.names, by.foreign)?;
-    Ok(Posted { read, off, left_out })
+    Ok(Posted { read, left_out })
 }
 
 fn fits(posted: Posted) -> Result<Posted, Refused> {

@@ -30,7 +30,7 @@ impl Taken<'_> {
         Taken {
             post: &posted.read.post,
             names: posted.read.names(),
-            off: posted.off,
+            off: posted.off(),
         }
     }
 
