@@ -216,7 +216,13 @@ class Causes:
 
     # Those of refusals
 
+    def post_ahead(self):
+        """By a clock that is a day ahead; what is left out of it keeps no right post out."""
+        body = in_json([("ahead", now := time.time_ns() + 86_400 * 10**9, now + 10, 1)])
+        ask(self.service.listen, "POST", "/v1/metrics", body, {"Content-Type": JSON, "x-sender": "A"})
+
     def of_refusals(self):
+        self.sees_repeated("ClockOff", "a clock that is ahead", self.post_ahead)
         self.post("A")
         self.sees_repeated("PostsRefused", "another sender of a series", lambda: self.post("B"))
         self.sees_repeated("PostsRefused", "a clock that went back", lambda: self.post("A", start=10**9))

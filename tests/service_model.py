@@ -4,7 +4,8 @@
     tests/service_model.py
 
 It needs no program. Two senders have three posts on two series, each of which is in a book of its own: A posts one point of
-x, then one of x and one of y; B posts one of y, so that one of the two senders owns y and the other is refused. Posts are on
+x, then one of x and one of y; B posts one of y, so that one of the two senders owns y and the other is refused. Each point of
+x is of another hour, and that of y of a third one: so A's second post is of several hours. Posts are on
 the way at once, answers are lost, and a sender repeats until it is answered. Meanwhile there are checkpoints, a quarantine, a
 lift, and deliveries to a sink. Faults come at any place: the service is killed, the power is lost, a write of the outbox fails.
 
@@ -14,6 +15,8 @@ In each state in which nothing is on its way:
   - a post whose sender was told that it is refused (`other writer`) does not count;
   - any other post counts once or not at all, and all of its points do or none;
   - a late repeat of a post that was taken is refused.
+
+And in each state what is pending of a series, and each request, is of one hour, and requests have a series' points in order.
 
 With all rules kept no state breaks this, over all states of two faults and one checkpoint, and of one fault and two
 checkpoints. Without any one of the rules some state does: so the rule is needed, and the model can see it. The search
@@ -67,6 +70,14 @@ class Rules:
     quarantined_posts_are_held: bool = True
     # A request is acknowledged in the outbox once the sink has said that it has it.
     sink_answers_before_the_ack: bool = True
+    # What is pending of a series is taken before a point of a later hour comes to it.
+    a_later_hour_takes_what_is_pending: bool = True
+    # What was taken so goes ahead of the other requests of its group.
+    earlier_hours_go_first: bool = True
+    # What a checkpoint takes is not given back: a later hour may have come.
+    what_was_taken_is_not_given_back: bool = True
+    # A post of several hours is tried as a whole before it is put in hour by hour.
+    post_of_several_hours_is_tried_whole: bool = True
     # What an earlier run wrote is synced at the start, before anybody is told of it.
     files_are_synced_before_they_are_believed: bool = True
 
@@ -90,6 +101,10 @@ POSTS = (Post(A, {X: (0, 1)}), Post(A, {X: (1, 2), Y: (0, 1)}), Post(B, {Y: (0, 
 POINTS = tuple((post, series) for post, one in enumerate(POSTS) for series in one.spans)
 OF_POST = tuple(sum(1 << place for place, (post, _) in enumerate(POINTS) if post == number) for number in range(len(POSTS)))
 OF_SERIES = tuple(sum(1 << place for place, (_, series) in enumerate(POINTS) if series == one) for one in SERIES)
+# Of each series, by where a point of it ends, the hour.
+HOURS = ({1: 0, 2: 1}, {1: 2})
+OF_HOUR = tuple(sum(1 << place for place, (post, series) in enumerate(POINTS) if HOURS[series][POSTS[post].spans[series][1]] == hour)
+                for hour in range(3))
 OF_SENDER = {name: sum(OF_POST[number] for number, post in enumerate(POSTS) if post.sender == name) for name in (A, B)}
 # The sender that is quarantined and released.
 QUARANTINED = A
@@ -139,6 +154,8 @@ class Books(NamedTuple):
     series: tuple
     # Points that were taken and not flushed.
     pending: int
+    # Requests of earlier hours, for the next group.
+    earlier: tuple
     is_quarantined: bool
 
 
@@ -210,7 +227,7 @@ class State(NamedTuple):
     left: Left
 
 
-EMPTY_BOOKS = Books((None, None), 0, False)
+EMPTY_BOOKS = Books((None, None), 0, (), False)
 EMPTY_OUTBOX = Outbox((), 0, 1, (None, None), False)
 BEGIN = State(
     told=(Told.NOTHING,) * len(POSTS), attempts=(0,) * len(POSTS), requests=(), books=EMPTY_BOOKS, segment=1, journal=(),
@@ -262,21 +279,31 @@ def answer_of(books, post):
     return Told.TAKEN
 
 
-def taken(books, post, only=SERIES):
-    """The books with a post that they take, or with its part of these series."""
-    series, pending = list(books.series), books.pending
-    for one, (_, end) in POSTS[post].spans.items():
-        if one in only:
-            series[one] = (POSTS[post].sender, end)
-            pending |= OF_POST[post] & OF_SERIES[one]
-    return books._replace(series=tuple(series), pending=pending)
+def hour_of(post, series):
+    return HOURS[series][POSTS[post].spans[series][1]]
 
 
-def with_parts(books, post):
-    """The books with those parts of a refused post that one book alone would take."""
+def taken(rules, books, post, only=SERIES, is_held=False):
+    """The books with a post that they take, or with its part of these series: hour by hour. Nothing is taken of what is held."""
+    series, pending, earlier = list(books.series), books.pending, books.earlier
+    for one in sorted(set(POSTS[post].spans) & set(only), key=lambda one: hour_of(post, one)):
+        before = pending & OF_SERIES[one] & sum(OF_HOUR[:hour_of(post, one)])
+        if before and rules.a_later_hour_takes_what_is_pending and not is_held:
+            earlier, pending = earlier + (before,), pending & ~before
+        series[one] = (POSTS[post].sender, POSTS[post].spans[one][1])
+        pending |= OF_POST[post] & OF_SERIES[one]
+    return books._replace(series=tuple(series), pending=pending, earlier=earlier)
+
+
+def with_parts(rules, books, post):
+    """The books with those parts of a refused post that one book alone would take, or the hours before the one that is refused."""
     sender, spans = POSTS[post]
     known = {one: books.series[one] or (sender, 0) for one in spans}
-    return taken(books, post, [one for one, (start, _) in spans.items() if known[one][0] == sender and known[one][1] <= start])
+    kept = [one for one, (start, _) in spans.items() if known[one][0] == sender and known[one][1] <= start]
+    if rules.post_is_in_all_books_or_none:
+        refused = min(hour_of(post, one) for one in spans if one not in kept)
+        kept = [one for one in kept if hour_of(post, one) < refused]
+    return taken(rules, books, post, kept)
 
 
 def flushable(books):
@@ -310,7 +337,7 @@ def asked(rules, state, number):
     """The books take a post or refuse it."""
     if answer_of(state.books, number) != Told.TAKEN:
         return f"post {number} is refused", refused(rules, state, number)
-    state = state._replace(books=taken(state.books, number))
+    state = state._replace(books=taken(rules, state.books, number))
     if rules.admission_and_place_are_one_step:
         return f"post {number} is taken, and has its place in the queue", placed(rules, state, number, True)
     return f"post {number} is taken", with_request(state, Request(number, Told.NOTHING, Sync.QUEUED, True))
@@ -327,8 +354,8 @@ def placed(rules, state, number, is_awaited):
 def refused(rules, state, number):
     """A refusal waits for what has a place before it."""
     answer = answer_of(state.books, number) or Told.TAKEN
-    if not rules.post_is_in_all_books_or_none:
-        state = state._replace(books=with_parts(state.books, number))
+    if not (rules.post_is_in_all_books_or_none and rules.post_of_several_hours_is_tried_whole):
+        state = state._replace(books=with_parts(rules, state.books, number))
     open_ones = [record.sync for record in state.journal if record.sync in (Sync.QUEUED, Sync.WRITTEN)]
     if rules.refusal_waits_for_journal and open_ones:
         return with_request(state, Request(number, answer, min(open_ones), True))
@@ -386,18 +413,19 @@ def begin_checkpoint(rules, state):
     left = spend(state, "checkpoints")
     if not left or not state.books or state.checkpoint:
         return
-    state = all_taken(state._replace(left=left))
+    state = all_taken(rules, state._replace(left=left))
     if rules.take_and_turn_are_one_step:
         yield f"{state.checkpoint.group} are taken of the books, and the journal turns", turned(rules, state)
     else:
         yield f"{state.checkpoint.group} are taken of the books", state
 
 
-def all_taken(state):
+def all_taken(rules, state):
     """A flush that was taken is settled at once: its points are the checkpoint's alone."""
-    points = flushable(state.books)
+    points, earlier = flushable(state.books), state.books.earlier
     group = tuple(points & of for of in OF_SERIES if points & of)
-    books = state.books._replace(pending=state.books.pending & ~points)
+    group = earlier + group if rules.earlier_hours_go_first else group + earlier
+    books = state.books._replace(pending=state.books.pending & ~points, earlier=())
     return state._replace(books=books, checkpoint=Checkpoint(Step.TAKEN, group))
 
 
@@ -438,9 +466,9 @@ def commit(rules, state):
 
 
 def give_back(rules, state):
-    """There is no memory to write what was taken: it is pending again, and the journal stays as it turned."""
+    """There is no memory to write what was taken: with the rule that is tried again, or the process ends."""
     left = spend(state, "faults")
-    if left and state.checkpoint and state.checkpoint.step == Step.TURNED:
+    if left and state.checkpoint and state.checkpoint.step == Step.TURNED and not rules.what_was_taken_is_not_given_back:
         books = state.books._replace(pending=state.books.pending | sum(state.checkpoint.group))
         yield "what was taken is given back", state._replace(books=books, checkpoint=None, left=left)
 
@@ -511,7 +539,8 @@ def delivered(state, number):
 def quarantine(rules, state):
     """All books have it, and then it is noted in the outbox: a kill between the two leaves neither."""
     left = spend(state, "quarantines")
-    if left and state.books and not state.checkpoint and not state.outbox.is_quarantined:
+    # What was taken of earlier hours is in a group before: it can't be held any more.
+    if left and state.books and not state.checkpoint and not state.outbox.is_quarantined and not state.books.earlier:
         yield f"{QUARANTINED} is quarantined", noted(state._replace(left=left), True)
 
 
@@ -544,7 +573,8 @@ def fresh_books(rules, outbox, journal):
     records = sorted(replayed(outbox, journal), key=lambda record: outbox.is_quarantined and POSTS[record.post].sender == QUARANTINED)
     for record in records if rules.replay_has_the_journals_order else reversed(records):
         if answer_of(books, record.post) == Told.TAKEN:
-            books = taken(books, record.post)
+            is_held = outbox.is_quarantined and POSTS[record.post].sender == QUARANTINED
+            books = taken(rules, books, record.post, is_held=is_held)
     return books._replace(is_quarantined=outbox.is_quarantined)
 
 
@@ -598,8 +628,23 @@ def is_quiet(state):
 def counted(state):
     """Of each point, how often it counts, where nothing more is posted and nothing fails."""
     waiting = state.outbox.requests[max(state.outbox.acknowledged, state.highest):]
-    sets = (state.sink, state.twice, state.books.pending, *waiting)
+    sets = (state.sink, state.twice, state.books.pending, *state.books.earlier, *waiting)
     return [sum(points >> place & 1 for points in sets) for place in range(len(POINTS))]
+
+
+def fault_of_hours(state):
+    """Which series is in two hours at once, or out of order; or None."""
+    group = state.checkpoint.group if state.checkpoint and state.checkpoint.step < Step.COMMITTED else ()
+    pending = (state.books.pending, *group, *state.books.earlier) if state.books else ()
+    for points in (*pending, *state.outbox.requests):
+        for series in SERIES:
+            if sum(1 for hour in OF_HOUR if points & OF_SERIES[series] & hour) > 1:
+                return f"what goes of series {series} as one is of two hours"
+    for series in SERIES:
+        order = [points & OF_SERIES[series] for points in state.outbox.requests if points & OF_SERIES[series]]
+        if order != sorted(order):
+            return f"a later hour of series {series} is sent before an earlier one"
+    return None
 
 
 def fault_of(state):
@@ -646,7 +691,7 @@ def explore(rules, left):
             if after in parents:
                 continue
             parents[after] = state, label
-            fault = fault_of(after) if is_quiet(after) else None
+            fault = fault_of_hours(after) or (fault_of(after) if is_quiet(after) else None)
             if fault:
                 return Found(len(parents), fault, way_to(parents, after), False)
             waiting.append(after)

@@ -60,6 +60,7 @@ CARGO_STEPS = (
 # After the program's name: further words, and about how many seconds it takes.
 SERVICE_STEPS = (
     ("service_load.py", ["60"], 120),
+    ("by_hour.py", ["10"], 50),
     ("service_interrupted.py", ["5"], 300),
     ("same_answers.py", [GATEWAY], 100),
     ("behind_proxies.py", [], 60),

@@ -5,7 +5,7 @@ use super::table::Table;
 use super::values::counted;
 use super::{json, Failure, Form};
 use crate::intake::refusal::Refusal;
-use crate::otlp::{self, Encoding, Explained, Reading, Refused, Rounding};
+use crate::otlp::{self, Clock, Encoding, Explained, Reading, Refused, Rounding};
 use anyhow::{anyhow, Context};
 use clap::Args;
 use serde::Serialize;
@@ -52,9 +52,10 @@ struct Rounded {
 
 impl Options {
     pub fn run(self) -> Result<Vec<u8>, Failure> {
+        let clock = self.reading.clock();
         let reading = self.reading.reading().map_err(Failure::Line)?;
         let body = read(&self.file).with_context(|| format!("{} can't be read", self.file.display()))?;
-        let found = found(body, &reading)?;
+        let found = found(body, &reading, &clock)?;
         match self.form.json {
             true => Ok(json(&found)?),
             false => Ok(text(&found).into()),
@@ -73,7 +74,7 @@ fn read(file: &Path) -> std::io::Result<Vec<u8>> {
     Ok(body)
 }
 
-fn found(body: Vec<u8>, reading: &Reading) -> anyhow::Result<Found> {
+fn found(body: Vec<u8>, reading: &Reading, clock: &Clock) -> anyhow::Result<Found> {
     let (framed, body) = unframed(body);
     let (packed, body) = unpacked(not_too_long(body)?)?;
     let body = not_too_long(body)?;
@@ -85,7 +86,7 @@ fn found(body: Vec<u8>, reading: &Reading) -> anyhow::Result<Found> {
     };
     let sender = otlp::sender(otlp::NO_NAME.into(), encoding, &body, reading).map_err(refused)?;
     let prepared = otlp::prepare(encoding, body.into(), reading).map_err(refused)?;
-    let points = otlp::explained(&prepared.body).context("refused with 400: wrong shape")?;
+    let points = otlp::explained(&prepared.body, clock.window()).context("refused with 400: wrong shape")?;
     let foreign = points.iter().filter(|point| point.foreign.is_some()).count();
     let rounded = prepared.rounded.by_rule.into_iter();
     Ok(Found {
@@ -183,12 +184,13 @@ fn text(found: &Found) -> String {
 mod tests {
     use super::*;
     use std::io::Write;
+    use std::time::Duration;
 
     const BODY: &str = r#"{"resourceMetrics":[{"scopeMetrics":[{"metrics":[{"name":"a","sum":{"aggregationTemporality":1,"dataPoints":[{"startTimeUnixNano":"1","timeUnixNano":"2","asInt":"5","attributes":[{"key":"route","value":{"stringValue":"/"}}]}]}},{"name":"b","gauge":{"dataPoints":[{"asDouble":0.5}]}}]}]}]}"#;
 
     #[test]
     fn each_point_is_told_of() {
-        let found = found(BODY.into(), &Reading::default()).unwrap();
+        let found = found(BODY.into(), &Reading::default(), &Clock::default()).unwrap();
         let text = text(&found);
         assert!(
             text.starts_with("JSON, ") && text.contains("1 point taken, 1 foreign"),
@@ -200,6 +202,25 @@ mod tests {
     }
 
     #[test]
+    fn a_point_that_is_off_by_its_clock_is_told_of() {
+        let ahead = BODY.replace(
+            "timeUnixNano\":\"2\"",
+            &format!("timeUnixNano\":\"{}\"", u64::MAX),
+        );
+        let clock = Clock {
+            most_ahead: Some(Duration::from_secs(600)),
+            most_behind: None,
+        };
+        let told = text(&found(ahead.into(), &Reading::default(), &clock).unwrap());
+        assert!(
+            told.contains("0 points taken, 2 foreign") && told.contains("d ahead"),
+            "{told}"
+        );
+        let old = text(&found(BODY.into(), &Reading::default(), &clock).unwrap());
+        assert!(old.contains("1 point taken"), "{old}");
+    }
+
+    #[test]
     fn a_sender_is_found() {
         let reading = Reading {
             sender_from: Some("id".to_string()),
@@ -207,11 +228,15 @@ mod tests {
         };
         let body =
             r#"{"resourceMetrics":[{"resource":{"attributes":[{"key":"id","value":{"stringValue":"a"}}]}}]}"#;
-        let named = text(&found(body.into(), &reading).unwrap());
+        let named = text(&found(body.into(), &reading, &Clock::default()).unwrap());
         assert!(named.contains("of the sender a,"), "{named}");
-        let error = found(body.replace(r#""a""#, r#""""#).into(), &reading)
-            .unwrap_err()
-            .to_string();
+        let error = found(
+            body.replace(r#""a""#, r#""""#).into(),
+            &reading,
+            &Clock::default(),
+        )
+        .unwrap_err()
+        .to_string();
         assert!(error.contains("refused with 400: no sender"), "{error}");
     }
 
@@ -219,22 +244,31 @@ mod tests {
     fn forms_are_recognised() {
         let mut packer = flate2::write::GzEncoder::new(Vec::new(), flate2::Compression::default());
         packer.write_all(BODY.as_bytes()).unwrap();
-        let packed = found(packer.finish().unwrap(), &Reading::default()).unwrap();
+        let packed = found(packer.finish().unwrap(), &Reading::default(), &Clock::default()).unwrap();
         assert!(packed.packed && packed.encoding == "JSON" && packed.taken == 1);
         // A protobuf that begins as JSON may: a line feed and a brace are its field and its length.
         let scope = [&b"\x12\x77\x12\x75\x0a\x73"[..], &[b'n'; 115]].concat();
         let body = [&b"\x0a{\x12\x79"[..], &scope].concat();
-        let plain = found(body.clone(), &Reading::default()).unwrap();
+        let plain = found(body.clone(), &Reading::default(), &Clock::default()).unwrap();
         assert_eq!((plain.encoding, plain.taken), ("protobuf", 0));
         let message = [&[0, 0, 0, 0, body.len() as u8][..], &body].concat();
-        assert_eq!(found(message, &Reading::default()).unwrap().bytes, body.len());
         assert_eq!(
-            found(Vec::new(), &Reading::default()).unwrap().encoding,
+            found(message, &Reading::default(), &Clock::default())
+                .unwrap()
+                .bytes,
+            body.len()
+        );
+        assert_eq!(
+            found(Vec::new(), &Reading::default(), &Clock::default())
+                .unwrap()
+                .encoding,
             "protobuf"
         );
         let mut long = b"\x1f\x8b".to_vec();
         long.resize(MOST as usize + 1, 0);
-        let error = found(long, &Reading::default()).unwrap_err().to_string();
+        let error = found(long, &Reading::default(), &Clock::default())
+            .unwrap_err()
+            .to_string();
         assert_eq!(
             error, "refused with 413: body too long: over 4194304 bytes, packed or unpacked: post fewer points at a time",
             "also where it is packed"
@@ -244,7 +278,10 @@ mod tests {
             ("\x1f\u{8b}", "400"),
             ("x", "400: not protobuf"),
         ] {
-            let error = format!("{:#}", found(body.into(), &Reading::default()).unwrap_err());
+            let error = format!(
+                "{:#}",
+                found(body.into(), &Reading::default(), &Clock::default()).unwrap_err()
+            );
             assert!(error.contains(why), "{error}");
         }
     }

@@ -1,6 +1,7 @@
 //! Options that say how requests are read, for what takes posts and for what explains them.
 
-use crate::otlp::{Choice, Reading, Whole};
+use super::values::{time_or_off, MayBeOff};
+use crate::otlp::{Choice, Clock, Reading, Whole};
 use anyhow::anyhow;
 use clap::builder::NonEmptyStringValueParser;
 use clap::Args;
@@ -23,9 +24,22 @@ pub(super) struct OfReading {
     /// The resource attribute that names a sender without the header x-sender: service.instance.id
     #[arg(long, env = "TOTXEGUN_SENDER_FROM", value_name = "ATTRIBUTE", value_parser = NonEmptyStringValueParser::new())]
     sender_from: Option<String>,
+    /// Leaves out points that end later than so long after this clock's time, or `off` for none
+    #[arg(long, env = "TOTXEGUN_MOST_AHEAD", value_name = "TIME", default_value = "10m", value_parser = time_or_off)]
+    most_ahead: MayBeOff,
+    /// Leaves out points that ended earlier than so long before this clock's time, or `off` for none
+    #[arg(long, env = "TOTXEGUN_MOST_BEHIND", value_name = "TIME", default_value = "off", value_parser = time_or_off)]
+    most_behind: MayBeOff,
 }
 
 impl OfReading {
+    pub fn clock(&self) -> Clock {
+        Clock {
+            most_ahead: self.most_ahead.0,
+            most_behind: self.most_behind.0,
+        }
+    }
+
     pub fn reading(self) -> anyhow::Result<Reading> {
         Ok(Reading {
             dropped: self.drop_attributes,

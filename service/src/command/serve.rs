@@ -7,7 +7,7 @@ use super::settings::Names;
 use super::values::{bytes_shown, operator, orders_at, place, size, time, time_or_never, MayBeNever, SOCKET};
 use super::version::Versions;
 use super::Failure;
-use crate::core;
+use crate::core::{self, Across};
 use crate::files::Durability;
 use crate::identity;
 use crate::log;
@@ -78,6 +78,15 @@ pub struct Options {
     /// How long between two flushes
     #[arg(long, env = "TOTXEGUN_FLUSH_EVERY", value_name = "TIME", default_value = "10s", value_parser = time)]
     flush_every: Duration,
+    /// What a point that is delivered never covers two of, in UTC, but where a point that was posted does itself
+    #[arg(
+        long,
+        env = "TOTXEGUN_NEVER_ACROSS",
+        value_name = "WHAT",
+        default_value = "hour",
+        value_enum
+    )]
+    never_across: Across,
     /// What a post survives once it is answered: `disk` a loss of power, `process` the end of the process
     #[arg(
         long,
@@ -296,6 +305,7 @@ impl Options {
             .unwrap_or_else(|| Address::Sqlite(data.join("metrics.db")));
         let sink = self.of_sink.put_into(sink).map_err(Failure::Line)?;
         let keep = self.of_keeping.keep(&sink).map_err(Failure::Line)?;
+        let clock = self.of_reading.clock();
         let reading = self.of_reading.reading().map_err(Failure::Line)?;
         if self.of_senders.has_names() && reading.sender_from.is_some() {
             return Err(Failure::Line(anyhow!(
@@ -331,6 +341,8 @@ impl Options {
             every: self.flush_every,
             forget: self.forget_series.0,
             reading,
+            clock,
+            across: self.never_across,
             telling: Telling {
                 log_foreign: self.log_foreign as usize,
                 expected: self.expect_foreign,

@@ -45,6 +45,14 @@ pub fn time_or_forever(text: &str) -> Result<MayBeForever, String> {
     time_or("forever", text).map(MayBeForever)
 }
 
+/// A time, or `off`.
+#[derive(Clone, Copy, Debug, PartialEq, Eq)]
+pub struct MayBeOff(pub Option<Duration>);
+
+pub fn time_or_off(text: &str) -> Result<MayBeOff, String> {
+    time_or("off", text).map(MayBeOff)
+}
+
 fn time_or(word: &str, text: &str) -> Result<Option<Duration>, String> {
     if text == word {
         return Ok(None);

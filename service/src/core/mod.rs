@@ -1,26 +1,30 @@
 //! The book: proved, linked in, and asked by calls. `book` is the wrapper over its library, the only file that calls what
 //! is not Rust, `refusal` what it says no by, `memory` what it may have, `names` has numbers for series, `rounds` when rounds are
-//! closed, `read` a post that was read.
+//! closed, `read` a post that was read, `stretch` which points are of one hour, `earlier` what is taken where a later one begins.
 //!
 //! A post is read by a reader, which needs no lock. All else is asked of the one `Book` under the lock of `Core`: so
 //! there is one order of all that changes it, and what is put into the journal under that lock has the same.
 
 #[allow(unsafe_code)]
 mod book;
+mod earlier;
 mod memory;
 mod names;
 mod read;
 mod refusal;
 mod rounds;
+mod stretch;
 
 pub use memory::used as memory_used;
 pub use names::Names;
 pub use read::Read;
 pub use refusal::Refused;
+pub use stretch::Across;
 
 use crate::files::{Body, Points};
 use book::{Answer, Desk, Flushes, Reader, MOST_TAKEN};
 use bytes::Bytes;
+use earlier::Earlier;
 use refusal::check;
 use rounds::Rounds;
 use std::ops::{Deref, DerefMut};
@@ -36,6 +40,7 @@ pub const MOST_SERIES: usize = 1_000_000;
 /// The book with its lock, and what reads posts.
 pub struct Core {
     books: usize,
+    across: Across,
     readers: Mutex<Vec<Reader>>,
     book: Mutex<Book>,
 }
@@ -45,11 +50,16 @@ pub struct Book {
     desk: Desk,
     books: usize,
     rounds: Rounds,
+    across: Across,
+    earlier: Earlier,
 }
 
-/// What was taken of the book: a request for each of these numbers, from 0. It is to be settled, or given back.
-#[must_use = "what was taken has to be settled or given back"]
+/// What was taken of the book: a request for each of these numbers, from 0. It is to be settled: once the lock is another's,
+/// points of a later hour may come, which it would be one with if it were given back.
+#[must_use = "what was taken has to be settled"]
 pub struct Flushed {
+    /// Requests that go ahead of the others, and are written already.
+    earlier: Vec<Vec<u8>>,
     /// Each with how many requests it has.
     parts: Vec<(Flushes, usize)>,
 }
@@ -63,11 +73,20 @@ pub fn bound_memory(most: u64) {
 }
 
 impl Core {
-    /// A book with room for so many series.
+    /// A book with room for so many series, which keeps hours apart.
     pub fn new(series: usize) -> Result<Arc<Core>, Refused> {
+        Core::apart(series, Across::default())
+    }
+
+    /// The same, of other stretches of time.
+    pub fn apart(series: usize, across: Across) -> Result<Arc<Core>, Refused> {
         let books = series.div_ceil(SERIES_OF_A_BOOK).max(1);
-        let (readers, book) = (Mutex::default(), Mutex::new(Book::new(books)?));
-        Ok(Arc::new(Core { books, readers, book }))
+        Ok(Arc::new(Core {
+            books,
+            across,
+            readers: Mutex::default(),
+            book: Mutex::new(Book::new(books, across)?),
+        }))
     }
 
     /// How many books of the library it has.
@@ -82,7 +101,7 @@ impl Core {
 
     /// A book that has nothing yet, to be put in the place of this one.
     pub fn fresh(&self) -> Result<Book, Refused> {
-        Book::new(self.books)
+        Book::new(self.books, self.across)
     }
 
     /// Reads a post. JSON may nest to 127: the thread has 2 MiB of stack, as those of the runtimes have.
@@ -118,19 +137,42 @@ impl Core {
 }
 
 impl Book {
-    fn new(books: usize) -> Result<Book, Refused> {
+    fn new(books: usize, across: Across) -> Result<Book, Refused> {
         Ok(Book {
             desk: Desk::new(books).ok_or(Refused::NoMemory)?,
             books,
             rounds: Rounds::new(books),
+            across,
+            earlier: Earlier::default(),
         })
     }
 
-    /// Puts a post into all of its books, or into none: what is refused changed nothing.
+    /// Puts a post into all of its books, or into none: what is refused changed nothing, but where it is `HalfTaken`.
     pub fn admit(&mut self, read: &mut Read) -> Result<(), Refused> {
-        if read.points == 0 {
+        let Some((first, last)) = read.first_and_last() else {
             return Ok(());
+        };
+        if read.stretches.is_empty() {
+            self.cross(read.reader.as_mut().ok_or(Refused::Nothing)?, last)?;
+            self.admit_whole(read, first)?;
+        } else {
+            self.admit_stretches(read)?;
         }
+        self.close_next_round();
+        Ok(())
+    }
+
+    /// Puts a post of a quarantined sender in again: of it nothing is taken, and when it came it went over no stretch.
+    pub fn admit_held(&mut self, read: &mut Read) -> Result<(), Refused> {
+        let Some((first, _)) = read.first_and_last() else {
+            return Ok(());
+        };
+        self.admit_whole(read, first)?;
+        self.close_next_round();
+        Ok(())
+    }
+
+    fn admit_whole(&mut self, read: &mut Read, first: u64) -> Result<(), Refused> {
         let reader = read.reader.as_mut().ok_or(Refused::Nothing)?;
         let mut admitted = check(self.desk.admit(reader));
         if self.rounds.have_entries() && admitted.is_err_and(|refused| refused.may_be_cured_by_a_round()) {
@@ -138,8 +180,8 @@ impl Book {
             admitted = read.again().and_then(|reader| check(self.desk.admit(reader)));
         }
         admitted?;
+        self.earlier.note(first);
         self.rounds.count(read.points);
-        self.close_next_round();
         Ok(())
     }
 
@@ -159,20 +201,26 @@ impl Book {
         }
     }
 
-    /// Takes all that may be forwarded, or nothing. Until it is settled or given back no round can be closed.
+    /// Takes all that may be forwarded, or nothing. Until it is settled no round can be closed.
     pub fn take_all(&mut self) -> Result<Flushed, Refused> {
-        let mut taken = Flushed { parts: Vec::new() };
+        let mut taken = Flushed {
+            earlier: Vec::new(),
+            parts: Vec::new(),
+        };
         loop {
             match self.take(MOST_TAKEN) {
                 Ok(part) => taken.parts.push(part),
                 Err(Refused::Nothing) => break,
                 Err(refused) => {
-                    self.give_back(taken)?;
+                    self.end(taken, Desk::give_back)?;
                     return Err(refused);
                 }
             }
         }
         memory::reserve(self.desk.series());
+        taken.earlier = self.earlier.take();
+        self.earlier.first = None;
+        self.earlier.in_flight += 1;
         Ok(taken)
     }
 
@@ -185,34 +233,34 @@ impl Book {
     /// Takes all and writes its requests, in small parts, each settled before the next is taken: that needs little memory,
     /// and the lock for long. Behind a fault `texts` has what was settled, and the book the rest.
     pub fn write_all(&mut self, texts: &mut Vec<Vec<u8>>) -> Result<(), Refused> {
+        texts.extend(self.earlier.take());
         loop {
-            let part = match self.take(SMALL) {
+            let (flushes, count) = match self.take(SMALL) {
                 Ok(part) => part,
-                Err(Refused::Nothing) => return Ok(()),
+                Err(Refused::Nothing) => break,
                 Err(refused) => return Err(refused),
             };
-            let mut taken = Flushed { parts: vec![part] };
-            match taken.texts() {
-                Ok(written) => {
-                    self.settle(taken)?;
-                    texts.extend(written);
-                }
-                Err(refused) => {
-                    self.give_back(taken)?;
-                    return Err(refused);
-                }
-            }
+            texts.extend(self.write(Flushed::of(flushes, count))?);
         }
+        self.earlier.first = None;
+        Ok(())
+    }
+
+    /// Writes what was taken, and settles it; where there is no memory for that it is given back.
+    fn write(&mut self, mut taken: Flushed) -> Result<Vec<Vec<u8>>, Refused> {
+        let written = taken.texts();
+        let end = match written {
+            Ok(_) => Desk::settle,
+            Err(_) => Desk::give_back,
+        };
+        self.end(taken, end)?;
+        written
     }
 
     /// It was forwarded, or will be.
     pub fn settle(&mut self, taken: Flushed) -> Result<(), Refused> {
+        self.earlier.in_flight -= 1;
         self.end(taken, Desk::settle)
-    }
-
-    /// It is as if it had never been taken.
-    pub fn give_back(&mut self, taken: Flushed) -> Result<(), Refused> {
-        self.end(taken, Desk::give_back)
     }
 
     fn end(&mut self, taken: Flushed, end: fn(&mut Desk, &mut Flushes) -> u32) -> Result<(), Refused> {
@@ -237,6 +285,7 @@ impl Book {
     }
 
     pub fn lift(&mut self, sender: &str) -> Result<(), Refused> {
+        self.earlier.note(0); // of whatever stretch it has something
         check(Answer::of_status(self.desk.lift(sender.as_bytes()))).map(drop)
     }
 
@@ -268,7 +317,14 @@ impl Book {
 const END: &[u8] = b"end\n";
 
 impl Flushed {
-    /// How many requests there are.
+    fn of(flushes: Flushes, count: usize) -> Flushed {
+        Flushed {
+            earlier: Vec::new(),
+            parts: vec![(flushes, count)],
+        }
+    }
+
+    /// How many requests there are to be written.
     pub fn count(&self) -> usize {
         self.parts.iter().map(|(_, count)| count).sum()
     }
@@ -287,9 +343,13 @@ impl Flushed {
         Err(Refused::NoSuch)
     }
 
-    /// Writes all of them.
+    /// Writes all of them, behind those that are written already.
     pub fn texts(&mut self) -> Result<Vec<Vec<u8>>, Refused> {
-        (0..self.count()).map(|number| self.text(number)).collect()
+        let written: Result<Vec<_>, _> = (0..self.count()).map(|number| self.text(number)).collect();
+        let written = written?;
+        let mut all = std::mem::take(&mut self.earlier);
+        all.extend(written);
+        Ok(all)
     }
 }
 

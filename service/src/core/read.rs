@@ -3,7 +3,7 @@
 use super::book::Reader;
 use super::refusal::{check, Refused};
 use super::{Core, Names};
-use crate::files::{self, Body, NoNames, Post};
+use crate::files::{self, Body, NoNames, Points, Post};
 use std::sync::Arc;
 
 /// A post that was read, and is in no book yet. Its reader is another's once this is dropped.
@@ -16,6 +16,10 @@ pub struct Read {
     pub(super) points: u64,
     /// How many points the library is not given, since they are outside the profile.
     left_out: u64,
+    /// When the first of its points ends, and the last; none where it has none.
+    ends: Option<(u64, u64)>,
+    /// Its points by number where they are of several stretches, apart.
+    pub(super) stretches: Vec<Points>,
 }
 
 impl Read {
@@ -38,8 +42,14 @@ impl Read {
             names,
             points: 0,
             left_out,
+            ends: None,
+            stretches: Vec::new(),
         };
-        read.again()?;
+        let ends = check(read.again()?.ends()).ok();
+        read.ends = ends.map(|ends| (ends.number, ends.at));
+        if let (Body::Points(points), true) = (&read.post.body, read.is_of_several()) {
+            read.stretches = core.across.split(points);
+        }
         Ok(read)
     }
 
@@ -56,6 +66,36 @@ impl Read {
         self.points = read.number;
         self.post.foreign = self.left_out + read.at;
         Ok(reader)
+    }
+
+    /// Has the reader have a part of its points.
+    pub(super) fn put(&mut self, part: &Points) -> Result<&mut Reader, Refused> {
+        let reader = self.reader.as_mut().ok_or(Refused::NoMemory)?;
+        let names = self.names.as_ref().ok_or(Refused::NoSuch)?;
+        check(names.put(reader, self.post.sender.as_bytes(), part.words(), self.core.books))?;
+        Ok(reader)
+    }
+
+    /// When the first of its points ends, and the last, in nanoseconds since 1970; none where it has none.
+    pub fn ends(&self) -> Option<(u64, u64)> {
+        self.ends
+    }
+
+    /// The first stretch in which a point of it ends, and the last.
+    pub(super) fn first_and_last(&self) -> Option<(u64, u64)> {
+        let across = self.core.across;
+        self.ends
+            .map(|(first, last)| (across.stretch(first), across.stretch(last)))
+    }
+
+    /// Whether its points are of several stretches. A text of which that is so is to be read by number.
+    pub fn is_of_several(&self) -> bool {
+        self.first_and_last().is_some_and(|(first, last)| first < last)
+    }
+
+    /// In how many parts it goes into the books.
+    pub fn parts(&self) -> usize {
+        self.stretches.len().max(1)
     }
 
     /// Says what its numbers stand for.

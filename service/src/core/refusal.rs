@@ -38,6 +38,15 @@ pub enum Refused {
     NotEnded,
     #[error("not one point")]
     NotOne,
+    /// What its series have pending ends in an earlier hour, and is being written: it is asked again behind that.
+    #[error("what was taken is being written")]
+    InFlight,
+    /// Each would be forwarded by itself.
+    #[error("too many hours in a post: {parts}, at most {most}: post fewer points at a time")]
+    TooManyHours { parts: usize, most: usize },
+    /// A post of several stretches is in the book by half: there was no memory for the rest. Only a new start has it right.
+    #[error("no memory for the rest of a post of several hours")]
+    HalfTaken,
     /// Of a library that is another than this was written for.
     #[error("the book answered {0}, which is no answer")]
     Unknown(u32),
@@ -96,8 +105,9 @@ impl Refused {
             Refused::Quarantined => 403,
             Refused::Full | Refused::TooManySeries | Refused::TooLarge | Refused::NoMemory => 503,
             Refused::Unknown(_) | Refused::Nothing | Refused::NoSuch | Refused::NotEnded => 503,
-            Refused::NotOne => 503,
+            Refused::NotOne | Refused::InFlight | Refused::HalfTaken => 503,
             Refused::OtherWriter { .. } | Refused::OutOfOrder { .. } => 400,
+            Refused::TooManyHours { .. } => 413,
             Refused::BadSender | Refused::NotJson | Refused::WrongShape => 400,
             Refused::AlreadyQuarantined | Refused::NotQuarantined => 400,
         }

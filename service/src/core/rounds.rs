@@ -8,6 +8,8 @@ const MOST_POSTS: usize = 16_000;
 const SERIES_FOR_A_POST: usize = 5;
 const LEAST_POINTS: usize = 50_000;
 const POINTS_FOR_A_SERIES: usize = 20;
+/// A post takes two places of a book's journal, and so does what is taken of it and ended: there are so many, and some more.
+const MOST_ENTRIES: u64 = 30_000;
 /// While what was taken is live no round can be closed: it is tried again after so many posts.
 const POSTS_UNTIL_ANOTHER_TRY: u64 = 500;
 
@@ -16,6 +18,8 @@ pub(super) struct Rounds {
     /// Since it was begun to close them: posts, and ends of what was taken.
     entries: u64,
     points: u64,
+    /// Entries before, since none was closed for them.
+    before: u64,
     /// When that is begun again.
     most_entries: u64,
     most_points: u64,
@@ -31,6 +35,7 @@ impl Rounds {
             books,
             entries: 0,
             points: 0,
+            before: 0,
             most_entries: LEAST_POSTS as u64,
             most_points: LEAST_POINTS as u64,
             next: None,
@@ -41,6 +46,11 @@ impl Rounds {
     /// Whether a round may have anything: also one that has not come up yet of those that are being closed.
     pub fn have_entries(&self) -> bool {
         self.entries > 0 || self.next.is_some()
+    }
+
+    /// Whether each book has room for so many entries more.
+    pub fn have_room_for(&self, more: usize) -> bool {
+        self.before + self.entries + more as u64 <= MOST_ENTRIES
     }
 
     pub fn count(&mut self, points: u64) {
@@ -60,6 +70,7 @@ impl Rounds {
     /// All of them are to be closed, from the first one on.
     pub fn begin(&mut self) {
         self.next = Some((0, false));
+        self.before += self.entries;
         (self.entries, self.points) = (0, 0);
     }
 
@@ -73,6 +84,9 @@ impl Rounds {
             return;
         }
         self.next = None;
+        if any {
+            self.before = 0;
+        }
         let series = series();
         self.most_points = (POINTS_FOR_A_SERIES * series).max(LEAST_POINTS) as u64;
         self.most_entries = match any {

@@ -5,6 +5,7 @@ use crate::otlp::series::{forwarded, Value};
 use std::collections::BTreeMap;
 
 mod points;
+mod stretches;
 
 /// A body with a point of each of these series.
 pub(crate) fn points(names: &[String], start: u64, value: i64) -> String {
@@ -268,22 +269,6 @@ fn what_is_written_in_parts_is_there_once_also_after_faults() {
     let series: std::collections::HashSet<_> = points.iter().map(|point| &point.series).collect();
     assert_eq!((points.len(), series.len()), (120, 120));
     assert!(taken(&core).is_empty());
-}
-
-/// What was given back is taken again, with what came meanwhile; also where rounds were to be closed.
-#[test]
-fn what_is_given_back_was_never_taken() {
-    let core = Core::new(24_000).unwrap();
-    let known = names("s", 2_500);
-    assert_eq!(post(&core, "A", &points(&known, 10, 5)), Ok(0));
-    let mut flushed = core.lock().take_all().unwrap();
-    assert_eq!(flushed.texts().unwrap().len(), flushed.count());
-    for number in 2..40 {
-        assert_eq!(post(&core, "A", &points(&known, number * 10, 1)), Ok(0));
-    }
-    assert_eq!(core.lock().give_back(flushed), Ok(()));
-    let all = taken(&core);
-    assert!(all.len() == 2_500 && all.values().all(|one| *one == (43, 400)));
 }
 
 /// As `otlp::series` reads them, by which owners are found.

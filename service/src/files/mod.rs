@@ -14,6 +14,7 @@ mod records;
 mod room;
 mod segment;
 
+pub(crate) use disk::FAILED;
 pub use dead::Dead;
 #[cfg(test)]
 pub(crate) use disk::{Call, Disk};

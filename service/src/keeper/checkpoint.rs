@@ -3,12 +3,13 @@
 //! Under the lock of the book all is taken of it, and the journal turns to a new segment. So a group is exactly the
 //! posts of the segments before its commit. The rest is done while posts go on: the requests are written, and what was
 //! taken is settled; the group is committed once all its posts are on the disk, whatever was asked for them, and then the
-//! segments before are deleted. Where there is no memory for that all is given back, and written in small parts under the
-//! lock; and where there is none for that either it is tried again later.
+//! segments before are deleted. Where there is no memory to take all, it is written in small parts under the lock; and where
+//! there is none for that either it is tried again later. What was taken is not given back, since points of a later hour may
+//! have come meanwhile: without memory to write it, that is tried again, and then the process ends.
 
 use super::owners::find_owners;
 use super::{Keeper, Trouble};
-use crate::core::{Book, Refused};
+use crate::core::{Book, Flushed, Refused};
 use crate::files::{Fault, Ticket};
 use crate::slot::Slot;
 use crate::work::blocking;
@@ -53,15 +54,8 @@ impl Keeper {
 
     fn put_off(&mut self, refused: Refused) -> Result<(), Trouble> {
         self.put_off += 1;
-        let (slot, tries, reason) = (self.slot.number(), self.put_off, refused.to_string());
-        self.slot.metrics.checkpoints.with_label_values(&["failed"]).inc();
-        tracing::error!(
-            slot,
-            tries,
-            reason,
-            "slot {slot}: a checkpoint is put off for the {tries}. time: {reason}"
-        );
-        match tries < TRIES {
+        tell_put_off(&self.slot, self.put_off, refused);
+        match self.put_off < TRIES {
             true => Ok(()),
             false => Err(Trouble::NoMemory),
         }
@@ -80,6 +74,29 @@ fn checkpoint(slot: &Slot, carried: Vec<Vec<u8>>) -> Result<Checkpointed, Troubl
     }
 }
 
+/// Writes what was taken, as soon as there is memory for it.
+fn written(slot: &Slot, flushed: &mut Flushed) -> Result<Vec<Vec<u8>>, Trouble> {
+    for tries in 1..TRIES {
+        match flushed.texts() {
+            Ok(texts) => return Ok(texts),
+            Err(refused) => tell_put_off(slot, tries, refused),
+        }
+        std::thread::sleep(BETWEEN_TRIES);
+    }
+    flushed.texts().map_err(|_| Trouble::NoMemory)
+}
+
+fn tell_put_off(slot: &Slot, tries: u32, refused: Refused) {
+    let (number, reason) = (slot.number(), refused.to_string());
+    slot.metrics.checkpoints.with_label_values(&["failed"]).inc();
+    tracing::error!(
+        slot = number,
+        tries,
+        reason,
+        "slot {number}: a checkpoint is put off for the {tries}. time: {reason}"
+    );
+}
+
 /// Takes all at once: its requests are written without the lock.
 fn flush(slot: &Slot, bodies: &mut Vec<Vec<u8>>) -> Result<Result<Group, Refused>, Trouble> {
     let began = Instant::now();
@@ -92,19 +109,11 @@ fn flush(slot: &Slot, bodies: &mut Vec<Vec<u8>>) -> Result<Result<Group, Refused
         Ok(both) => both,
         Err(refused) => return Ok(Err(refused)),
     };
-    let texts = flushed.texts();
-    let mut book = slot.core.lock();
-    match texts {
-        Ok(texts) => {
-            book.settle(flushed).map_err(Trouble::Broken)?;
-            bodies.extend(texts);
-            Ok(Ok(group))
-        }
-        Err(refused) => {
-            book.give_back(flushed).map_err(Trouble::Broken)?;
-            Ok(Err(refused))
-        }
-    }
+    bodies.extend(written(slot, &mut flushed)?);
+    let settled = slot.core.lock().settle(flushed);
+    slot.landed.notify_waiters();
+    settled.map_err(Trouble::Broken)?;
+    Ok(Ok(group))
 }
 
 /// The same with less memory, under the lock.

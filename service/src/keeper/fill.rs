@@ -8,7 +8,7 @@
 
 use super::numbers::Numbers;
 use super::Trouble;
-use crate::core::{Book, Refused};
+use crate::core::{Book, Read, Refused};
 use crate::files::{Body, Outbox, Post};
 use crate::otlp::series::{zeros, NotForwarded, SeriesKey};
 use crate::slot::Slot;
@@ -46,18 +46,21 @@ pub(super) fn fill(
     };
     filling.prime()?;
     let held = slot.outbox.quarantined();
-    filling.replay(|post| !held.contains(&post.sender))?;
+    filling.replay(|post| !held.contains(&post.sender), Book::admit)?;
     if !held.is_empty() {
         // Behind the others: what is taken to make room for these must not be of a quarantined sender.
         if !filling.filled.carried.is_empty() {
             filling.make_room()?;
         }
-        filling.replay(|post| held.contains(&post.sender))?;
+        filling.replay(|post| held.contains(&post.sender), Book::admit_held)?;
     }
     filling.quarantine(&held)?;
     let stopped = (filling.stops)();
     Ok((!stopped).then_some(filling.filled))
 }
+
+/// How a post is put in again.
+type Admit = fn(&mut Book, &mut Read) -> Result<(), Refused>;
 
 struct Filling<'a, S> {
     slot: &'a Arc<Slot>,
@@ -78,21 +81,22 @@ impl<S: Fn() -> bool> Filling<'_, S> {
             if (self.stops)() {
                 return Ok(());
             }
-            self.put(post).map_err(|refused| self.not_filled(post, refused))?;
+            let put = self.put(post, Book::admit);
+            put.map_err(|refused| self.not_filled(post, refused))?;
         }
         let taken = self.book.take_all().map_err(not_taken)?;
         self.book.settle(taken).map_err(not_taken)
     }
 
     /// Puts the posts of the journal that are wanted, in its order.
-    fn replay(&mut self, is_wanted: impl Fn(&Post) -> bool) -> Result<(), Trouble> {
+    fn replay(&mut self, is_wanted: impl Fn(&Post) -> bool, admit: Admit) -> Result<(), Trouble> {
         let journal = self.slot.journal.clone();
         let mut ended = Ok(());
         journal.posts(self.slot.outbox.journal(), u64::MAX, |read| {
             // Also of a post that is not wanted: no later one says it again.
             self.numbers.note(read.named);
             if is_wanted(&read.post) {
-                ended = self.replay_one(&read.post);
+                ended = self.replay_one(&read.post, admit);
             }
             ended.is_ok() && !(self.stops)()
         })?;
@@ -101,12 +105,12 @@ impl<S: Fn() -> bool> Filling<'_, S> {
 
     /// A post that is refused for good now was in a group before: that is a fault, and nothing would be better for a
     /// service that stops there. One that a limit refuses is put after a flush.
-    fn replay_one(&mut self, post: &Post) -> Result<(), Trouble> {
+    fn replay_one(&mut self, post: &Post, admit: Admit) -> Result<(), Trouble> {
         self.say_progress();
-        let mut put = self.put(post);
-        if matches!(put, Err(refused) if refused.status() == 503) {
+        let mut put = self.put(post, admit);
+        if matches!(put, Err(refused) if refused.status() == 503 && refused != Refused::HalfTaken) {
             self.make_room()?;
-            put = self.put(post);
+            put = self.put(post, admit);
         }
         match put {
             Ok(foreign) if foreign == post.foreign => {}
@@ -129,9 +133,9 @@ impl<S: Fn() -> bool> Filling<'_, S> {
     }
 
     /// How many points are foreign.
-    fn put(&mut self, post: &Post) -> Result<u64, Refused> {
+    fn put(&mut self, post: &Post, admit: Admit) -> Result<u64, Refused> {
         let mut read = self.numbers.read(post)?;
-        self.book.admit(&mut read)?;
+        admit(self.book, &mut read)?;
         Ok(read.post.foreign)
     }
 
@@ -152,7 +156,7 @@ impl<S: Fn() -> bool> Filling<'_, S> {
         let series = self.slot.outbox.series_count();
         let help = match refused {
             Refused::TooManySeries => "give a greater --most-series",
-            Refused::NoMemory => "give a greater --book-memory",
+            Refused::NoMemory | Refused::HalfTaken => "give a greater --book-memory",
             _ => "the log of the run before may say more",
         };
         let sender = &post.sender;

@@ -1,9 +1,10 @@
 //! What an operator orders.
 
+use super::checkpoint::{commit, flush_in_parts};
 use super::{not_now, Done, Keeper, Order, Trouble};
 use crate::core::Refused;
 use crate::otlp::Outcome;
-use crate::slot::is_sender;
+use crate::slot::{is_sender, Slot};
 use crate::work::blocking;
 
 impl Keeper {
@@ -23,13 +24,15 @@ impl Keeper {
 
     /// In the book first, and then durable: a start quarantines who is noted.
     async fn quarantine(&mut self, sender: String) -> Result<Done, Trouble> {
-        // What was taken while the book was filled is in no group yet, and would be held too.
-        if !self.carried.is_empty() {
+        // What is taken, and in no group yet, would be held too.
+        if !self.carried.is_empty() || self.slot.core.lock().has_earlier() {
             if let Err(refused) = self.checkpoint().await? {
                 return Ok(not_now(refused));
             }
         }
-        let done = self.slot.core.lock().quarantine(&sender);
+        let (slot, of) = (self.slot.clone(), sender.clone());
+        let (carried, done) = blocking(move || quarantine(&slot, &of)).await?;
+        self.carried.extend(carried);
         if let Err(refused) = done {
             return Ok(not_now(refused));
         }
@@ -48,4 +51,25 @@ impl Keeper {
         blocking(move || outbox.lift(&sender)).await?;
         Ok(Done::Answered(Outcome::taken(0)))
     }
+}
+
+/// What belongs to the next group, and the book's answer.
+type Quarantined = (Vec<Vec<u8>>, Result<(), Refused>);
+
+/// In the book. Where something was taken meanwhile it is made a group of all that came, under the lock: it is little.
+fn quarantine(slot: &Slot, sender: &str) -> Result<Quarantined, Trouble> {
+    let mut book = slot.core.lock();
+    let (mut bodies, mut group) = (Vec::new(), None);
+    if book.has_earlier() {
+        match flush_in_parts(slot, &mut book, &mut bodies) {
+            Ok(all) => group = Some(all),
+            Err(refused) => return Ok((bodies, Err(refused))),
+        }
+    }
+    let done = book.quarantine(sender);
+    drop(book);
+    if let Some(group) = group {
+        commit(slot, &bodies, group)?;
+    }
+    Ok((Vec::new(), done))
 }

@@ -20,6 +20,7 @@ const BETWEEN_FORGETTING: Duration = Duration::from_secs(10);
 enum Event {
     Look,
     Crowded,
+    Hurried,
     Ordered(Order, oneshot::Sender<Done>),
     Stop,
 }
@@ -45,6 +46,9 @@ impl Keeper {
             match self.next_event(&mut looks, stop).await {
                 Event::Look => self.look().await?,
                 Event::Crowded => self.forget_if_it_helps().await?,
+                // One that was put off has its own time.
+                Event::Hurried if self.put_off > 0 => {}
+                Event::Hurried => drop(self.checkpoint().await?),
                 Event::Ordered(order, to) => {
                     // Who ordered it may not wait any more.
                     let _ = to.send(self.carry_out(order).await?);
@@ -101,6 +105,7 @@ impl Keeper {
             () = stop.wait_true() => Event::Stop,
             Some((order, to)) = self.orders.recv() => Event::Ordered(order, to),
             () = self.slot.crowded.notified() => Event::Crowded,
+            () = self.slot.hurried.notified() => Event::Hurried,
             _ = looks.tick() => Event::Look,
         }
     }

@@ -60,6 +60,10 @@ const REASONS: [(&str, &str); 29] = [
         "body too long",
         "have the sender post fewer points at a time (a Collector: send_batch_max_size)",
     ),
+    (
+        "too many hours in a post",
+        "have the sender post fewer points at a time, or serve with --never-across day",
+    ),
     ("the deadline has passed", "give the exporter a longer timeout"),
     (
         "the request did not come whole",

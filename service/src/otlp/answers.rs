@@ -3,15 +3,19 @@
 use super::json::{write_text, Document, Value};
 use super::messages::{ExportMetricsPartialSuccess, ExportMetricsServiceResponse, Status};
 use super::number::mapped_whole;
-use super::{Causes, Encoding, Outcome};
+use super::{Causes, Encoding, OffClock, Outcome};
 use prost::Message;
 
 /// What is said of points that the book did not take.
 pub(super) const OUTSIDE: &str = "points outside the profile";
 
 /// The same, by cause, and where its sender's owner reads on.
-pub(super) fn outside(causes: &Causes) -> String {
-    format!("{OUTSIDE}: {causes}: see docs/OPERATING.md, \"Senders\"")
+pub(super) fn outside(causes: &Causes, off: OffClock) -> String {
+    let clock = match off.points() {
+        0 => String::new(),
+        _ => format!(": {off}"),
+    };
+    format!("{OUTSIDE}: {causes}{clock}: see docs/OPERATING.md, \"Senders\"")
 }
 
 /// What a receiver's answer in JSON says beside its success, by either name of a field; null is nothing.
@@ -41,8 +45,11 @@ fn json(outcome: &Outcome) -> String {
         Outcome::Taken {
             rejected: 0,
             message: None,
+            ..
         } => "{}".to_string(),
-        Outcome::Taken { rejected, message } => {
+        Outcome::Taken {
+            rejected, message, ..
+        } => {
             let mut text = r#"{"partialSuccess":{"errorMessage":"#.to_string();
             write_text(&mut text, message.as_deref().unwrap_or(OUTSIDE));
             text.push_str(&format!(r#","rejectedDataPoints":"{rejected}"}}}}"#));
@@ -59,7 +66,9 @@ fn json(outcome: &Outcome) -> String {
 
 fn protobuf(outcome: &Outcome) -> Vec<u8> {
     match outcome {
-        Outcome::Taken { rejected, message } => {
+        Outcome::Taken {
+            rejected, message, ..
+        } => {
             let is_partial = *rejected > 0 || message.is_some();
             let partial_success = is_partial.then(|| ExportMetricsPartialSuccess {
                 rejected_data_points: i64::try_from(*rejected).unwrap_or(i64::MAX),

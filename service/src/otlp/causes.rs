@@ -2,6 +2,7 @@
 
 use super::json::{Document, Value};
 use super::series::{visit, Seen, What};
+use super::{Off, OffClock};
 use std::collections::BTreeMap;
 use std::fmt;
 
@@ -25,6 +26,10 @@ pub enum Cause {
     /// It has no start, or no end after it.
     Span,
     NoValue,
+    /// It ends later than `--most-ahead` lets it.
+    ClockAhead,
+    /// It ended earlier than `--most-behind` lets it.
+    ClockBehind,
     Other,
 }
 
@@ -33,6 +38,15 @@ pub enum Cause {
 pub struct Causes(BTreeMap<Cause, u64>);
 
 impl Causes {
+    /// The same, and those points that are off by their clock.
+    pub fn and(mut self, off: OffClock) -> Causes {
+        let both = [(Cause::ClockAhead, off.ahead), (Cause::ClockBehind, off.behind)];
+        for (cause, points) in both.into_iter().filter(|(_, points)| *points > 0) {
+            self.add(cause, points);
+        }
+        self
+    }
+
     /// Of a body, of which the book did not take so many points: where this says more or less than the book, the rest is `Other`.
     pub fn of(body: &[u8], foreign: u64) -> Causes {
         let mut causes = Causes::default();
@@ -119,6 +133,14 @@ impl Cause {
             Cause::CumulativeSum | Cause::CumulativeHistogram | Cause::UpDownCounter => true,
             Cause::Double | Cause::Fraction => true,
             Cause::Attribute | Cause::Span | Cause::NoValue | Cause::Other => false,
+            Cause::ClockAhead | Cause::ClockBehind => false,
+        }
+    }
+
+    pub(super) fn of_clock(off: Off) -> Cause {
+        match off {
+            Off::Ahead(_) => Cause::ClockAhead,
+            Off::Behind(_) => Cause::ClockBehind,
         }
     }
 
@@ -146,6 +168,8 @@ impl Cause {
             Cause::Attribute => ["point with bad attributes", "points with bad attributes"],
             Cause::Span => ["point without a span", "points without a span"],
             Cause::NoValue => ["point without a value", "points without a value"],
+            Cause::ClockAhead => ["point ahead of time", "points ahead of time"],
+            Cause::ClockBehind => ["point that is too old", "points that are too old"],
             Cause::Other => ["point of another form", "points of another form"],
         }
     }
@@ -164,6 +188,8 @@ impl Cause {
             Cause::Fraction => "use whole bounds in a finer unit, or serve with --whole",
             Cause::Attribute => "use texts, whole numbers, truths and lists of them, each key once, or --drop-attribute",
             Cause::Span => "each point has to say where it starts, and end after it",
+            Cause::ClockAhead => "set the sender's clock, by NTP; or the service's, where that is wrong; or give a greater --most-ahead",
+            Cause::ClockBehind => "set the sender's clock, by NTP, or give a greater --most-behind",
             Cause::NoValue | Cause::Other => "`totxegun explain FILE` says of each point of a captured body why",
         }
     }

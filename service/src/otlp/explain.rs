@@ -1,6 +1,7 @@
 //! What becomes of each point of a request in the book's form, in words.
 
 use super::causes::{is_monotonic, Cause};
+use super::clock::{Off, Window};
 use super::json::{Document, Value};
 use super::outside::is_of_no_series;
 use super::series::{visit, Seen, SeriesKey, What};
@@ -36,12 +37,27 @@ impl Explained {
     }
 }
 
-/// The points of a body, in order; `None` where the book refuses it whole.
-pub fn explained(body: &[u8]) -> Option<Vec<Explained>> {
+/// The points of a body, in order, where it is posted within the window; `None` where the book refuses it whole.
+pub fn explained(body: &[u8], window: Window) -> Option<Vec<Explained>> {
     let document = Document::parse(body).ok()?;
     let mut all = Vec::new();
-    visit(&document, |seen| all.push(of(&seen)))?;
+    visit(&document, |seen| {
+        let off = seen.found.ok().and_then(|end| window.off(end));
+        all.push(of(&seen).but(off));
+    })?;
     Some(all)
+}
+
+impl Explained {
+    /// A point that would be taken, and is off by its clock.
+    fn but(self, off: Option<Off>) -> Explained {
+        let Some(off) = off else { return self };
+        Explained {
+            foreign: Some(off.to_string()),
+            cause: Some(Cause::of_clock(off)),
+            ..self
+        }
+    }
 }
 
 /// The first of its points that are foreign, until `is_enough` says so.

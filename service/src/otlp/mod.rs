@@ -4,10 +4,12 @@
 //! by the tables of `schema`, over the readers `wire` and `json`; `usual` sees at once most JSON that goes on as it came;
 //! `numbered` reads nearly all protobuf without that, by the numbers of series that are known;
 //! `whole` takes fractions as whole numbers of a finer unit. `series` reads bodies as the book does, and what it forwards.
-//! `outside` is what of a request is handed on to another receiver, `answers` what senders are answered.
+//! `outside` is what of a request is handed on to another receiver, `answers` what senders are answered, `clock` which points
+//! end too far from the service's clock.
 
 mod answers;
 mod causes;
+mod clock;
 mod explain;
 mod from_json;
 mod from_protobuf;
@@ -26,6 +28,7 @@ mod wire;
 
 pub(crate) use answers::partial_success;
 pub use causes::{Cause, Causes};
+pub use clock::{Clock, Off, OffClock, Window};
 pub use explain::{explained, foreign_points, point_at, Explained};
 pub(crate) use messages::ExportMetricsServiceResponse;
 pub use numbered::{Learnt, Numbered, Series};
@@ -125,8 +128,13 @@ pub fn prepare(encoding: Encoding, body: Bytes, reading: &Reading) -> Result<Pre
 /// What a sender is answered.
 #[derive(Clone, Debug, PartialEq, Eq)]
 pub enum Outcome {
-    /// All points were taken but these; 0 where all were. Without a message they are outside the profile.
-    Taken { rejected: u64, message: Option<String> },
+    /// All points were taken but these; 0 where all were. Some may be off by their clock; without a message the others are
+    /// outside the profile.
+    Taken {
+        rejected: u64,
+        off: OffClock,
+        message: Option<String>,
+    },
     /// With this HTTP status and for this reason nothing was taken.
     Refused { status: u16, message: String },
     /// Nothing was taken either: its sender has used up its share, and may have more in so many seconds.
@@ -136,18 +144,25 @@ pub enum Outcome {
 impl Outcome {
     /// All points were taken but these, which are outside the profile.
     pub fn taken(rejected: u64) -> Outcome {
+        Outcome::taken_but(rejected, OffClock::default())
+    }
+
+    /// The same, and but those that are off by their clock.
+    pub fn taken_but(foreign: u64, off: OffClock) -> Outcome {
         Outcome::Taken {
-            rejected,
+            rejected: foreign + off.points(),
+            off,
             message: None,
         }
     }
 
-    /// The same, and how many points are outside the profile by which cause.
+    /// The same, and how many points are not taken by which cause.
     pub fn with_causes(self, causes: &Causes) -> Outcome {
         match self {
-            Outcome::Taken { rejected, .. } if rejected > 0 => Outcome::Taken {
+            Outcome::Taken { rejected, off, .. } if rejected > 0 => Outcome::Taken {
                 rejected,
-                message: Some(answers::outside(causes)),
+                off,
+                message: Some(answers::outside(causes, off)),
             },
             other => other,
         }
@@ -156,10 +171,21 @@ impl Outcome {
     /// The same, and why points are outside the profile that were to be taken in a finer unit.
     pub fn with(self, rounded: &Rounded) -> Outcome {
         match (self, &rounded.unfit) {
-            (Outcome::Taken { rejected, message }, Some(unfit)) if rejected > 0 => {
+            (
+                Outcome::Taken {
+                    rejected,
+                    off,
+                    message,
+                },
+                Some(unfit),
+            ) if rejected > 0 => {
                 let before = message.unwrap_or_else(|| answers::OUTSIDE.to_string());
                 let message = Some(format!("{before}: {unfit}"));
-                Outcome::Taken { rejected, message }
+                Outcome::Taken {
+                    rejected,
+                    off,
+                    message,
+                }
             }
             (other, _) => other,
         }

@@ -313,6 +313,7 @@ fn answers_are_of_the_request_s_kind() {
     );
     let said = Outcome::Taken {
         rejected: 2,
+        off: OffClock::default(),
         message: Some("a \"b\"".to_string()),
     };
     assert_eq!(

@@ -83,6 +83,8 @@ impl Owners for Arc<Outbox> {
 #[derive(Default)]
 struct Told {
     foreign: HashMap<String, ToldOf>,
+    /// Senders whose clock is off.
+    clocks: HashSet<String>,
     series: HashSet<SeriesKey>,
     refusals: usize,
 }
@@ -126,6 +128,7 @@ impl<T: Taker> Remarks<T> {
     fn remark(&self, sender: &str, outcome: &Outcome) -> Option<Remark> {
         match outcome {
             Outcome::Taken { rejected: 0, .. } => None,
+            Outcome::Taken { rejected, off, .. } if *rejected == off.points() => None,
             Outcome::Taken { .. } => self.may_tell_more(sender).then_some(Remark::Foreign),
             _ => outcome.refusal().and_then(place_of).map(Remark::OtherWriter),
         }
@@ -141,10 +144,16 @@ impl<T: Taker> Remarks<T> {
     ) -> Outcome {
         match outcome {
             Outcome::Taken { rejected: 0, .. } => outcome,
-            Outcome::Taken { rejected, .. } => {
-                let causes = self.causes(source, original, rejected).await;
+            Outcome::Taken { rejected, off, .. } => {
+                let foreign = rejected - off.points();
+                let causes = match foreign {
+                    0 => Causes::default(),
+                    _ => self.causes(source, original, foreign).await,
+                };
+                let foreign = causes.count();
+                let causes = causes.and(off);
                 self.metrics.foreign(sender, &causes, &self.telling.expected);
-                Outcome::taken(causes.count()).with_causes(&causes)
+                Outcome::taken_but(foreign, off).with_causes(&causes)
             }
             Outcome::Refused { status, message } => {
                 let Some(place) = place_of(&message) else {
@@ -209,6 +218,27 @@ impl<T: Taker> Remarks<T> {
                 reason,
                 status,
                 "a post of {sender} is refused with {status}: {answer}"
+            );
+        }
+    }
+
+    /// A sender whose clock is off is in the log, once.
+    fn note_clock(&self, sender: &str, outcome: &Outcome) {
+        let Outcome::Taken { off, .. } = outcome else {
+            return;
+        };
+        if off.points() == 0 {
+            return;
+        }
+        let mut told = self.told();
+        if told.clocks.len() < REMEMBERED && told.clocks.insert(sender.to_string()) {
+            drop(told);
+            let (points, reason) = (off.points(), off.to_string());
+            tracing::warn!(
+                sender,
+                points,
+                reason,
+                "points of {sender} are not taken: {reason}"
             );
         }
     }
@@ -331,6 +361,7 @@ impl<T: Taker> Taker for Remarks<T> {
         async move {
             let source = request.source();
             let outcome = remarks.taker.post(sender.clone(), request).await;
+            remarks.note_clock(&sender, &outcome);
             let remark = remarks.remark(&sender, &outcome);
             let outcome = remarks.in_words(&sender, &source, original, outcome).await;
             let remark = remark.filter(|_| outcome != Outcome::taken(0));

@@ -1,6 +1,7 @@
 //! What is told of foreign points and of owners.
 
 use super::*;
+use crate::otlp::{Clock, OffClock};
 use std::time::Duration;
 
 /// Answers as it was told.
@@ -205,6 +206,29 @@ async fn a_sender_is_told_what_is_not_taken() {
         all_taken.post("a".into(), body(&metrics).into()).await,
         Outcome::taken(0)
     );
+}
+
+/// Points by which clock is not in what the book says, nor in a body.
+#[tokio::test]
+async fn a_sender_whose_clock_is_off_is_told_by_how_much() {
+    let clock = Clock {
+        most_ahead: Some(Duration::from_secs(600)),
+        most_behind: None,
+    };
+    let (mut off, window) = (OffClock::default(), clock.window());
+    off.count(window.off(u64::MAX).unwrap());
+    let remarks = remarks(Outcome::taken_but(3, off), None, Telling::default());
+    let answer = answered(&remarks, GAUGES).await;
+    let wanted = "points outside the profile: 3 gauges, 1 point ahead of time: its clock is ";
+    assert!(
+        answer.starts_with(wanted) && answer.contains("d ahead: see"),
+        "{answer}"
+    );
+    answered(&remarks, GAUGES).await;
+    assert_eq!(remarks.told().clocks.len(), 1, "it is in the log once");
+    let page = String::from_utf8(remarks.metrics.page()).unwrap();
+    let line = "totxegun_foreign_points_total{cause=\"clock-ahead\",sender=\"a\"} 2";
+    assert!(page.lines().any(|found| found == line), "{page}");
 }
 
 #[tokio::test]

@@ -18,7 +18,7 @@ use crate::files::{Durability, Fault, Folder, FolderFault};
 use crate::identity::Door;
 use crate::keeper::{Settings as Keeping, Trouble};
 use crate::metrics::Metrics;
-use crate::otlp::Reading;
+use crate::otlp::{Clock, Reading};
 use crate::pass::Pass;
 use crate::remarks::Telling;
 use crate::shares::Share;
@@ -56,6 +56,10 @@ pub struct Settings {
     pub every: Duration,
     pub forget: Option<Duration>,
     pub reading: Reading,
+    /// How far from the service's clock points may end.
+    pub clock: Clock,
+    /// What a forwarded point never covers two of.
+    pub across: Across,
     pub telling: Telling,
     /// Who gets points that are outside the profile.
     pub pass: Option<Arc<Pass>>,

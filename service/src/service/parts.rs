@@ -64,13 +64,13 @@ impl Parts {
             outboxes,
             acts.clone(),
         )?;
-        let core = Core::new(settings.most_series).with_context(|| {
+        let core = Core::apart(settings.most_series, settings.across).with_context(|| {
             format!(
                 "a book for --most-series {} can't be made: give a greater --book-memory, or a smaller --most-series",
                 settings.most_series
             )
         })?;
-        let slot = Slot::new(0, folder, journal, outbox, metrics.clone(), core);
+        let slot = Slot::by_clock(0, folder, journal, outbox, metrics.clone(), core, settings.clock);
         let (keeper, orders) = Keeper::new(slot.clone(), settings.keeping());
         let budget = Budget::new(settings.most_bytes);
         let threads = Threads::new(settings.threads).context("no threads could be started")?;

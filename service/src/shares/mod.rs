@@ -205,7 +205,7 @@ impl Shares {
 
 impl Claim<'_> {
     /// The post is in the book, with so many series that were not there.
-    pub fn keep(mut self, sender: &str, new_series: usize) {
+    pub fn keep(&mut self, sender: &str, new_series: usize) {
         self.points = None;
         if new_series > 0 && self.shares.rules.get().is_some() {
             self.shares.counted.add(sender, new_series as u64);

@@ -1,11 +1,12 @@
 //! The book with its journal and outbox, and the way of a post through them.
 //!
-//! `request` is that way, `numbers` which series have numbers, `verdict` what is said of a post and when, `phase` whether
+//! `request` is that way, `posted` reads a request, `numbers` which series have numbers, `verdict` what is said of a post and when, `phase` whether
 //! posts are taken, `disk` whether the disk answers.
 
 mod disk;
 mod numbers;
 mod phase;
+mod posted;
 mod request;
 mod verdict;
 
@@ -15,7 +16,7 @@ pub(crate) use phase::Phase;
 use crate::core::{Core, Refused};
 use crate::files::{Folder, Held, Journal, Outbox};
 use crate::metrics::Metrics;
-use crate::otlp::Outcome;
+use crate::otlp::{Clock, Outcome};
 use crate::shares::Shares;
 use bytes::Bytes;
 use phase::Phases;
@@ -41,12 +42,17 @@ pub struct Slot {
     pub(crate) core: Arc<Core>,
     phases: Phases,
     readers: Semaphore,
-    numbers: numbers::Numbers,
+    numbers: Arc<numbers::Numbers>,
+    clock: Clock,
     /// How many posts are in the journal, and in no group. It changes under the lock of the book, but for what the keeper
     /// takes off it.
     ungrouped: AtomicU64,
     /// A post was refused because there are too many series.
     pub(crate) crowded: Notify,
+    /// The book has much that belongs to the next group already, or finds no room for it.
+    pub(crate) hurried: Notify,
+    /// What was taken is not in flight any more.
+    pub(crate) landed: Notify,
     told: disk::Told,
     pub(crate) shares: Arc<Shares>,
 }
@@ -60,6 +66,19 @@ impl Slot {
         metrics: Arc<Metrics>,
         core: Arc<Core>,
     ) -> Arc<Slot> {
+        Slot::by_clock(number, folder, journal, outbox, metrics, core, Clock::default())
+    }
+
+    /// The same, for points that end not too far from the service's clock.
+    pub fn by_clock(
+        number: u16,
+        folder: Arc<Folder>,
+        journal: Journal,
+        outbox: Arc<Outbox>,
+        metrics: Arc<Metrics>,
+        core: Arc<Core>,
+        clock: Clock,
+    ) -> Arc<Slot> {
         Arc::new(Slot {
             number,
             folder,
@@ -69,9 +88,12 @@ impl Slot {
             core,
             phases: Phases::new(),
             readers: Semaphore::new(READERS),
-            numbers: numbers::Numbers::default(),
+            numbers: Arc::default(),
+            clock,
             ungrouped: AtomicU64::new(0),
             crowded: Notify::new(),
+            hurried: Notify::new(),
+            landed: Notify::new(),
             told: disk::Told::default(),
             shares: Arc::default(),
         })

@@ -197,6 +197,13 @@ impl Numbers {
     }
 }
 
+impl Numbers {
+    /// The points of a text in the book's form by number; none where they have none, and then it goes as it is.
+    pub fn read_text(&self, _: &Core, _: &Bytes) -> Result<Option<ByNumber>, Refused> {
+        Ok(None)
+    }
+}
+
 impl Slot {
     /// The points of a request in protobuf by their numbers; none where it is to be read otherwise, which says nothing of it.
     pub fn numbered(&self, body: &Bytes, reading: &Arc<Reading>) -> Option<ByNumber> {

@@ -3,16 +3,19 @@
 //! Between the book and the journal nothing is waited for. So the journal has the book's order, each post is in both
 //! or in neither, and one whose sender goes away is whole.
 
+use super::posted::{read, Posted};
 use super::verdict::{Journalled, Taken};
 use super::{is_sender, Phase, Request, Slot, NO_ROOM};
-use crate::core::{Core, Read, Refused};
+use crate::core::{Locked, Refused};
+use crate::files::FAILED;
 use crate::otlp::Outcome;
 use crate::shares::Claim;
 use crate::work::blocking;
-use std::sync::Arc;
 
 /// What takes so much is read in place, what takes more on a thread beside the runtime's: no short post waits for it.
 const SHORT: usize = 64 << 10;
+/// So many bytes of requests of earlier hours are flushed at once, and not with the next checkpoint.
+const MANY_BYTES: usize = 32 << 20;
 
 impl Slot {
     /// As `post`, of a request in any form.
@@ -25,18 +28,18 @@ impl Slot {
         }
         let source = request.source();
         let said = match self.read(sender, request).await {
-            Ok(read) => match self
-                .shares
-                .claim(&read.post.sender, read.points(), || source.text())
-            {
-                Ok(claim) => self.put(read, claim),
-                Err(over) => {
-                    if over.is_of_series() {
-                        self.crowded.notify_one();
+            Ok(posted) => {
+                let sender = &posted.read.post.sender;
+                match self.shares.claim(sender, posted.read.points(), || source.text()) {
+                    Ok(claim) => self.put_in_turn(posted, claim).await,
+                    Err(over) => {
+                        if over.is_of_series() {
+                            self.crowded.notify_one();
+                        }
+                        return over.into();
                     }
-                    return over.into();
                 }
-            },
+            }
             Err(refused) => Ok(Journalled::refused(refused, &self.journal)),
         };
         match said {
@@ -45,19 +48,40 @@ impl Slot {
         }
     }
 
-    async fn read(&self, sender: String, request: Request) -> Result<Read, Refused> {
+    async fn read(&self, sender: String, request: Request) -> Result<Posted, Refused> {
+        let window = self.clock.window();
         if request.bytes() <= SHORT {
-            return read(&self.core, sender, request);
+            return read(&self.core, &self.numbers, &window, sender, request);
         }
         let _turn = self.readers.acquire().await; // it is never closed
-        let core = self.core.clone();
-        blocking(move || read(&core, sender, request)).await
+        let (core, numbers) = (self.core.clone(), self.numbers.clone());
+        blocking(move || read(&core, &numbers, &window, sender, request)).await
     }
 
-    /// Puts a post into the book and into the journal. The error is why the book was not asked.
-    fn put(&self, mut read: Read, claim: Claim) -> Result<Journalled, &'static str> {
+    /// Puts a post into the book and into the journal; behind what is in flight, where that is of an hour before. The error
+    /// is why the book was not asked.
+    async fn put_in_turn(
+        &self,
+        mut posted: Posted,
+        mut claim: Claim<'_>,
+    ) -> Result<Journalled, &'static str> {
+        loop {
+            let landed = self.landed.notified(); // from here on none is missed
+            match self.put(&mut posted, &mut claim)? {
+                Some(journalled) => return Ok(journalled),
+                None => landed.await,
+            }
+        }
+    }
+
+    /// None where what is in flight has to land first.
+    fn put(
+        &self,
+        posted: &mut Posted,
+        claim: &mut Claim<'_>,
+    ) -> Result<Option<Journalled>, &'static str> {
         // Others may have come through the door at once.
-        let Some(_room) = self.folder.room_for(read.bytes()) else {
+        let Some(_room) = self.folder.room_for(posted.read.bytes()) else {
             return Err(NO_ROOM);
         };
         let mut book = self.core.lock();
@@ -66,46 +90,54 @@ impl Slot {
             return Err(self.unavailable().unwrap_or("recovering"));
         }
         let before = book.series();
-        let admitted = book.admit(&mut read);
+        let admitted = book.admit(&mut posted.read);
         self.metrics.rounds_closed.inc_by(book.rounds_closed() as u64);
-        if let Err(refused) = admitted {
-            drop(book);
-            if refused == Refused::TooManySeries {
-                self.crowded.notify_one();
-            }
-            return Ok(Journalled::refused(refused, &self.journal));
+        if book.earlier_bytes() > MANY_BYTES {
+            self.hurried.notify_one();
         }
-        claim.keep(&read.post.sender, book.series().saturating_sub(before));
+        if let Err(refused) = admitted {
+            return Ok(self.refused(book, posted, refused));
+        }
+        claim.keep(&posted.read.post.sender, book.series().saturating_sub(before));
         self.count_post();
         // Under the lock: so the journal has the book's order, and a checkpoint finds the post in both or in neither.
-        let (post, names) = (&read.post, read.names());
-        let journalled = Taken { post, names }.journal(&self.journal);
+        let journalled = Taken::of(posted).journal(&self.journal);
         drop(book);
-        Ok(journalled)
+        Ok(Some(journalled))
+    }
+
+    fn refused(&self, book: Locked<'_>, posted: &Posted, refused: Refused) -> Option<Journalled> {
+        if refused == Refused::HalfTaken {
+            end(); // with the lock: nobody may see that book
+        }
+        let has_earlier = book.has_earlier();
+        drop(book);
+        match refused {
+            Refused::InFlight => return None,
+            Refused::TooManySeries => self.crowded.notify_one(),
+            Refused::NoMemory if has_earlier => self.hurried.notify_one(),
+            _ => {}
+        }
+        Some(Journalled::refused(posted.refused(refused), &self.journal))
     }
 }
 
-/// Reads a request. The journal has no point by number that the book does not take, since it says whose a series is: where
-/// the library finds one the request is read as its text.
-pub(super) fn read(core: &Arc<Core>, sender: String, request: Request) -> Result<Read, Refused> {
-    let by = match request {
-        Request::Text(body) => return core.read(sender, body),
-        Request::Numbered(by) => by,
-    };
-    let read = core.read_points(sender.clone(), by.points, by.names, by.foreign)?;
-    if read.post.foreign == by.foreign {
-        return Ok(read);
-    }
-    let text = by.source.text().ok_or(Refused::NotJson)?; // it was one when it was read by number
-    core.read(sender, text)
+/// The book has a part of a post that the journal has not. The next start has neither, and its sender repeats it.
+fn end() -> ! {
+    crate::complain(format_args!(
+        "there is no memory for the rest of a post of several hours, so the service ends: nothing is lost, since its sender was \
+         not answered; give a greater --book-memory"
+    ));
+    std::process::exit(FAILED)
 }
 
 #[cfg(test)]
 impl Slot {
     /// The second half of a post's way.
-    pub(crate) fn put_of_test(&self, read: Read) -> Result<(), &'static str> {
+    pub(crate) fn put_of_test(&self, read: crate::core::Read) -> Result<(), &'static str> {
         let claim = self.shares.claim(&read.post.sender, 0, || None);
-        self.put(read, claim.map_err(|_| "over its share")?).map(drop)
+        let mut claim = claim.map_err(|_| "over its share")?;
+        self.put(&mut Posted::whole(read), &mut claim).map(drop)
     }
 }
 

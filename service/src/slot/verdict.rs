@@ -4,15 +4,18 @@
 //! gives its verdict away. A refusal waits for the journal too: a repeat's `out of order` must not outrun the record
 //! of the first attempt, or the sender would drop a batch that a loss of power then takes.
 
+use super::posted::Posted;
 use crate::core::Refused;
 use crate::files::{Journal, Names, Post, Ticket};
-use crate::otlp::Outcome;
+use crate::otlp::{OffClock, Outcome};
 
 /// A post that the book took, and that is in no journal yet.
 #[must_use = "what the book took has to be in the journal"]
 pub(super) struct Taken<'a> {
     pub post: &'a Post,
     pub names: &'a dyn Names,
+    /// Points that are not in it.
+    pub off: OffClock,
 }
 
 /// What may be said once the journal is durable up to a place.
@@ -23,11 +26,19 @@ pub(super) struct Journalled {
 }
 
 impl Taken<'_> {
+    pub fn of(posted: &Posted) -> Taken<'_> {
+        Taken {
+            post: &posted.read.post,
+            names: posted.read.names(),
+            off: posted.off(),
+        }
+    }
+
     /// Puts the post into the journal: a short lock, and no wait for the disk.
     pub fn journal(self, journal: &Journal) -> Journalled {
         Journalled {
             ticket: journal.append(self.post, self.names),
-            outcome: Outcome::taken(self.post.foreign),
+            outcome: Outcome::taken_but(self.post.foreign, self.off),
         }
     }
 }
@@ -84,6 +95,7 @@ mod tests {
             Taken {
                 post: &post,
                 names: &NoNames,
+                off: OffClock::default(),
             }
             .journal(&journal),
             Journalled::refused(late, &journal),

@@ -1,5 +1,6 @@
 //! Slot and keeper over files on disk, with the book that is linked in.
 
+mod hours;
 mod numbered;
 mod real;
 mod support;

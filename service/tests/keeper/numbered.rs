@@ -12,10 +12,10 @@ const SENDERS: u64 = 4;
 const SERIES: u64 = 6;
 
 /// A small generator: the same numbers in each run.
-struct Chance(u64);
+pub struct Chance(pub u64);
 
 impl Chance {
-    fn below(&mut self, end: u64) -> u64 {
+    pub fn below(&mut self, end: u64) -> u64 {
         self.0 = self
             .0
             .wrapping_mul(6364136223846793005)
@@ -33,7 +33,7 @@ fn fixed64(number: u8, bits: u64) -> Vec<u8> {
 }
 
 /// The same in protobuf as `point` in JSON, of several series.
-fn points(series: &[(String, u64, u64, i64)]) -> Bytes {
+pub fn points(series: &[(String, u64, u64, i64)]) -> Bytes {
     let metrics = series.iter().flat_map(|(name, start, end, value)| {
         let point = [fixed64(2, *start), fixed64(3, *end), fixed64(6, *value as u64)].concat();
         let sum = [&field(1, &point)[..], &[2 << 3, 1]].concat();
@@ -48,7 +48,7 @@ fn points(series: &[(String, u64, u64, i64)]) -> Bytes {
     metrics.collect::<Vec<u8>>().into()
 }
 
-async fn post_by_number(run: &Run, sender: &str, body: Bytes, reading: &Arc<Reading>) -> Outcome {
+pub async fn post_by_number(run: &Run, sender: &str, body: Bytes, reading: &Arc<Reading>) -> Outcome {
     let numbered = run.slot.numbered(&body, reading).expect("it has sums alone");
     run.slot
         .request(sender.into(), totxegun::slot::Request::Numbered(numbered))

@@ -14,7 +14,7 @@ use totxegun::files::{Durability, Folder, Outbox};
 use totxegun::keeper::{Done, Keeper, Order, Orders, Settings, Trouble};
 use totxegun::metrics::Metrics;
 use totxegun::otlp::series::{forwarded, Value};
-use totxegun::otlp::{protobuf_of_forwarded, Outcome, Reading};
+use totxegun::otlp::{protobuf_of_forwarded, Clock, Outcome, Reading};
 use totxegun::slot::{Request, Slot};
 
 const PATIENCE: Duration = Duration::from_secs(120);
@@ -24,6 +24,8 @@ pub struct Place {
     folder: Option<tempfile::TempDir>,
     /// How many fit: it may be others at each start.
     pub most_series: usize,
+    /// How far from the service's clock points may end.
+    pub clock: Clock,
 }
 
 impl Place {
@@ -31,6 +33,7 @@ impl Place {
         Place {
             folder: Some(tempfile::tempdir().unwrap()),
             most_series: 100_000,
+            clock: Clock::default(),
         }
     }
 
@@ -56,7 +59,8 @@ impl Place {
         let (journal, outbox) = folder.slot(0).unwrap();
         let (outbox, metrics) = (Arc::new(outbox), Arc::new(Metrics::new().unwrap()));
         let core = Core::new(self.most_series).unwrap();
-        let slot = Slot::new(0, folder, journal, outbox.clone(), metrics.clone(), core);
+        let (of_outbox, of_metrics) = (outbox.clone(), metrics.clone());
+        let slot = Slot::by_clock(0, folder, journal, of_outbox, of_metrics, core, self.clock);
         let (keeper, orders) = Keeper::new(slot.clone(), settings);
         let (stop, stopped) = watch::channel(false);
         let task = tokio::spawn(keeper.run(stopped));

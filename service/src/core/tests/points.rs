@@ -3,7 +3,7 @@
 use super::*;
 
 /// Names for these series of sums, in this order.
-fn named(all: &[String]) -> Arc<Names> {
+pub(super) fn named(all: &[String]) -> Arc<Names> {
     let names = Names::new().unwrap();
     for (number, name) in (0..).zip(all) {
         let request = points(std::slice::from_ref(name), 1, 0);

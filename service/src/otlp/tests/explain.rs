@@ -7,7 +7,7 @@ const SPAN: &str = r#""startTimeUnixNano":"1","timeUnixNano":"2""#;
 /// Why the one point of a request is foreign.
 fn why(body: String) -> String {
     let written = prepared(Encoding::Json, body.clone()).unwrap();
-    let points = explained(&written).unwrap();
+    let points = explained(&written, Clock::default().window()).unwrap();
     let [point] = &points[..] else {
         panic!("{body}: {points:?}")
     };

@@ -1,10 +1,10 @@
 //! Each request both ways, to two books: as JSON, and by number.
 
 use super::*;
-use crate::core::Read;
+use crate::core::{Across, Read};
 use crate::files::{self, Body, Durability, Folder};
-use crate::otlp::{posts_of_test, Rule, Whole};
-use crate::slot::request::read;
+use crate::otlp::{posts_of_test, Clock, Rule, Whole};
+use crate::slot::posted::{self, Posted};
 use std::collections::HashSet;
 
 struct Both {
@@ -20,8 +20,8 @@ struct Both {
 impl Both {
     fn new(reading: Reading) -> Both {
         Both {
-            slow: Core::new(20_000).unwrap(),
-            fast: Core::new(20_000).unwrap(),
+            slow: Core::apart(20_000, Across::None).unwrap(),
+            fast: Core::apart(20_000, Across::None).unwrap(),
             numbers: Numbers::default(),
             reading: Arc::new(reading),
             by_number: 0,
@@ -34,11 +34,11 @@ impl Both {
         let body = Bytes::from(body);
         let slow = self
             .text(&body)
-            .and_then(|text| admitted(&self.slow, sender, text));
+            .and_then(|text| admitted(&self.slow, &self.numbers, sender, text));
         let by_number = self.numbers.read(&self.fast, &body, &self.reading);
         self.by_number += usize::from(by_number.is_some());
         let request = by_number.map_or_else(|| self.text(&body), |by| Ok(Request::Numbered(by)));
-        let fast = request.and_then(|request| admitted(&self.fast, sender, request));
+        let fast = request.and_then(|request| admitted(&self.fast, &self.numbers, sender, request));
         assert_eq!(fast, slow, "{body:02x?}");
         if let Ok(foreign) = slow {
             (self.taken, self.foreign) = (self.taken + 1, self.foreign + foreign);
@@ -67,14 +67,19 @@ impl Both {
 }
 
 /// How many points are foreign, or why it was refused.
-fn admitted(core: &Arc<Core>, sender: &str, request: Request) -> Result<u64, String> {
-    let admitted = read(core, sender.into(), request).and_then(|mut read| {
+fn admitted(core: &Arc<Core>, numbers: &Numbers, sender: &str, request: Request) -> Result<u64, String> {
+    let admitted = read(core, numbers, sender, request).and_then(|mut read| {
         core.lock().admit(&mut read)?;
         let is_sound = |points: &Points| points.each().all(|point| 0 < point[1] && point[1] < point[2]);
         assert!(by_number(&read).is_none_or(is_sound), "it is in the journal");
         Ok(read.post.foreign)
     });
     admitted.map_err(|refused| refused.to_string())
+}
+
+fn read(core: &Arc<Core>, numbers: &Numbers, sender: &str, request: Request) -> Result<Read, Refused> {
+    let window = Clock::default().window();
+    posted::read(core, numbers, &window, sender.into(), request).map(|Posted { read, .. }| read)
 }
 
 fn by_number(read: &Read) -> Option<&Points> {
@@ -106,7 +111,7 @@ fn a_post_asks_for_the_room_that_it_takes_in_the_journal() {
         let text = prepare(Encoding::Protobuf, body.clone(), &reading).map(|prepared| prepared.body.into());
         let by_number = numbers.read(&core, &body, &reading).map(Request::Numbered);
         let requests = [by_number, text.ok()].into_iter().flatten();
-        for read in requests.flat_map(|request| read(&core, "A".into(), request)) {
+        for read in requests.flat_map(|request| read(&core, &numbers, "A", request)) {
             let names: HashSet<u64> = read.post.numbers().collect();
             let (before, asked) = (written(), read.bytes() as u64);
             journal.append(&read.post, read.names());
@@ -133,8 +138,9 @@ fn numbers_begin_anew_and_posts_under_way_keep_theirs() {
         both.post(["A", "B"][number / 7 % 2], body);
         let now = both.numbers.now(&both.fast, &both.reading).unwrap();
         generations.insert(files::Names::generation(&*now.names));
-        let points = under_way.and_then(|by| read(&both.fast, "C".into(), Request::Numbered(by)).ok());
-        let wanted = read(&both.slow, "C".into(), both.text(&first).unwrap()).unwrap();
+        let points =
+            under_way.and_then(|by| read(&both.fast, &both.numbers, "C", Request::Numbered(by)).ok());
+        let wanted = read(&both.slow, &both.numbers, "C", both.text(&first).unwrap()).unwrap();
         assert!(points.is_none_or(|read| read.post.foreign == wanted.post.foreign));
         if number % 100 == 99 {
             both.flush();

@@ -1,0 +1,78 @@
+//! Stretches of time, of which none is crossed: what is forwarded of a series is of one of them.
+
+use crate::files::Points;
+use std::collections::BTreeMap;
+
+const HOUR: u64 = 3_600_000_000_000;
+
+/// What a request's point never covers two of, in UTC, but where a post's point itself does.
+#[derive(Clone, Copy, Debug, Default, PartialEq, Eq, clap::ValueEnum)]
+pub enum Across {
+    #[default]
+    Hour,
+    Day,
+    /// There is one stretch alone.
+    None,
+}
+
+impl Across {
+    /// In nanoseconds.
+    pub(super) fn length(self) -> u64 {
+        match self {
+            Across::Hour => HOUR,
+            Across::Day => 24 * HOUR,
+            Across::None => u64::MAX,
+        }
+    }
+
+    /// In which stretch a point counts that ends then: one that ends at a full hour, in the hour before.
+    pub(super) fn stretch(self, end: u64) -> u64 {
+        end.saturating_sub(1) / self.length()
+    }
+
+    /// The points of each stretch, the first one first; those of a series in the order that they have.
+    pub(super) fn split(self, points: &Points) -> Vec<Points> {
+        let mut parts = BTreeMap::<u64, Points>::new();
+        for point in points.each() {
+            if let [number, start, end, says @ ..] = point {
+                let part = parts.entry(self.stretch(*end)).or_default();
+                part.push(*number, *start, *end, says.iter().copied());
+            }
+        }
+        parts.into_values().collect()
+    }
+}
+
+#[cfg(test)]
+mod tests {
+    use super::*;
+
+    #[test]
+    fn a_full_hour_ends_the_hour_before() {
+        let ends = [0, 1, HOUR, HOUR + 1, 24 * HOUR, 24 * HOUR + 1, u64::MAX];
+        let of = |across: Across| ends.map(|end| across.stretch(end));
+        assert_eq!(of(Across::Hour), [0, 0, 0, 1, 23, 24, 5_124_095]);
+        assert_eq!(of(Across::Day), [0, 0, 0, 0, 0, 1, 213_503]);
+        assert_eq!(of(Across::None), [0; 7]);
+    }
+
+    #[test]
+    fn points_are_split_by_their_ends() {
+        let mut points = Points::default();
+        for (number, end) in [(7, 2 * HOUR), (8, 1), (7, 2 * HOUR + 1), (8, HOUR + 1), (9, HOUR)] {
+            points.push(number, end - 1, end, [end]);
+        }
+        let of = |across: Across| {
+            let parts = across.split(&points);
+            let ends = |part: &Points| part.each().map(|point| (point[0], point[2])).collect::<Vec<_>>();
+            parts.iter().map(ends).collect::<Vec<_>>()
+        };
+        let wanted = [
+            vec![(8, 1), (9, HOUR)],
+            vec![(7, 2 * HOUR), (8, HOUR + 1)],
+            vec![(7, 2 * HOUR + 1)],
+        ];
+        assert_eq!(of(Across::Hour), wanted);
+        assert_eq!(of(Across::Day).len(), 1);
+    }
+}

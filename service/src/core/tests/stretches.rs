@@ -1,0 +1,256 @@
+//! What is forwarded of a series never covers two hours.
+
+use super::points::named;
+use super::*;
+
+const HOUR: u64 = 3_600_000_000_000;
+
+/// Points by number, each of its number, end and value; each begins a second before its end.
+fn of(all: &[(u64, u64, i64)]) -> Points {
+    let mut points = Points::default();
+    for (number, end, value) in all {
+        points.push(*number, end - 1_000_000_000, *end, [*value as u64]);
+    }
+    points
+}
+
+fn put(core: &Arc<Core>, names: &Arc<Names>, sender: &str, points: Points) -> Result<(), Refused> {
+    let mut read = core.read_points(sender.into(), points, names.clone(), 0)?;
+    core.lock().admit(&mut read)
+}
+
+/// What is written of all that is taken, in order: name, hour of its end, value.
+fn spans(texts: &[Vec<u8>]) -> Vec<(String, u64, i64)> {
+    let points = texts.iter().flat_map(|text| forwarded(text).unwrap());
+    let spans = points.map(|point| {
+        let Value::Sum(value) = point.value else {
+            panic!("{point:?}")
+        };
+        let hours = [point.start, point.end - 1].map(|time| time / HOUR);
+        assert_eq!(hours[0], hours[1], "a span of two hours: {point:?}");
+        (point.series.parts().unwrap().name, hours[1], value)
+    });
+    spans.collect()
+}
+
+/// All, in order; of each series no hour comes after a later one.
+fn group(core: &Arc<Core>) -> Vec<(String, u64, i64)> {
+    let mut flushed = core.lock().take_all().unwrap();
+    let texts = flushed.texts().unwrap();
+    core.lock().settle(flushed).unwrap();
+    let spans = spans(&texts);
+    let mut last = BTreeMap::new();
+    for (name, hour, _) in &spans {
+        let before = last.insert(name.clone(), *hour);
+        assert!(before.is_none_or(|before| before <= *hour), "{spans:?}");
+    }
+    spans
+}
+
+/// By series and hour.
+fn sums(spans: Vec<(String, u64, i64)>) -> BTreeMap<(String, u64), i64> {
+    let mut sums = BTreeMap::new();
+    for (name, hour, value) in spans {
+        *sums.entry((name, hour)).or_default() += value;
+    }
+    sums
+}
+
+#[test]
+fn where_a_later_hour_comes_its_book_is_taken_first() {
+    for series in [1, 24_000] {
+        let core = Core::new(series).unwrap();
+        let all = names("s", 20);
+        let by = named(&all);
+        let at = |hour: u64, minute: u64| hour * HOUR + minute * 60_000_000_000;
+        let every = |end, value| of(&(0..20).map(|number| (number, end, value)).collect::<Vec<_>>());
+        put(&core, &by, "A", every(at(5, 10), 1)).unwrap();
+        put(&core, &by, "A", every(at(5, 60), 2)).unwrap(); // it ends at the full hour
+        assert!(!core.lock().has_earlier());
+        put(&core, &by, "A", of(&[(0, at(6, 1), 4)])).unwrap();
+        assert!(core.lock().has_earlier());
+        assert_eq!(post(&core, "A", &points(&all[1..], at(7, 1), 8)), Ok(0));
+        put(&core, &by, "A", of(&[(0, at(7, 2), 16)])).unwrap();
+        let mut wanted = BTreeMap::new();
+        for name in &all {
+            wanted.insert((name.clone(), 5), 3);
+            wanted.insert((name.clone(), 7), if name == "s0" { 16 } else { 8 });
+        }
+        wanted.insert(("s0".into(), 6), 4);
+        assert_eq!(sums(group(&core)), wanted);
+        assert!(group(&core).is_empty() && !core.lock().has_earlier());
+        // A later hour after nothing, and an hour that others are behind.
+        put(&core, &by, "A", of(&[(0, at(9, 1), 1), (1, at(9, 1), 1)])).unwrap();
+        put(&core, &by, "A", of(&[(2, at(8, 1), 1)])).unwrap();
+        put(&core, &by, "A", of(&[(3, at(9, 1), 1)])).unwrap();
+        assert!(!core.lock().has_earlier(), "no series goes over an hour");
+        assert_eq!(group(&core).len(), 4);
+    }
+}
+
+#[test]
+fn days_are_kept_apart_or_nothing() {
+    for (across, spans) in [(Across::Hour, 4), (Across::Day, 2), (Across::None, 1)] {
+        let core = Core::apart(1, across).unwrap();
+        let by = named(&names("s", 1));
+        for hour in [1, 2, 23, 24] {
+            put(&core, &by, "A", of(&[(0, hour * HOUR + HOUR / 2, 1)])).unwrap();
+        }
+        let mut flushed = core.lock().take_all().unwrap();
+        let texts = flushed.texts().unwrap();
+        core.lock().settle(flushed).unwrap();
+        assert_eq!(texts.len(), spans, "{across:?}");
+    }
+}
+
+#[test]
+fn a_post_of_several_hours_is_taken_whole_and_hour_by_hour() {
+    let core = Core::new(24_000).unwrap();
+    let by = named(&names("s", 20));
+    let lump = |first: u64| {
+        let points = (0..20).flat_map(|number| (first..first + 24).map(move |hour| (number, hour, 1)));
+        of(&points
+            .map(|(number, hour, value)| (number, hour * HOUR + HOUR / 2, value))
+            .collect::<Vec<_>>())
+    };
+    put(&core, &by, "A", lump(100)).unwrap();
+    let late = put(&core, &by, "A", lump(110));
+    assert!(
+        matches!(late, Err(Refused::OutOfOrder { point: 0, .. })),
+        "{late:?}"
+    );
+    // The last point is another's.
+    let theirs = named(&names("t", 1));
+    put(&core, &theirs, "B", of(&[(0, 500 * HOUR, 1)])).unwrap();
+    let both = named(&[names("s", 20), names("t", 1)].concat());
+    let mut mixed = lump(124);
+    mixed.push(20, 501 * HOUR, 502 * HOUR, [1]);
+    let report = core.lock().report().unwrap();
+    let other = put(&core, &both, "A", mixed);
+    assert_eq!(other, Err(Refused::OtherWriter { point: 480 }));
+    assert_eq!(core.lock().report().unwrap(), report, "nothing of it is there");
+    put(&core, &by, "A", lump(124)).unwrap();
+    let sums = sums(group(&core));
+    assert_eq!(sums.len(), 20 * 48 + 1);
+    assert!(sums.values().all(|sum| *sum == 1), "{sums:?}");
+}
+
+/// What is in flight can't be taken again: who comes with a later hour waits for it.
+#[test]
+fn what_is_in_flight_is_waited_for() {
+    let core = Core::new(1).unwrap();
+    let by = named(&names("s", 2));
+    let at = |hour: u64| hour * HOUR + HOUR / 2;
+    put(&core, &by, "A", of(&[(0, at(1), 1)])).unwrap();
+    let mut flushed = core.lock().take_all().unwrap();
+    put(&core, &by, "A", of(&[(0, at(1) + 2_000_000_000, 2)])).unwrap();
+    let mut next = core
+        .read_points("A".into(), of(&[(0, at(2), 4)]), by.clone(), 0)
+        .unwrap();
+    assert_eq!(core.lock().admit(&mut next), Err(Refused::InFlight));
+    // What others post goes on, and a post of several hours waits too.
+    put(&core, &by, "A", of(&[(1, at(2), 1)])).unwrap();
+    let mut lump = core
+        .read_points("A".into(), of(&[(0, at(3), 8), (0, at(4), 16)]), by.clone(), 0)
+        .unwrap();
+    assert_eq!(core.lock().admit(&mut lump), Err(Refused::InFlight));
+    let first = spans(&flushed.texts().unwrap());
+    core.lock().settle(flushed).unwrap();
+    assert_eq!(core.lock().admit(&mut next), Ok(()));
+    assert_eq!(core.lock().admit(&mut lump), Ok(()));
+    let group = sums([first, group(&core)].concat());
+    let wanted = [
+        (("s0", 1), 3),
+        (("s0", 2), 4),
+        (("s0", 3), 8),
+        (("s0", 4), 16),
+        (("s1", 2), 1),
+    ];
+    assert_eq!(
+        group,
+        wanted
+            .map(|((name, hour), sum)| ((name.to_string(), hour), sum))
+            .into()
+    );
+}
+
+#[test]
+fn a_released_sender_s_points_are_not_merged_with_a_later_hour() {
+    let core = Core::new(1).unwrap();
+    let by = named(&names("s", 1));
+    put(&core, &by, "A", of(&[(0, HOUR / 2, 1)])).unwrap();
+    core.lock().quarantine("A").unwrap();
+    assert!(group(&core).is_empty());
+    let later = of(&[(0, HOUR + HOUR / 2, 2)]);
+    assert_eq!(put(&core, &by, "A", later.clone()), Err(Refused::Quarantined));
+    core.lock().lift("A").unwrap();
+    put(&core, &by, "A", later).unwrap();
+    assert_eq!(group(&core).iter().map(|span| span.1).collect::<Vec<_>>(), [0, 1]);
+}
+
+/// Each block that is refused has the post refused, with nothing of it in the book; behind the first hour it is another fault.
+#[test]
+fn a_post_of_several_hours_is_whole_also_without_memory() {
+    let core = Core::new(1).unwrap();
+    let by = named(&names("s", 3));
+    put(&core, &by, "A", of(&[(0, HOUR / 2, 1), (1, HOUR / 2, 1)])).unwrap();
+    let lump = of(&[(0, 2 * HOUR, 1), (1, 3 * HOUR, 1), (2, 4 * HOUR, 1)]);
+    let mut half = 0;
+    for blocks in 0.. {
+        let mut read = core.read_points("A".into(), lump.clone(), by.clone(), 0).unwrap();
+        memory::fail_after(Some(blocks));
+        let admitted = core.lock().admit(&mut read);
+        let is_over = memory::is_to_fail();
+        memory::fail_after(None);
+        match admitted {
+            Ok(()) if is_over => break,
+            Ok(()) | Err(Refused::HalfTaken) => {
+                // The book of a service that ends: another one takes its place.
+                half += usize::from(admitted.is_err());
+                let mut fresh = core.fresh().unwrap();
+                std::mem::swap(&mut *core.lock(), &mut fresh);
+                put(&core, &by, "A", of(&[(0, HOUR / 2, 1), (1, HOUR / 2, 1)])).unwrap();
+            }
+            Err(refused) => assert_eq!(refused, Refused::NoMemory),
+        }
+    }
+    assert!(half > 0);
+    let sums = sums(group(&core));
+    assert!(sums.len() == 5 && sums.values().all(|sum| *sum == 1), "{sums:?}");
+}
+
+/// Whatever comes, in whatever order: each hour has its own sum.
+#[test]
+fn sums_by_hour_are_those_of_the_posts() {
+    let mut seed = 7_u64;
+    let mut random = |most: u64| {
+        seed = seed.wrapping_mul(6_364_136_223_846_793_005).wrapping_add(1);
+        (seed >> 33) % most
+    };
+    let core = Core::new(24_000).unwrap();
+    let all = names("s", 12);
+    let by = named(&all);
+    let mut ends = vec![HOUR; 12];
+    let (mut wanted, mut found) = (BTreeMap::<(String, u64), i64>::new(), Vec::new());
+    for post in 0..2_000 {
+        let mut points = Vec::new();
+        for _ in 0..=random(6) {
+            let number = random(12);
+            let end = &mut ends[number as usize];
+            *end += 2_000_000_000 + random(4).pow(3) * random(HOUR / 4);
+            if (*end - 1) / HOUR != (*end - 1_000_000_000) / HOUR {
+                *end += 1_000_000_000; // else it is itself of two hours
+            }
+            points.push((number, *end, post + 1));
+            let key = (all[number as usize].clone(), (*end - 1) / HOUR);
+            *wanted.entry(key).or_default() += post + 1;
+        }
+        put(&core, &by, "A", of(&points)).unwrap();
+        if random(20) == 0 {
+            found.extend(group(&core));
+        }
+    }
+    found.extend(group(&core));
+    assert!(wanted.len() > 1_000);
+    assert_eq!(sums(found), wanted);
+}

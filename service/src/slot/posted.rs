@@ -1,0 +1,146 @@
+//! Reads a request for the book. What is off by its clock is left out; and of points that are not all of one hour each is read
+//! by number, so that each hour's go into the book by themselves.
+
+use super::numbers::{ByNumber, Numbers, Request};
+use crate::core::{Core, Read, Refused};
+use crate::files::Points;
+use crate::otlp::{OffClock, Window};
+use bytes::Bytes;
+use std::sync::Arc;
+
+/// In more hours no post may have points: each takes a request to the sink, while other posts wait.
+const MOST_PARTS: usize = 1000;
+
+/// A request that was read, and what of it the book is not given.
+pub struct Posted {
+    pub read: Read,
+    left_out: LeftOut,
+}
+
+/// Points that are off by their clock.
+#[derive(Default)]
+pub struct LeftOut {
+    off: OffClock,
+    /// Among all points of the profile; ascending.
+    places: Vec<u64>,
+}
+
+impl Posted {
+    pub fn whole(read: Read) -> Posted {
+        Posted {
+            read,
+            left_out: LeftOut::default(),
+        }
+    }
+
+    pub fn off(&self) -> OffClock {
+        self.left_out.off
+    }
+
+    /// A refusal, which names a point by its place in the request.
+    pub fn refused(&self, refused: Refused) -> Refused {
+        let placed = |point| self.left_out.place_of(point);
+        match refused {
+            Refused::OtherWriter { point } => Refused::OtherWriter { point: placed(point) },
+            Refused::OutOfOrder { point, frontier } => Refused::OutOfOrder {
+                point: placed(point),
+                frontier,
+            },
+            other => other,
+        }
+    }
+}
+
+impl LeftOut {
+    /// Takes them out of these points.
+    fn of(points: &mut Points, window: &Window) -> LeftOut {
+        let mut left_out = LeftOut::default();
+        if points.each().all(|point| window.off(point[2]).is_none()) {
+            return left_out;
+        }
+        let mut within = Points::default();
+        for (place, point) in (0..).zip(points.each()) {
+            match (window.off(point[2]), point) {
+                (None, [number, start, end, says @ ..]) => {
+                    within.push(*number, *start, *end, says.iter().copied());
+                }
+                (found, _) => {
+                    found.into_iter().for_each(|found| left_out.off.count(found));
+                    left_out.places.push(place);
+                }
+            }
+        }
+        *points = within;
+        left_out
+    }
+
+    /// Where among all is a point that has this place among those that are left.
+    fn place_of(&self, point: u64) -> u64 {
+        let passed = |point, out: &u64| point + u64::from(*out <= point);
+        self.places.iter().fold(point, passed)
+    }
+}
+
+/// Reads a request. The journal has no point by number that the book does not take, since it says whose a series is: where
+/// the library finds one the request is read as its text.
+pub fn read(
+    core: &Arc<Core>,
+    numbers: &Numbers,
+    window: &Window,
+    sender: String,
+    request: Request,
+) -> Result<Posted, Refused> {
+    let body = match request {
+        Request::Text(body) => body,
+        Request::Numbered(by) => {
+            let (foreign, source) = (by.foreign, by.source.clone());
+            let posted = read_points(core, window, sender.clone(), by)?;
+            if posted.read.post.foreign == foreign {
+                return fits(posted);
+            }
+            source.text().ok_or(Refused::NotJson)? // it was one when it was read by number
+        }
+    };
+    read_text(core, numbers, window, sender, body)
+}
+
+fn read_text(
+    core: &Arc<Core>,
+    numbers: &Numbers,
+    window: &Window,
+    sender: String,
+    body: Bytes,
+) -> Result<Posted, Refused> {
+    let read = core.read(sender.clone(), body.clone())?;
+    let is_within = read
+        .ends()
+        .is_none_or(|(first, last)| window.has_all(first, last));
+    if is_within && !read.is_of_several() {
+        return Ok(Posted::whole(read));
+    }
+    match numbers.read_text(core, &body)? {
+        Some(by) => fits(read_points(core, window, sender, by)?),
+        None => Ok(Posted::whole(read)),
+    }
+}
+
+fn read_points(
+    core: &Arc<Core>,
+    window: &Window,
+    sender: String,
+    mut by: ByNumber,
+) -> Result<Posted, Refused> {
+    let left_out = LeftOut::of(&mut by.points, window);
+    let read = core.read_points(sender, by.points, by.names, by.foreign)?;
+    Ok(Posted { read, left_out })
+}
+
+fn fits(posted: Posted) -> Result<Posted, Refused> {
+    match posted.read.parts() {
+        0..=MOST_PARTS => Ok(posted),
+        parts => Err(Refused::TooManyHours {
+            parts,
+            most: MOST_PARTS,
+        }),
+    }
+}

@@ -1,0 +1,218 @@
+#!/usr/bin/env python3
+"""Sums by hour and month, of senders that post in time, late, and many hours at once.
+
+    tests/by_hour.py TOTXEGUN [SECONDS] [SEED]
+
+Two services, one with a SQLite file and one with PostgreSQL (left out where there is none), for so many seconds (15). Four
+senders of each go through two months, over a month's end: in steps of minutes, in one post of up to 48 hours, and in points
+that end at a full hour or cover one; in JSON and protobuf, packed or not. Each repeats a post until it is answered, while the
+service is killed and flushed. Now and then a point comes from a clock that is a year ahead: it is not taken, and harms nothing.
+
+At the end the sink has, by series and hour and bucket by bucket, what the senders count themselves: a point counts where it
+ends. So do its months, and no span covers two hours but one that a point did. Each line is one check; the last line counts
+those that passed and failed, and the status is 0 where none failed.
+"""
+import contextlib
+import json
+import os
+import random
+import sqlite3
+import sys
+import tempfile
+import threading
+import time
+
+from checks import Checks
+from service import BOUNDS, JSON, Sender, Service, added, ask, in_json, wait_until
+
+sys.path.insert(1, f"{os.path.dirname(os.path.dirname(os.path.abspath(__file__)))}/demo")
+from parts import Database, initdb  # noqa: E402
+
+MINUTE, HOUR, DAY = (60 * 10**9, 3600 * 10**9, 86_400 * 10**9)
+SENDERS = 4
+SECONDS = 15
+# They go through so much time, up to yesterday.
+LONG = 62 * DAY
+ROWS = "select name, {hour}, total, buckets from {by_hour}"
+MONTHS = "select name, {month}, total from {by_month}"
+CROSSING = "select count(*) from {span} where start_ns / {HOUR} < (end_ns - 1) / {HOUR}"
+
+
+class HourlySender(Sender):
+    """Notes by the hours in which points end; `edges` is how many of them cover a full hour."""
+
+    def __init__(self, service, number, seed):
+        super().__init__(service, number, seed)
+        self.end = time.time_ns() - DAY
+        self.time = self.end - LONG + self.chance.randrange(HOUR)
+        self.hours, self.edges, self.lumps, self.ahead = {}, 0, 0, 0
+
+    def next_points(self):
+        """A post of one moment, or of many hours at once."""
+        if self.chance.random() < 0.05:
+            self.lumps += 1
+            return [point for _ in range(self.chance.randrange(2, 49)) for point in self.at_once(HOUR)]
+        return self.at_once(self.chance.choice([MINUTE, 7 * MINUTE, 40 * MINUTE]))
+
+    def at_once(self, step):
+        start, self.time = self.time, self.time + step
+        kind = self.chance.random()
+        if kind < 0.1:
+            self.time -= self.time % HOUR  # at a full hour
+        if self.time <= start:
+            self.time = start + step
+        if kind < 0.8:
+            start = max(start, (self.time - 1) // HOUR * HOUR)  # within its hour
+        buckets = tuple(self.chance.randrange(5) for _ in range(len(BOUNDS) + 1))
+        value = self.chance.randrange(1, 1000)
+        self.edges += 2 * (start // HOUR < (self.time - 1) // HOUR)
+        return [(f"{self.name}.sum", start, self.time, value), (f"{self.name}.histogram", start, self.time, (buckets, value))]
+
+    def note(self, points, last):
+        super().note(points, last)
+        for name, _, end, value in points:
+            key = name, (end - 1) // HOUR
+            self.hours[key] = added(self.hours.get(key), value)
+
+    def post_ahead(self):
+        """A point of a year from now, for a series that goes on; whether it was left out."""
+        start = time.time_ns() + 365 * DAY
+        body = in_json([(f"{self.name}.sum", start, start + 10, 1)])
+        status, text = ask(self.service.listen, "POST", "/v1/metrics", body, {"Content-Type": JSON, "x-sender": self.name})
+        if status == 200:
+            self.ahead += 1
+            if b"its clock is 365d ahead" not in text:
+                self.surprises.append((status, text))
+
+    def run(self, until):
+        while time.monotonic() < until and self.time < self.end:
+            if not self.post(self.next_points()):
+                return
+            if self.chance.random() < 0.02:
+                self.post_ahead()
+
+
+class File:
+    """A SQLite file, and what is asked of it."""
+
+    words = {"hour": "unixepoch(hour || ':00') / 3600", "by_hour": "by_hour", "month": "substr(month, 1, 7)", "by_month": "by_month",
+             "span": "span"}
+
+    def __init__(self, folder):
+        self.path = f"{folder}/hours.db"
+        self.address = f"sqlite:{self.path}"
+
+    def ask(self, query):
+        with contextlib.closing(sqlite3.connect(f"file:{self.path}?mode=ro", uri=True)) as database:
+            return database.execute(query).fetchall()
+
+    def close(self):
+        """It needs no end."""
+
+
+class Server(Database):
+    """A PostgreSQL, and the same."""
+
+    words = {"hour": "extract(epoch from hour)::bigint / 3600", "by_hour": "totxegun.by_hour",
+             "month": "to_char(month at time zone 'UTC', 'YYYY-MM')", "by_month": "totxegun.by_month", "span": "totxegun.span"}
+
+    def __init__(self, _):
+        super().__init__()
+        self.start()
+        self.wait_ready()
+
+    def ask(self, query):
+        if not query.startswith("select name") and "count(*)" not in query:
+            return super().ask(query)
+        rows = super().ask(f"select coalesce(json_agg(row), '[]') from (select to_json(one) as row from ({query}) as one) as rows")
+        return [tuple(row.values()) for row in json.loads(rows)]
+
+
+def counted(total, buckets):
+    """A sum, or a histogram's buckets and sum."""
+    if buckets is None:
+        return int(total)
+    listed = json.loads(buckets) if isinstance(buckets, str) else buckets
+    return tuple(map(int, listed)), int(total)
+
+
+def differences(wanted, found):
+    keys = [key for key in sorted(wanted.keys() | found.keys()) if wanted.get(key) != found.get(key)]
+    return [f"{key}: counted {wanted.get(key)}, in the sink {found.get(key)}" for key in keys[:4]]
+
+
+def by_month(hours):
+    months = {}
+    for (name, hour), value in hours.items():
+        key = name, time.strftime("%Y-%m", time.gmtime(hour * 3600))
+        months[key] = months.get(key, 0) + (value if isinstance(value, int) else value[1])
+    return months
+
+
+def trouble(service, until, chance):
+    while time.monotonic() < until:
+        time.sleep(chance.choice([0.2, 0.7, 1.5]))
+        if chance.random() < 0.5:
+            service.order("/flush", 5)
+        else:
+            service.kill()
+            service.start()
+
+
+def run(checks, program, folder, sink, seconds, seed):
+    kind = type(sink).__name__
+    service = Service(program, f"{folder}/data-{kind}", sink.address, "--flush-every", "1s")
+    service.start()
+    checks.true(f"{kind}: the service is ready", service.wait_ready(), service.last_lines())
+    senders = [HourlySender(service, number, f"{kind} {seed}") for number in range(SENDERS)]
+    until = time.monotonic() + seconds
+    threads = [threading.Thread(target=sender.run, args=(until,)) for sender in senders]
+    threads.append(threading.Thread(target=trouble, args=(service, until, random.Random(f"{kind} {seed}"))))
+    for thread in threads:
+        thread.start()
+    for thread in threads:
+        thread.join()
+    service.order("/flush")
+    checks.true(f"{kind}: all is delivered", wait_until(service.is_drained), service.last_lines())
+    look(checks, kind, sink, senders)
+    checks.same(f"{kind}: nothing that must not be", [], service.faults())
+    checks.same(f"{kind}: it ends", 0, service.end()[0])
+
+
+def look(checks, kind, sink, senders):
+    surprises = [surprise for sender in senders for surprise in sender.surprises]
+    checks.same(f"{kind}: no answer is a surprise", [], surprises[:3])
+    wanted = {key: value for sender in senders for key, value in sender.hours.items()}
+    rows = sink.ask(ROWS.format(**sink.words))
+    found = {(name, hour): counted(total, buckets) for name, hour, total, buckets in rows}
+    posts, lumps, ahead = (sum(getattr(sender, what) for sender in senders) for what in ("posts", "lumps", "ahead"))
+    what = f"{len(wanted)} sums by hour of {posts} posts, {lumps} of them of many hours, are those of the senders"
+    checks.same(f"{kind}: {what}", [], differences(wanted, found))
+    months = {(name, month): int(total) for name, month, total in sink.ask(MONTHS.format(**sink.words))}
+    checks.same(f"{kind}: and by month", [], differences(by_month(wanted), months))
+    # A span ends in an hour that is not its first only where a point does: spans may be fewer, since such points are joined.
+    crossing = int(sink.ask(CROSSING.format(HOUR=HOUR, **sink.words))[0][0])
+    edges = sum(sender.edges for sender in senders)
+    checks.true(f"{kind}: {crossing} spans of two hours, {edges} points", crossing <= edges, "an hour is crossed")
+    checks.true(f"{kind}: it was tried: {lumps} posts of many hours, {ahead} of a clock ahead", lumps and ahead, "too few")
+
+
+def main(program, seconds=SECONDS, seed=None):
+    checks, seed = Checks(), seed if seed is not None else random.randrange(10**6)
+    print(f"note: seed {seed}")
+    with tempfile.TemporaryDirectory(prefix="by-hour-") as folder:
+        sinks = [File]
+        if checks.has("sums by hour in PostgreSQL", *([] if initdb() else ["initdb"])):
+            sinks.append(Server)
+        with contextlib.ExitStack() as closing:
+            for make in sinks:
+                sink = make(folder)
+                closing.callback(sink.close)
+                run(checks, program, folder, sink, seconds, seed)
+    return checks.end()
+
+
+if __name__ == "__main__":
+    if not 2 <= len(sys.argv) <= 4:
+        sys.exit(f"usage: {sys.argv[0]} TOTXEGUN [SECONDS] [SEED]")
+    sys.exit(main(os.path.abspath(sys.argv[1]), *map(int, sys.argv[2:])))
