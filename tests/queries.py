@@ -1,21 +1,24 @@
 #!/usr/bin/env python3
-"""The questions of docs/QUERIES.md, asked of generated data.
+"""The questions of docs/QUERIES.md, asked of generated data, and its example of a month that is billed and closed.
 
-    tests/queries.py [SERIES]
+    tests/queries.py PROGRAM [SERIES]
 
-35 days of hours of so many series (250) are put into a SQLite file of the last schema, and what each statement gives
-is compared with plain sums of the same numbers. PostgreSQL is asked too where there is one: of tables with the columns
-of its views, so what is tried there is the statements alone. The time of each statement is shown.
+35 days of hours of so many series (250) are put into a SQLite file and a PostgreSQL database whose schemas the program
+has made; what each statement gives is compared with plain sums of the same numbers. The time of each statement is shown.
+Then the example is done as the page has it: its commands and statements, with shops that post. PostgreSQL is left out
+where there is none.
 
 Each line is one check; the last line counts those that passed and failed, and the status is 0 where none failed.
 """
 import collections
 import datetime
-import glob
+import hashlib
 import json
 import os
 import re
+import shlex
 import sqlite3
+import subprocess
 import sys
 import tempfile
 import time
@@ -25,6 +28,7 @@ sys.path.insert(1, f"{ROOT}/demo")
 
 from checks import Checks  # noqa: E402
 from parts import Database, initdb  # noqa: E402
+from service import JSON, Service, ask  # noqa: E402
 
 NAMES = ("shop.revenue", "shop.orders", "shop.visits", "shop.wait", "shop.items")
 WAIT = NAMES.index("shop.wait")
@@ -70,16 +74,41 @@ def at(hour):
     return datetime.datetime.fromtimestamp(hour * 3600, UTC)
 
 
+def page():
+    with open(f"{ROOT}/docs/QUERIES.md", encoding="utf-8") as file:
+        return file.read()
+
+
+def made(program, folder, sink):
+    """A sink as a start of the program makes it."""
+    service = Service(program, f"{folder}/data", sink)
+    service.start()
+    is_ready = service.wait_ready()
+    status, _ = service.end()
+    if not is_ready or status != 0:
+        raise RuntimeError(f"the service has not made {sink}: {service.last_lines()}")
+
+
 def statements():
     """Of each question, what each database is asked."""
-    with open(f"{ROOT}/docs/QUERIES.md", encoding="utf-8") as page:
-        parts = re.split(r"^## (\d+)\. .*$", page.read(), flags=re.M)[1:]
+    parts = re.split(r"^## (\d+)\. .*$", page().partition(EXAMPLE)[0], flags=re.M)[1:]
     questions = {}
     for number, text in zip(parts[::2], parts[1::2]):
         found = re.findall(r"(?:^(SQLite|PostgreSQL):\n\n)?^```sql\n(.*?)^```$", text, flags=re.M | re.S)
         both = {which: sql for which, sql in found if which}
         questions[int(number)] = both or {"SQLite": found[0][1], "PostgreSQL": found[0][1]}
     return questions
+
+
+# Beside the questions: each hour of a month of one name, added up from the hours of its series.
+MONTH_BY_HOUR = """
+select hour, sum(total) as total, sum(billed) as billed from by_hour
+where name = 'shop.revenue' and hour >= '2026-11-01' and hour < '2026-12-01' group by hour order by hour"""
+
+
+def asked():
+    """Of each question, and of number 0."""
+    return statements() | {0: {"SQLite": MONTH_BY_HOUR, "PostgreSQL": MONTH_BY_HOUR}}
 
 
 class Plain:
@@ -104,6 +133,8 @@ class Plain:
 
     def answers(self):
         november = self.november()
+        hours = self.sums("shop.revenue", november, lambda _, hour: hour)
+        yield 0, [(at(hour).strftime("%Y-%m-%d %H:00"), total, total) for hour, total in sorted(hours.items())]
         revenue = self.sums("shop.revenue", november, lambda one, hour: (at(hour).date(), one.shop))
         yield 1, [(str(day), shop, total) for (day, shop), total in sorted(revenue.items())]
         owed = self.sums("shop.revenue", november, lambda one, _: one.customer)
@@ -150,14 +181,12 @@ class Plain:
 
 
 class Lite:
-    """A SQLite file of the last schema, filled by SQL."""
+    """A SQLite file of the program, filled by SQL."""
 
-    def __init__(self, folder, count):
+    def __init__(self, program, folder, count):
+        made(program, folder, f"sqlite:{folder}/metrics.db")
         self.file = sqlite3.connect(f"{folder}/metrics.db", isolation_level=None)
         self.file.executescript("pragma journal_mode = off; pragma synchronous = off; pragma temp_store = memory")
-        for step in sorted(glob.glob(f"{ROOT}/service/src/sinks/sqlite/version*.sql")):
-            with open(step, encoding="utf-8") as sql:
-                self.file.executescript(sql.read())
         self.file.execute("begin")
         self.series(count)
         self.hours(count)
@@ -176,7 +205,8 @@ class Lite:
             for one in map(Series, range(1, count + 1))
         ]
         self.file.executemany("insert into series values (?, ?, ?, ?, ?, ?, ?, ?, ?, ?)", rows)
-        self.file.execute("insert into metric (name, kind, unit) select distinct name, kind, unit from series")
+        metrics = [(place + 1, name, "histogram" if place == WAIT else "monotonic") for place, name in enumerate(NAMES)]
+        self.file.executemany("insert into metric values (?, ?, ?, '1')", metrics)
 
     def hours(self, count):
         """An hour after the other, as they are taken."""
@@ -184,14 +214,14 @@ class Lite:
         for hour in HOURS:
             self.file.execute(
                 f"""with recursive numbers (n, h) as (select 1, ?1 union all select n + 1, h from numbers where n < ?2)
-                insert into hour select h, n, 360, 0, {VALUE}, 0, iif(n % 5 = {WAIT}, {COUNT}, 0), 0,
-                iif(n % 5 = {WAIT}, {bucket_list}, null) from numbers""",
+                insert into hour select h, n % 5 + 1, n, 360, 0, {VALUE}, 0, iif(n % 5 = {WAIT}, {COUNT}, 0), 0,
+                iif(n % 5 = {WAIT}, {bucket_list}, null), 0 from numbers""",
                 (hour, count),
             )
             self.file.execute("insert into utc_hour values (?, ?)", (hour, at(hour).strftime("%Y-%m-%d %H:00")))
         self.file.execute(
-            """insert into metric_hour select hour, metric.id, sum(points), 0, sum(total_low), 0, sum(count_low)
-            from hour cross join series on series.id = hour.series join metric on metric.name = series.name group by 1, 2"""
+            """insert into metric_hour select hour, metric, sum(points), 0, sum(total_low), 0, sum(count_low), 0
+            from hour group by 1, 2"""
         )
 
     def longer(self, unit, time_of):
@@ -199,8 +229,8 @@ class Lite:
         months = (2026 - 1970) * 12 + 9
         places = (starts[0], months, starts[1]) if unit == "month" else ()
         self.file.execute(
-            f"""insert into {unit} select {time_of}, series, sum(points), 0, sum(total_low), 0, sum(count_low), 0, added(buckets)
-            from hour group by 1, 2""",
+            f"""insert into {unit} select {time_of}, metric, series, sum(points), 0, sum(total_low), 0, sum(count_low), 0, added(buckets), 0
+            from hour group by 1, 2, 3""",
             places,
         )
         written = "date(day * 86400, 'unixepoch')" if unit == "day" else "date('1970-01-01', '+' || month || ' months')"
@@ -253,47 +283,60 @@ class Added:
         return self.all and json.dumps(self.all, separators=(",", ":"))
 
 
-# Tables with the columns of the views, as far as the statements name them. Of `h`, `n`.
-VIEWS = f"""
-create schema totxegun;
+# Hours, days and months of the same numbers, as a service would have written them: `h`, `n`.
+FILL = f"""
 set search_path to totxegun;
 set timezone to 'UTC';
-create table series as select
-    n as id, (array[{", ".join(f"'{name}'" for name in NAMES)}])[n % 5 + 1] as name,
-    case n % 5 when {WAIT} then 'histogram' else 'monotonic' end as kind,
-    case n % 5 when {WAIT} then array[{", ".join(map(str, BOUNDS))}]::bigint[] end as bounds,
-    jsonb_build_object('shop', 's' || n / 5 % 10, 'customer', 'c' || n / 50) as attributes,
-    jsonb_build_object('service.instance.id', 'i' || n / 5 % 7, 'service.name', 'shop') as resource
+insert into series (digest, identity, is_exact, name, unit, kind, bounds, attributes, resource, scope_name, scope_version,
+    scope_attributes)
+select sha256(n::text::bytea), n::text, true, (array[{", ".join(f"'{name}'" for name in NAMES)}])[n % 5 + 1], '1',
+    case n % 5 when {WAIT} then 'histogram' else 'monotonic' end,
+    case n % 5 when {WAIT} then array[{", ".join(map(str, BOUNDS))}]::bigint[] end,
+    jsonb_build_object('shop', 's' || n / 5 % 10, 'customer', 'c' || n / 50),
+    jsonb_build_object('service.instance.id', 'i' || n / 5 % 7, 'service.name', 'shop'), 'shop', '1', '{{}}'
 from generate_series(1::bigint, :count) as numbers(n);
-create table by_hour as select
-    to_timestamp(h * 3600) as hour, name, attributes, kind, resource, n as series, {VALUE}::numeric as total,
-    case kind when 'histogram' then array[{", ".join(BUCKETS)}]::numeric[] end as buckets
-from series, lateral (select id as n) as numbers, generate_series({HOURS[0]}::bigint, {HOURS[-1]}) as hours(h);
-create table many as select date_trunc('day', hour) as day, series, place, sum(bucket) as count
-from by_hour, unnest(buckets) with ordinality as one(bucket, place) group by 1, 2, 3;
-create table by_day as select sums.*, array(
-    select many.count from many where many.day = sums.day and many.series = sums.series order by place
-) as buckets from (
-    select date_trunc('day', hour) as day, name, attributes, kind, resource, series, sum(total) as total
-    from by_hour group by 1, 2, 3, 4, 5, 6
+insert into metric select distinct on (metric) metric, name, kind, unit from series;
+alter table past_hour disable trigger add_to_day;
+insert into past_hour
+select n, 360, 0, h, h * 3600000000000, (h + 1) * 3600000000000, {VALUE}, case n % 5 when {WAIT} then {COUNT} else 0 end,
+    case n % 5 when {WAIT} then array[{", ".join(BUCKETS)}]::numeric[] end
+from generate_series({HOURS[0]}::bigint, {HOURS[-1]}) as hours(h), generate_series(1::bigint, :count) as numbers(n);
+alter table past_hour enable trigger add_to_day;
+create temporary table many as select series, hour / 24 as day, place, sum(bucket) as count
+from past_hour, unnest(buckets) with ordinality as one(bucket, place) group by 1, 2, 3;
+create index on many (series, day);
+insert into past_day select series, points, 0, day, total, sums.count, (
+    select array_agg(many.count order by place) from many where many.series = sums.series and many.day = sums.day
+) from (
+    select series, hour / 24 as day, sum(points) as points, sum(total) as total, sum(past_hour.count) as count
+    from past_hour group by series, hour / 24
 ) as sums;
-create table by_month as select date_trunc('month', day) as month, name, attributes, resource, sum(total) as total
-from by_day group by 1, 2, 3, 4, series;
-create table totals_by_hour as select hour, name, sum(total) as total from by_hour group by 1, 2;
-create table totals as select name, attributes, sum(total) as total from by_month group by 1, 2, resource;
-create table buckets as select name, attributes, bounds[place] as up_to, sum(count) as count
-from many join series on series.id = many.series group by 1, 2, 3, series.id;
+insert into series_total (series, points, first_start_ns, last_end_ns, total, count, buckets, hour, before_points, before_total,
+    before_count, before_buckets)
+select series, points, 1, {HOURS[-1] + 1} * 3600000000000, total, sums.count, buckets, {HOURS[-1]}, points, total, sums.count, buckets
+from (
+    select series, sum(points) as points, sum(total) as total, sum(past_day.count) as count, (
+        select array_agg(one.count order by place)
+        from (select place, sum(many.count) as count from many where many.series = past_day.series group by 1) as one
+    ) as buckets
+    from past_day group by series
+) as sums;
+insert into metric_hour select metric, hour, sum(points), sum(total), sum(past_hour.count)
+from past_hour join series on series.id = past_hour.series group by 1, 2;
+analyze;
 """
 
 
 class Postgres:
-    """Tables in the place of the views."""
+    """A database of the program, filled by SQL."""
 
-    def __init__(self, count):
+    def __init__(self, program, folder, count):
         self.server = Database()
         self.server.start()
         self.server.wait_ready()
-        self.psql(VIEWS.replace(":count", str(count)))
+        made(program, folder, self.server.address)
+        self.psql(FILL.replace(":count", str(count)))
+        self.psql("vacuum totxegun.past_hour")
 
     def psql(self, sql):
         return self.server.run("psql", "-h", self.server.folder, "-U", "postgres", "-XAtq", "-v", "ON_ERROR_STOP=1", "-c", sql)
@@ -319,36 +362,199 @@ def compare(checks, what, number, wanted, rows):
     checks.true(f"{what}, question {number}: {len(rows)} rows", rows and rows == wanted, f"wanted {wanted[:3]}, found {rows[:3]}")
 
 
-def try_lite(checks, folder, count, wanted):
-    lite = Lite(folder, count)
+def try_lite(checks, program, folder, count, wanted):
+    lite = Lite(program, folder, count)
     wanted = wanted | {10: lite.late_rows()}
-    for number, sqls in statements().items():
+    for number, sqls in asked().items():
         rows, seconds = lite.ask(sqls["SQLite"])
         compare(checks, "SQLite", number, wanted[number], rows)
         print(f"note: it took {seconds:.2f} s of processor time", flush=True)
 
 
-def try_postgres(checks, count, wanted):
-    if not checks.has("PostgreSQL", *[] if initdb() else ["postgresql"]):
-        return
-    postgres = Postgres(count)
+def try_postgres(checks, program, folder, count, wanted):
+    postgres = Postgres(program, folder, count)
     try:
-        for number, sqls in statements().items():
+        for number, sqls in asked().items():
             if number in wanted:
-                compare(checks, "PostgreSQL", number, wanted[number], postgres.ask(sqls["PostgreSQL"]))
+                began = time.monotonic()
+                rows = postgres.ask(sqls["PostgreSQL"])
+                compare(checks, "PostgreSQL", number, wanted[number], rows)
+                print(f"note: it took {time.monotonic() - began:.2f} s by the clock", flush=True)
     finally:
         postgres.server.close()
 
 
+# --------------------------------------------------------------------------------------------------------------------
+# A month that is billed and closed
+
+
+EXAMPLE = "## Bill three shops"
+# The months of the page, in the place of which are the last one and this one.
+PAGE_MONTHS = "2026-10", "2026-11"
+# What shops have counted: shop, day, hour and cents; then what comes after the month is closed.
+COUNTED = [("s1", 1, 0, 1000), ("s2", 5, 13, 500), ("s2", 6, 0, 200), ("s3", 28, 23, 77)]
+LATE_COUNTED = ("s3", 28, 23, 40)
+
+
+def blocks():
+    """The example's blocks: ("sql", text) or ("shell", [command, ..])."""
+    text = page().partition(EXAMPLE)[2]
+    for kind, block in re.findall(r"^```(sql)?\n(.*?)^```$", text, flags=re.M | re.S):
+        yield ("sql", block) if kind else ("shell", re.findall(r"^\$ totxegun (.*)$", block, flags=re.M))
+
+
+class Bill:
+    """The example with a service of its own; `ask` gives the rows of a statement."""
+
+    def __init__(self, checks, program, folder, what, sink, query):
+        self.checks, self.program, self.folder, self.what, self.sink, self.query = checks, program, folder, what, sink, query
+        this = datetime.datetime.now(UTC).replace(day=1, hour=0, minute=0, second=0, microsecond=0)
+        self.last = (this - datetime.timedelta(days=1)).replace(day=1)
+        self.months = self.last.strftime("%Y-%m"), this.strftime("%Y-%m")
+        self.service = Service(program, f"{folder}/bill", sink, "--flush-every", "1h")
+        self.exported = []
+
+    def of_today(self, text):
+        """The months of the page are those before this one."""
+        for page_month, month in zip(PAGE_MONTHS, self.months):
+            text = text.replace(page_month, month)
+        return text
+
+    def post(self, shop, day, hour, cents, minute=0):
+        start = int(self.last.replace(day=day, hour=hour, minute=minute).timestamp()) * 10**9
+        point = {
+            "asInt": str(cents), "startTimeUnixNano": str(start), "timeUnixNano": str(start + 60 * 10**9),
+            "attributes": [{"key": "shop", "value": {"stringValue": shop}}],
+        }
+        metric = {"name": "shop.revenue", "unit": "ct", "sum": {"aggregationTemporality": 1, "isMonotonic": True, "dataPoints": [point]}}
+        body = json.dumps({"resourceMetrics": [{"scopeMetrics": [{"metrics": [metric]}]}]})
+        status, text = ask(self.service.listen, "POST", "/v1/metrics", body, {"Content-Type": JSON, "x-sender": shop})
+        self.checks.same(f"{self.what}: a post of {shop} is taken", 200, status if status == 200 else text)
+
+    def totxegun(self, line):
+        """What a command of the page prints, with the status."""
+        line, _, _ = self.of_today(line).partition(" > ")
+        words = shlex.split(line)
+        words += ["--sink", self.sink] if words[0] == "export" else []
+        words += ["--operate", f"127.0.0.1:{self.service.operate}"]
+        done = subprocess.run([self.program, *words], capture_output=True, text=True, check=False, env=dict(os.environ))
+        self.checks.same(f"{self.what}: totxegun {line}", 0, done.returncode if done.returncode == 0 else done.stderr)
+        return done.stdout, done.stderr
+
+    def run(self):
+        self.service.start()
+        if not self.service.wait_ready():
+            raise RuntimeError(self.service.last_lines())
+        for one in COUNTED:
+            self.post(*one)
+            self.service.order("/flush")
+        try:
+            self.steps(list(blocks()))
+        finally:
+            self.service.end()
+
+    def steps(self, all_blocks):
+        (_, bill), (_, find), (_, correct), (_, close), (_, again), (_, late) = all_blocks
+        bill = self.of_today(bill)
+        self.same("what each owes", [["s1", 1000, 0, 1000], ["s2", 700, 0, 700], ["s3", 77, 0, 77]], bill, wait=True)
+        self.same("the series of an hour", [[2, 500]], self.of_today(find))
+        for _ in range(2):
+            said = [self.totxegun(line)[0] for line in correct]
+        self.checks.true(f"{self.what}: the same correction again", "is there already" in said[0], said)
+        self.post("s1", 2, 0, 5)
+        refused = subprocess.run([self.program, "close", self.months[0], "--operate", f"127.0.0.1:{self.service.operate}"],
+                                 capture_output=True, text=True, check=False)
+        self.checks.true(f"{self.what}: a close names what waits", refused.returncode == 1 and "--flush" in refused.stderr, refused)
+        for line in close:
+            self.exported.append(self.totxegun(line))
+        wanted = [["s1", 1005, 0, 1005], ["s2", 700, -250, 450], ["s3", 77, 0, 77]]
+        self.same("the closed month", wanted, bill)
+        self.post(*LATE_COUNTED, minute=30)
+        self.service.order("/flush")
+        for line in again:
+            said = self.totxegun(line)[0]
+            self.checks.true(f"{self.what}: counted elsewhere", "since its own hour is closed" in said, said)
+        rows = [[f"{self.months[0]}-05 13:00", "s2", 0, 125], [f"{self.months[0]}-28 23:00", "s3", 40, 0]]
+        self.same("what is late", rows, self.of_today(late), wait=True)
+        self.same("the closed month is as it was", wanted, bill)
+        self.exports(close[-1])
+        self.acts()
+
+    def exports(self, line):
+        """The same bytes again, whose digest is what is said of them."""
+        again = self.totxegun(line)
+        self.checks.same(f"{self.what}: an export again", self.exported[-1], again)
+        digest = hashlib.sha256(again[0].encode()).hexdigest()
+        self.checks.true(f"{self.what}: its digest and count", f"3 rows, sha256 {digest}, {self.months[0]}, closed by" in again[1], again)
+        head, *rows = again[0].splitlines()
+        self.checks.same(f"{self.what}: its rows", 3, len(rows))
+        objects = [json.loads(line) for line in self.totxegun(line.replace("--csv", "--json"))[0].splitlines()]
+        billed = sorted((one["attributes"]["shop"], one["total"], one["corrections"], one["billed"]) for one in objects)
+        wanted = [("s1", "1005", "0", "1005"), ("s2", "700", "-250", "450"), ("s3", "77", "0", "77")]
+        self.checks.same(f"{self.what}: as JSON", wanted, billed)
+        self.checks.same(f"{self.what}: its head", list(objects[0]), head.split(","))
+
+    def acts(self):
+        with open(f"{self.folder}/bill/acts.jsonl", encoding="utf-8") as file:
+            acts = [json.loads(line) for line in file]
+        done = [act["act"] for act in acts if act.get("outcome", "").startswith("done: ")]
+        self.checks.same(f"{self.what}: acts", ["correct", "correct", "close", "correct"], done)
+        whos = {act["who"] for act in acts}
+        self.checks.true(f"{self.what}: who did them", len(whos) == 1 and "" not in whos, whos)
+
+    def same(self, what, wanted, sql, wait=False):
+        """Deliveries may take a moment."""
+        until = time.monotonic() + 20
+        rows = self.query(sql)
+        while wait and rows != wanted and time.monotonic() < until:
+            time.sleep(0.1)
+            rows = self.query(sql)
+        self.checks.same(f"{self.what}: {what}", wanted, rows)
+
+
+def bill_lite(checks, program, folder):
+    path = f"{folder}/bill.db"
+
+    def query(sql):
+        file = sqlite3.connect(path)
+        try:
+            return [list(row) for row in file.execute(sql)]
+        finally:
+            file.close()
+
+    Bill(checks, program, folder, "SQLite", f"sqlite:{path}", query).run()
+
+
+def bill_postgres(checks, program, folder):
+    server = Database()
+    server.start()
+    server.wait_ready()
+
+    def query(sql):
+        sql = f"set search_path to totxegun; set timezone to 'UTC'; select json_agg(found) from ({sql.strip().rstrip(';')}) as found"
+        answer = server.run("psql", "-h", server.folder, "-U", "postgres", "-XAtq", "-v", "ON_ERROR_STOP=1", "-c", sql)
+        rows = [list(row.values()) for row in json.loads(answer.strip() or "[]") or []]
+        return [[cell[:16].replace("T", " ") if isinstance(cell, str) else cell for cell in row] for row in rows]
+
+    try:
+        Bill(checks, program, folder, "PostgreSQL", server.address, query).run()
+    finally:
+        server.close()
+
+
 def main():
-    count = int(sys.argv[1]) if len(sys.argv) > 1 else SERIES
+    program = os.path.abspath(sys.argv[1])
+    count = int(sys.argv[2]) if len(sys.argv) > 2 else SERIES
     checks = Checks()
     wanted = dict(Plain(range(1, count + 1)).answers())
     checks.same("the page has ten questions", list(range(1, 11)), sorted(statements()))
     with tempfile.TemporaryDirectory() as folder:
-        try_lite(checks, folder, count, wanted)
-    if count <= 1000:
-        try_postgres(checks, count, wanted)
+        try_lite(checks, program, folder, count, wanted)
+        bill_lite(checks, program, folder)
+    if checks.has("PostgreSQL", *[] if initdb() else ["postgresql"]):
+        with tempfile.TemporaryDirectory() as folder:
+            try_postgres(checks, program, folder, count, wanted)
+            bill_postgres(checks, program, folder)
     return checks.end()
 
 

@@ -137,7 +137,7 @@ pub(super) const HOURS_OVER: &str =
         total, count, without_sum, buckets, corrections)
     select series, hour, points, first_start_ns, last_end_ns, total, count, without_sum, buckets,
         coalesce(corrections, 0)
-    from totxegun.last_hour where series = any($1::int8[])";
+    from totxegun.last_hour where series = any($1::int8[]) and hour is not null";
 
 /// Adds to hours that are not the last ones of their series.
 pub(super) const PAST_HOURS: &str =

@@ -1,10 +1,11 @@
 -- The views of the last version. Lines with `filling` are there while hours of version 4 are filled in. A view keeps the
 -- columns that it had, in their order: others may have views over it.
 
+-- A view with `where` in an arm of `hour` is read whole for each series: so an hour that was deleted is null here.
 create or replace view totxegun.last_hour as
 select
     series,
-    hour,
+    case when points > before_points or hour_corrections is not null then hour end as hour,
     points - before_points as points,
     hour_start_ns as first_start_ns,
     case when hour_start_ns is not null then last_end_ns end::numeric(20) as last_end_ns,
@@ -16,26 +17,28 @@ select
         order by place
     ) end as buckets,
     hour_corrections as corrections
-from totxegun.series_total where points > before_points or hour_corrections is not null;
+from totxegun.series_total;
 
 create or replace view totxegun.hour as
-select series, hour, points, first_start_ns, last_end_ns, total, count, without_sum, buckets, corrections
-from totxegun.past_hour
-union all
-select series, hour, points, first_start_ns, last_end_ns, total, count, without_sum, buckets, corrections
-from totxegun.last_hour
---filling union all
---filling select series, hour, points, first_start_ns, last_end_ns, total, count, without_sum, buckets, null
---filling from totxegun.hour_before
-;
+select * from (
+    select series, hour, points, first_start_ns, last_end_ns, total, count, without_sum, buckets, corrections
+    from totxegun.past_hour
+    union all
+    select series, hour, points, first_start_ns, last_end_ns, total, count, without_sum, buckets, corrections
+    from totxegun.last_hour
+    --filling union all
+    --filling select series, hour, points, first_start_ns, last_end_ns, total, count, without_sum, buckets, null
+    --filling from totxegun.hour_before
+) as one where hour is not null;
 
 create or replace view totxegun.day as
-select series, day, points, total, count, without_sum, buckets, corrections from totxegun.past_day
-union all
-select series, hour / 24 as day, points, total, count, without_sum, buckets, corrections from totxegun.last_hour
---filling union all
---filling select series, hour / 24 as day, points, total, count, without_sum, buckets, null from totxegun.hour_before
-;
+select * from (
+    select series, day, points, total, count, without_sum, buckets, corrections from totxegun.past_day
+    union all
+    select series, hour / 24 as day, points, total, count, without_sum, buckets, corrections from totxegun.last_hour
+    --filling union all
+    --filling select series, hour / 24 as day, points, total, count, without_sum, buckets, null from totxegun.hour_before
+) as one where day is not null;
 
 create or replace view totxegun.by_hour as
 select
@@ -237,6 +240,7 @@ comment on column totxegun.totals_by_name.corrections is 'What corrections come 
 comment on column totxegun.totals_by_name.billed is 'total + corrections';
 comment on column totxegun.totals_by_hour.corrections is 'What corrections come to';
 comment on column totxegun.totals_by_hour.billed is 'total + corrections';
+comment on column totxegun.last_hour.hour is 'Hours since 1970; null where it was deleted';
 comment on column totxegun.last_hour.corrections is 'What corrections that count in it come to; null where there are none';
 comment on column totxegun.hour.corrections is 'What corrections that count in it come to; 0 or null where there are none';
 comment on column totxegun.day.corrections is 'What corrections that count in it come to; null where there are none';
