@@ -8,6 +8,7 @@ use crate::sinks::periods::{Closed, Period};
 use crate::sinks::{postgres, sqlite, Address};
 use anyhow::{bail, Context, Result};
 use clap::Args;
+use hyper::Method;
 use sha2::{Digest, Sha256};
 use std::borrow::Cow;
 use std::io::{BufWriter, Write};
@@ -88,7 +89,7 @@ impl Options {
         if let Some(sink) = &self.sink {
             return Ok(sink.clone());
         }
-        let body = client::ask(&self.at.operate, "GET", "/status")?;
+        let body = client::ask(&self.at, Method::GET, "/status")?;
         let status: Status = serde_json::from_slice(&body).context(client::OTHER_VERSION)?;
         if let Some(path) = status.sink.strip_prefix("sqlite ") {
             return Ok(Address::Sqlite(path.into()));

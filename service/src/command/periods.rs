@@ -5,6 +5,7 @@ use crate::operate::{Status, ANYWAY};
 use crate::sinks::periods::{Correction, Period};
 use anyhow::{anyhow, bail, Context, Result};
 use clap::Args;
+use hyper::Method;
 use std::time::{Duration, Instant};
 
 /// How long requests that wait may take to get into the sink.
@@ -92,7 +93,7 @@ fn written(period: &Period) -> String {
 }
 
 fn told(at: &Address, path: &str) -> Result<Vec<u8>> {
-    let body = client::ask(&at.operate, "POST", path)?;
+    let body = client::ask(at, Method::POST, path)?;
     let read: serde_json::Value = serde_json::from_slice(&body).unwrap_or_default();
     let message = read["message"].as_str().context(client::OTHER_VERSION)?;
     Ok(line(format_args!("done: {message}")))
@@ -100,10 +101,10 @@ fn told(at: &Address, path: &str) -> Result<Vec<u8>> {
 
 /// Flushes, and waits until nothing of it waits.
 fn deliver(at: &Address) -> Result<()> {
-    client::ask(&at.operate, "POST", "/flush")?;
+    client::ask(at, Method::POST, "/flush")?;
     let begun = Instant::now();
     loop {
-        let body = client::ask(&at.operate, "GET", "/status")?;
+        let body = client::ask(at, Method::GET, "/status")?;
         let status: Status = serde_json::from_slice(&body).context(client::OTHER_VERSION)?;
         let waiting: u64 = status.slots.iter().map(|slot| slot.waiting).sum();
         if waiting == 0 {

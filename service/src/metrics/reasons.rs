@@ -6,7 +6,7 @@ use crate::otlp::Outcome;
 const UNREADABLE: &str = "unreadable";
 
 /// What an answer's text begins with, and what is to be done.
-const REASONS: [(&str, &str); 29] = [
+const REASONS: [(&str, &str); 30] = [
     (
         "out of order",
         "right for a repeat: it was taken before. If each post of a sender gets it, its clock was set back",

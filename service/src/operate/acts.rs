@@ -163,13 +163,13 @@ impl Desk {
         of: String,
         doing: impl Future<Output = Response<Body>>,
     ) -> Response<Body> {
-        self.act_by(ends, what, of, |_| doing).await
+        self.act_by(actor, what, of, |_| doing).await
     }
 
     /// The same of one that is to know who it is.
     pub(super) async fn act_by<Doing: Future<Output = Response<Body>>>(
         &self,
-        ends: Option<Ends>,
+        actor: Actor,
         what: &'static str,
         of: String,
         doing: impl FnOnce(String) -> Doing,

@@ -226,7 +226,7 @@ impl Desk {
                 self.act(actor, "dead drop", key.clone(), self.drop_letter(&key))
                     .await
             }
-            Route::Period(parts) => self.period(ends, &parts, query).await,
+            Route::Period(parts) => self.period(actor, &parts, query).await,
             Route::Page(page) => self.page(page, query).await,
         }
     }

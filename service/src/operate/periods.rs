@@ -1,7 +1,6 @@
 //! Periods of the sink are closed and opened, and what it counted is corrected.
 
-use super::{message, reply, Desk, JSON};
-use crate::intake::ends::Ends;
+use super::{message, reply, Actor, Desk, JSON};
 use crate::sinks::periods::{Correction, Deed, Told};
 use hyper::{Body, Response};
 use serde_json::json;
@@ -10,13 +9,13 @@ use serde_json::json;
 pub const ANYWAY: &str = "anyway";
 
 impl Desk {
-    pub(super) async fn period(&self, ends: Option<Ends>, parts: &[String], query: &str) -> Response<Body> {
+    pub(super) async fn period(&self, actor: Actor, parts: &[String], query: &str) -> Response<Body> {
         let (what, of, deed) = match read(parts, query) {
             Ok(read) => read,
             Err(why) => return message(400, &why),
         };
         let is_anyway = query == ANYWAY;
-        self.act_by(ends, what, of, |who| self.settle(who, deed, is_anyway))
+        self.act_by(actor, what, of, |who| self.settle(who, deed, is_anyway))
             .await
     }
 

@@ -15,6 +15,7 @@ pub(crate) use adopt::slot_of;
 pub use operators::Operate;
 
 use crate::files::{Durability, Fault, Folder, FolderFault};
+use crate::core::Across;
 use crate::identity::Door;
 use crate::keeper::{Settings as Keeping, Trouble};
 use crate::metrics::Metrics;

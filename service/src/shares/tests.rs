@@ -80,7 +80,7 @@ fn shares(of_each: Share, flushed: &Flushed) -> Arc<Shares> {
 fn post(shares: &Shares, sender: &str, names: &[String]) -> Result<(), Over> {
     let known = |key: &SeriesKey| shares.rules.get().is_some_and(|rules| rules.owned.has(key));
     let new = posted(names).iter().filter(|key| !known(key)).count();
-    let claim = shares.claim(sender, names.len() as u64, || Some(body(names)))?;
+    let mut claim = shares.claim(sender, names.len() as u64, || Some(body(names)))?;
     claim.keep(sender, new);
     Ok(())
 }
