@@ -27,7 +27,7 @@ TOP = (
     ("shared_book", ["finish"]),
     ("gateway_serve", ["serve_bound"]),
     ("metric_events", ["striking", "closing", "recovery", "priming", "congruence"]),
-    ("service_law", ["counting", "running"]),
+    ("service_law", ["counting", "booking", "running"]),
 )
 PROOFS = f"{ROOT}/docs/PROOFS.md"
 # In the name of each module that stands apart from what the promise says.

@@ -1,7 +1,7 @@
 -- The machine's books beside a history: what it may admit they take, and what stands alike they know.
-use Rattle.std.proofs.Common.{◌≡◌, ℕ, Bool, true, false, cond, not, ◌&&◌, ◌||◌, List, [], ◌∷◌, ◌++◌, map, max, length, refl, ap, sym, ◌∙◌, subst, append_assoc, slice_index, arith}
-use Rattle.std.specs.List.{list_any, list_all, filter, All, AllByRecursion}
-use Rattle.std.proofs.lemmas.Bool.{and_parts, and_from, or_left, or_right, not_from_false, not_from_true}
+use Rattle.std.proofs.Common.{◌≡◌, ℕ, Bool, true, false, cond, not, ◌&&◌, ◌||◌, List, [], ◌∷◌, ◌++◌, map, max, refl, ap, sym, ◌∙◌, subst, append_assoc}
+use Rattle.std.specs.List.{list_any, list_all, filter, AllByRecursion}
+use Rattle.std.proofs.lemmas.Bool.{and_parts, and_from, or_left, or_right, not_from_false}
 use Rattle.std.proofs.lemmas.List.Elements.{filter-append, recursion_from_All}
 use Rattle.std.proofs.lemmas.List.Folds.{list_any-append}
 use Rattle.series_id.specs.Identity.{Identity, row_length}
@@ -10,7 +10,6 @@ use Rattle.metric_events.specs.DataPoint.{DataPoint, IsPoint}
 use Rattle.metric_events.specs.Rows.{add_rows}
 use Rattle.metric_events.specs.History.{History, ◌▸◌}
 use Rattle.metric_events.specs.Points.{points, is_home, admitted}
-use Rattle.metric_events.specs.Running.{held_senders}
 use Rattle.metric_events.specs.Senders.{same_sender}
 use Rattle.metric_events.specs.Series.{is_of, of_series, owner, frontier, row_sum, sum_of}
 use Rattle.metric_events.specs.Standing.{stands, sum_where}
@@ -73,11 +72,12 @@ all_same s a us h k = subst (λ (t : List ℕ). list_all (λ b. same_sender b.se
         here : (b : Accepted) (v : Bool) → same_sender b.sender s ≡ v → same_sender a.sender b.sender ≡ true → (list_any (λ b. same_sender b.sender s) us ≡ true → a.sender ≡ s) → (w : Bool) → (same_sender b.sender s || list_any (λ b. same_sender b.sender s) us) ≡ true → a.sender ≡ s
         here b true e g r w k = same_sender-exact a.sender b.sender g ∙ same_sender-exact b.sender s e
         here b false e g r w k = r (let q : (false || list_any (λ b. same_sender b.sender s) us) ≡ true = rw e at k in q)
+
     first : (v : Bool) → same_sender a.sender s ≡ v → a.sender ≡ s
     first true e = same_sender-exact a.sender s e
     first false e = found us h (let q : (false || list_any (λ b. same_sender b.sender s) us) ≡ true = rw e at k in q)
 
-one_owner : (qs : List Accepted) → are_in_turn [] qs ≡ true → OneOwner qs
+pub one_owner : (qs : List Accepted) → are_in_turn [] qs ≡ true → OneOwner qs
 one_owner qs h = record { all = λ x s k. all_here x s qs (own x s (of_series x qs) (filter_all (is_of x) qs) (turn_own x qs [] h) (any_own x s qs k)) }
   where
     own : (x : Identity) (s : List ℕ) (us : List Accepted) → list_all (is_of x) us ≡ true → are_in_turn [] us ≡ true → list_any (λ b. same_sender b.sender s) us ≡ true → list_all (λ b. same_sender b.sender s) us ≡ true
@@ -117,6 +117,7 @@ home_more x b s ds qs =
   where
     n : ℕ
     n = row_length x.kind
+
     new : List Accepted
     new = map (admitted b s) ds
 
@@ -134,12 +135,15 @@ posted_law E r b body k t m = (
     frontiers = λ x. ap (frontier x) longer ∙ (frontier_append x (book r) (bare_points body) ∙ (ap (λ n. max n (frontier x (bare_points body))) (k.frontiers x) ∙ (ap (λ n. max (frontier x (points E)) n) (frontier_numbered x 0 b body.sender body.points) ∙ sym (frontier_append x (points E) new))));
     sums = λ x. sum_append x r.pending (bare_points body) ∙ (ap (λ row. add_rows row (sum_of x (bare_points body))) (k.sums x) ∙ sym (home_more x b body.sender body.points (points E)));
     held = k.held;
-  })
+  },
+)
   where
     new : List Accepted
     new = map (admitted b body.sender) body.points
+
     longer : r.known ++ (group_of r.checkpoint ++ (r.pending ++ bare_points body)) ≡ book r ++ bare_points body
     longer = ap (λ us. r.known ++ us) (sym (append_assoc (group_of r.checkpoint) r.pending (bare_points body))) ∙ sym (append_assoc r.known (group_of r.checkpoint ++ r.pending) (bare_points body))
+
     in_order : is_in_order (book r) body.sender body.points ≡ true
     in_order = sym (turn_order body.sender body.points (book r)) ∙ turn_clearer (bare_points body) (points E) (book r) (clearer_known (points E) (book r) (one_owner (book r) t) k.any k.owners k.frontiers) (turn_order body.sender body.points (points E) ∙ m.in_order)
 

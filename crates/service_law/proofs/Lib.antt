@@ -14,3 +14,4 @@ pub mod Moving
 pub mod Happening
 pub mod Totals
 pub mod Bookkeeping
+pub mod Flushing

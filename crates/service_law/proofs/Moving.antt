@@ -166,5 +166,5 @@ sound_act w r t (Acknowledge k) h = sound_ack w (Some r) k h
 sound_act w r t (Drop k) h = sound_drop w (Some r) k h
 sound_act w r t (Resend k) h = sound_resent w (Some r) k h
 sound_act w r t Delete h = sound_deleted w r h
-sound_act w r t (Quarantine s) h = sound_held w r (s ∷ w.quarantined) (s ∷ r.held) h
+sound_act w r t (Quarantine s) h = sound_held w r (w.quarantined ++ s ∷ []) (r.held ++ s ∷ []) h
 sound_act w r t (Lift s) h = sound_held w r (filter (is_other_sender s) w.quarantined) (filter (is_other_sender s) r.held) h

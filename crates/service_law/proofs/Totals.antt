@@ -1,6 +1,11 @@
 -- Where the machine is sound each accepted point counts once.
 use Rattle.std.proofs.Common.{◌≡◌, ℕ, ◌-◌, Option, Some, None, List, [], ◌++◌, length, drop, ap, sym, ◌∙◌, subst, arith}
 use Rattle.std.proofs.lemmas.List.{append-nil, take-append-drop}
+use Rattle.std.specs.Prelude.{IfSome, is_none, true, false}
+use Rattle.metric_events.specs.Recovery.{are_in_turn}
+use Rattle.metric_events.proofs.Interleaving.{turn_interleaved}
+use Rattle.service_law.specs.Machine.{book}
+use Rattle.service_law.proofs.Sound.{all_booked}
 use Rattle.series_id.specs.Identity.{Identity, row_length}
 use Rattle.metric_events.specs.DataPoint.{DataPoint}
 use Rattle.metric_events.specs.Rows.{add_rows}
@@ -58,6 +63,18 @@ told_of : (w : World) → IsSound w → (p : Batch) (d : DataPoint) → IsOne p 
 told_of w h p d i j =
     let durable : IsOne p w.journal = subst (λ (ps : List Batch). IsOne p ps) (take-append-drop (length w.journal - w.loose) w.journal) (one_left p (firm w) (drop (length w.journal - w.loose) w.journal) (told_in w.told (firm w) p h.told i)) in
     once [] (posted (accepted w)) d h.turn h.spans (of_posts (accepted w) p d (one_left p w.journal (queue_of w.run) durable) j)
+
+booked_of : (w : World) (o : Option Run) (r : Run) → IsSound (record w { run = o }) → o ≡ Some r → are_in_turn [] (book r) ≡ true
+booked_of w None r h e = absurd (let q : true ≡ false = ap is_none e in cc q)
+booked_of w (Some s) r h e =
+    subst (λ (t : Option Run). IfSome t (λ u. are_in_turn [] (book u) ≡ true)) e
+    (turn_interleaved [] (posted (w.journal ++ s.queue)) (book s) (all_booked (sent w.requests) w.kept w.first (w.journal ++ s.queue) s (groups_in w s.queue (omega (arith, h.bound)) h.groups) h.running.1) h.turn)
+
+pub in_turn_law : (es : List Event) (r : Run) → (behind all_rules es).run ≡ Some r → are_in_turn [] (book r) ≡ true
+in_turn_law es r e = of (behind all_rules es) (sound_all empty es sound_empty) e
+  where
+    of : (w : World) → IsSound w → w.run ≡ Some r → are_in_turn [] (book r) ≡ true
+    of w h e = booked_of w w.run r h e
 
 pub counted_law : (es : List Event) → IsCounted (behind all_rules es)
 counted_law es = of (behind all_rules es) (sound_all empty es sound_empty)

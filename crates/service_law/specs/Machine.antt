@@ -339,8 +339,8 @@ act R t w r (Drop k) = record w { requests = change (dropped R) k w.requests }
 act R t w r (Resend k) = record w { requests = change resent k w.requests }
 act R t w r Delete = record w { deleted = w.first }
 act R t w r (Quarantine s) = record w {
-  quarantined = s ∷ w.quarantined;
-  run = Some (record r { held = s ∷ r.held });
+  quarantined = w.quarantined ++ s ∷ [];
+  run = Some (record r { held = r.held ++ s ∷ [] });
 }
 act R t w r (Lift s) = record w {
   quarantined = filter (is_other_sender s) w.quarantined;
