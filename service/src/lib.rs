@@ -33,6 +33,7 @@ pub mod operate;
 pub mod otlp;
 pub mod remarks;
 pub mod renewed;
+pub mod runs;
 pub mod service;
 pub mod sinks;
 pub mod slot;

@@ -1,6 +1,6 @@
 //! Options that say how requests are read, for what takes posts and for what explains them.
 
-use crate::otlp::{Reading, Rule, Whole};
+use crate::otlp::{Cumulative, Reading, Rule, Whole};
 use anyhow::anyhow;
 use clap::builder::NonEmptyStringValueParser;
 use clap::Args;
@@ -23,6 +23,15 @@ pub(super) struct OfReading {
     /// The resource attribute that names a sender without the header x-sender: service.instance.id
     #[arg(long, env = "TOTXEGUN_SENDER_FROM", value_name = "ATTRIBUTE", value_parser = NonEmptyStringValueParser::new())]
     sender_from: Option<String>,
+    /// Takes cumulative sums and histograms, as SDKs send them by default: deltas are made of them
+    #[arg(
+        long,
+        env = "TOTXEGUN_CUMULATIVE",
+        value_name = "WHETHER",
+        default_value = "on",
+        value_enum
+    )]
+    cumulative: Cumulative,
 }
 
 impl OfReading {
@@ -31,6 +40,7 @@ impl OfReading {
             dropped: self.drop_attributes,
             whole: Whole::new(self.whole).map_err(|why| anyhow!(why))?,
             sender_from: self.sender_from,
+            cumulative: self.cumulative,
         })
     }
 }

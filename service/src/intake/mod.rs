@@ -25,8 +25,9 @@ pub use threads::Threads;
 pub use weight::Budget;
 pub(crate) use weight::Hold;
 
+use crate::core;
 use crate::metrics::Metrics;
-use crate::otlp::{self, Encoding, Outcome, Reading, Rounded};
+use crate::otlp::{self, Cumulative, Encoding, Outcome, Prepared, Reading, Rounded};
 use crate::slot::{ByNumber, Request, Slot};
 use bytes::Bytes;
 use head::{Head, Packing};
@@ -63,6 +64,12 @@ pub trait Taker: Send + Sync + 'static {
         None
     }
 
+    /// The points of a request in the book's form by number, also those that are cumulative; none where it is to be taken as
+    /// it is.
+    fn numbered_text(&self, _text: &Bytes) -> Result<Option<ByNumber>, core::Refused> {
+        Ok(None)
+    }
+
     fn post(self: &Arc<Self>, sender: String, request: Request) -> impl Future<Output = Outcome> + Send;
 
     /// Hears of what was answered without asking it.
@@ -72,6 +79,10 @@ pub trait Taker: Send + Sync + 'static {
 impl Taker for Slot {
     fn numbered(&self, body: &Bytes, reading: &Arc<Reading>) -> Option<ByNumber> {
         Slot::numbered(self, body, reading)
+    }
+
+    fn numbered_text(&self, text: &Bytes) -> Result<Option<ByNumber>, core::Refused> {
+        Slot::numbered_text(self, text)
     }
 
     fn post(self: &Arc<Self>, sender: String, request: Request) -> impl Future<Output = Outcome> + Send {
@@ -250,8 +261,16 @@ fn prepare(
     let (request, rounded) = match numbered {
         Some(points) => (Request::Numbered(points), Rounded::default()),
         None => {
-            let prepared = otlp::prepare(head.encoding, plain, reading)?;
-            (Request::Text(prepared.body), prepared.rounded)
+            let Prepared {
+                body,
+                rounded,
+                is_cumulative,
+            } = otlp::prepare(head.encoding, plain, reading)?;
+            let numbered = match is_cumulative && reading.cumulative == Cumulative::On {
+                true => taker.numbered_text(&body).map_err(|_| Refusal::NoMemory)?,
+                false => None,
+            };
+            (numbered.map_or(Request::Text(body), Request::Numbered), rounded)
         }
     };
     hold.set(request.bytes() + rounded.bytes())?;

@@ -27,8 +27,9 @@ pub(crate) use answers::partial_success;
 pub use causes::{Cause, Causes};
 pub use explain::{explained, foreign_points, point_at, Explained};
 pub(crate) use messages::ExportMetricsServiceResponse;
-pub use numbered::{Learnt, Numbered, Series};
+pub use numbered::{Learnt, NotNamed, Numbered, Series};
 pub use sender::{legal, sender, NO_NAME};
+pub use series::Profile;
 pub use whole::{Rounded, Rounding, Rule, Whole};
 
 use bytes::Bytes;
@@ -74,6 +75,28 @@ pub struct Reading {
     pub whole: Whole,
     /// The resource attribute that names a sender who does not name itself.
     pub sender_from: Option<String>,
+    /// What becomes of cumulative points.
+    pub cumulative: Cumulative,
+}
+
+/// What becomes of cumulative points.
+#[derive(Clone, Copy, Debug, Default, PartialEq, Eq, clap::ValueEnum)]
+pub enum Cumulative {
+    /// Deltas are made of them
+    On,
+    /// They are not taken
+    #[default]
+    Off,
+}
+
+impl Reading {
+    /// Which points are taken.
+    pub fn profile(&self) -> Profile {
+        match self.cumulative {
+            Cumulative::On => Profile::AlsoCumulative,
+            Cumulative::Off => Profile::Deltas,
+        }
+    }
 }
 
 /// A request in the book's form.
@@ -82,13 +105,16 @@ pub struct Prepared {
     /// JSON.
     pub body: Bytes,
     pub rounded: Rounded,
+    /// It may have points that are cumulative.
+    pub is_cumulative: bool,
 }
 
 impl Prepared {
-    fn as_it_is(body: Bytes) -> Prepared {
+    fn as_it_is(body: Bytes, is_cumulative: bool) -> Prepared {
         Prepared {
             body,
-            rounded: Rounded::default(),
+            is_cumulative,
+            ..Prepared::default()
         }
     }
 }
@@ -100,15 +126,18 @@ pub fn prepare(encoding: Encoding, body: Bytes, reading: &Reading) -> Result<Pre
         Encoding::Json => {
             let may_go_on = reading.dropped.is_empty();
             if may_go_on && usual::is_usual(&body, reading) {
-                return Ok(Prepared::as_it_is(body));
+                return Ok(Prepared::as_it_is(body, false));
             }
             let document = json::Document::parse(&body)?;
-            if may_go_on && from_json::is_read_as_it_is(&document, reading)? {
-                return Ok(Prepared::as_it_is(body.clone()));
+            if may_go_on {
+                if let Some(read) = from_json::read_as_it_is(&document, reading)? {
+                    return Ok(Prepared::as_it_is(body.clone(), read.is_cumulative));
+                }
             }
             from_json::written(&document, reading)?
         }
     };
+    let is_cumulative = written.is_cumulative;
     let (text, rounded) = match written.is_measured {
         true => {
             let (text, rounded) = whole::rewritten(&written.text, &reading.whole)?;
@@ -117,14 +146,23 @@ pub fn prepare(encoding: Encoding, body: Bytes, reading: &Reading) -> Result<Pre
         false => (written.text, Rounded::default()),
     };
     let body = Bytes::from(text);
-    Ok(Prepared { body, rounded })
+    Ok(Prepared {
+        body,
+        rounded,
+        is_cumulative,
+    })
 }
 
 /// What a sender is answered.
 #[derive(Clone, Debug, PartialEq, Eq)]
 pub enum Outcome {
-    /// All points were taken but these; 0 where all were. Without a message they are outside the profile.
-    Taken { rejected: u64, message: Option<String> },
+    /// All points were taken but these; 0 where all were. Of some it is known why; without a message the others are outside the
+    /// profile.
+    Taken {
+        rejected: u64,
+        known: Causes,
+        message: Option<String>,
+    },
     /// With this HTTP status and for this reason nothing was taken.
     Refused { status: u16, message: String },
 }
@@ -134,6 +172,7 @@ impl Outcome {
     pub fn taken(rejected: u64) -> Outcome {
         Outcome::Taken {
             rejected,
+            known: Causes::default(),
             message: None,
         }
     }
@@ -141,8 +180,9 @@ impl Outcome {
     /// The same, and how many points are outside the profile by which cause.
     pub fn with_causes(self, causes: &Causes) -> Outcome {
         match self {
-            Outcome::Taken { rejected, .. } if rejected > 0 => Outcome::Taken {
+            Outcome::Taken { rejected, known, .. } if rejected > 0 => Outcome::Taken {
                 rejected,
+                known,
                 message: Some(answers::outside(causes)),
             },
             other => other,
@@ -152,10 +192,21 @@ impl Outcome {
     /// The same, and why points are outside the profile that were to be taken in a finer unit.
     pub fn with(self, rounded: &Rounded) -> Outcome {
         match (self, &rounded.unfit) {
-            (Outcome::Taken { rejected, message }, Some(unfit)) if rejected > 0 => {
+            (
+                Outcome::Taken {
+                    rejected,
+                    known,
+                    message,
+                },
+                Some(unfit),
+            ) if rejected > 0 => {
                 let before = message.unwrap_or_else(|| answers::OUTSIDE.to_string());
                 let message = Some(format!("{before}: {unfit}"));
-                Outcome::Taken { rejected, message }
+                Outcome::Taken {
+                    rejected,
+                    known,
+                    message,
+                }
             }
             (other, _) => other,
         }

@@ -9,12 +9,13 @@ mod heard;
 
 pub use heard::{Heard, OfReason, OfSender};
 
+use crate::core;
 use crate::files::Outbox;
 use crate::intake::Taker;
 use crate::log::{all_shown, cut, shown};
 use crate::metrics::Metrics;
 use crate::otlp::series::SeriesKey;
-use crate::otlp::{foreign_points, point_at, Cause, Causes, Explained, Outcome, Reading};
+use crate::otlp::{foreign_points, point_at, Cause, Causes, Explained, Outcome, Profile, Reading};
 use crate::slot::{ByNumber, Request, Source};
 use crate::work::blocking;
 use bytes::Bytes;
@@ -63,6 +64,8 @@ pub struct Telling {
     pub log_foreign: usize,
     /// What is meant to be left out: it is counted by itself, and not told.
     pub expected: Vec<Cause>,
+    /// Which points are not foreign.
+    pub profile: Profile,
 }
 
 /// Who knows the owner of a series.
@@ -131,9 +134,12 @@ impl<T: Taker> Remarks<T> {
     async fn in_words(&self, sender: &str, source: &Source, outcome: Outcome) -> Outcome {
         match outcome {
             Outcome::Taken { rejected: 0, .. } => outcome,
-            Outcome::Taken { rejected, .. } => {
-                let causes = self.read(source, move |body| Causes::of(body, rejected)).await;
-                let causes = causes.unwrap_or_else(|| Causes::of(b"", rejected));
+            Outcome::Taken {
+                rejected, ref known, ..
+            } => {
+                let foreign = rejected - known.count();
+                let causes = self.read(source, move |body| Causes::of(body, foreign)).await;
+                let causes = causes.unwrap_or_else(|| Causes::of(b"", foreign)).and(known);
                 self.metrics.foreign(sender, &causes, &self.telling.expected);
                 outcome.with_causes(&causes)
             }
@@ -141,7 +147,10 @@ impl<T: Taker> Remarks<T> {
                 let Some(place) = place_of(&message) else {
                     return Outcome::Refused { status, message };
                 };
-                let said = self.read(source, move |body| of_other_writer(body, place)).await;
+                let profile = self.telling.profile;
+                let said = self
+                    .read(source, move |body| of_other_writer(body, profile, place))
+                    .await;
                 let message = message + &said.flatten().unwrap_or_default();
                 Outcome::Refused { status, message }
             }
@@ -203,7 +212,7 @@ impl<T: Taker> Remarks<T> {
         match remark {
             Remark::Foreign => self.tell_reasons(sender, &body),
             Remark::OtherWriter(place) => {
-                if let Some((_, series)) = point_at(&body, place) {
+                if let Some((_, series)) = point_at(&body, self.telling.profile, place) {
                     self.tell_owner(sender, series);
                 }
             }
@@ -214,7 +223,7 @@ impl<T: Taker> Remarks<T> {
     fn tell_reasons(&self, sender: &str, body: &Bytes) {
         let known = |told: &Told| told.foreign.get(sender).map(|of| of.reasons.clone());
         let mut reasons = known(&self.told()).unwrap_or_default();
-        foreign_points(body, |point| {
+        foreign_points(body, self.telling.profile, |point| {
             if point
                 .cause
                 .is_some_and(|cause| self.telling.expected.contains(&cause))
@@ -262,8 +271,8 @@ fn place_of(message: &str) -> Option<u64> {
 }
 
 /// What the answer to a post to another's series says beside the place: that series and what to do.
-fn of_other_writer(body: &[u8], place: u64) -> Option<String> {
-    let (point, _) = point_at(body, place)?;
+fn of_other_writer(body: &[u8], profile: Profile, place: u64) -> Option<String> {
+    let (point, _) = point_at(body, profile, place)?;
     let name = shown(&point.metric, NAME_SHOWN);
     let attributes = shown(&point.attributes, ATTRIBUTES_SHOWN);
     Some(format!(
@@ -283,6 +292,10 @@ fn other_writer(sender: &str, owner: &str, series: &SeriesKey) -> String {
 impl<T: Taker> Taker for Remarks<T> {
     fn numbered(&self, body: &Bytes, reading: &Arc<Reading>) -> Option<ByNumber> {
         self.taker.numbered(body, reading)
+    }
+
+    fn numbered_text(&self, text: &Bytes) -> Result<Option<ByNumber>, core::Refused> {
+        self.taker.numbered_text(text)
     }
 
     fn post(self: &Arc<Self>, sender: String, request: Request) -> impl Future<Output = Outcome> + Send {

@@ -20,6 +20,7 @@ use crate::keeper::{Settings as Keeping, Trouble};
 use crate::metrics::Metrics;
 use crate::otlp::Reading;
 use crate::remarks::Telling;
+use crate::runs;
 use crate::sinks::{Address, Keep};
 use crate::slot::Slot;
 use anyhow::{anyhow, Context};
@@ -52,6 +53,7 @@ pub struct Settings {
     pub every: Duration,
     pub forget: Option<Duration>,
     pub reading: Reading,
+    pub runs: runs::Options,
     pub telling: Telling,
     pub most_bytes: usize,
     pub most_connections: usize,
