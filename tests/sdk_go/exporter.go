@@ -28,13 +28,15 @@ import (
 type object = map[string]interface{}
 type list = []interface{}
 
-const delta = 1
+// As OTLP numbers them.
+const delta, cumulative = 1, 2
 
 type exporter struct {
 	url, grpc, encoding, sender string
 	// Files of TLS, and a token.
 	ca, cert, key, token string
 	gzip                 bool
+	temporality          int
 	request, response    protoreflect.MessageDescriptor
 	client               client
 	mutex                sync.Mutex
@@ -78,6 +80,9 @@ func (e *exporter) sent() int {
 }
 
 func (e *exporter) TemporalityFor(*sdkapi.Descriptor, aggregation.Kind) aggregation.Temporality {
+	if e.temporality == cumulative {
+		return aggregation.CumulativeTemporality
+	}
 	return aggregation.DeltaTemporality
 }
 
@@ -145,11 +150,11 @@ func (e *exporter) point(record export.Record) (string, object, object, error) {
 		count, _ := a.Count()
 		point["sum"], point["count"] = sum.CoerceToFloat64(d.NumberKind()), count
 		point["bucketCounts"], point["explicitBounds"] = buckets.Counts, buckets.Boundaries
-		return "histogram", object{"aggregationTemporality": delta}, point, nil
+		return "histogram", object{"aggregationTemporality": e.temporality}, point, nil
 	case aggregation.Sum:
 		sum, err := a.Sum()
 		value(sum)
-		return "sum", object{"aggregationTemporality": delta, "isMonotonic": d.InstrumentKind().Monotonic()}, point, err
+		return "sum", object{"aggregationTemporality": e.temporality, "isMonotonic": d.InstrumentKind().Monotonic()}, point, err
 	case aggregation.LastValue:
 		last, _, err := a.LastValue()
 		value(last)

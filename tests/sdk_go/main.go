@@ -61,6 +61,7 @@ func main() {
 	flag.StringVar(&e.grpc, "grpc", "", "where to call")
 	flag.StringVar(&e.encoding, "encoding", "protobuf", "json, protobuf or grpc")
 	flag.BoolVar(&e.gzip, "gzip", false, "packs what it sends")
+	flag.IntVar(&e.temporality, "temporality", delta, "1, delta, or 2, cumulative, which is the SDK's default")
 	flag.StringVar(&e.sender, "sender", "", "x-sender, if it names itself")
 	flag.StringVar(&e.ca, "ca", "", "roots in PEM, for TLS")
 	flag.StringVar(&e.cert, "cert", "", "a certificate in PEM to show")

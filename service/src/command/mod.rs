@@ -9,6 +9,7 @@ mod explain;
 mod export;
 mod keeping;
 mod letters;
+mod of_runs;
 mod of_senders;
 mod periods;
 mod print;

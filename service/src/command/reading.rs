@@ -1,7 +1,7 @@
 //! Options that say how requests are read, for what takes posts and for what explains them.
 
 use super::values::{time_or_off, MayBeOff};
-use crate::otlp::{Choice, Clock, Reading, Whole};
+use crate::otlp::{Choice, Clock, Cumulative, Reading, Whole};
 use anyhow::anyhow;
 use clap::builder::NonEmptyStringValueParser;
 use clap::Args;
@@ -30,6 +30,15 @@ pub(super) struct OfReading {
     /// Leaves out points that ended earlier than so long before this clock's time, or `off` for none
     #[arg(long, env = "TOTXEGUN_MOST_BEHIND", value_name = "TIME", default_value = "off", value_parser = time_or_off)]
     most_behind: MayBeOff,
+    /// Takes cumulative sums and histograms, as SDKs send them by default: deltas are made of them
+    #[arg(
+        long,
+        env = "TOTXEGUN_CUMULATIVE",
+        value_name = "WHETHER",
+        default_value = "on",
+        value_enum
+    )]
+    cumulative: Cumulative,
 }
 
 impl OfReading {
@@ -45,6 +54,7 @@ impl OfReading {
             dropped: self.drop_attributes,
             whole: Whole::of(self.whole).map_err(|why| anyhow!(why))?,
             sender_from: self.sender_from,
+            cumulative: self.cumulative,
         })
     }
 }

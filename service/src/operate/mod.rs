@@ -19,7 +19,9 @@ pub use acts::{Act, Actor, Acts};
 pub use letters::Resent;
 pub use pages::Pulse;
 pub use periods::ANYWAY;
-pub use status::{BooksStatus, RoundedSeriesStatus, RoundedStatus, SlotStatus, Status, Stock};
+pub use status::{
+    BooksStatus, CumulativeStatus, RoundedSeriesStatus, RoundedStatus, SlotStatus, Status, Stock,
+};
 pub use tcp::AtTcp;
 pub use totals::Totals;
 

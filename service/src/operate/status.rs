@@ -30,6 +30,16 @@ pub struct Status {
     /// What `--whole` has rounded since the start.
     #[serde(default)]
     pub rounded: Vec<RoundedStatus>,
+    #[serde(default)]
+    pub cumulative: CumulativeStatus,
+}
+
+/// Series whose points come cumulative.
+#[derive(Debug, Default, Serialize, Deserialize)]
+pub struct CumulativeStatus {
+    pub series: usize,
+    /// Since the start, how many count from their first point here on: what they had before is left out.
+    pub noted: u64,
 }
 
 /// How many books there are, and what they may have.
@@ -134,6 +144,10 @@ impl Desk {
             slots,
             senders: self.slot.shares.nearest(),
             rounded: self.rounded_status(),
+            cumulative: CumulativeStatus {
+                series: self.slot.runs.count(),
+                noted: self.metrics.noted_runs.get(),
+            },
         }
     }
 
@@ -205,6 +219,7 @@ impl Desk {
         self.read_disk();
         self.metrics.shares(&self.slot.shares.nearest());
         levels.series.set(sum(|slot| slot.series as u64));
+        levels.cumulative_series.set(self.slot.runs.count() as i64);
         let (used, most) = crate::core::memory_used();
         levels.book_memory_bytes.set(used as i64);
         levels.book_memory_most_bytes.set(most as i64);

@@ -31,9 +31,10 @@ pub use causes::{Cause, Causes};
 pub use clock::{Clock, Off, OffClock, Window};
 pub use explain::{explained, foreign_points, point_at, Explained};
 pub(crate) use messages::ExportMetricsServiceResponse;
-pub use numbered::{Learnt, Numbered, Series};
+pub use numbered::{Learnt, NotNamed, Numbered, Series};
 pub use outside::{Original, Outside};
 pub use sender::{legal, sender, NO_NAME};
+pub use series::Profile;
 pub use whole::{Choice, Rounded, Rounding, Rule, Whole};
 
 use bytes::Bytes;
@@ -79,6 +80,28 @@ pub struct Reading {
     pub whole: Whole,
     /// The resource attribute that names a sender who does not name itself.
     pub sender_from: Option<String>,
+    /// What becomes of cumulative points.
+    pub cumulative: Cumulative,
+}
+
+/// What becomes of cumulative points.
+#[derive(Clone, Copy, Debug, Default, PartialEq, Eq, clap::ValueEnum)]
+pub enum Cumulative {
+    /// Deltas are made of them
+    On,
+    /// They are not taken
+    #[default]
+    Off,
+}
+
+impl Reading {
+    /// Which points are taken.
+    pub fn profile(&self) -> Profile {
+        match self.cumulative {
+            Cumulative::On => Profile::AlsoCumulative,
+            Cumulative::Off => Profile::Deltas,
+        }
+    }
 }
 
 /// A request in the book's form.
@@ -87,13 +110,16 @@ pub struct Prepared {
     /// JSON.
     pub body: Bytes,
     pub rounded: Rounded,
+    /// It may have points that are cumulative.
+    pub is_cumulative: bool,
 }
 
 impl Prepared {
-    fn as_it_is(body: Bytes) -> Prepared {
+    fn as_it_is(body: Bytes, is_cumulative: bool) -> Prepared {
         Prepared {
             body,
-            rounded: Rounded::default(),
+            is_cumulative,
+            ..Prepared::default()
         }
     }
 }
@@ -105,15 +131,18 @@ pub fn prepare(encoding: Encoding, body: Bytes, reading: &Reading) -> Result<Pre
         Encoding::Json => {
             let may_go_on = reading.dropped.is_empty();
             if may_go_on && usual::is_usual(&body, reading) {
-                return Ok(Prepared::as_it_is(body));
+                return Ok(Prepared::as_it_is(body, false));
             }
             let document = json::Document::parse(&body)?;
-            if may_go_on && from_json::is_read_as_it_is(&document, reading)? {
-                return Ok(Prepared::as_it_is(body.clone()));
+            if may_go_on {
+                if let Some(read) = from_json::read_as_it_is(&document, reading)? {
+                    return Ok(Prepared::as_it_is(body.clone(), read.is_cumulative));
+                }
             }
             from_json::written(&document, reading)?
         }
     };
+    let is_cumulative = written.is_cumulative;
     let (text, rounded) = match written.is_measured {
         true => {
             let (text, rounded) = whole::rewritten(&written.text, &reading.whole)?;
@@ -122,17 +151,22 @@ pub fn prepare(encoding: Encoding, body: Bytes, reading: &Reading) -> Result<Pre
         false => (written.text, Rounded::default()),
     };
     let body = Bytes::from(text);
-    Ok(Prepared { body, rounded })
+    Ok(Prepared {
+        body,
+        rounded,
+        is_cumulative,
+    })
 }
 
 /// What a sender is answered.
 #[derive(Clone, Debug, PartialEq, Eq)]
 pub enum Outcome {
-    /// All points were taken but these; 0 where all were. Some may be off by their clock; without a message the others are
-    /// outside the profile.
+    /// All points were taken but these; 0 where all were. Some may be off by their clock, and of some more it is known why;
+    /// without a message the others are outside the profile.
     Taken {
         rejected: u64,
         off: OffClock,
+        known: Causes,
         message: Option<String>,
     },
     /// With this HTTP status and for this reason nothing was taken.
@@ -152,6 +186,7 @@ impl Outcome {
         Outcome::Taken {
             rejected: foreign + off.points(),
             off,
+            known: Causes::default(),
             message: None,
         }
     }
@@ -159,9 +194,15 @@ impl Outcome {
     /// The same, and how many points are not taken by which cause.
     pub fn with_causes(self, causes: &Causes) -> Outcome {
         match self {
-            Outcome::Taken { rejected, off, .. } if rejected > 0 => Outcome::Taken {
+            Outcome::Taken {
                 rejected,
                 off,
+                known,
+                ..
+            } if rejected > 0 => Outcome::Taken {
+                rejected,
+                off,
+                known,
                 message: Some(answers::outside(causes, off)),
             },
             other => other,
@@ -175,6 +216,7 @@ impl Outcome {
                 Outcome::Taken {
                     rejected,
                     off,
+                    known,
                     message,
                 },
                 Some(unfit),
@@ -184,6 +226,7 @@ impl Outcome {
                 Outcome::Taken {
                     rejected,
                     off,
+                    known,
                     message,
                 }
             }

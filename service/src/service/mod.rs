@@ -22,6 +22,7 @@ use crate::metrics::Metrics;
 use crate::otlp::{Clock, Reading};
 use crate::pass::Pass;
 use crate::remarks::Telling;
+use crate::runs;
 use crate::shares::Share;
 use crate::sinks::{Address, Keep};
 use crate::slot::Slot;
@@ -61,6 +62,7 @@ pub struct Settings {
     pub clock: Clock,
     /// What a forwarded point never covers two of.
     pub across: Across,
+    pub runs: runs::Options,
     pub telling: Telling,
     /// Who gets points that are outside the profile.
     pub pass: Option<Arc<Pass>>,

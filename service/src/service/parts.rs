@@ -71,6 +71,7 @@ impl Parts {
             )
         })?;
         let slot = Slot::by_clock(0, folder, journal, outbox, metrics.clone(), core, settings.clock);
+        slot.runs.set(settings.runs);
         let (keeper, orders) = Keeper::new(slot.clone(), settings.keeping());
         let budget = Budget::new(settings.most_bytes);
         let threads = Threads::new(settings.threads).context("no threads could be started")?;

@@ -1,8 +1,9 @@
 //! The book with its journal and outbox, and the way of a post through them.
 //!
-//! `request` is that way, `posted` reads a request, `numbers` which series have numbers, `verdict` what is said of a post and when, `phase` whether
+//! `request` is that way, `posted` reads a request, `cumulative` what is done ahead of it with cumulative points, `numbers` which series have numbers, `verdict` what is said of a post and when, `phase` whether
 //! posts are taken, `disk` whether the disk answers.
 
+mod cumulative;
 mod disk;
 mod numbers;
 mod phase;
@@ -17,6 +18,7 @@ use crate::core::{Core, Refused};
 use crate::files::{Folder, Held, Journal, Outbox};
 use crate::metrics::Metrics;
 use crate::otlp::{Clock, Outcome};
+use crate::runs::Runs;
 use crate::shares::Shares;
 use bytes::Bytes;
 use phase::Phases;
@@ -44,6 +46,7 @@ pub struct Slot {
     readers: Semaphore,
     numbers: Arc<numbers::Numbers>,
     clock: Clock,
+    pub(crate) runs: Runs,
     /// How many posts are in the journal, and in no group. It changes under the lock of the book, but for what the keeper
     /// takes off it.
     ungrouped: AtomicU64,
@@ -90,6 +93,7 @@ impl Slot {
             readers: Semaphore::new(READERS),
             numbers: Arc::default(),
             clock,
+            runs: Runs::default(),
             ungrouped: AtomicU64::new(0),
             crowded: Notify::new(),
             hurried: Notify::new(),
@@ -105,7 +109,7 @@ impl Slot {
 
     /// Puts a request into the book. What is taken is in the journal, as durably as was asked for, before this returns,
     /// and a refusal waits for the journal too.
-    pub async fn post(&self, sender: String, body: Bytes) -> Outcome {
+    pub async fn post(self: &Arc<Slot>, sender: String, body: Bytes) -> Outcome {
         self.request(sender, body.into()).await
     }
 

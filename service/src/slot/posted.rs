@@ -3,7 +3,6 @@
 
 use super::numbers::{ByNumber, Numbers, Request};
 use crate::core::{Core, Read, Refused};
-use crate::files::Points;
 use crate::otlp::{OffClock, Window};
 use bytes::Bytes;
 use std::sync::Arc;
@@ -39,7 +38,33 @@ impl Posted {
 
     /// A refusal, which names a point by its place in the request.
     pub fn refused(&self, refused: Refused) -> Refused {
-        let placed = |point| self.left_out.place_of(point);
+        self.left_out.refused(refused)
+    }
+}
+
+impl LeftOut {
+    /// Takes them out of these points.
+    pub fn of(by: &mut ByNumber, window: &Window) -> LeftOut {
+        let mut left_out = LeftOut::default();
+        by.keep(|place, point| match window.off(point[2]) {
+            None => true,
+            Some(found) => {
+                left_out.off.count(found);
+                left_out.places.push(u64::from(place));
+                false
+            }
+        });
+        left_out
+    }
+
+    /// How many they are, and how far off.
+    pub fn off(&self) -> OffClock {
+        self.off
+    }
+
+    /// A refusal, which names a point by its place in the request.
+    pub fn refused(&self, refused: Refused) -> Refused {
+        let placed = |point| self.place_of(point);
         match refused {
             Refused::OtherWriter { point } => Refused::OtherWriter { point: placed(point) },
             Refused::OutOfOrder { point, frontier } => Refused::OutOfOrder {
@@ -48,30 +73,6 @@ impl Posted {
             },
             other => other,
         }
-    }
-}
-
-impl LeftOut {
-    /// Takes them out of these points.
-    fn of(points: &mut Points, window: &Window) -> LeftOut {
-        let mut left_out = LeftOut::default();
-        if points.each().all(|point| window.off(point[2]).is_none()) {
-            return left_out;
-        }
-        let mut within = Points::default();
-        for (place, point) in (0..).zip(points.each()) {
-            match (window.off(point[2]), point) {
-                (None, [number, start, end, says @ ..]) => {
-                    within.push(*number, *start, *end, says.iter().copied());
-                }
-                (found, _) => {
-                    found.into_iter().for_each(|found| left_out.off.count(found));
-                    left_out.places.push(place);
-                }
-            }
-        }
-        *points = within;
-        left_out
     }
 
     /// Where among all is a point that has this place among those that are left.
@@ -119,7 +120,13 @@ fn read_text(
         return Ok(Posted::whole(read));
     }
     match numbers.read_text(core, &body)? {
-        Some(by) => fits(read_points(core, window, sender, by)?),
+        Some(mut by) => {
+            // Where no deltas are made of them, they are foreign.
+            let cumulative = std::mem::take(&mut by.cumulative);
+            by.keep(|place, _| cumulative.binary_search(&place).is_err());
+            by.foreign += cumulative.len() as u64;
+            fits(read_points(core, window, sender, by)?)
+        }
         None => Ok(Posted::whole(read)),
     }
 }
@@ -130,12 +137,13 @@ fn read_points(
     sender: String,
     mut by: ByNumber,
 ) -> Result<Posted, Refused> {
-    let left_out = LeftOut::of(&mut by.points, window);
+    let left_out = LeftOut::of(&mut by, window);
     let read = core.read_points(sender, by.points, by.names, by.foreign)?;
     Ok(Posted { read, left_out })
 }
 
-fn fits(posted: Posted) -> Result<Posted, Refused> {
+/// A post of not too many hours.
+pub fn fits(posted: Posted) -> Result<Posted, Refused> {
     match posted.read.parts() {
         0..=MOST_PARTS => Ok(posted),
         parts => Err(Refused::TooManyHours {

@@ -3,44 +3,55 @@
 //! Between the book and the journal nothing is waited for. So the journal has the book's order, each post is in both
 //! or in neither, and one whose sender goes away is whole.
 
+use super::numbers::Source;
 use super::posted::{read, Posted};
 use super::verdict::{Journalled, Taken};
 use super::{is_sender, Phase, Request, Slot, NO_ROOM};
 use crate::core::{Locked, Refused};
 use crate::files::FAILED;
 use crate::otlp::Outcome;
-use crate::shares::Claim;
+use crate::shares::{Claim, Over};
 use crate::work::blocking;
+use std::sync::Arc;
 
 /// What takes so much is read in place, what takes more on a thread beside the runtime's: no short post waits for it.
-const SHORT: usize = 64 << 10;
+pub(super) const SHORT: usize = 64 << 10;
 /// So many bytes of requests of earlier hours are flushed at once, and not with the next checkpoint.
 const MANY_BYTES: usize = 32 << 20;
 
+/// A post that the book and the journal have.
+pub(super) struct Put {
+    pub journalled: Journalled,
+    /// How many of its series the book had not.
+    pub new_series: usize,
+}
+
 impl Slot {
     /// As `post`, of a request in any form.
-    pub async fn request(&self, sender: String, request: Request) -> Outcome {
+    pub async fn request(self: &Arc<Slot>, sender: String, request: Request) -> Outcome {
         if !is_sender(&sender) {
             return Refused::BadSender.into();
         }
         if let Some(why) = self.unavailable() {
             return unavailable(why);
         }
-        let source = request.source();
-        let said = match self.read(sender, request).await {
-            Ok(posted) => {
-                let sender = &posted.read.post.sender;
-                match self.shares.claim(sender, posted.read.points(), || source.text()) {
-                    Ok(claim) => self.put_in_turn(posted, claim).await,
-                    Err(over) => {
-                        if over.is_of_series() {
-                            self.crowded.notify_one();
-                        }
-                        return over.into();
-                    }
+        let said = match request {
+            Request::Numbered(by) if !by.cumulative.is_empty() => {
+                match self.claim(&sender, by.points.count() as u64, by.source.clone()) {
+                    Ok(claim) => self.put_cumulative(sender, by, claim).await,
+                    Err(over) => return over.into(),
                 }
             }
-            Err(refused) => Ok(Journalled::refused(refused, &self.journal)),
+            request => {
+                let source = request.source();
+                match self.read(sender, request).await {
+                    Ok(posted) => match self.claim(&posted.read.post.sender, posted.read.points(), source) {
+                        Ok(claim) => self.put_in_turn(posted, claim).await,
+                        Err(over) => return over.into(),
+                    },
+                    Err(refused) => Ok(Journalled::refused(refused, &self.journal)),
+                }
+            }
         };
         match said {
             Ok(journalled) => journalled.durable(&self.journal).await,
@@ -58,6 +69,15 @@ impl Slot {
         blocking(move || read(&core, &numbers, &window, sender, request)).await
     }
 
+    /// Asks for what the sender may have of points and series.
+    fn claim(&self, sender: &str, points: u64, source: Source) -> Result<Claim<'_>, Over> {
+        let claim = self.shares.claim(sender, points, || source.text());
+        if claim.as_ref().is_err_and(Over::is_of_series) {
+            self.crowded.notify_one();
+        }
+        claim
+    }
+
     /// Puts a post into the book and into the journal; behind what is in flight, where that is of an hour before. The error
     /// is why the book was not asked.
     async fn put_in_turn(
@@ -67,19 +87,19 @@ impl Slot {
     ) -> Result<Journalled, &'static str> {
         loop {
             let landed = self.landed.notified(); // from here on none is missed
-            match self.put(&mut posted, &mut claim)? {
-                Some(journalled) => return Ok(journalled),
-                None => landed.await,
+            match self.put(&mut posted)? {
+                Ok(put) => {
+                    claim.keep(&posted.read.post.sender, put.new_series);
+                    return Ok(put.journalled);
+                }
+                Err(Refused::InFlight) => landed.await,
+                Err(refused) => return Ok(Journalled::refused(posted.refused(refused), &self.journal)),
             }
         }
     }
 
-    /// None where what is in flight has to land first.
-    fn put(
-        &self,
-        posted: &mut Posted,
-        claim: &mut Claim<'_>,
-    ) -> Result<Option<Journalled>, &'static str> {
+    /// The same, and why the book refused it: also since what is in flight has to land first.
+    pub(super) fn put(&self, posted: &mut Posted) -> Result<Result<Put, Refused>, &'static str> {
         // Others may have come through the door at once.
         let Some(_room) = self.folder.room_for(posted.read.bytes()) else {
             return Err(NO_ROOM);
@@ -96,29 +116,32 @@ impl Slot {
             self.hurried.notify_one();
         }
         if let Err(refused) = admitted {
-            return Ok(self.refused(book, posted, refused));
+            self.note_refusal(book, refused);
+            return Ok(Err(refused));
         }
-        claim.keep(&posted.read.post.sender, book.series().saturating_sub(before));
+        let new_series = book.series().saturating_sub(before);
         self.count_post();
         // Under the lock: so the journal has the book's order, and a checkpoint finds the post in both or in neither.
         let journalled = Taken::of(posted).journal(&self.journal);
         drop(book);
-        Ok(Some(journalled))
+        Ok(Ok(Put {
+            journalled,
+            new_series,
+        }))
     }
 
-    fn refused(&self, book: Locked<'_>, posted: &Posted, refused: Refused) -> Option<Journalled> {
+    /// What a refusal is the beginning of.
+    fn note_refusal(&self, book: Locked<'_>, refused: Refused) {
         if refused == Refused::HalfTaken {
             end(); // with the lock: nobody may see that book
         }
         let has_earlier = book.has_earlier();
         drop(book);
         match refused {
-            Refused::InFlight => return None,
             Refused::TooManySeries => self.crowded.notify_one(),
             Refused::NoMemory if has_earlier => self.hurried.notify_one(),
             _ => {}
         }
-        Some(Journalled::refused(posted.refused(refused), &self.journal))
     }
 }
 
@@ -135,9 +158,7 @@ fn end() -> ! {
 impl Slot {
     /// The second half of a post's way.
     pub(crate) fn put_of_test(&self, read: crate::core::Read) -> Result<(), &'static str> {
-        let claim = self.shares.claim(&read.post.sender, 0, || None);
-        let mut claim = claim.map_err(|_| "over its share")?;
-        self.put(&mut Posted::whole(read), &mut claim).map(drop)
+        self.put(&mut Posted::whole(read)).map(drop)
     }
 }
 

@@ -7,7 +7,8 @@
 use super::posted::Posted;
 use crate::core::Refused;
 use crate::files::{Journal, Names, Post, Ticket};
-use crate::otlp::{OffClock, Outcome};
+use crate::otlp::{Causes, OffClock, Outcome};
+use crate::runs::Turned;
 
 /// A post that the book took, and that is in no journal yet.
 #[must_use = "what the book took has to be in the journal"]
@@ -50,6 +51,26 @@ impl Journalled {
             ticket: journal.now(),
             outcome: Outcome::from(refused),
         }
+    }
+
+    /// What has nothing that was not taken before: this is waited for.
+    pub fn again(journal: &Journal) -> Journalled {
+        Journalled {
+            ticket: journal.now(),
+            outcome: Outcome::taken(0),
+        }
+    }
+
+    /// The same of a post of which so many points are outside the profile, and others off by their clock or were not taken
+    /// for these reasons.
+    pub fn without(mut self, foreign: u64, off: OffClock, turned: &Turned) -> Journalled {
+        self.outcome = Outcome::Taken {
+            rejected: foreign + off.points() + turned.count(),
+            off,
+            known: Causes::of_runs(turned),
+            message: None,
+        };
+        self
     }
 
     /// Waits until it may be said.

@@ -1,0 +1,207 @@
+//! A post with cumulative points: what they add is found under the lock of the runs, which is held until the journal has it.
+
+use super::posted::{fits, LeftOut, Posted};
+use super::request::{Put, SHORT};
+use super::verdict::Journalled;
+use super::{ByNumber, Slot};
+use crate::core::{Read, Refused};
+use crate::log::shown;
+use crate::otlp::series::SeriesKey;
+use crate::otlp::Window;
+use crate::remarks::SERIES_SHOWN;
+use crate::runs::{self, Draft, Noted};
+use crate::shares::Claim;
+use crate::work::blocking;
+use std::collections::HashMap;
+use std::sync::Arc;
+
+/// What came of a try.
+enum Tried {
+    Put(Put),
+    /// The library finds a point foreign that was not known to be.
+    Otherwise,
+    /// A series ends later in the book than its run.
+    Beyond(SeriesKey, u64),
+    /// What is in flight has to land first.
+    InFlight,
+}
+
+/// A post of which deltas are made.
+struct Making {
+    sender: String,
+    by: ByNumber,
+    window: Window,
+    left_out: LeftOut,
+    /// Of series that the book ends later than was known.
+    frontiers: HashMap<SeriesKey, u64>,
+    is_of_text: bool,
+}
+
+impl Making {
+    fn new(sender: String, mut by: ByNumber, window: Window) -> Making {
+        Making {
+            sender,
+            left_out: LeftOut::of(&mut by, &window),
+            by,
+            window,
+            frontiers: HashMap::new(),
+            is_of_text: false,
+        }
+    }
+}
+
+impl Slot {
+    /// As `put_in_turn`.
+    pub(super) async fn put_cumulative(
+        self: &Arc<Slot>,
+        sender: String,
+        by: ByNumber,
+        mut claim: Claim<'_>,
+    ) -> Result<Journalled, &'static str> {
+        let mut making = Making::new(sender, by, self.clock.window());
+        loop {
+            let landed = self.landed.notified(); // from here on none is missed
+            let put;
+            (making, put) = self.made(making).await;
+            match put? {
+                Some(put) => {
+                    claim.keep(&making.sender, put.new_series);
+                    return Ok(put.journalled);
+                }
+                None => landed.await,
+            }
+        }
+    }
+
+    async fn made(self: &Arc<Slot>, mut making: Making) -> (Making, Result<Option<Put>, &'static str>) {
+        if making.by.bytes() <= SHORT {
+            let put = self.put_made(&mut making);
+            return (making, put);
+        }
+        let _turn = self.readers.acquire().await; // it is never closed
+        let slot = self.clone();
+        blocking(move || {
+            let put = slot.put_made(&mut making);
+            (making, put)
+        })
+        .await
+    }
+
+    /// None where what is in flight has to land first: nobody waits with the lock of the runs.
+    fn put_made(&self, making: &mut Making) -> Result<Option<Put>, &'static str> {
+        loop {
+            match self.try_made(making)? {
+                Tried::Put(put) => return Ok(Some(put)),
+                Tried::InFlight => return Ok(None),
+                Tried::Beyond(series, frontier) => drop(making.frontiers.insert(series, frontier)),
+                Tried::Otherwise if making.is_of_text => return Ok(Some(self.not_made(Refused::NotOne))),
+                Tried::Otherwise => match self.of_text(&making.by) {
+                    Ok(mut of_text) => {
+                        making.left_out = LeftOut::of(&mut of_text, &making.window);
+                        (making.by, making.is_of_text) = (of_text, true);
+                    }
+                    Err(refused) => return Ok(Some(self.not_made(refused))),
+                },
+            }
+        }
+    }
+
+    fn not_made(&self, refused: Refused) -> Put {
+        Put {
+            journalled: Journalled::refused(refused, &self.journal),
+            new_series: 0,
+        }
+    }
+
+    /// The same points as its text has them: of these none is foreign to the library.
+    fn of_text(&self, by: &ByNumber) -> Result<ByNumber, Refused> {
+        let text = by.source.clone().text().ok_or(Refused::NotJson)?; // it was one when it was read by number
+        self.numbered_text(&text)?.ok_or(Refused::WrongShape)
+    }
+
+    fn try_made(&self, making: &Making) -> Result<Tried, &'static str> {
+        let (by, left_out) = (&making.by, &making.left_out);
+        let posted = runs::Posted {
+            points: &by.points,
+            cumulative: &by.cumulative,
+            names: &by.names,
+        };
+        let frontier = |series: &SeriesKey| match making.frontiers.get(series) {
+            Some(frontier) => *frontier,
+            None => self.outbox.frontier(series),
+        };
+        let mut draft = self.runs.draft(posted, frontier);
+        let foreign = by.foreign + draft.foreign;
+        let said = |journalled: Journalled, draft: &Draft<'_>| {
+            journalled.without(foreign, left_out.off(), &draft.turned)
+        };
+        if draft.points.count() == 0 {
+            return Ok(Tried::Put(Put {
+                journalled: said(Journalled::again(&self.journal), &draft),
+                new_series: 0,
+            }));
+        }
+        let mut read = match self.read_made(making, &mut draft, foreign) {
+            Err(refused) => return Ok(Tried::Put(self.not_made(refused))),
+            Ok(None) => return Ok(Tried::Otherwise),
+            Ok(Some(read)) => read,
+        };
+        Ok(match self.put(&mut read)? {
+            Ok(Put {
+                journalled,
+                new_series,
+            }) => {
+                let journalled = said(journalled, &draft);
+                self.kept(&making.sender, draft);
+                Tried::Put(Put {
+                    journalled,
+                    new_series,
+                })
+            }
+            Err(Refused::InFlight) => Tried::InFlight,
+            Err(refused) => {
+                if let Refused::OutOfOrder { point, frontier } = refused {
+                    if let Some(series) = draft.note_frontier(point, frontier) {
+                        return Ok(Tried::Beyond(series, frontier));
+                    }
+                }
+                Tried::Put(self.not_made(left_out.refused(draft.refused(refused))))
+            }
+        })
+    }
+
+    /// None where the library finds another number of them foreign.
+    fn read_made(
+        &self,
+        making: &Making,
+        draft: &mut Draft<'_>,
+        foreign: u64,
+    ) -> Result<Option<Posted>, Refused> {
+        let points = std::mem::take(&mut draft.points);
+        let foreign = foreign + draft.turned.count();
+        let names = making.by.names.clone();
+        let read: Read = self.core.read_points(making.sender.clone(), points, names, foreign)?;
+        match read.post.foreign == foreign {
+            true => fits(Posted::whole(read)).map(Some),
+            false => Ok(None),
+        }
+    }
+
+    /// The journal has it.
+    fn kept(&self, sender: &str, mut draft: Draft<'_>) {
+        let noted = std::mem::take(&mut draft.noted);
+        draft.keep();
+        self.metrics.noted_runs.inc_by(noted.len() as u64);
+        if let Some(Noted { series, run }) = noted.first() {
+            let (series, value, series_count) =
+                (shown(&series.0, SERIES_SHOWN), run.words[0] as i64, noted.len());
+            tracing::info!(
+                sender,
+                series,
+                value,
+                series_count,
+                "what {sender} had counted before its first point here is left out of {series_count} series, such as {value} of {series}"
+            );
+        }
+    }
+}
