@@ -58,18 +58,21 @@ type Quarantined = (Vec<Vec<u8>>, Result<(), Refused>);
 
 /// In the book. Where something was taken meanwhile it is made a group of all that came, under the lock: it is little.
 fn quarantine(slot: &Slot, sender: &str) -> Result<Quarantined, Trouble> {
+    let runs = slot.runs.lock();
     let mut book = slot.core.lock();
     let (mut bodies, mut group) = (Vec::new(), None);
     if book.has_earlier() {
-        match flush_in_parts(slot, &mut book, &mut bodies) {
+        match flush_in_parts(slot, &runs, &mut book, &mut bodies) {
             Ok(all) => group = Some(all),
             Err(refused) => return Ok((bodies, Err(refused))),
         }
     }
     let done = book.quarantine(sender);
     drop(book);
+    drop(runs);
     if let Some(group) = group {
-        commit(slot, &bodies, group)?;
+        let (_, saved) = commit(slot, &bodies, group)?;
+        slot.runs.lock().saved(&saved);
     }
     Ok((Vec::new(), done))
 }

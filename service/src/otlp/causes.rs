@@ -177,7 +177,8 @@ impl Cause {
             Cause::CumulativeSum | Cause::CumulativeHistogram | Cause::UpDownCounter => true,
             Cause::Double | Cause::Fraction => true,
             Cause::Attribute | Cause::Span | Cause::NoValue | Cause::Other => false,
-            Cause::ClockAhead | Cause::ClockBehind => false,
+            Cause::ClockAhead | Cause::ClockBehind | Cause::EarlierRun | Cause::WentDown => false,
+            Cause::Mixed | Cause::Leap | Cause::Forgotten => false,
         }
     }
 

@@ -42,7 +42,7 @@ pub fn explained(body: &[u8], profile: Profile, window: Window) -> Option<Vec<Ex
     let document = Document::parse(body).ok()?;
     let mut all = Vec::new();
     visit_with(&document, profile, |seen| {
-        let off = seen.found.ok().and_then(|end| window.off(end));
+        let off = seen.found.ok().and_then(|_| window.off(seen.end()));
         all.push(of(&seen).but(off));
     })?;
     Some(all)

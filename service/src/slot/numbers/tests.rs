@@ -108,11 +108,11 @@ fn a_text_by_number_is_what_the_library_reads_of_it() {
         .enumerate()
     {
         let sender = ["A", "B"][number / 7 % 2];
-        let slow = admitted(&both.slow, sender, text.clone().into());
+        let slow = admitted(&both.slow, &both.numbers, sender, text.clone().into());
         let by_number = both.numbers.read_text(&both.fast, &text).unwrap();
         both.by_number += usize::from(by_number.is_some());
         let fast = match by_number {
-            None => admitted(&both.fast, sender, text.clone().into()),
+            None => admitted(&both.fast, &both.numbers, sender, text.clone().into()),
             // Not by the way back to its text.
             Some(by) => admitted_as_it_is(&both.fast, sender, deltas(by)),
         };
