@@ -197,7 +197,8 @@ class Served:
         stack.callback(self.sink.close)
         data = stack.enter_context(tempfile.TemporaryDirectory(prefix="same-"))
         self.service = Service(program, f"{data}/data", self.sink.address, "--flush-every", "1h", "--durable", "process",
-                               "--most-series", str(most_series), "--whole", "off", "--cumulative", "off")
+                               "--most-series", str(most_series), "--sender-series", "1000000",  # a gateway has no shares
+                               "--whole", "off", "--cumulative", "off")
         stack.callback(self.service.kill)
         self.service.start()
         if not self.service.wait_ready():
