@@ -259,8 +259,8 @@ fn prepare(
         Encoding::Json => WHILE_READ_JSON,
         Encoding::Protobuf => WHILE_READ_PROTOBUF,
     };
-    let times = if reading.whole.is_empty() { 1 } else { 2 }; // it is written once more
-    hold.set(times * grows * plain.len())?;
+    let length = plain.len();
+    hold.set(grows * length)?;
     let sender = otlp::sender(head.sender, head.encoding, &plain, reading)?;
     let encoding = head.encoding;
     let original = taker.wants_originals().then(|| Original {
@@ -277,7 +277,8 @@ fn prepare(
             (Request::Numbered(points), rounded)
         }
         None => {
-            let prepared = otlp::prepare(head.encoding, plain, reading)?;
+            let room = || hold.set(2 * grows * length).map_err(Refusal::from);
+            let prepared = otlp::prepare_with(head.encoding, plain, reading, room)?;
             (Request::Text(prepared.body), prepared.rounded)
         }
     };

@@ -97,29 +97,46 @@ impl Prepared {
 
 /// Puts a request into the book's form. Nothing of a request is lost in silence: it is read whole or refused whole.
 pub fn prepare(encoding: Encoding, body: Bytes, reading: &Reading) -> Result<Prepared, Refused> {
-    let written = match encoding {
-        Encoding::Protobuf => from_protobuf::written(&body, reading)?,
-        Encoding::Json => {
-            let may_go_on = reading.dropped.is_empty();
-            if may_go_on && usual::is_usual(&body, reading) {
-                return Ok(Prepared::as_it_is(body));
-            }
-            let document = json::Document::parse(&body)?;
-            if may_go_on && from_json::is_read_as_it_is(&document, reading)? {
-                return Ok(Prepared::as_it_is(body.clone()));
-            }
-            from_json::written(&document, reading)?
-        }
+    prepare_with(encoding, body, reading, || Ok(()))
+}
+
+/// The same; before a request is written once more, in finer units, `room` is asked.
+pub fn prepare_with<E: From<Refused>>(
+    encoding: Encoding,
+    body: Bytes,
+    reading: &Reading,
+    room: impl FnOnce() -> Result<(), E>,
+) -> Result<Prepared, E> {
+    let written = match written(encoding, &body, reading)? {
+        Some(written) => written,
+        None => return Ok(Prepared::as_it_is(body)),
     };
     let (text, rounded) = match written.is_measured {
         true => {
-            let (text, rounded) = whole::rewritten(&written.text, &reading.whole)?;
-            (text.into_bytes(), rounded)
+            room()?;
+            let rewritten = whole::rewritten(&written.text, &reading.whole).map_err(Refused::from)?;
+            (rewritten.0.into_bytes(), rewritten.1)
         }
         false => (written.text, Rounded::default()),
     };
     let body = Bytes::from(text);
     Ok(Prepared { body, rounded })
+}
+
+/// A request in the book's form but for its units; none where it goes on as it came.
+fn written(encoding: Encoding, body: &Bytes, reading: &Reading) -> Result<Option<output::Written>, Refused> {
+    if encoding == Encoding::Protobuf {
+        return from_protobuf::written(body, reading).map(Some);
+    }
+    let may_go_on = reading.dropped.is_empty();
+    if may_go_on && usual::is_usual(body, reading) {
+        return Ok(None);
+    }
+    let document = json::Document::parse(body)?;
+    if may_go_on && from_json::is_read_as_it_is(&document, reading)? {
+        return Ok(None);
+    }
+    from_json::written(&document, reading).map(Some)
 }
 
 /// What a sender is answered.
