@@ -1,13 +1,15 @@
 #!/usr/bin/env python3
 """OpenTelemetry's SDK for Go, as Debian has it, over kills of the service: what its programs counted beside it is in the sink.
 
-    tests/sdk_go.py TOTXEGUN [SECONDS]
+    tests/sdk_go.py TOTXEGUN [SECONDS] [--cumulative]
 
 Six programs count at once, each with the SDK's own instruments, aggregation and clock: two send JSON, two protobuf, two
 call gRPC by its own client for Go. One of each has whole numbers and the default bounds of histograms, the other durations
-in seconds, as the conventions have them, which the service takes by `--whole s=us`; these name no sender, and the service
-finds it in their resource. A batch is sent again as the specification says. Meanwhile the service is killed for so many
-seconds (8). At the end the sink has, by program, series and bucket, what the programs counted.
+in seconds, as the conventions have them, which the service takes in microseconds; these name no sender, and the service finds
+it in their resource. Each has counters that are asked, up and down too, and a gauge, which goes to another receiver, as does a
+counter of doubles in euros. A batch is sent again as the specification says. Meanwhile the service is killed for so many
+seconds (8). At the end the sink has, by program, series and bucket, what the programs counted, and no point was rejected.
+With --cumulative they send as is an SDK's default.
 
 The exporter is in tests/sdk_go: Debian's package of the SDK has none. It needs golang-go, golang-opentelemetry-otel-dev,
 golang-google-grpc-dev and python3-protobuf; where one is missing a line says so, and the status is 77. Each other line is
@@ -25,6 +27,7 @@ import time
 
 from protobuf_bodies import definitions, descriptor_pb2
 from checks import Checks
+from handed_on import Receiver
 from loopback import free_port
 from service import Service, wait_until
 
@@ -59,11 +62,11 @@ def build(folder):
     return program, built.stderr if built.returncode else ""
 
 
-def start(program, folder, service, grpc, number, seconds):
+def start(program, folder, service, grpc, number, seconds, options):
     encoding, packed, in_seconds = PROGRAMS[number]
     words = [program, "-encoding", encoding, "-url", f"http://127.0.0.1:{service.listen}/v1/metrics",
              "-grpc", f"127.0.0.1:{grpc}", "-instance", f"i-{number}", "-seconds", str(seconds),
-             "-descriptors", f"{folder}/descriptors", "-out", f"{folder}/{number}.json"]
+             "-descriptors", f"{folder}/descriptors", "-out", f"{folder}/{number}.json", *options]
     words += ["-gzip"] if packed else []
     words += ["-in-seconds"] if in_seconds else ["-sender", f"shop-{number}"]
     with open(f"{folder}/{number}.log", "wb") as log:
@@ -106,29 +109,39 @@ def compare(checks, what, sink, number, told):
              for key in sorted(told["totals"].keys() | totals.keys()) if told["totals"].get(key) != totals.get(key)]
     checks.same(f"{what}: the sink has its totals", [], wrong[:3])
     checks.same(f"{what}: the sink has its buckets", told["buckets"], buckets)
-    in_seconds = PROGRAMS[number][2]
-    if in_seconds:
-        checks.same(f"{what}: its units are the finer one", {"us"}, {unit for _, unit in units})
-        checks.same(f"{what}: nothing was foreign", 0, told["rejected"])
-    else:
-        checks.true(f"{what}: its foreign points are counted", told["rejected"] > 0, told["rejected"])
+    if PROGRAMS[number][2]:
+        wanted = {("http.server.request.duration", "us"), ("worker.busy", "us"), ("worker.ticks", "s")}
+        checks.same(f"{what}: doubles are in the finer unit", wanted, {one for one in units if one[1]})
+    checks.same(f"{what}: nothing was rejected", 0, told["rejected"])
     surprises = [answer for answer in told["answers"] if answer not in EXPECTED and "out of order" not in answer]
     checks.same(f"{what}: no answer surprises", ([], 0), (surprises, told["gave_up"]))
     print(f"note: {what}: {told['answers']}", flush=True)
 
 
-def run(checks, totxegun, seconds, folder):
+def look_at_others(checks, receiver):
+    """What is not added up is at the other receiver: of each program, in its own encoding."""
+    for number, (encoding, _, in_seconds) in enumerate(PROGRAMS):
+        names = [b"queue.length", b"i-%d" % number] + ([] if in_seconds else [b"money"])
+        kind = "json" if encoding == "json" else "protobuf"
+        found = [body for content, body in receiver.bodies if kind in content and all(name in body for name in names)]
+        checks.true(f"the other receiver has the gauge of program {number}", len(found) > 3, len(found))
+    counted = [body for _, body in receiver.bodies if b"http.server" in body or b"work." in body]
+    checks.same("it has nothing that is counted here", [], counted[:1])
+
+
+def run(checks, totxegun, seconds, folder, options):
     program, fault = build(folder)
     checks.same("the program is built", "", fault)
     if fault:
         return
-    sink, grpc = f"{folder}/sink.db", free_port()
+    sink, grpc, receiver = f"{folder}/sink.db", free_port(), Receiver()
     service = Service(totxegun, f"{folder}/data", f"sqlite:{sink}", "--flush-every", "1s", "--listen-grpc",
-                      f"127.0.0.1:{grpc}", "--whole", "s=us", "--sender-from", "service.instance.id", "--log-foreign", "2")
+                      f"127.0.0.1:{grpc}", "--sender-from", "service.instance.id", "--log-foreign", "2",
+                      "--pass", f"http://127.0.0.1:{receiver.port}")
     try:
         service.start()
         checks.true("the service is ready", service.wait_ready(), service.last_lines())
-        programs = [start(program, folder, service, grpc, number, seconds) for number in range(len(PROGRAMS))]
+        programs = [start(program, folder, service, grpc, number, seconds, options) for number in range(len(PROGRAMS))]
         kills = trouble(service, seconds)
         statuses = [one.wait(120) for one in programs]
         checks.same("the programs end", [0] * len(PROGRAMS), statuses)
@@ -146,23 +159,25 @@ def run(checks, totxegun, seconds, folder):
         checks.same("the service found nothing that must not be", [], service.faults())
         with open(service.log, encoding="utf-8", errors="replace") as file:
             log = file.read()
-        checks.true("the log says why points are foreign", "points of shop-0 are not taken: gauge `queue.length`: gauges are not"
-                    in log, service.last_lines())
+        checks.true("the log calls no point foreign", "are not taken" not in log, service.last_lines())
+        look_at_others(checks, receiver)
         ended = service.end()
         checks.true("SIGTERM ends the service", ended[0] == 0 and ended[1] < 10, ended)
     finally:
         service.kill()
+        receiver.close()
 
 
-def main(totxegun, seconds=SECONDS):
+def main(totxegun, *words):
     checks = Checks()
     if checks.has("the SDK for Go", *missing()):
         with tempfile.TemporaryDirectory(prefix="sdk-") as folder:
-            run(checks, totxegun, float(seconds), folder)
+            seconds = next((word for word in words if not word.startswith("-")), SECONDS)
+            run(checks, totxegun, float(seconds), folder, ["-cumulative"] if "--cumulative" in words else [])
     return checks.end()
 
 
 if __name__ == "__main__":
     if len(sys.argv) < 2:
-        sys.exit(f"usage: {sys.argv[0]} TOTXEGUN [SECONDS]")
-    sys.exit(main(os.path.abspath(sys.argv[1]), *sys.argv[2:3]))
+        sys.exit(f"usage: {sys.argv[0]} TOTXEGUN [SECONDS] [--cumulative]")
+    sys.exit(main(os.path.abspath(sys.argv[1]), *sys.argv[2:]))

@@ -28,20 +28,24 @@ import (
 type object = map[string]interface{}
 type list = []interface{}
 
-const delta = 1
+const (
+	delta      = 1
+	cumulative = 2
+)
 
 type exporter struct {
 	url, grpc, encoding, sender string
 	// Files of TLS, and a token.
 	ca, cert, key, token string
-	gzip                 bool
-	request, response    protoreflect.MessageDescriptor
-	client               client
-	mutex                sync.Mutex
-	count                int
-	answers              map[string]int
-	rejected             int64
-	gaveUp               int
+	// cumulative: as is an SDK's default.
+	gzip, cumulative  bool
+	request, response protoreflect.MessageDescriptor
+	client            client
+	mutex             sync.Mutex
+	count             int
+	answers           map[string]int
+	rejected          int64
+	gaveUp            int
 }
 
 // open reads OTLP's messages, by which the library writes and reads both encodings.
@@ -78,7 +82,17 @@ func (e *exporter) sent() int {
 }
 
 func (e *exporter) TemporalityFor(*sdkapi.Descriptor, aggregation.Kind) aggregation.Temporality {
+	if e.cumulative {
+		return aggregation.CumulativeTemporality
+	}
 	return aggregation.DeltaTemporality
+}
+
+func (e *exporter) temporality() int {
+	if e.cumulative {
+		return cumulative
+	}
+	return delta
 }
 
 func (e *exporter) Export(_ context.Context, res *resource.Resource, reader export.InstrumentationLibraryReader) error {
@@ -145,11 +159,11 @@ func (e *exporter) point(record export.Record) (string, object, object, error) {
 		count, _ := a.Count()
 		point["sum"], point["count"] = sum.CoerceToFloat64(d.NumberKind()), count
 		point["bucketCounts"], point["explicitBounds"] = buckets.Counts, buckets.Boundaries
-		return "histogram", object{"aggregationTemporality": delta}, point, nil
+		return "histogram", object{"aggregationTemporality": e.temporality()}, point, nil
 	case aggregation.Sum:
 		sum, err := a.Sum()
 		value(sum)
-		return "sum", object{"aggregationTemporality": delta, "isMonotonic": d.InstrumentKind().Monotonic()}, point, err
+		return "sum", object{"aggregationTemporality": e.temporality(), "isMonotonic": d.InstrumentKind().Monotonic()}, point, err
 	case aggregation.LastValue:
 		last, _, err := a.LastValue()
 		value(last)
