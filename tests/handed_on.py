@@ -139,7 +139,7 @@ def units(checks, totxegun, chance, folder):
                        ("ticks", "s", "sum", [number]), ("size", "By", "sum", [size]), ("share", "1", "sum", [share])]
             answer = posts.post(metrics)
             wrong += [answer] if answer[:2] != (200, 0) else []
-            wanted["busy"] += nearest(busy, 10**9)
+            wanted["busy"] += nearest(busy, 10**6)
             wanted["latency"] += sum(buckets)
             wanted["ticks"] += number
             wanted["size"] += nearest(size, 1)
@@ -154,7 +154,7 @@ def units(checks, totxegun, chance, folder):
         checks.true("doubles behind whole numbers are foreign by name, in both encodings",
                     all(status == 200 and named in why for status, _, why in later), later)
         flushed(checks, service, "units")
-        found, kind = totals(sink), {"busy": "ns", "latency": "ns", "ticks": "s", "size": "By", "share": "[ppm]"}
+        found, kind = totals(sink), {"busy": "us", "latency": "us", "ticks": "s", "size": "By", "share": "[ppm]"}
         checks.same("each metric is in one unit", {name: [unit] for name, unit in kind.items()},
                     {name: list(units) for name, units in found.items()})
         sums = {name: found[name][kind[name]] for name in wanted if name in found and name != "latency"}
@@ -171,20 +171,19 @@ def kept_units(checks, totxegun, folder):
     """A folder of an earlier version, and other options."""
     sink = f"{folder}/kept.db"
     service = Service(totxegun, f"{folder}/kept", f"sqlite:{sink}", "--flush-every", "1h", "--whole", "off")
-    whole, half = ("size", "ms", "histogram", [([1, 0, 0, 0], 2.0)]), ("wait", "s", "sum", [0.5])
     try:
         service.start()
         service.wait_ready()
         posts = Posts(service)
         posts.post([("wait", "s", "sum", [2]), ("age", "ms", "sum", [2])])
         again(checks, service, ["--whole", "auto"])
-        metrics = [("wait", "s", "sum", [2]), ("age", "s", "sum", [0.25]), ("new", "s", "sum", [0.25]), whole]
-        checks.same("a metric goes on in its unit, a new one is in a finer one", (200, 1), posts.post(metrics[:3] + [half], JSON)[:2])
+        metrics = [("wait", "s", "sum", [2, 0.5]), ("age", "s", "sum", [0.25]), ("new", "s", "sum", [0.25])]
+        checks.same("a metric goes on in its unit, a new one is in a finer one", (200, 1), posts.post(metrics, JSON)[:2])
         service.order("/flush")
-        again(checks, service, ["--whole", "s=us"])
+        again(checks, service, ["--whole", "s=ns"])
         posts.post([("new", "ms", "sum", [0.25]), ("wait", "s", "sum", [0.5])])
         flushed(checks, service, "other options")
-        wanted = {"wait": {"s": 4, "us": 500_000}, "age": {"ms": 252}, "new": {"ns": 250_250_000}}
+        wanted = {"wait": {"s": 4, "ns": 500_000_000}, "age": {"ms": 252}, "new": {"us": 250_250}}
         checks.same("a rule wins, and without one the unit stays", wanted, totals(sink))
     finally:
         service.kill()
@@ -267,7 +266,7 @@ def hands_on(checks, totxegun, chance, folder):
                                                     for outcome in ("refused", "lost", "dropped")))
         service.order("/flush")
         wait_until(service.is_drained)
-        checks.same("the sums are counted here", {"sold": {"{item}": sum(range(POSTS))}, "busy": {"ns": POSTS * 250_000_000}},
+        checks.same("the sums are counted here", {"sold": {"{item}": sum(range(POSTS))}, "busy": {"us": POSTS * 250_000}},
                     totals(f"{folder}/first.db"))
         bad = posts.post([("sold", "{item}", "sum", [1]), ("sold", "{item}", "gauge", [1])], JSON)
         checks.same("a post that has both is taken", (200, 0), bad[:2])

@@ -270,8 +270,8 @@ fn prepare(
         Encoding::Json => WHILE_READ_JSON,
         Encoding::Protobuf => WHILE_READ_PROTOBUF,
     };
-    let times = if reading.whole.is_empty() { 1 } else { 2 }; // it is written once more
-    hold.set(times * grows * plain.len())?;
+    let length = plain.len();
+    hold.set(grows * length)?;
     let sender = otlp::sender(head.sender, head.encoding, &plain, reading)?;
     let encoding = head.encoding;
     let original = taker.wants_originals().then(|| Original {
@@ -288,11 +288,12 @@ fn prepare(
             (Request::Numbered(points), rounded)
         }
         None => {
+            let room = || hold.set(2 * grows * length).map_err(Refusal::from);
             let Prepared {
                 body,
                 rounded,
                 is_cumulative,
-            } = otlp::prepare(head.encoding, plain, reading)?;
+            } = otlp::prepare_with(head.encoding, plain, reading, room)?;
             let numbered = match is_cumulative && reading.cumulative == Cumulative::On {
                 true => taker.numbered_text(&body).map_err(|_| Refusal::NoMemory)?,
                 false => None,

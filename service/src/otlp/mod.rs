@@ -126,27 +126,26 @@ impl Prepared {
 
 /// Puts a request into the book's form. Nothing of a request is lost in silence: it is read whole or refused whole.
 pub fn prepare(encoding: Encoding, body: Bytes, reading: &Reading) -> Result<Prepared, Refused> {
-    let written = match encoding {
-        Encoding::Protobuf => from_protobuf::written(&body, reading)?,
-        Encoding::Json => {
-            let may_go_on = reading.dropped.is_empty();
-            if may_go_on && usual::is_usual(&body, reading) {
-                return Ok(Prepared::as_it_is(body, false));
-            }
-            let document = json::Document::parse(&body)?;
-            if may_go_on {
-                if let Some(read) = from_json::read_as_it_is(&document, reading)? {
-                    return Ok(Prepared::as_it_is(body.clone(), read.is_cumulative));
-                }
-            }
-            from_json::written(&document, reading)?
-        }
+    prepare_with(encoding, body, reading, || Ok(()))
+}
+
+/// The same; before a request is written once more, in finer units, `room` is asked.
+pub fn prepare_with<E: From<Refused>>(
+    encoding: Encoding,
+    body: Bytes,
+    reading: &Reading,
+    room: impl FnOnce() -> Result<(), E>,
+) -> Result<Prepared, E> {
+    let written = match form(encoding, &body, reading)? {
+        Form::Written(written) => written,
+        Form::AsItCame { is_cumulative } => return Ok(Prepared::as_it_is(body, is_cumulative)),
     };
     let is_cumulative = written.is_cumulative;
     let (text, rounded) = match written.is_measured {
         true => {
-            let (text, rounded) = whole::rewritten(&written.text, &reading.whole)?;
-            (text.into_bytes(), rounded)
+            room()?;
+            let rewritten = whole::rewritten(&written.text, &reading.whole).map_err(Refused::from)?;
+            (rewritten.0.into_bytes(), rewritten.1)
         }
         false => (written.text, Rounded::default()),
     };
@@ -156,6 +155,31 @@ pub fn prepare(encoding: Encoding, body: Bytes, reading: &Reading) -> Result<Pre
         rounded,
         is_cumulative,
     })
+}
+
+/// A request in the book's form but for its units.
+enum Form {
+    AsItCame { is_cumulative: bool },
+    Written(output::Written),
+}
+
+fn form(encoding: Encoding, body: &Bytes, reading: &Reading) -> Result<Form, Refused> {
+    if encoding == Encoding::Protobuf {
+        return from_protobuf::written(body, reading).map(Form::Written);
+    }
+    let may_go_on = reading.dropped.is_empty();
+    if may_go_on && usual::is_usual(body, reading) {
+        return Ok(Form::AsItCame { is_cumulative: false });
+    }
+    let document = json::Document::parse(body)?;
+    if may_go_on {
+        if let Some(read) = from_json::read_as_it_is(&document, reading)? {
+            return Ok(Form::AsItCame {
+                is_cumulative: read.is_cumulative,
+            });
+        }
+    }
+    from_json::written(&document, reading).map(Form::Written)
 }
 
 /// What a sender is answered.

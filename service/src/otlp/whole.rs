@@ -193,11 +193,6 @@ impl Whole {
         }
     }
 
-    /// Whether nothing is taken in another unit.
-    pub fn is_empty(&self) -> bool {
-        self.rules.is_empty() && self.units.is_none()
-    }
-
     /// Whether metrics without a unit have a rule, also where their field is not there.
     pub fn has_no_unit(&self) -> bool {
         self.rules.contains_key("")
@@ -213,7 +208,7 @@ impl Whole {
         match (self.rules.contains_key(unit), &self.units, Unit::of(unit)) {
             (true, ..) => false,
             (_, Some(units), Some(unit)) => {
-                unit.finest() == unit || units.decided(metric, unit) == Some(unit)
+                units.is_finest(unit) || units.decided(metric, unit) == Some(unit)
             }
             _ => true,
         }

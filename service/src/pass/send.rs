@@ -40,8 +40,8 @@ impl Receiver {
         let bad = |why: &dyn std::fmt::Display| BadReceiver::Address(why.to_string());
         let url = match address.parse() {
             Ok(Address::Otlp { url, .. }) if url.starts_with("http://") => url,
-            Ok(_) => return Err(bad(&"it is another address")),
-            Err(error) => return Err(bad(&error)),
+            Err(error) if address.starts_with("http://") => return Err(bad(&error)),
+            _ => return Err(bad(&"this is another address")),
         };
         let mut http = HttpConnector::new();
         http.set_nodelay(true);

@@ -46,9 +46,12 @@ impl<'d> Delta<'d> {
         member(self.data, "isMonotonic").and_then(Value::truth) == Some(true)
     }
 
-    /// Whether its numbers are doubles. Those of a histogram say nothing of that: some are whole by chance.
+    /// Whether its numbers are doubles, as far as that can be seen: those of a histogram may be whole by chance.
     fn has_doubles(&self) -> bool {
-        self.kind == "histogram" || self.points().any(is_double)
+        match self.kind {
+            "sum" => self.points().any(is_double),
+            _ => self.points().any(has_fraction),
+        }
     }
 }
 
@@ -86,7 +89,9 @@ pub(super) fn elements<'d>(object: Value<'d>, name: &str) -> impl Iterator<Item 
 /// How a metric is taken. Where nothing is known of its name yet, its points decide.
 pub(super) fn taken<'r>(whole: &'r Whole, metric: Value<'_>) -> Taken<'r> {
     plan(whole, metric, |units, name, unit, delta| {
-        Some(units.decide(name, unit, delta.has_doubles()))
+        // Durations are measured: one that is whole is so by chance.
+        let is_duration = unit.is_time() && delta.kind == "histogram";
+        Some(units.decide(name, unit, is_duration || delta.has_doubles()))
     })
     .unwrap_or(Taken::AsItIs)
 }
@@ -124,8 +129,8 @@ fn plan<'r, 'd>(
     };
     let wanted = unit_of(units, &name, unit, &delta)?;
     Some(match units.rule(unit, wanted) {
-        // Of the finest unit doubles are rounded.
-        Some(rule) if wanted == unit.finest() => Taken::In(rule),
+        // In a unit that is as fine as that of doubles, these are rounded.
+        Some(rule) if unit.of_doubles() == unit => Taken::In(rule),
         Some(rule) if wanted != unit => Taken::In(rule),
         _ => Taken::Whole(unit),
     })
@@ -141,10 +146,7 @@ pub fn changes(whole: &Whole, metric: Value<'_>) -> bool {
         && match taken(whole, metric) {
             Taken::AsItIs => false,
             Taken::In(rule) if !rule.is_same() => true,
-            Taken::Whole(_) | Taken::In(_) => Delta::of(metric).is_some_and(|delta| match delta.kind {
-                "sum" => delta.points().any(is_double),
-                _ => delta.points().any(has_fraction),
-            }),
+            Taken::Whole(_) | Taken::In(_) => Delta::of(metric).is_some_and(|delta| delta.has_doubles()),
         }
 }
 

@@ -220,7 +220,7 @@ impl<'r> Rewriting<'r> {
             let name = name_shown(member(metric, "name"));
             let value = shown(value).unwrap_or_default();
             self.unfit = Some(format!(
-                "{what} {value} of `{name}` is a double, and it was first taken in whole {unit}"
+                "{what} {value} {unit} of `{name}` is a double, and it was first taken in whole {unit}"
             ));
         }
     }

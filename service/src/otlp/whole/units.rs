@@ -1,7 +1,7 @@
 //! `--whole auto`: in which unit the points of each metric are taken that has a known unit and no rule.
 //!
 //! A metric is taken in **the coarsest unit, no coarser than its own, that a series of its name has**; where there is none, in
-//! the finest one if it has doubles, and else in its own. So what decides is what the folder knows already, and nothing else
+//! a finer one if it has doubles, and else in its own. So what decides is what the folder knows already, and nothing else
 //! is kept: a unit that was taken once is the coarsest of these for ever, since a coarser one between would be taken in it
 //! (units are in chains, each of which divides the one before). Which is why a start has to know all series before posts are read.
 
@@ -9,12 +9,12 @@ use super::{Rule, BYTES, PARTS, TIMES};
 use std::collections::HashMap;
 use std::sync::{PoisonError, RwLock};
 
-/// Units of which each is a whole part of all before it.
-const CHAINS: [&[&str]; 4] = [
-    &["d", "h", "min", "s", "ms", "us", "ns"],
-    &["TiBy", "GiBy", "MiBy", "KiBy", "By"],
-    &["TBy", "GBy", "MBy", "kBy", "By"],
-    &["1", "%", "[ppm]"],
+/// Units of which each is a whole part of all before it, and the one in which doubles are taken.
+const CHAINS: [(&[&str], &str); 4] = [
+    (&["d", "h", "min", "s", "ms", "us", "ns"], "us"),
+    (&["TiBy", "GiBy", "MiBy", "KiBy", "By"], "By"),
+    (&["TBy", "GBy", "MBy", "kBy", "By"], "By"),
+    (&["1", "%", "[ppm]"], "[ppm]"),
 ];
 /// How much memory names may take, and what one takes beside its bytes.
 const MOST: usize = 64 << 20;
@@ -50,16 +50,20 @@ impl Unit {
         all().nth(self.0).map_or("", |known| known.0)
     }
 
-    /// The last of its chain.
-    pub fn finest(self) -> Unit {
-        let own = |chain: &&&[&str]| chain.contains(&self.name());
-        let last = CHAINS.iter().find(own).and_then(|chain| chain.last());
-        last.and_then(|last| Unit::of(last)).unwrap_or(self)
+    pub fn is_time(self) -> bool {
+        self.0 < TIMES.len()
+    }
+
+    /// The one in which its doubles are taken, where nothing else is known: itself, where it is as fine.
+    pub fn of_doubles(self) -> Unit {
+        let wanted = CHAINS.iter().find(|(chain, _)| chain.contains(&self.name()));
+        let wanted = wanted.and_then(|(_, wanted)| Unit::of(wanted)).unwrap_or(self);
+        Unit(self.0.max(wanted.0))
     }
 
     /// Those that it may be taken in, itself too.
     fn finer(self) -> Set {
-        let behind = |chain: &&[&'static str]| {
+        let behind = |(chain, _): &(&[&'static str], &str)| {
             let place = chain.iter().position(|name| *name == self.name());
             place.map_or(vec![], |place| chain[place..].to_vec())
         };
@@ -94,6 +98,11 @@ impl Units {
         self.rules[from.0][to.0].as_ref()
     }
 
+    /// Whether there is none that is finer.
+    pub fn is_finest(&self, unit: Unit) -> bool {
+        self.finer[unit.0] == bit(unit)
+    }
+
     /// Notes a series.
     pub fn note(&self, metric: &str, unit: Unit) {
         let known = self.read().units.get(metric).copied().unwrap_or(0);
@@ -118,7 +127,7 @@ impl Units {
         if let Some(decided) = self.coarsest(known, unit) {
             return decided; // another has decided meanwhile
         }
-        let wanted = if has_doubles { unit.finest() } else { unit };
+        let wanted = if has_doubles { unit.of_doubles() } else { unit };
         if names.put(metric, wanted) {
             wanted
         } else {
@@ -175,12 +184,13 @@ mod tests {
     fn a_metric_is_decided_once() {
         let units = Units::default();
         let decide = |metric, own, has_doubles| units.decide(metric, unit(own), has_doubles).name();
-        assert_eq!(decide("a", "s", true), "ns");
-        assert_eq!(decide("a", "s", false), "ns");
-        assert_eq!(decide("a", "ms", false), "ns");
+        assert_eq!(decide("a", "s", true), "us");
+        assert_eq!(decide("a", "s", false), "us");
+        assert_eq!(decide("a", "ms", false), "us");
+        assert_eq!([decide("a", "us", true), decide("a", "ns", true)], ["us", "ns"]);
         assert_eq!(decide("b", "s", false), "s");
         assert_eq!(decide("b", "s", true), "s");
-        assert_eq!(decide("b", "ms", true), "ns");
+        assert_eq!(decide("b", "ms", true), "us");
         assert_eq!(decide("b", "s", true), "s");
         assert_eq!(decide("c", "%", true), "[ppm]");
         assert_eq!(decide("c", "1", false), "[ppm]");
@@ -227,7 +237,7 @@ mod tests {
         let decide = |metric| units.decide(metric, unit("s"), true).name();
         assert_eq!(
             ["a", "b", "c", "a", "c"].map(decide),
-            ["ns", "ns", "s", "ns", "s"]
+            ["us", "us", "s", "us", "s"]
         );
     }
 }

@@ -3,7 +3,7 @@
 use super::*;
 use crate::core::{Across, Read};
 use crate::files::{self, Body, Durability, Folder};
-use crate::otlp::{posts_of_test, requests_of_test, Clock, Rule, Whole};
+use crate::otlp::{posts_of_test, requests_of_test, Choice, Clock, Rule, Whole};
 use crate::slot::posted::{self, Posted};
 use std::collections::HashSet;
 
@@ -255,12 +255,17 @@ fn what_goes_by_number_is_what_its_json_says() {
         whole: rules(&["=", "s"]),
         ..Reading::default()
     };
+    let decided = Reading {
+        whole: Whole::of([Choice::Auto]).unwrap(),
+        ..Reading::default()
+    };
     for (reading, seed, least) in [
         (Reading::default(), 3, 0.5),
         (Reading::default(), 4, 0.5),
         (dropping, 5, 0.5),
         (finer, 6, 0.05),
         (all_finer, 7, 0.0),
+        (decided, 8, 0.2),
     ] {
         const POSTS: usize = 3_000;
         let (mut both, mut requests) = (Both::new(reading), 0);

@@ -64,8 +64,9 @@ fn the_first_points_of_a_sum_decide() {
         found.1
     };
     for (unit, finest, two) in [
-        ("s", "ns", ["250000000", "7000000000"]),
-        ("us", "ns", ["250", "7000"]),
+        ("s", "us", ["250000", "7000000"]),
+        ("us", "us", ["0", "7"]),
+        ("ns", "ns", ["0", "7"]),
         ("KiBy", "By", ["256", "7168"]),
         ("By", "By", ["0", "7"]),
         ("%", "[ppm]", ["2500", "70000"]),
@@ -82,7 +83,7 @@ fn the_first_points_of_a_sum_decide() {
         taken(&reading, &[sum("w", "s", &[WHOLE])]),
         ("s".into(), values(&["7"]), 0, None)
     );
-    let named = "the value 0.25 of `w` is a double, and it was first taken in whole s";
+    let named = "the value 0.25 s of `w` is a double, and it was first taken in whole s";
     assert_eq!(
         taken(&reading, &[sum("w", "s", &[WHOLE, DOUBLE])]),
         ("s".into(), values(&["7", "foreign"]), 1, Some(named.into()))
@@ -90,7 +91,7 @@ fn the_first_points_of_a_sum_decide() {
     // One unit a name: also where it comes in another.
     assert_eq!(
         taken(&reading, &[sum("d s", "ms", &[WHOLE])]),
-        ("ns".into(), values(&["7000000"]), 0, None)
+        ("us".into(), values(&["7000"]), 0, None)
     );
     for unit in ["", "{request}", "EUR"] {
         assert_eq!(
@@ -101,18 +102,18 @@ fn the_first_points_of_a_sum_decide() {
 }
 
 #[test]
-fn histograms_are_taken_in_the_finest_unit_since_some_are_whole_by_chance() {
+fn histograms_of_times_are_taken_in_the_finer_unit_since_some_are_whole_by_chance() {
     let reading = auto(&[]);
     let of = |says: &str| taken(&reading, &[histogram("h", "s", says)]);
     let whole = of(r#""count":1,"sum":3,"bucketCounts":[1,0],"explicitBounds":[5]"#);
-    assert_eq!((&*whole.0, whole.2), ("ns", 0));
+    assert_eq!((&*whole.0, whole.2), ("us", 0));
     let fraction = of(r#""count":1,"sum":0.3,"bucketCounts":[1,0],"explicitBounds":[0.005]"#);
-    assert_eq!((&*fraction.0, fraction.2), ("ns", 0));
+    assert_eq!((&*fraction.0, fraction.2), ("us", 0));
     let too_fine = of(r#""count":1,"sum":0.3,"bucketCounts":[1,0],"explicitBounds":[1e-10]"#);
     assert_eq!(too_fine.2, 1);
     assert_eq!(
         too_fine.3.as_deref(),
-        Some("the bound 1e-10 s of `h` can't be had in whole ns")
+        Some("the bound 1e-10 s of `h` can't be had in whole us")
     );
 }
 
@@ -121,11 +122,11 @@ fn rules_win_and_off_is_off() {
     let taken_by = |choices: &[&str], unit| taken(&auto(choices), &[sum("a", unit, &[DOUBLE])]).0;
     assert_eq!(
         [
-            taken_by(&["s=us"], "s"),
-            taken_by(&["s=us"], "ms"),
-            taken_by(&["auto", "s=us"], "ms")
+            taken_by(&["s=ns"], "s"),
+            taken_by(&["s=ns"], "ms"),
+            taken_by(&["auto", "s=ns"], "ms")
         ],
-        ["us", "ns", "ns"]
+        ["ns", "us", "us"]
     );
     assert_eq!(
         [taken_by(&["off"], "s"), taken_by(&["off", "s=us"], "s")],
@@ -135,9 +136,32 @@ fn rules_win_and_off_is_off() {
         .unwrap_err()
         .contains("both auto and off"));
     // A rule's unit is one that the metric is in from then on.
-    let reading = auto(&["s=us"]);
-    assert_eq!(taken(&reading, &[sum("a", "s", &[DOUBLE])]).0, "us");
-    assert_eq!(taken(&reading, &[sum("a", "ms", &[DOUBLE])]).0, "us");
+    let reading = auto(&["s=ns"]);
+    assert_eq!(taken(&reading, &[sum("a", "s", &[DOUBLE])]).0, "ns");
+    assert_eq!(taken(&reading, &[sum("a", "ms", &[DOUBLE])]).0, "ns");
+}
+
+#[test]
+fn other_histograms_are_taken_so_where_they_have_a_fraction() {
+    let reading = auto(&[]);
+    let of = |name: &str, says: &str| {
+        let found = taken(&reading, &[histogram(name, "1", says)]);
+        (found.0, found.2)
+    };
+    let whole = r#""count":1,"sum":3,"bucketCounts":[1,0],"explicitBounds":[5]"#;
+    let fraction = r#""count":1,"sum":0.25,"bucketCounts":[1,0],"explicitBounds":[5]"#;
+    let finer = r#""count":1,"sum":3,"bucketCounts":[1,0],"explicitBounds":[0.5]"#;
+    assert_eq!(
+        [of("a", whole), of("a", fraction)],
+        [("1".into(), 0), ("1".into(), 1)]
+    );
+    for says in [fraction, finer] {
+        let name = format!("b {says}").replace('"', "");
+        assert_eq!(
+            [of(&name, says), of(&name, whole)],
+            [("[ppm]".into(), 0), ("[ppm]".into(), 0)]
+        );
+    }
 }
 
 /// What is not changed goes on as it came, with no look at all of it.
@@ -187,6 +211,6 @@ fn what_a_folder_knows_decides() {
             unit("c", "s", DOUBLE),
             unit("d", "s", WHOLE)
         ],
-        ["ns", "s", "ms", "s"]
+        ["us", "s", "ms", "s"]
     );
 }
