@@ -119,6 +119,9 @@ pub fn entry(
     point: &Run,
 ) -> Result<Option<Entry>, Refused> {
     let Some(known) = known else {
+        if point.time <= since.forgotten {
+            return Err(Refused::Forgotten);
+        }
         return Ok(Some(
             match since.counts(options.first, point.start) && !is_instant(point) {
                 true => counted(point, point.start),

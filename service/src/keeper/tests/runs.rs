@@ -88,11 +88,12 @@ impl Run {
     }
 }
 
-/// As `kill -9` leaves it: the run goes on by itself, and nobody asks it any more.
+/// Begins where a `kill -9` would have left a run.
 async fn killed(run: Run, place: &Path, number: usize, options: Options) -> Run {
     let [from, to] = [number, number + 1].map(|number| place.join(format!("data{number}")));
     copy(&from, &to);
-    std::mem::forget(run.stop);
+    // What it still does is for nobody.
+    run.end().await;
     Run::begin_runs(&to, options).await
 }
 
@@ -120,7 +121,8 @@ impl Plain {
             Some((start, _)) if *start == point.start => drop(runs.pop()),
             _ => {}
         }
-        runs.push((point.value, point.all));
+        let all = if point.name.starts_with('h') { point.all } else { 0 };
+        runs.push((point.value, all));
         self.last.insert(point.name.clone(), (point.start, point.time));
     }
 
@@ -285,16 +287,12 @@ fn rejected(outcome: &Outcome) -> (u64, String) {
 async fn a_run_whose_series_was_forgotten_counts_from_there_on() {
     let place = tempfile::tempdir().unwrap();
     let run = Run::begin_runs(&place.path().join("data"), Options::default()).await;
-    let values = |run: &Run| {
-        let slot = run.slot.clone();
-        async move { slot.outbox.series_count() }
-    };
     assert_eq!(
         run.cumulative("A", &[point("m", BEGIN, BEGIN + 10, 5)]).await,
         Outcome::taken(0)
     );
     run.flush().await;
-    assert_eq!(values(&run).await, 1);
+    assert_eq!(run.slot.outbox.series_count(), 1);
     let forgotten = run
         .slot
         .outbox
@@ -315,6 +313,10 @@ async fn a_run_whose_series_was_forgotten_counts_from_there_on() {
     run.end().await;
     let run = Run::begin_runs(&place.path().join("data"), Options::default()).await;
     run.forwarded().await;
+    // Late: it was counted.
+    let late = run.cumulative("A", &[point("m", BEGIN, BEGIN + 9, 4)]).await;
+    let why = "1 cumulative point from before series were forgotten".to_string();
+    assert_eq!(rejected(&late), (1, why));
     assert_eq!(
         run.cumulative("A", &[point("m", BEGIN, BEGIN + 20, 9)]).await,
         Outcome::taken(0)
@@ -343,7 +345,7 @@ async fn what_is_refused_has_its_name() {
     let run = Run::begin_runs(&place.path().join("data"), Options::default()).await;
     let old = point("m", 10, BEGIN, 5);
     assert_eq!(
-        run.cumulative("A", &[old.clone(), point("n", BEGIN, BEGIN + 1, 3)])
+        run.cumulative("A", &[old.clone(), point("m2", BEGIN, BEGIN + 1, 3)])
             .await,
         Outcome::taken(0)
     );
@@ -353,7 +355,7 @@ async fn what_is_refused_has_its_name() {
     let other = run.cumulative("B", &[point("m", 10, BEGIN + 5, 7)]).await;
     let message = "other writer: point 0".into();
     assert_eq!(other, Outcome::Refused { status: 400, message });
-    let down = [point("m", 10, BEGIN + 5, 7), point("n", BEGIN, BEGIN + 5, 1)];
+    let down = [point("m", 10, BEGIN + 5, 7), point("m2", BEGIN, BEGIN + 5, 1)];
     let said = rejected(&run.cumulative("A", &down).await);
     assert_eq!(said, (1, "1 cumulative point that went down".into()));
     let earlier = [point("m", 11, BEGIN + 6, 8)];
@@ -367,7 +369,7 @@ async fn what_is_refused_has_its_name() {
     );
     run.flush().await;
     let sums = run.forwarded().await;
-    assert_eq!((sums["m"].0, sums["n"].0), (2, 3));
+    assert_eq!((sums["m"].0, sums["m2"].0), (2, 3));
     run.end().await;
 }
 
