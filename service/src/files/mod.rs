@@ -14,8 +14,8 @@ mod records;
 mod room;
 mod segment;
 
-pub(crate) use disk::FAILED;
 pub use dead::Dead;
+pub(crate) use disk::FAILED;
 #[cfg(test)]
 pub(crate) use disk::{Call, Disk};
 pub use folder::{Folder, FolderFault, KnownSink, MOST_SLOTS};

@@ -219,10 +219,7 @@ impl Outcome {
     pub fn with_causes(self, causes: &Causes) -> Outcome {
         match self {
             Outcome::Taken {
-                rejected,
-                off,
-                known,
-                ..
+                rejected, off, known, ..
             } if rejected > 0 => Outcome::Taken {
                 rejected,
                 off,

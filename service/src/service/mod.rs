@@ -14,8 +14,8 @@ mod supervisor;
 pub(crate) use adopt::slot_of;
 pub use operators::Operate;
 
-use crate::files::{Durability, Fault, Folder, FolderFault};
 use crate::core::Across;
+use crate::files::{Durability, Fault, Folder, FolderFault};
 use crate::identity::Door;
 use crate::keeper::{Settings as Keeping, Trouble};
 use crate::metrics::Metrics;

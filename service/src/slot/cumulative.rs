@@ -180,7 +180,9 @@ impl Slot {
         let points = std::mem::take(&mut draft.points);
         let foreign = foreign + draft.turned.count();
         let names = making.by.names.clone();
-        let read: Read = self.core.read_points(making.sender.clone(), points, names, foreign)?;
+        let read: Read = self
+            .core
+            .read_points(making.sender.clone(), points, names, foreign)?;
         match read.post.foreign == foreign {
             true => fits(Posted::whole(read)).map(Some),
             false => Ok(None),

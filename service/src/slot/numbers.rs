@@ -30,7 +30,8 @@ const LIMITS: Limits = Limits {
 /// All series take no more than this part of what the book may have, since the library takes about as much for them.
 const PART_OF_ALL: u64 = 8;
 
-/// What is posted.
+/// What is posted. It is moved as often as it is boxed otherwise.
+#[allow(clippy::large_enum_variant)]
 pub enum Request {
     /// In the book's form.
     Text(Bytes),

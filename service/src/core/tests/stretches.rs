@@ -230,7 +230,7 @@ fn sums_by_hour_are_those_of_the_posts() {
     let core = Core::new(24_000).unwrap();
     let all = names("s", 12);
     let by = named(&all);
-    let mut ends = vec![HOUR; 12];
+    let mut ends = [HOUR; 12];
     let (mut wanted, mut found) = (BTreeMap::<(String, u64), i64>::new(), Vec::new());
     for post in 0..2_000 {
         let mut points = Vec::new();

@@ -351,7 +351,10 @@ async fn what_is_refused_has_its_name() {
     );
     assert_eq!(run.slot.metrics.noted_runs.get(), 1);
     // The same again, also of another, adds nothing.
-    assert_eq!(run.cumulative("A", &[old.clone()]).await, Outcome::taken(0));
+    assert_eq!(
+        run.cumulative("A", std::slice::from_ref(&old)).await,
+        Outcome::taken(0)
+    );
     let other = run.cumulative("B", &[point("m", 10, BEGIN + 5, 7)]).await;
     let message = "other writer: point 0".into();
     assert_eq!(other, Outcome::Refused { status: 400, message });
