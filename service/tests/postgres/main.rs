@@ -240,7 +240,7 @@ async fn what_is_told() {
         assert!(error.contains(part) && error.contains(database), "{error}");
     };
     server.ask_of("d1", "update totxegun.version set version = 7");
-    refuses("d1", "schema 6; this one knows 5");
+    refuses("d1", "schema 7; this one knows 6");
     again(&*lame, 2, body(), "version").await;
     again(&*lame, 2, body(), "later version").await;
     server.ask_of(

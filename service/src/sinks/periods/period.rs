@@ -2,6 +2,7 @@
 
 use crate::log::utc;
 use std::fmt;
+use std::ops::RangeInclusive;
 use std::str::FromStr;
 
 /// A month, a day or an hour of UTC.
@@ -30,49 +31,39 @@ impl FromStr for Period {
 
     fn from_str(text: &str) -> Result<Period, String> {
         let faulty = || format!("`{text}` is no period: {WRITTEN}");
-        let (date, hour) = match text.split_once(['T', ' ']) {
-            Some((date, hour)) => (date, Some(number(hour.strip_suffix(":00").unwrap_or(hour), 2))),
-            None => (text, None),
-        };
-        let parts: Vec<&str> = date.split('-').collect();
-        let [year, month, ref day @ ..] = parts[..] else {
-            return Err(faulty());
-        };
-        let (year, month) = number(year, 4).zip(number(month, 2)).ok_or_else(faulty)?;
-        let is_year = (1970..=9999).contains(&year) && (1..=12).contains(&month);
-        let first = days(year, month);
-        let last = days(year, month + 1);
-        let (from, to) = match (day, hour) {
-            ([], None) => (first * 24, last * 24),
-            ([day], hour) => {
-                let day = number(day, 2)
-                    .filter(|day| (1..=last - first).contains(day))
-                    .ok_or_else(faulty)?;
-                let begin = (first + day - 1) * 24;
-                match hour {
-                    None => (begin, begin + 24),
-                    Some(hour) => {
-                        let hour = hour.filter(|hour| (0..24).contains(hour)).ok_or_else(faulty)?;
-                        (begin + hour, begin + hour + 1)
-                    }
-                }
-            }
-            _ => return Err(faulty()),
-        };
-        if !is_year {
-            return Err(faulty());
-        }
-        let shown = hour_shown(from);
+        let (from, to) = hours_of(text).ok_or_else(faulty)?;
         let length = match to - from {
             1 => 16,
             24 => 10,
             _ => 7,
         };
         Ok(Period {
-            text: shown[..length].into(),
+            text: hour_shown(from)[..length].into(),
             from,
             to,
         })
+    }
+}
+
+fn hours_of(text: &str) -> Option<(i64, i64)> {
+    let (date, hour) = match text.split_once(['T', ' ']) {
+        Some((date, hour)) => (date, Some(hour.strip_suffix(":00").unwrap_or(hour))),
+        None => (text, None),
+    };
+    let parts: Vec<&str> = date.split('-').collect();
+    let (year, month) = (
+        number(parts.first()?, 4, 1970..=9999)?,
+        number(parts.get(1)?, 2, 1..=12)?,
+    );
+    let (first, end) = (days(year, month), days(year, month + 1));
+    match (&parts[2..], hour) {
+        ([], None) => Some((first * 24, end * 24)),
+        ([day], hour) => {
+            let day = (first + number(day, 2, 1..=end - first)? - 1) * 24;
+            let hour = hour.map(|hour| number(hour, 2, 0..=23));
+            hour.map_or(Some((day, day + 24)), |hour| Some((day + hour?, day + hour? + 1)))
+        }
+        _ => None,
     }
 }
 
@@ -87,9 +78,10 @@ pub fn hour_shown(hour: i64) -> String {
     utc(hour.unsigned_abs() * 3600)[..16].into()
 }
 
-fn number(text: &str, digits: usize) -> Option<i64> {
+fn number(text: &str, digits: usize, range: RangeInclusive<i64>) -> Option<i64> {
     let is_number = text.len() == digits && text.bytes().all(|byte| byte.is_ascii_digit());
-    is_number.then(|| text.parse().ok()).flatten()
+    let number = is_number.then(|| text.parse().ok()).flatten();
+    number.filter(|number| range.contains(number))
 }
 
 /// Days from 1970 to the first of a month: years begin with March here, so that a leap day is a year's last.

@@ -4,6 +4,7 @@ use super::rows::{InHour, OfSeries, Total};
 use super::series::Known;
 use super::values::{has_rows, row, Numeric, Written};
 use crate::otlp::series::{ForwardedPoint, Value};
+use crate::sinks::periods::Closed;
 use bytes::BytesMut;
 use tokio_postgres::types::{to_sql_checked, ToSql, Type};
 
@@ -55,6 +56,11 @@ pub(super) struct Adding<'a> {
 }
 
 impl<'a> Adding<'a> {
+    pub(super) fn of(of: &'a OfSeries, known: &'a Known, closed: &Closed) -> Adding<'a> {
+        let hours = of.by_hours(closed);
+        Adding { of, known, hours }
+    }
+
     /// The last hour of the series, with these points.
     pub(super) fn last_hour(&self) -> i32 {
         let last = self.hours.last().map(|last| last.hour);

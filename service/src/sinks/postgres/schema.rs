@@ -88,8 +88,7 @@ async fn bring_up(client: &mut Client, server: &str, was_there: bool) -> Result<
     if found.version <= WITHOUT_HOURS {
         begin_hours(&mut transaction).await.map_err(fault)?;
     }
-    let views = views(is_filling(&transaction).await.map_err(fault)?);
-    transaction.batch_execute(&views).await.map_err(fault)?;
+    make_views(&transaction).await.map_err(fault)?;
     let row =
         format!("delete from totxegun.version; insert into totxegun.version values ('totxegun', {KNOWN})");
     transaction.batch_execute(&row).await.map_err(fault)?;
@@ -99,6 +98,11 @@ async fn bring_up(client: &mut Client, server: &str, was_there: bool) -> Result<
         found.version
     );
     Ok(())
+}
+
+async fn make_views(transaction: &Transaction<'_>) -> Result<(), Error> {
+    let views = views(is_filling(transaction).await?);
+    transaction.batch_execute(&views).await
 }
 
 /// The views, while hours of version 4 are filled in and behind that.

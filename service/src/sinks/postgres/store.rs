@@ -50,12 +50,8 @@ pub(super) async fn take(
     if all.is_empty() && !refused.is_empty() {
         return Err(NotTaken::Refused(refused.reason));
     }
-    let adding = |(of, known)| Adding {
-        of,
-        known,
-        hours: OfSeries::by_hours(of, &closed),
-    };
-    let adding: Vec<Adding> = all.iter().zip(&known).map(adding).collect();
+    let both = all.iter().zip(&known);
+    let adding: Vec<Adding> = both.map(|(of, known)| Adding::of(of, known, &closed)).collect();
     // The totals are written down here while the server has the spans.
     tokio::try_join!(writing.spans(&all, &known), writing.totals(&adding))?;
     let left = refused.left(request)?;

@@ -74,14 +74,7 @@ fn correct(transaction: &Transaction, who: &str, correction: &Correction) -> rus
         value,
         reason,
     } = correction;
-    let found: Option<(String, i64)> = transaction
-        .query_row(
-            "select who, made_at from corrections where series = ?1 and of_hour = ?2 and value = ?3 and reason = ?4",
-            params![series, hour.from, value, reason],
-            |row| Ok((row.get(0)?, row.get(1)?)),
-        )
-        .optional()?;
-    if let Some((who, at)) = found {
+    if let Some((who, at)) = made_before(transaction, correction)? {
         return Ok(correction.was_there(&who, at));
     }
     let is_there: bool = transaction.query_row(
@@ -109,4 +102,24 @@ fn correct(transaction: &Transaction, who: &str, correction: &Correction) -> rus
     )?;
     hours::correct(transaction, *series, counted_in, *value)?;
     Ok(correction.made(counted_in))
+}
+
+/// By whom, and when.
+fn made_before(
+    transaction: &Transaction,
+    correction: &Correction,
+) -> rusqlite::Result<Option<(String, i64)>> {
+    let Correction {
+        series,
+        hour,
+        value,
+        reason,
+    } = correction;
+    transaction
+        .query_row(
+            "select who, made_at from corrections where series = ?1 and of_hour = ?2 and value = ?3 and reason = ?4",
+            params![series, hour.from, value, reason],
+            |row| Ok((row.get(0)?, row.get(1)?)),
+        )
+        .optional()
 }
