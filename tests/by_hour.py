@@ -23,7 +23,7 @@ import threading
 import time
 
 from checks import Checks
-from service import BOUNDS, JSON, Sender, Service, added, ask, in_json, wait_until
+from service import BOUNDS, Sender, Service, added, wait_until
 
 sys.path.insert(1, f"{os.path.dirname(os.path.dirname(os.path.abspath(__file__)))}/demo")
 from parts import Database, initdb  # noqa: E402
@@ -31,6 +31,8 @@ from parts import Database, initdb  # noqa: E402
 MINUTE, HOUR, DAY = (60 * 10**9, 3600 * 10**9, 86_400 * 10**9)
 SENDERS = 4
 SECONDS = 15
+# What waits may be a request for each hour and book.
+PATIENCE = 120
 # They go through so much time, up to yesterday.
 LONG = 62 * DAY
 ROWS = "select name, {hour}, total, buckets from {by_hour}"
@@ -75,10 +77,9 @@ class HourlySender(Sender):
             self.hours[key] = added(self.hours.get(key), value)
 
     def post_ahead(self):
-        """A point of a year from now, for a series that goes on; whether it was left out."""
-        start = time.time_ns() + 365 * DAY
-        body = in_json([(f"{self.name}.sum", start, start + 10, 1)])
-        status, text = ask(self.service.listen, "POST", "/v1/metrics", body, {"Content-Type": JSON, "x-sender": self.name})
+        """A point of a year from now, of a series that goes on."""
+        start = time.time_ns() + 365 * DAY + HOUR
+        status, text = self.try_once(*self.encoded([(f"{self.name}.sum", start, start + 10, 1)]))
         if status == 200:
             self.ahead += 1
             if b"its clock is 365d ahead" not in text:
@@ -88,7 +89,7 @@ class HourlySender(Sender):
         while time.monotonic() < until and self.time < self.end:
             if not self.post(self.next_points()):
                 return
-            if self.chance.random() < 0.02:
+            if self.posts % 30 == 1:
                 self.post_ahead()
 
 
@@ -173,7 +174,7 @@ def run(checks, program, folder, sink, seconds, seed):
     for thread in threads:
         thread.join()
     service.order("/flush")
-    checks.true(f"{kind}: all is delivered", wait_until(service.is_drained), service.last_lines())
+    checks.true(f"{kind}: all is delivered", wait_until(service.is_drained, PATIENCE), service.last_lines())
     look(checks, kind, sink, senders)
     checks.same(f"{kind}: nothing that must not be", [], service.faults())
     checks.same(f"{kind}: it ends", 0, service.end()[0])

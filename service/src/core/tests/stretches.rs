@@ -237,7 +237,7 @@ fn sums_by_hour_are_those_of_the_posts() {
         for _ in 0..=random(6) {
             let number = random(12);
             let end = &mut ends[number as usize];
-            *end += 2_000_000_000 + random(4).pow(3) * random(HOUR / 4);
+            *end += 2_000_000_000 + random(4).pow(3) * random(900) * 1_000_000_000;
             if (*end - 1) / HOUR != (*end - 1_000_000_000) / HOUR {
                 *end += 1_000_000_000; // else it is itself of two hours
             }
