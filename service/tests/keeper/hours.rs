@@ -107,7 +107,7 @@ impl Model {
 
 #[tokio::test(flavor = "multi_thread")]
 async fn each_hour_has_what_was_posted_of_it() {
-    for seed in 0..6 {
+    for seed in 0..3 {
         let (place, mut chance, mut model) = (Place::new(), Chance(seed), Model::default());
         let (mut found, mut last) = (Sums::new(), BTreeMap::new());
         let reading = Arc::new(Reading::default());
