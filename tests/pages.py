@@ -273,7 +273,7 @@ def take_pictures(browser, folder, link):
 
 def run(checks, program, folder, pictures):
     database = f"{folder}/metrics.db"
-    service = Service(program, f"{folder}/data", f"sqlite:{database}", "--flush-every", "1h", "--durable", "process")
+    service = Service(program, f"{folder}/data", f"sqlite:{database}", "--flush-every", "1h", "--durable", "process", "--cumulative", "off")
     with contextlib.ExitStack() as stack:
         stack.callback(service.kill)
         service.start()

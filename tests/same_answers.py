@@ -196,7 +196,7 @@ class Served:
         self.sink = OtlpSink()
         stack.callback(self.sink.close)
         data = stack.enter_context(tempfile.TemporaryDirectory(prefix="same-"))
-        self.service = Service(program, f"{data}/data", self.sink.address, "--flush-every", "1h", "--durable", "process",
+        self.service = Service(program, f"{data}/data", self.sink.address, "--flush-every", "1h", "--durable", "process", "--cumulative", "off",
                                "--most-series", str(most_series), "--whole", "off")
         stack.callback(self.service.kill)
         self.service.start()

@@ -34,6 +34,7 @@ pub mod otlp;
 pub mod pass;
 pub mod remarks;
 pub mod renewed;
+pub mod runs;
 pub mod service;
 pub mod sinks;
 pub mod slot;

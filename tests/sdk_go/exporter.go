@@ -28,24 +28,22 @@ import (
 type object = map[string]interface{}
 type list = []interface{}
 
-const (
-	delta      = 1
-	cumulative = 2
-)
+// As OTLP numbers them.
+const delta, cumulative = 1, 2
 
 type exporter struct {
 	url, grpc, encoding, sender string
 	// Files of TLS, and a token.
 	ca, cert, key, token string
-	// cumulative: as is an SDK's default.
-	gzip, cumulative  bool
-	request, response protoreflect.MessageDescriptor
-	client            client
-	mutex             sync.Mutex
-	count             int
-	answers           map[string]int
-	rejected          int64
-	gaveUp            int
+	gzip                 bool
+	temporality          int
+	request, response    protoreflect.MessageDescriptor
+	client               client
+	mutex                sync.Mutex
+	count                int
+	answers              map[string]int
+	rejected             int64
+	gaveUp               int
 }
 
 // open reads OTLP's messages, by which the library writes and reads both encodings.
@@ -82,17 +80,10 @@ func (e *exporter) sent() int {
 }
 
 func (e *exporter) TemporalityFor(*sdkapi.Descriptor, aggregation.Kind) aggregation.Temporality {
-	if e.cumulative {
+	if e.temporality == cumulative {
 		return aggregation.CumulativeTemporality
 	}
 	return aggregation.DeltaTemporality
-}
-
-func (e *exporter) temporality() int {
-	if e.cumulative {
-		return cumulative
-	}
-	return delta
 }
 
 func (e *exporter) Export(_ context.Context, res *resource.Resource, reader export.InstrumentationLibraryReader) error {
@@ -159,11 +150,11 @@ func (e *exporter) point(record export.Record) (string, object, object, error) {
 		count, _ := a.Count()
 		point["sum"], point["count"] = sum.CoerceToFloat64(d.NumberKind()), count
 		point["bucketCounts"], point["explicitBounds"] = buckets.Counts, buckets.Boundaries
-		return "histogram", object{"aggregationTemporality": e.temporality()}, point, nil
+		return "histogram", object{"aggregationTemporality": e.temporality}, point, nil
 	case aggregation.Sum:
 		sum, err := a.Sum()
 		value(sum)
-		return "sum", object{"aggregationTemporality": e.temporality(), "isMonotonic": d.InstrumentKind().Monotonic()}, point, err
+		return "sum", object{"aggregationTemporality": e.temporality, "isMonotonic": d.InstrumentKind().Monotonic()}, point, err
 	case aggregation.LastValue:
 		last, _, err := a.LastValue()
 		value(last)

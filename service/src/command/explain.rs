@@ -85,7 +85,8 @@ fn found(body: Vec<u8>, reading: &Reading) -> anyhow::Result<Found> {
     };
     let sender = otlp::sender(otlp::NO_NAME.into(), encoding, &body, reading).map_err(refused)?;
     let prepared = otlp::prepare(encoding, body.into(), reading).map_err(refused)?;
-    let points = otlp::explained(&prepared.body).context("refused with 400: wrong shape")?;
+    let points =
+        otlp::explained(&prepared.body, reading.profile()).context("refused with 400: wrong shape")?;
     let foreign = points.iter().filter(|point| point.foreign.is_some()).count();
     let rounded = prepared.rounded.by_rule.into_iter();
     Ok(Found {

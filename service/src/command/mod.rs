@@ -8,6 +8,7 @@ mod client;
 mod explain;
 mod keeping;
 mod letters;
+mod of_runs;
 mod of_senders;
 mod print;
 mod reading;

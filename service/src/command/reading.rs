@@ -1,6 +1,6 @@
 //! Options that say how requests are read, for what takes posts and for what explains them.
 
-use crate::otlp::{Choice, Reading, Whole};
+use crate::otlp::{Choice, Cumulative, Reading, Whole};
 use anyhow::anyhow;
 use clap::builder::NonEmptyStringValueParser;
 use clap::Args;
@@ -23,14 +23,30 @@ pub(super) struct OfReading {
     /// The resource attribute that names a sender without the header x-sender: service.instance.id
     #[arg(long, env = "TOTXEGUN_SENDER_FROM", value_name = "ATTRIBUTE", value_parser = NonEmptyStringValueParser::new())]
     sender_from: Option<String>,
+    /// Takes cumulative sums and histograms, as SDKs send them by default: deltas are made of them
+    #[arg(
+        long,
+        env = "TOTXEGUN_CUMULATIVE",
+        value_name = "WHETHER",
+        default_value = "on",
+        value_enum
+    )]
+    cumulative: Cumulative,
 }
 
 impl OfReading {
     pub fn reading(self) -> anyhow::Result<Reading> {
-        Ok(Reading {
+        let whole = Whole::of(self.whole).map_err(|why| anyhow!(why))?;
+        let reading = Reading {
             dropped: self.drop_attributes,
-            whole: Whole::of(self.whole).map_err(|why| anyhow!(why))?,
+            whole,
             sender_from: self.sender_from,
+            cumulative: self.cumulative,
+        };
+        let profile = reading.profile();
+        Ok(Reading {
+            whole: reading.whole.with_profile(profile),
+            ..reading
         })
     }
 }

@@ -1,6 +1,7 @@
 //! `totxegun serve`: its options, and its run.
 
 use super::keeping::OfKeeping;
+use super::of_runs::OfRuns;
 use super::of_senders::OfSenders;
 use super::reading::OfReading;
 use super::settings::Names;
@@ -122,6 +123,8 @@ pub struct Options {
     of_keeping: OfKeeping,
     #[command(flatten)]
     of_reading: OfReading,
+    #[command(flatten)]
+    of_runs: OfRuns,
     #[command(flatten)]
     of_book: OfBook,
 }
@@ -321,12 +324,14 @@ impl Options {
             durability: self.durable,
             every: self.flush_every,
             forget: self.forget_series.0,
-            reading,
+            runs: self.of_runs.options(),
             telling: Telling {
                 log_foreign: self.log_foreign as usize,
                 expected: self.expect_foreign,
+                profile: reading.profile(),
             },
             pass,
+            reading,
             most_bytes: usize::try_from(self.most_bytes).unwrap_or(usize::MAX),
             most_connections,
             threads: usize::from(self.threads),

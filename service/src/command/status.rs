@@ -2,7 +2,7 @@
 
 use super::{ask::Shown, client, table::Table, values, with_end};
 use crate::files::Held;
-use crate::operate::{RoundedStatus, SlotStatus, Status, Stock};
+use crate::operate::{CumulativeStatus, RoundedStatus, SlotStatus, Status, Stock};
 use crate::slot::{NO_ANSWER, NO_ROOM};
 use anyhow::{Context, Result};
 
@@ -33,6 +33,9 @@ fn text(status: &Status) -> String {
     match status.dead {
         0 => lines.row(&["refused for good", &dead]),
         _ => lines.row(&["refused for good", &format!("{dead}: see `totxegun dead list`")]),
+    }
+    if status.cumulative.series > 0 {
+        lines.row(&["cumulative", &cumulative(&status.cumulative)]);
     }
     for slot in status.slots.iter().filter(|slot| slot.held.posts > 0) {
         lines.row(&["kept back", &held(&slot.held)]);
@@ -74,6 +77,14 @@ fn books(status: &Status) -> String {
         values::bytes_shown(books.memory_bytes),
         values::bytes_shown(books.most_memory_bytes)
     )
+}
+
+fn cumulative(of: &CumulativeStatus) -> String {
+    let CumulativeStatus { series, noted } = of;
+    match noted {
+        0 => format!("{series} series"),
+        _ => format!("{series} series; what {noted} had before their first point here is left out (--first)"),
+    }
 }
 
 fn rounding(of: &RoundedStatus) -> String {
@@ -188,6 +199,7 @@ mod tests {
                 most_memory_bytes: 1 << 30,
             },
             slots: vec![slot],
+            cumulative: CumulativeStatus::default(),
             rounded: Vec::new(),
         }
     }

@@ -6,6 +6,7 @@
 //! | 18 held | JSON: of each quarantined sender its name, how many of its posts are in its own file, and where they end there |
 //! | 19 name | number, JSON: a request of one point, whose series has the number in this file from here on |
 //! | 20 points | as a post, but its body is points, and packed as its numbers are (`packed`) |
+//! | 21 runs | the same of points some of which were made of cumulative ones: ahead of them is what their runs are (`packed::runs`) |
 //!
 //! A name is written with the first points of a segment that need it, by the same write.
 //!
@@ -28,7 +29,7 @@ use super::room::Room;
 use super::segment::{self, Ahead, Dropped, Segment};
 use super::{lock, seconds, Durability, Fault};
 pub use held::Held;
-pub use post::{Body, Names, NoNames, Points, Post, Replayed};
+pub use post::{Body, Names, NoNames, OfRun, Points, Post, Replayed};
 use said::Said;
 use std::collections::{BTreeMap, BTreeSet};
 use std::fs::File;
@@ -43,6 +44,7 @@ const COPY: u8 = records::OWN + 1;
 const HELD: u8 = records::OWN + 2;
 const NAME: u8 = records::OWN + 3;
 const POINTS: u8 = records::OWN + 4;
+const RUNS: u8 = records::OWN + 5;
 
 /// A place in the journal: all that was appended before it.
 #[derive(Clone, Copy, Debug, PartialEq, Eq, PartialOrd, Ord)]

@@ -6,7 +6,7 @@ pub mod folder;
 pub mod journal;
 mod judge;
 #[cfg(test)]
-mod numbers;
+pub(crate) mod numbers;
 pub mod outbox;
 #[cfg(test)]
 mod power;
@@ -18,8 +18,8 @@ pub use dead::Dead;
 #[cfg(test)]
 pub(crate) use disk::{Call, Disk};
 pub use folder::{Folder, FolderFault, KnownSink, MOST_SLOTS};
-pub use journal::{Body, Held, Journal, Names, NoNames, Points, Post, Replayed, Ticket};
-pub use outbox::{Outbox, Series};
+pub use journal::{Body, Held, Journal, Names, NoNames, OfRun, Points, Post, Replayed, Ticket};
+pub use outbox::{Outbox, Runs, Series};
 pub use segment::Dropped;
 
 use std::sync::{Mutex, MutexGuard, PoisonError};
@@ -60,6 +60,12 @@ fn seconds() -> u64 {
     std::time::SystemTime::now()
         .duration_since(std::time::UNIX_EPOCH)
         .map_or(0, |since| since.as_secs())
+}
+
+/// The same in nanoseconds.
+fn nanoseconds() -> u64 {
+    let since = std::time::SystemTime::now().duration_since(std::time::UNIX_EPOCH);
+    since.map_or(0, |since| u64::try_from(since.as_nanos()).unwrap_or(u64::MAX))
 }
 
 /// A journal whose syncs wait until `open` is true.

@@ -1,7 +1,7 @@
 //! Numbers for tests that try many orders of calls.
 
 /// A small generator: the same numbers in each run.
-pub(super) struct Numbers(pub u64);
+pub(crate) struct Numbers(pub u64);
 
 impl Numbers {
     pub fn below(&mut self, end: u64) -> u64 {

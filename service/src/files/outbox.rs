@@ -17,6 +17,7 @@ use super::room::Room;
 use super::segment::{self, Ahead, Dropped, Segment};
 use super::{lock, seconds, Fault};
 use crate::otlp::series::{self, NotForwarded, SeriesKey};
+use crate::runs::{Run, Since};
 use crate::work::blocking;
 use changes::{Change, Group};
 use rows::Snapshot;
@@ -41,7 +42,12 @@ pub struct Series {
     pub owner: Option<String>,
     /// When a group last had a point of it, in seconds since 1970.
     pub seen: u64,
+    /// What was last taken of it, where its points are made of cumulative ones.
+    pub run: Option<Arc<Run>>,
 }
+
+/// The runs of series as they were when a group was taken.
+pub type Runs = HashMap<SeriesKey, Arc<Run>>;
 
 /// A forwarded request that the sink does not have yet.
 #[derive(Clone, Debug, PartialEq, Eq)]
@@ -102,6 +108,17 @@ impl Outbox {
             .collect()
     }
 
+    /// When what is known here began.
+    pub fn since(&self) -> Since {
+        lock(&self.state).since.unwrap_or_default()
+    }
+
+    /// Where a series' last forwarded point ends; 0 of one that is not known.
+    pub fn frontier(&self, series: &SeriesKey) -> u64 {
+        let state = lock(&self.state);
+        state.series.get(series).map_or(0, |known| known.series.frontier)
+    }
+
     pub fn owner(&self, series: &SeriesKey) -> Option<String> {
         lock(&self.state).series.get(series)?.series.owner.clone()
     }
@@ -118,8 +135,15 @@ impl Outbox {
         lock(&self.state).quarantined.contains(sender)
     }
 
-    /// Makes a group durable, whole or not at all. Posts of the journal's segments before `journal` are in it or in earlier ones.
+    /// As `commit`, of a group without runs.
+    #[cfg(test)]
     pub fn commit(&self, bodies: &[Vec<u8>], journal: u64) -> Result<(), Fault> {
+        self.commit_with(bodies, journal, Runs::new()).map(drop)
+    }
+
+    /// Makes a group durable, whole or not at all. Posts of the journal's segments before `journal` are in it or in earlier
+    /// ones. Of the runs those count whose series the group has: these are returned.
+    pub fn commit_with(&self, bodies: &[Vec<u8>], journal: u64, mut runs: Runs) -> Result<Runs, Fault> {
         let mut ends: HashMap<SeriesKey, u64> = HashMap::new();
         let mut items = Vec::new();
         for body in bodies {
@@ -130,6 +154,8 @@ impl Outbox {
             }
             items.push(rows::deflated(body));
         }
+        runs.retain(|key, _| ends.contains_key(key));
+        let saved = runs.clone();
         let mut writer = lock(&self.writer);
         let (group, bytes) = {
             let state = lock(&self.state);
@@ -140,6 +166,7 @@ impl Outbox {
                 heard: Some(Instant::now()),
                 journal,
                 ends,
+                runs,
             };
             let bytes = rows::group(&group, &items, &state);
             (group, bytes)
@@ -154,7 +181,7 @@ impl Outbox {
             }
         })?;
         self.arrived.notify_one();
-        Ok(())
+        Ok(saved)
     }
 
     fn unreadable(&self, error: NotForwarded) -> Fault {

@@ -38,12 +38,12 @@ pub enum Which {
 }
 
 impl Which {
-    /// Of the records and of what is in them. A journal of version 1 has no points by number, and totxegun up to 0.5.0
-    /// reads no other.
+    /// Of the records and of what is in them. A journal of version 1 has no points by number, one of version 2 no runs,
+    /// nor has an outbox of version 1; totxegun up to 0.5.0 reads version 1 alone.
     fn version(self) -> u16 {
         match self {
-            Which::Outbox => 1,
-            Which::Journal | Which::Held => 2,
+            Which::Outbox => 2,
+            Which::Journal | Which::Held => 3,
         }
     }
 }

@@ -25,8 +25,9 @@ pub use threads::Threads;
 pub use weight::Budget;
 pub(crate) use weight::Hold;
 
+use crate::core;
 use crate::metrics::Metrics;
-use crate::otlp::{self, Encoding, Original, Outcome, Reading, Rounded};
+use crate::otlp::{self, Cumulative, Encoding, Original, Outcome, Prepared, Reading, Rounded};
 use crate::slot::{ByNumber, Request, Slot};
 use bytes::Bytes;
 use head::{Head, Packing};
@@ -63,6 +64,12 @@ pub trait Taker: Send + Sync + 'static {
         None
     }
 
+    /// The points of a request in the book's form by number, also those that are cumulative; none where it is to be taken as
+    /// it is.
+    fn numbered_text(&self, _text: &Bytes) -> Result<Option<ByNumber>, core::Refused> {
+        Ok(None)
+    }
+
     fn post(self: &Arc<Self>, sender: String, request: Request) -> impl Future<Output = Outcome> + Send;
 
     /// Whether requests are wanted as they came, too.
@@ -87,6 +94,10 @@ pub trait Taker: Send + Sync + 'static {
 impl Taker for Slot {
     fn numbered(&self, body: &Bytes, reading: &Arc<Reading>) -> Option<ByNumber> {
         Slot::numbered(self, body, reading)
+    }
+
+    fn numbered_text(&self, text: &Bytes) -> Result<Option<ByNumber>, core::Refused> {
+        Slot::numbered_text(self, text)
     }
 
     fn post(self: &Arc<Self>, sender: String, request: Request) -> impl Future<Output = Outcome> + Send {
@@ -278,8 +289,16 @@ fn prepare(
         }
         None => {
             let room = || hold.set(2 * grows * length).map_err(Refusal::from);
-            let prepared = otlp::prepare_with(head.encoding, plain, reading, room)?;
-            (Request::Text(prepared.body), prepared.rounded)
+            let Prepared {
+                body,
+                rounded,
+                is_cumulative,
+            } = otlp::prepare_with(head.encoding, plain, reading, room)?;
+            let numbered = match is_cumulative && reading.cumulative == Cumulative::On {
+                true => taker.numbered_text(&body).map_err(|_| Refusal::NoMemory)?,
+                false => None,
+            };
+            (numbered.map_or(Request::Text(body), Request::Numbered), rounded)
         }
     };
     let came = original.as_ref().map_or(0, |original| original.body.len());

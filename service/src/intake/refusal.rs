@@ -43,6 +43,9 @@ pub enum Refusal {
     /// It can be sent again: what others sent takes all memory that posts may have.
     #[error("too many bytes in flight")]
     TooManyBytes,
+    /// It can be sent again: the book has no memory to name its series.
+    #[error("no memory")]
+    NoMemory,
     #[error("{0}")]
     Unreadable(String),
 }
@@ -58,7 +61,7 @@ impl Refusal {
             Refusal::BadSender | Refusal::Malformed | Refusal::BadGzip | Refusal::Unreadable(_) => 400,
             Refusal::TooLong | Refusal::TooLongForMemory => 413,
             Refusal::HeadTooLong => 431,
-            Refusal::Late | Refusal::TooManyBytes => 503,
+            Refusal::Late | Refusal::TooManyBytes | Refusal::NoMemory => 503,
         }
     }
 

@@ -1,6 +1,6 @@
 //! A checkpoint moves what the book has to the outbox.
 //!
-//! Under the lock of the book all is taken of it, and the journal turns to a new segment. So a group is exactly the
+//! Under the lock of the book, and that of the runs before it, all is taken of it, and the journal turns to a new segment. So a group is exactly the
 //! posts of the segments before its commit. The rest is done while posts go on: the requests are written, and what was
 //! taken is settled; the group is committed once all its posts are on the disk, whatever was asked for them, and then the
 //! segments before are deleted. Where there is no memory for that all is given back, and written in small parts under the
@@ -9,7 +9,8 @@
 use super::owners::find_owners;
 use super::{Keeper, Trouble};
 use crate::core::{Book, Refused};
-use crate::files::{Fault, Ticket};
+use crate::files::{Fault, Runs, Ticket};
+use crate::runs::State;
 use crate::slot::Slot;
 use crate::work::blocking;
 use std::time::{Duration, Instant};
@@ -24,6 +25,8 @@ pub(super) struct Group {
     next: u64,
     /// For all before the turn.
     turned: Ticket,
+    /// The runs that are in no commit, as they were at the turn.
+    runs: Runs,
 }
 
 /// What belongs to the next group, and what became of a checkpoint.
@@ -71,11 +74,18 @@ impl Keeper {
 fn checkpoint(slot: &Slot, carried: Vec<Vec<u8>>) -> Result<Checkpointed, Trouble> {
     let mut bodies = carried;
     let flushed = match flush(slot, &mut bodies)? {
-        Err(Refused::NoMemory) => flush_in_parts(slot, &mut slot.core.lock(), &mut bodies),
+        Err(Refused::NoMemory) => {
+            let runs = slot.runs.lock();
+            flush_in_parts(slot, &runs, &mut slot.core.lock(), &mut bodies)
+        }
         flushed => flushed,
     };
     match flushed {
-        Ok(group) => Ok((Vec::new(), Ok(commit(slot, &bodies, group)?))),
+        Ok(group) => {
+            let (requests, saved) = commit(slot, &bodies, group)?;
+            slot.runs.lock().saved(&saved);
+            Ok((Vec::new(), Ok(requests)))
+        }
         Err(refused) => Ok((bodies, Err(refused))),
     }
 }
@@ -83,9 +93,11 @@ fn checkpoint(slot: &Slot, carried: Vec<Vec<u8>>) -> Result<Checkpointed, Troubl
 /// Takes all at once: its requests are written without the lock.
 fn flush(slot: &Slot, bodies: &mut Vec<Vec<u8>>) -> Result<Result<Group, Refused>, Trouble> {
     let began = Instant::now();
+    let runs = slot.runs.lock();
     let mut book = slot.core.lock();
-    let taken = book.take_all().map(|flushed| (flushed, turn(slot)));
+    let taken = book.take_all().map(|flushed| (flushed, turn(slot, &runs)));
     drop(book);
+    drop(runs);
     let pause = &slot.metrics.checkpoint_pause_seconds;
     pause.observe(began.elapsed().as_secs_f64());
     let (mut flushed, group) = match taken {
@@ -110,26 +122,34 @@ fn flush(slot: &Slot, bodies: &mut Vec<Vec<u8>>) -> Result<Result<Group, Refused
 /// The same with less memory, under the lock.
 pub(super) fn flush_in_parts(
     slot: &Slot,
+    runs: &State,
     book: &mut Book,
     bodies: &mut Vec<Vec<u8>>,
 ) -> Result<Group, Refused> {
     book.write_all(bodies)?;
-    Ok(turn(slot))
+    Ok(turn(slot, runs))
 }
 
-/// Under the lock that took all of the book.
-fn turn(slot: &Slot) -> Group {
+/// Under the lock that took all of the book, and that of the runs: so they are those of the group's posts.
+fn turn(slot: &Slot, runs: &State) -> Group {
     let (next, turned) = slot.journal.turn();
     Group {
         posts: slot.ungrouped(),
         next,
         turned,
+        runs: runs.changed(),
     }
 }
 
-/// Journal first, then outbox: a group is committed once all its posts are on the disk, and so is what no flush takes.
-pub(super) fn commit(slot: &Slot, bodies: &[Vec<u8>], group: Group) -> Result<u64, Fault> {
-    let Group { posts, next, turned } = group;
+/// Journal first, then outbox: a group is committed once all its posts are on the disk, and so is what no flush takes. How many
+/// requests it has, and which runs.
+pub(super) fn commit(slot: &Slot, bodies: &[Vec<u8>], group: Group) -> Result<(u64, Runs), Fault> {
+    let Group {
+        posts,
+        next,
+        turned,
+        runs,
+    } = group;
     let first = slot.outbox.journal();
     slot.journal.settle(turned);
     let held = slot.outbox.quarantined();
@@ -138,11 +158,11 @@ pub(super) fn commit(slot: &Slot, bodies: &[Vec<u8>], group: Group) -> Result<u6
         slot.journal.hold(&held, first, next)?;
     }
     let requests = bodies.len() as u64;
-    slot.outbox.commit(bodies, next)?;
+    let saved = slot.outbox.commit_with(bodies, next, runs)?;
     slot.count_grouped(posts);
     slot.metrics.forwarded_requests.inc_by(requests);
     find_owners(slot, first, next)?;
     slot.journal.forget(next)?;
     slot.metrics.checkpoints.with_label_values(&["done"]).inc();
-    Ok(requests)
+    Ok((requests, saved))
 }

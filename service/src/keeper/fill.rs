@@ -11,6 +11,7 @@ use super::Trouble;
 use crate::core::{Book, Refused};
 use crate::files::{Body, Outbox, Post};
 use crate::otlp::series::{zeros, NotForwarded, SeriesKey};
+use crate::runs::State;
 use crate::slot::Slot;
 use std::collections::{BTreeMap, BTreeSet};
 use std::sync::Arc;
@@ -28,6 +29,8 @@ pub(super) struct Filled {
     pub posts: u64,
     /// What had to be taken meanwhile: it belongs to the next group.
     pub carried: Vec<Vec<u8>>,
+    /// What the last commit has of runs, and what the posts said.
+    pub runs: State,
 }
 
 /// None where it was told to stop.
@@ -40,7 +43,10 @@ pub(super) fn fill(
         slot,
         book,
         numbers: Numbers::new(slot.core.clone()),
-        filled: Filled::default(),
+        filled: Filled {
+            runs: State::of(&slot.outbox),
+            ..Filled::default()
+        },
         shown: Instant::now(),
         stops,
     };
@@ -132,6 +138,9 @@ impl<S: Fn() -> bool> Filling<'_, S> {
     fn put(&mut self, post: &Post) -> Result<u64, Refused> {
         let mut read = self.numbers.read(post)?;
         self.book.admit(&mut read)?;
+        if let (Body::Points(points), Some(names)) = (&read.post.body, self.numbers.named()) {
+            self.filled.runs.replay(names, points);
+        }
         Ok(read.post.foreign)
     }
 

@@ -32,11 +32,12 @@ impl Keeper {
 /// What belongs to the next group.
 fn forget(slot: &Arc<Slot>, age: Duration) -> Result<Vec<Vec<u8>>, Trouble> {
     let began = Instant::now();
+    let mut runs = slot.runs.lock();
     let mut book = slot.core.lock();
     let mut bodies = Vec::new();
     // Before anything is changed: there has to be memory for two.
     let fresh = slot.core.fresh();
-    let flushed = fresh.and_then(|fresh| Ok((fresh, flush_in_parts(slot, &mut book, &mut bodies)?)));
+    let flushed = fresh.and_then(|fresh| Ok((fresh, flush_in_parts(slot, &runs, &mut book, &mut bodies)?)));
     let (mut fresh, group) = match flushed {
         Ok(both) => both,
         Err(refused) => {
@@ -57,8 +58,10 @@ fn forget(slot: &Arc<Slot>, age: Duration) -> Result<Vec<Vec<u8>>, Trouble> {
         }
     };
     let old = std::mem::replace(&mut *book, fresh);
+    slot.runs.put(&mut runs, filled.runs);
     slot.set_ungrouped(filled.posts);
     drop(book);
+    drop(runs);
     drop(old); // without the lock: it has much to give back
     let pause = &slot.metrics.checkpoint_pause_seconds;
     pause.observe(began.elapsed().as_secs_f64());

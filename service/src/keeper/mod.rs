@@ -15,8 +15,6 @@ mod owners;
 mod run;
 mod series;
 
-pub(crate) use series::only_series;
-
 use crate::core::Refused;
 use crate::files::Fault;
 use crate::otlp::Outcome;

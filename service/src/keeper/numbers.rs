@@ -55,8 +55,16 @@ impl Numbers {
                 own.push(self.own(*number, &names)?, *start, *end, says.iter().copied());
             }
         }
+        for (place, of_run) in points.runs() {
+            own.put_run(*place, of_run.clone());
+        }
         // It has no points but those that the book took.
         self.core.read_points(sender, own, names, post.foreign)
+    }
+
+    /// By which the posts that were read have numbers.
+    pub fn named(&self) -> Option<&Names> {
+        self.names.as_deref()
     }
 
     fn names(&mut self) -> Result<Arc<Names>, Refused> {

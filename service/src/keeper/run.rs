@@ -74,10 +74,12 @@ impl Keeper {
         self.slot.journal.durable(self.slot.journal.now()).await;
         let (slot, stop) = (self.slot.clone(), stop.clone());
         let filled = blocking(move || fill(&slot, &mut slot.core.lock(), || *stop.borrow())).await?;
-        let Some(Filled { posts, carried }) = filled else {
+        let Some(Filled { posts, carried, runs }) = filled else {
             return Ok(false);
         };
         self.carried = carried;
+        let all = &self.slot.runs;
+        all.put(&mut all.lock(), runs);
         self.slot.set_ungrouped(posts);
         let took = began.elapsed();
         self.slot.metrics.recovery_seconds.observe(took.as_secs_f64());

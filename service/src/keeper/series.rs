@@ -1,7 +1,7 @@
 //! The series of the journal's posts, whether they are texts or points by number.
 
 use crate::files::{Body, Points, Replayed};
-use crate::otlp::series::{posted, Posted, SeriesKey};
+use crate::otlp::series::{only, posted, Posted, SeriesKey};
 use std::collections::HashMap;
 
 /// Reads posts one after the other, each in its turn: a later one does not say again what a number stands for.
@@ -15,7 +15,7 @@ impl SeriesOfPosts {
     /// What a post has. None where the book would refuse it whole.
     pub fn of(&mut self, read: &Replayed) -> Option<Posted> {
         for (number, text) in &read.named {
-            self.named.insert(*number, only_series(text));
+            self.named.insert(*number, only(text));
         }
         match &read.post.body {
             Body::Text(body) => posted(body),
@@ -35,12 +35,6 @@ impl SeriesOfPosts {
         }
         Some(series)
     }
-}
-
-/// The series of a request of one point, by which the journal names it.
-pub(crate) fn only_series(text: &[u8]) -> Option<SeriesKey> {
-    let mut series = posted(text)?.series.into_keys();
-    series.next().filter(|_| series.next().is_none())
 }
 
 #[cfg(test)]

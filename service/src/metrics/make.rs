@@ -73,6 +73,10 @@ pub fn metrics() -> Result<Metrics> {
             &["outcome"],
             &[&["taken"], &["partial"], &["again"], &["denied"], &["refused"]],
         )?,
+        noted_runs: maker.counter(
+            "noted_runs_total",
+            "Cumulative series that count from their first point here on: what they had before is left out",
+        )?,
         forgotten_series: maker.counter(
             "forgotten_series_total",
             "Series that were forgotten for their age",
@@ -147,6 +151,7 @@ fn levels(maker: &Maker) -> Result<Levels> {
             "Bytes that are free on the file system of the folder",
         )?,
         series: maker.gauge("series", "Series that are known")?,
+        cumulative_series: maker.gauge("cumulative_series", "Series whose points come cumulative")?,
         most_series: maker.gauge("most_series", "So many series fit for sure")?,
         book_memory_bytes: maker.gauge("book_memory_bytes", "Memory that the book has")?,
         book_memory_most_bytes: maker.gauge("book_memory_most_bytes", "Memory that the book may have")?,

@@ -45,6 +45,8 @@ pub struct Metrics {
     /// By `outcome`: `taken`, `partial`, `again`, `denied` (it is sent again too), `refused`.
     pub deliveries: IntCounterVec,
     pub forgotten_series: IntCounter,
+    /// Series whose first cumulative point only says where they are.
+    pub noted_runs: IntCounter,
     pub log_lines_lost: IntCounter,
     /// By `outcome`: `done`, `failed`, `late`.
     pub handshakes: IntCounterVec,
@@ -79,6 +81,7 @@ pub struct Levels {
     pub disk_call_seconds: Gauge,
     pub disk_free_bytes: IntGauge,
     pub series: IntGauge,
+    pub cumulative_series: IntGauge,
     pub most_series: IntGauge,
     pub book_memory_bytes: IntGauge,
     pub book_memory_most_bytes: IntGauge,

@@ -15,7 +15,9 @@ mod web;
 pub use acts::{Act, Acts};
 pub use letters::Resent;
 pub use pages::Pulse;
-pub use status::{BooksStatus, RoundedSeriesStatus, RoundedStatus, SlotStatus, Status, Stock};
+pub use status::{
+    BooksStatus, CumulativeStatus, RoundedSeriesStatus, RoundedStatus, SlotStatus, Status, Stock,
+};
 pub use totals::Totals;
 
 use crate::files::{Dead, Outbox};

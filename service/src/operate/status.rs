@@ -26,6 +26,16 @@ pub struct Status {
     /// What `--whole` has rounded since the start.
     #[serde(default)]
     pub rounded: Vec<RoundedStatus>,
+    #[serde(default)]
+    pub cumulative: CumulativeStatus,
+}
+
+/// Series whose points come cumulative.
+#[derive(Debug, Default, Serialize, Deserialize)]
+pub struct CumulativeStatus {
+    pub series: usize,
+    /// Since the start, how many count from their first point here on: what they had before is left out.
+    pub noted: u64,
 }
 
 /// How many books there are, and what they may have.
@@ -129,6 +139,10 @@ impl Desk {
             books: self.books_status(),
             slots,
             rounded: self.rounded_status(),
+            cumulative: CumulativeStatus {
+                series: self.slot.runs.count(),
+                noted: self.metrics.noted_runs.get(),
+            },
         }
     }
 
@@ -199,6 +213,7 @@ impl Desk {
         levels.delivery_stuck.set(i64::from(is_stuck));
         self.read_disk();
         levels.series.set(sum(|slot| slot.series as u64));
+        levels.cumulative_series.set(self.slot.runs.count() as i64);
         let (used, most) = crate::core::memory_used();
         levels.book_memory_bytes.set(used as i64);
         levels.book_memory_most_bytes.set(most as i64);

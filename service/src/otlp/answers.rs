@@ -41,8 +41,11 @@ fn json(outcome: &Outcome) -> String {
         Outcome::Taken {
             rejected: 0,
             message: None,
+            ..
         } => "{}".to_string(),
-        Outcome::Taken { rejected, message } => {
+        Outcome::Taken {
+            rejected, message, ..
+        } => {
             let mut text = r#"{"partialSuccess":{"errorMessage":"#.to_string();
             write_text(&mut text, message.as_deref().unwrap_or(OUTSIDE));
             text.push_str(&format!(r#","rejectedDataPoints":"{rejected}"}}}}"#));
@@ -59,7 +62,9 @@ fn json(outcome: &Outcome) -> String {
 
 fn protobuf(outcome: &Outcome) -> Vec<u8> {
     match outcome {
-        Outcome::Taken { rejected, message } => {
+        Outcome::Taken {
+            rejected, message, ..
+        } => {
             let is_partial = *rejected > 0 || message.is_some();
             let partial_success = is_partial.then(|| ExportMetricsPartialSuccess {
                 rejected_data_points: i64::try_from(*rejected).unwrap_or(i64::MAX),

@@ -1,7 +1,8 @@
 //! Why points of a request are foreign, counted by cause: what a sender is told in one line, and what is counted.
 
 use super::json::{Document, Value};
-use super::series::{visit, Seen, What};
+use super::series::{visit_with, Profile, Seen, What};
+use crate::runs::{self, Turned};
 use std::collections::BTreeMap;
 use std::fmt;
 
@@ -25,6 +26,16 @@ pub enum Cause {
     /// It has no start, or no end after it.
     Span,
     NoValue,
+    /// Of a cumulative run that began before the last point of another.
+    EarlierRun,
+    /// Cumulative, and less than it was.
+    WentDown,
+    /// Cumulative, of a series that has delta points.
+    Mixed,
+    /// More came to a cumulative sum than a point may have.
+    Leap,
+    /// Cumulative, and from before series were forgotten.
+    Forgotten,
     Other,
 }
 
@@ -33,20 +44,48 @@ pub enum Cause {
 pub struct Causes(BTreeMap<Cause, u64>);
 
 impl Causes {
-    /// Of a body, of which the book did not take so many points: where this says more or less than the book, the rest is `Other`.
+    /// Of a body, of which the book did not take so many points. Cumulative points are among these, or deltas were made of
+    /// them: that is seen by how many there are. Where this says more or less than the book, the rest is `Other`.
     pub fn of(body: &[u8], foreign: u64) -> Causes {
+        let mut all =
+            [Profile::Deltas, Profile::AlsoCumulative].map(|profile| Causes::of_profile(body, profile));
+        let found = all.iter().position(|causes| causes.count() == foreign);
+        let found = found.or_else(|| all.iter().position(|causes| causes.count() < foreign));
+        let Some(found) = found else {
+            return Causes([(Cause::Other, foreign)].into());
+        };
+        let mut causes = std::mem::take(&mut all[found]);
+        match foreign - causes.count() {
+            0 => {}
+            unknown => causes.add(Cause::Other, unknown),
+        }
+        causes
+    }
+
+    fn of_profile(body: &[u8], profile: Profile) -> Causes {
         let mut causes = Causes::default();
         if let Ok(document) = Document::parse(body) {
-            let _ = visit(&document, |seen| {
+            let _ = visit_with(&document, profile, |seen| {
                 if let Some(cause) = Cause::of(&seen) {
                     causes.add(cause, 1);
                 }
             });
         }
-        match foreign.checked_sub(causes.count()) {
-            Some(0) => {}
-            Some(unknown) => causes.add(Cause::Other, unknown),
-            None => causes = Causes([(Cause::Other, foreign)].into()),
+        causes
+    }
+
+    /// Of cumulative points that are sound, and were not taken.
+    pub fn of_runs(turned: &Turned) -> Causes {
+        let mut causes = Causes::default();
+        for (refused, points) in &turned.by {
+            let cause = match refused {
+                runs::Refused::EarlierRun => Cause::EarlierRun,
+                runs::Refused::WentDown => Cause::WentDown,
+                runs::Refused::Delta => Cause::Mixed,
+                runs::Refused::TooLarge => Cause::Leap,
+                runs::Refused::Forgotten => Cause::Forgotten,
+            };
+            causes.add(cause, *points);
         }
         causes
     }
@@ -58,9 +97,17 @@ impl Causes {
         causes
     }
 
-    /// How many points these are.
+    /// Of how many points.
     pub fn count(&self) -> u64 {
         self.0.values().sum()
+    }
+
+    /// These and others.
+    pub fn and(mut self, others: &Causes) -> Causes {
+        for (cause, points) in others.iter() {
+            self.add(cause, points);
+        }
+        self
     }
 
     fn add(&mut self, cause: Cause, points: u64) {
@@ -146,6 +193,26 @@ impl Cause {
             Cause::Attribute => ["point with bad attributes", "points with bad attributes"],
             Cause::Span => ["point without a span", "points without a span"],
             Cause::NoValue => ["point without a value", "points without a value"],
+            Cause::EarlierRun => [
+                "point of a run that began before the last point of another",
+                "points of runs that began before the last point of another",
+            ],
+            Cause::WentDown => [
+                "cumulative point that went down",
+                "cumulative points that went down",
+            ],
+            Cause::Mixed => [
+                "cumulative point of a series with delta points",
+                "cumulative points of series with delta points",
+            ],
+            Cause::Forgotten => [
+                "cumulative point from before series were forgotten",
+                "cumulative points from before series were forgotten",
+            ],
+            Cause::Leap => [
+                "cumulative sum that leapt too far",
+                "cumulative sums that leapt too far",
+            ],
             Cause::Other => ["point of another form", "points of another form"],
         }
     }
@@ -164,6 +231,11 @@ impl Cause {
             Cause::Fraction => "use whole bounds in a finer unit, or serve with --whole",
             Cause::Attribute => "use texts, whole numbers, truths and lists of them, each key once, or --drop-attribute",
             Cause::Span => "each point has to say where it starts, and end after it",
+            Cause::EarlierRun => "two processes send the same series: give each its own service.instance.id",
+            Cause::WentDown => "a counter may not go down while its start stays: mend the sender, or serve with --reset count",
+            Cause::Mixed => "send a series with one temporality: it goes on once its sender starts anew",
+            Cause::Forgotten => "it may have been counted: see --forget-series",
+            Cause::Leap => "a sum may change by 2^63-1 between two points",
             Cause::NoValue | Cause::Other => "`totxegun explain FILE` says of each point of a captured body why",
         }
     }

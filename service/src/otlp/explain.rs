@@ -3,7 +3,7 @@
 use super::causes::{is_monotonic, Cause};
 use super::json::{Document, Value};
 use super::outside::is_of_no_series;
-use super::series::{visit, Seen, SeriesKey, What};
+use super::series::{visit_with, Profile, Seen, SeriesKey, What};
 use serde::Serialize;
 use std::sync::Arc;
 
@@ -37,31 +37,31 @@ impl Explained {
 }
 
 /// The points of a body, in order; `None` where the book refuses it whole.
-pub fn explained(body: &[u8]) -> Option<Vec<Explained>> {
+pub fn explained(body: &[u8], profile: Profile) -> Option<Vec<Explained>> {
     let document = Document::parse(body).ok()?;
     let mut all = Vec::new();
-    visit(&document, |seen| all.push(of(&seen)))?;
+    visit_with(&document, profile, |seen| all.push(of(&seen)))?;
     Some(all)
 }
 
 /// The first of its points that are foreign, until `is_enough` says so.
-pub fn foreign_points(body: &[u8], mut is_enough: impl FnMut(Explained) -> bool) {
+pub fn foreign_points(body: &[u8], profile: Profile, mut is_enough: impl FnMut(Explained) -> bool) {
     let Ok(document) = Document::parse(body) else {
         return;
     };
     let mut goes_on = true;
-    let _ = visit(&document, |seen| {
+    let _ = visit_with(&document, profile, |seen| {
         if goes_on && seen.found.is_err() {
             goes_on = !is_enough(of(&seen));
         }
     });
 }
 
-/// A point that the book would take, counted from 0 among these alone, and its series.
-pub fn point_at(body: &[u8], place: u64) -> Option<(Explained, SeriesKey)> {
+/// A point that would be taken, counted from 0 among these alone, and its series.
+pub fn point_at(body: &[u8], profile: Profile, place: u64) -> Option<(Explained, SeriesKey)> {
     let document = Document::parse(body).ok()?;
     let (mut taken, mut series) = (0, None);
-    visit(&document, |seen| {
+    visit_with(&document, profile, |seen| {
         if seen.found.is_ok() {
             if taken == place {
                 series = Some((of(&seen), SeriesKey(Arc::from(seen.key))));

@@ -6,7 +6,7 @@
 
 use super::json::{Document, Value};
 use super::number::{book_whole, is_plain, mapped_double, mapped_whole, whole_double, MAX_WHOLE_DOUBLE};
-use super::output::{Output, Written, SHORT_LIST};
+use super::output::{Output, Written, CUMULATIVE, SHORT_LIST};
 use super::schema::{Kind, Message, KEY_VALUE, METRIC, REQUEST};
 use super::whole::changes;
 use super::{Reading, Refused};
@@ -18,14 +18,27 @@ enum Stop {
     Refused(Refused),
 }
 
-/// Whether the book reads the body as it is meant.
-pub fn is_read_as_it_is(document: &Document<'_>, reading: &Reading) -> Result<bool, Refused> {
+/// A body that the book reads as it is meant.
+pub struct AsItIs {
+    /// Whether a metric is cumulative.
+    pub is_cumulative: bool,
+}
+
+/// What a body is that the book reads as it is meant; none of another.
+pub fn read_as_it_is(document: &Document<'_>, reading: &Reading) -> Result<Option<AsItIs>, Refused> {
     if document.is_near_range() || reading.whole.has_no_unit() {
-        return Ok(false);
+        return Ok(None);
     }
-    match (Walk { out: None, reading }).body(document) {
-        Ok(()) => Ok(true),
-        Err(Stop::Changed) => Ok(false),
+    let mut walk = Walk {
+        out: None,
+        reading,
+        is_cumulative: false,
+    };
+    match walk.body(document) {
+        Ok(()) => Ok(Some(AsItIs {
+            is_cumulative: walk.is_cumulative,
+        })),
+        Err(Stop::Changed) => Ok(None),
         Err(Stop::Refused(refused)) => Err(refused),
     }
 }
@@ -35,6 +48,7 @@ pub fn written(document: &Document<'_>, reading: &Reading) -> Result<Written, Re
     let walked = Walk {
         out: Some(&mut out),
         reading,
+        is_cumulative: false,
     }
     .body(document);
     match walked {
@@ -49,6 +63,7 @@ pub fn written(document: &Document<'_>, reading: &Reading) -> Result<Written, Re
 struct Walk<'o, 'r> {
     out: Option<&'o mut Output<'r>>,
     reading: &'r Reading,
+    is_cumulative: bool,
 }
 
 fn refused(of: &Message, what: impl std::fmt::Display) -> Stop {
@@ -299,9 +314,10 @@ impl Walk<'_, '_> {
         if plain.is_none() && meant.is_some() {
             self.changed()?;
         }
+        self.is_cumulative |= meant == Some(CUMULATIVE);
         if let Some(out) = &mut self.out {
             match meant {
-                Some(number) => out.whole_number(number),
+                Some(number) => out.temporality(number),
                 None => out.push("false"),
             }
         }

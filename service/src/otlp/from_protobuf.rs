@@ -263,7 +263,7 @@ impl<'a, 'r> Writer<'a, 'r> {
                 _ => "true",
             }),
             // An enum has 32 bits, of which a reader keeps the lowest.
-            Kind::Temporality => self.out.whole_number(found.bits() as i32),
+            Kind::Temporality => self.out.temporality((found.bits() as i32).into()),
             Kind::Whole(Wire::Fixed64) => self.out.whole_number(found.bits()),
             Kind::Whole(Wire::Uint32) => self.out.whole_number(found.bits() as u32),
             Kind::Whole(Wire::Int64 | Wire::Sfixed64) => self.out.whole_number(found.bits() as i64),

@@ -28,9 +28,10 @@ pub(crate) use answers::partial_success;
 pub use causes::{Cause, Causes};
 pub use explain::{explained, foreign_points, point_at, Explained};
 pub(crate) use messages::ExportMetricsServiceResponse;
-pub use numbered::{Learnt, Numbered, Series};
+pub use numbered::{Learnt, NotNamed, Numbered, Series};
 pub use outside::{Original, Outside};
 pub use sender::{legal, sender, NO_NAME};
+pub use series::Profile;
 pub use whole::{Choice, Rounded, Rounding, Rule, Whole};
 
 use bytes::Bytes;
@@ -76,6 +77,28 @@ pub struct Reading {
     pub whole: Whole,
     /// The resource attribute that names a sender who does not name itself.
     pub sender_from: Option<String>,
+    /// What becomes of cumulative points.
+    pub cumulative: Cumulative,
+}
+
+/// What becomes of cumulative points.
+#[derive(Clone, Copy, Debug, Default, PartialEq, Eq, clap::ValueEnum)]
+pub enum Cumulative {
+    /// Deltas are made of them
+    On,
+    /// They are not taken
+    #[default]
+    Off,
+}
+
+impl Reading {
+    /// Which points are taken.
+    pub fn profile(&self) -> Profile {
+        match self.cumulative {
+            Cumulative::On => Profile::AlsoCumulative,
+            Cumulative::Off => Profile::Deltas,
+        }
+    }
 }
 
 /// A request in the book's form.
@@ -84,13 +107,16 @@ pub struct Prepared {
     /// JSON.
     pub body: Bytes,
     pub rounded: Rounded,
+    /// It may have points that are cumulative.
+    pub is_cumulative: bool,
 }
 
 impl Prepared {
-    fn as_it_is(body: Bytes) -> Prepared {
+    fn as_it_is(body: Bytes, is_cumulative: bool) -> Prepared {
         Prepared {
             body,
-            rounded: Rounded::default(),
+            is_cumulative,
+            ..Prepared::default()
         }
     }
 }
@@ -108,9 +134,10 @@ pub fn prepare_with<E: From<Refused>>(
     room: impl FnOnce() -> Result<(), E>,
 ) -> Result<Prepared, E> {
     let written = match written(encoding, &body, reading)? {
-        Some(written) => written,
-        None => return Ok(Prepared::as_it_is(body)),
+        Form::Written(written) => written,
+        Form::AsItIs { is_cumulative } => return Ok(Prepared::as_it_is(body, is_cumulative)),
     };
+    let is_cumulative = written.is_cumulative;
     let (text, rounded) = match written.is_measured {
         true => {
             room()?;
@@ -120,30 +147,49 @@ pub fn prepare_with<E: From<Refused>>(
         false => (written.text, Rounded::default()),
     };
     let body = Bytes::from(text);
-    Ok(Prepared { body, rounded })
+    Ok(Prepared {
+        body,
+        rounded,
+        is_cumulative,
+    })
 }
 
-/// A request in the book's form but for its units; none where it goes on as it came.
-fn written(encoding: Encoding, body: &Bytes, reading: &Reading) -> Result<Option<output::Written>, Refused> {
+/// A request in the book's form but for its units.
+enum Form {
+    /// It goes on as it came.
+    AsItIs {
+        is_cumulative: bool,
+    },
+    Written(output::Written),
+}
+
+fn written(encoding: Encoding, body: &Bytes, reading: &Reading) -> Result<Form, Refused> {
     if encoding == Encoding::Protobuf {
-        return from_protobuf::written(body, reading).map(Some);
+        return from_protobuf::written(body, reading).map(Form::Written);
     }
     let may_go_on = reading.dropped.is_empty();
     if may_go_on && usual::is_usual(body, reading) {
-        return Ok(None);
+        return Ok(Form::AsItIs { is_cumulative: false });
     }
     let document = json::Document::parse(body)?;
-    if may_go_on && from_json::is_read_as_it_is(&document, reading)? {
-        return Ok(None);
+    if may_go_on {
+        if let Some(from_json::AsItIs { is_cumulative }) = from_json::read_as_it_is(&document, reading)? {
+            return Ok(Form::AsItIs { is_cumulative });
+        }
     }
-    from_json::written(&document, reading).map(Some)
+    from_json::written(&document, reading).map(Form::Written)
 }
 
 /// What a sender is answered.
 #[derive(Clone, Debug, PartialEq, Eq)]
 pub enum Outcome {
-    /// All points were taken but these; 0 where all were. Without a message they are outside the profile.
-    Taken { rejected: u64, message: Option<String> },
+    /// All points were taken but these; 0 where all were. Of some it is known why; without a message the others are outside the
+    /// profile.
+    Taken {
+        rejected: u64,
+        known: Causes,
+        message: Option<String>,
+    },
     /// With this HTTP status and for this reason nothing was taken.
     Refused { status: u16, message: String },
 }
@@ -153,6 +199,7 @@ impl Outcome {
     pub fn taken(rejected: u64) -> Outcome {
         Outcome::Taken {
             rejected,
+            known: Causes::default(),
             message: None,
         }
     }
@@ -160,8 +207,9 @@ impl Outcome {
     /// The same, and how many points are outside the profile by which cause.
     pub fn with_causes(self, causes: &Causes) -> Outcome {
         match self {
-            Outcome::Taken { rejected, .. } if rejected > 0 => Outcome::Taken {
+            Outcome::Taken { rejected, known, .. } if rejected > 0 => Outcome::Taken {
                 rejected,
+                known,
                 message: Some(answers::outside(causes)),
             },
             other => other,
@@ -171,10 +219,21 @@ impl Outcome {
     /// The same, and why points are outside the profile that were to be taken in a finer unit.
     pub fn with(self, rounded: &Rounded) -> Outcome {
         match (self, &rounded.unfit) {
-            (Outcome::Taken { rejected, message }, Some(unfit)) if rejected > 0 => {
+            (
+                Outcome::Taken {
+                    rejected,
+                    known,
+                    message,
+                },
+                Some(unfit),
+            ) if rejected > 0 => {
                 let before = message.unwrap_or_else(|| answers::OUTSIDE.to_string());
                 let message = Some(format!("{before}: {unfit}"));
-                Outcome::Taken { rejected, message }
+                Outcome::Taken {
+                    rejected,
+                    known,
+                    message,
+                }
             }
             (other, _) => other,
         }

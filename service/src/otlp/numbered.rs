@@ -5,9 +5,12 @@
 //! attributes, level by level (`levels`). What is not known yet is written as a request of one point by the reader for all
 //! requests (`identity`), and named. **So nothing of a rule is here**: what was read once as sound is as sound where the same
 //! bytes come again, and whatever is not plainly a whole number or a histogram is not read here at all (`walk`).
+//!
+//! A text in the book's form is read as `series` reads it (`text`), where its points are wanted by number too.
 
 mod identity;
 mod levels;
+mod text;
 mod walk;
 
 use super::{Reading, Rounded};
@@ -27,6 +30,10 @@ pub enum Learnt {
     Foreign,
 }
 
+/// A series can't be named now.
+#[derive(Debug)]
+pub struct NotNamed;
+
 /// Points of a request.
 #[derive(Debug, Default, PartialEq)]
 pub struct Numbered {
@@ -34,6 +41,8 @@ pub struct Numbered {
     /// How many points are not among them, since they are outside the profile.
     pub foreign: u64,
     pub rounded: Rounded,
+    /// Which of them are cumulative, by their places, ascending.
+    pub cumulative: Vec<u32>,
 }
 
 /// All that is known by its bytes, under one way of reading.
@@ -78,6 +87,15 @@ impl Series {
             known => known,
         };
         read.ok()
+    }
+
+    /// The points of a request in the book's form, also those that are cumulative; none where the book refuses it whole.
+    pub fn read_text(
+        &self,
+        text: &[u8],
+        learn: impl Fn(Bytes) -> Option<Learnt>,
+    ) -> Result<Option<Numbered>, NotNamed> {
+        text::read(&self.learner(&learn), text)
     }
 
     fn walk(&self, find: impl Find, body: &[u8]) -> Result<Numbered, Stop> {

@@ -12,11 +12,15 @@ pub const LONGEST_LIST: usize = 16 << 10;
 /// A list that came in no more bytes is not too long either once it is written.
 pub const SHORT_LIST: usize = LONGEST_LIST / 2;
 
+/// As OTLP numbers temporalities.
+pub const CUMULATIVE: i128 = 2;
+
 pub struct Output<'r> {
     /// UTF-8, since who gives a text has looked at it.
     pub text: Vec<u8>,
     reading: &'r Reading,
     is_measured: bool,
+    is_cumulative: bool,
 }
 
 /// A whole request.
@@ -24,6 +28,8 @@ pub struct Written {
     pub text: Vec<u8>,
     /// Whether a metric has a unit that `--whole` is about.
     pub is_measured: bool,
+    /// Whether a metric is cumulative.
+    pub is_cumulative: bool,
 }
 
 impl<'r> Output<'r> {
@@ -32,6 +38,7 @@ impl<'r> Output<'r> {
             text: Vec::with_capacity(capacity),
             reading,
             is_measured: reading.whole.has_no_unit(),
+            is_cumulative: false,
         }
     }
 
@@ -45,6 +52,7 @@ impl<'r> Output<'r> {
         Written {
             text: self.text,
             is_measured: self.is_measured,
+            is_cumulative: self.is_cumulative,
         }
     }
 
@@ -100,6 +108,11 @@ impl<'r> Output<'r> {
             false => put_inside(&mut self.text, std::str::from_utf8(text).ok()?.as_bytes()),
         }
         Some(())
+    }
+
+    pub fn temporality(&mut self, number: i128) {
+        self.is_cumulative |= number == CUMULATIVE;
+        self.whole_number(number);
     }
 
     pub fn unit(&mut self, unit: &str) {

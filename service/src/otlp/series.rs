@@ -9,8 +9,10 @@ mod zeros;
 
 pub use forwarded::forwarded;
 pub(super) use forwarded::protobuf_of_forwarded;
-pub use posted::posted;
-pub(super) use posted::{visit, Seen};
+pub(super) use point::Temporality;
+pub use posted::Profile;
+pub use posted::{only, posted};
+pub(super) use posted::{visit, visit_with, Seen};
 pub(super) use why::What;
 pub use zeros::zeros;
 

@@ -312,6 +312,7 @@ fn answers_are_of_the_request_s_kind() {
         (7, "points outside the profile")
     );
     let said = Outcome::Taken {
+        known: Causes::default(),
         rejected: 2,
         message: Some("a \"b\"".to_string()),
     };

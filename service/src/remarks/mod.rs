@@ -9,12 +9,15 @@ mod heard;
 
 pub use heard::{Heard, OfReason, OfSender};
 
+use crate::core;
 use crate::files::Outbox;
 use crate::intake::Taker;
 use crate::log::{all_shown, cut, shown};
 use crate::metrics::Metrics;
 use crate::otlp::series::SeriesKey;
-use crate::otlp::{foreign_points, point_at, Cause, Causes, Explained, Original, Outcome, Reading};
+use crate::otlp::{
+    foreign_points, point_at, Cause, Causes, Explained, Original, Outcome, Profile, Reading,
+};
 use crate::pass::Pass;
 use crate::slot::{ByNumber, Request, Source};
 use crate::work::blocking;
@@ -65,6 +68,8 @@ pub struct Telling {
     pub log_foreign: usize,
     /// What is meant to be left out: it is counted by itself, and not told.
     pub expected: Vec<Cause>,
+    /// Which points are not foreign.
+    pub profile: Profile,
 }
 
 /// Who knows the owner of a series.
@@ -141,8 +146,11 @@ impl<T: Taker> Remarks<T> {
     ) -> Outcome {
         match outcome {
             Outcome::Taken { rejected: 0, .. } => outcome,
-            Outcome::Taken { rejected, .. } => {
-                let causes = self.causes(source, original, rejected).await;
+            Outcome::Taken {
+                rejected, ref known, ..
+            } => {
+                let foreign = rejected - known.count();
+                let causes = self.causes(source, original, foreign).await.and(known);
                 self.metrics.foreign(sender, &causes, &self.telling.expected);
                 Outcome::taken(causes.count()).with_causes(&causes)
             }
@@ -150,7 +158,10 @@ impl<T: Taker> Remarks<T> {
                 let Some(place) = place_of(&message) else {
                     return Outcome::Refused { status, message };
                 };
-                let said = self.read(source, move |body| of_other_writer(body, place)).await;
+                let profile = self.telling.profile;
+                let said = self
+                    .read(source, move |body| of_other_writer(body, profile, place))
+                    .await;
                 let message = message + &said.flatten().unwrap_or_default();
                 Outcome::Refused { status, message }
             }
@@ -164,7 +175,8 @@ impl<T: Taker> Remarks<T> {
             return causes.unwrap_or_else(|| Causes::of(b"", foreign));
         };
         let (length, source) = (source.length(), source.clone());
-        let find = move || original.outside(foreign, || source.text());
+        let profile = self.telling.profile;
+        let find = move || original.outside(foreign, profile, || source.text());
         let (outside, causes) = self.work(length, find).await;
         if let Some(outside) = outside {
             pass.hand_on(outside);
@@ -234,7 +246,7 @@ impl<T: Taker> Remarks<T> {
         match remark {
             Remark::Foreign => self.tell_reasons(sender, &body),
             Remark::OtherWriter(place) => {
-                if let Some((_, series)) = point_at(&body, place) {
+                if let Some((_, series)) = point_at(&body, self.telling.profile, place) {
                     self.tell_owner(sender, series);
                 }
             }
@@ -245,7 +257,7 @@ impl<T: Taker> Remarks<T> {
     fn tell_reasons(&self, sender: &str, body: &Bytes) {
         let known = |told: &Told| told.foreign.get(sender).map(|of| of.reasons.clone());
         let mut reasons = known(&self.told()).unwrap_or_default();
-        foreign_points(body, |point| {
+        foreign_points(body, self.telling.profile, |point| {
             let is_expected = |cause| self.telling.expected.contains(&cause);
             if point.cause.is_some_and(is_expected) || (self.pass.is_some() && point.is_passed()) {
                 return false;
@@ -291,8 +303,8 @@ fn place_of(message: &str) -> Option<u64> {
 }
 
 /// What the answer to a post to another's series says beside the place: that series and what to do.
-fn of_other_writer(body: &[u8], place: u64) -> Option<String> {
-    let (point, _) = point_at(body, place)?;
+fn of_other_writer(body: &[u8], profile: Profile, place: u64) -> Option<String> {
+    let (point, _) = point_at(body, profile, place)?;
     let name = shown(&point.metric, NAME_SHOWN);
     let attributes = shown(&point.attributes, ATTRIBUTES_SHOWN);
     Some(format!(
@@ -312,6 +324,10 @@ fn other_writer(sender: &str, owner: &str, series: &SeriesKey) -> String {
 impl<T: Taker> Taker for Remarks<T> {
     fn numbered(&self, body: &Bytes, reading: &Arc<Reading>) -> Option<ByNumber> {
         self.taker.numbered(body, reading)
+    }
+
+    fn numbered_text(&self, text: &Bytes) -> Result<Option<ByNumber>, core::Refused> {
+        self.taker.numbered_text(text)
     }
 
     fn post(self: &Arc<Self>, sender: String, request: Request) -> impl Future<Output = Outcome> + Send {

@@ -46,7 +46,7 @@ async fn told(
 ) -> (Vec<String>, usize, usize) {
     let telling = Telling {
         log_foreign,
-        expected: Vec::new(),
+        ..Telling::default()
     };
     let remarks = remarks(outcome.clone(), owner, telling);
     for body in posts {
@@ -241,6 +241,7 @@ async fn refusals_are_noted() {
     let telling = Telling {
         log_foreign: 9,
         expected: vec![Cause::Gauge],
+        ..Telling::default()
     };
     let expected = remarks(Outcome::taken(3), None, telling);
     answered(&expected, GAUGES).await;

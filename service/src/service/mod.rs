@@ -21,6 +21,7 @@ use crate::metrics::Metrics;
 use crate::otlp::Reading;
 use crate::pass::Pass;
 use crate::remarks::Telling;
+use crate::runs;
 use crate::sinks::{Address, Keep};
 use crate::slot::Slot;
 use anyhow::{anyhow, Context};
@@ -53,6 +54,7 @@ pub struct Settings {
     pub every: Duration,
     pub forget: Option<Duration>,
     pub reading: Reading,
+    pub runs: runs::Options,
     pub telling: Telling,
     /// Who gets points that are outside the profile.
     pub pass: Option<Arc<Pass>>,

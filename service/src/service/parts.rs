@@ -70,6 +70,7 @@ impl Parts {
             )
         })?;
         let slot = Slot::new(0, folder, journal, outbox, metrics.clone(), core);
+        slot.runs.set(settings.runs);
         let (keeper, orders) = Keeper::new(slot.clone(), settings.keeping());
         let budget = Budget::new(settings.most_bytes);
         let threads = Threads::new(settings.threads).context("no threads could be started")?;

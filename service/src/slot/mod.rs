@@ -1,8 +1,9 @@
 //! The book with its journal and outbox, and the way of a post through them.
 //!
-//! `request` is that way, `numbers` which series have numbers, `verdict` what is said of a post and when, `phase` whether
+//! `request` is that way, `cumulative` what is done ahead of it with cumulative points, `numbers` which series have numbers, `verdict` what is said of a post and when, `phase` whether
 //! posts are taken, `disk` whether the disk answers.
 
+mod cumulative;
 mod disk;
 mod numbers;
 mod phase;
@@ -16,6 +17,7 @@ use crate::core::{Core, Refused};
 use crate::files::{Folder, Held, Journal, Outbox};
 use crate::metrics::Metrics;
 use crate::otlp::Outcome;
+use crate::runs::Runs;
 use bytes::Bytes;
 use phase::Phases;
 use std::sync::atomic::{AtomicU64, Ordering};
@@ -41,6 +43,7 @@ pub struct Slot {
     phases: Phases,
     readers: Semaphore,
     numbers: numbers::Numbers,
+    pub(crate) runs: Runs,
     /// How many posts are in the journal, and in no group. It changes under the lock of the book, but for what the keeper
     /// takes off it.
     ungrouped: AtomicU64,
@@ -68,6 +71,7 @@ impl Slot {
             phases: Phases::new(),
             readers: Semaphore::new(READERS),
             numbers: numbers::Numbers::default(),
+            runs: Runs::default(),
             ungrouped: AtomicU64::new(0),
             crowded: Notify::new(),
             told: disk::Told::default(),
@@ -80,7 +84,7 @@ impl Slot {
 
     /// Puts a request into the book. What is taken is in the journal, as durably as was asked for, before this returns,
     /// and a refusal waits for the journal too.
-    pub async fn post(&self, sender: String, body: Bytes) -> Outcome {
+    pub async fn post(self: &Arc<Slot>, sender: String, body: Bytes) -> Outcome {
         self.request(sender, body.into()).await
     }
 

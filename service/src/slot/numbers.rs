@@ -1,5 +1,7 @@
 //! Series that have numbers: by their bytes for who reads protobuf, and in the library.
 //!
+//! A request in the book's form has numbers too where its points are wanted one by one.
+//!
 //! Both together have a bound. Where it is reached numbers begin anew, after a while: what has none meanwhile is read as any
 //! other request, so that series which come and go cost no more than that. Posts that are under way keep the numbers
 //! that they have.
@@ -7,7 +9,7 @@
 use super::Slot;
 use crate::core::{memory_used, Core, Names, Refused};
 use crate::files::Points;
-use crate::otlp::{prepare, Encoding, Learnt, Numbered, Reading, Rounded, Series};
+use crate::otlp::{prepare, Encoding, Learnt, NotNamed, Numbered, Reading, Rounded, Series};
 use bytes::Bytes;
 use std::sync::{Arc, PoisonError, RwLock};
 use std::time::{Duration, Instant};
@@ -39,6 +41,8 @@ pub enum Request {
 /// Points that have numbers, and by which names.
 pub struct ByNumber {
     pub points: Points,
+    /// Which of them are cumulative, by their places, ascending.
+    pub cumulative: Vec<u32>,
     /// How many points are not among them, since they are outside the profile.
     pub foreign: u64,
     pub rounded: Rounded,
@@ -64,6 +68,8 @@ pub(super) struct Numbers {
     /// None until there is a request, and where there is no memory for them.
     now: RwLock<Option<Arc<Generation>>>,
     limits: Limits,
+    /// Of numbers that began with a text, which needs none.
+    of_texts: Arc<Reading>,
 }
 
 impl From<Bytes> for Request {
@@ -90,7 +96,7 @@ impl Request {
 }
 
 impl ByNumber {
-    fn bytes(&self) -> usize {
+    pub(super) fn bytes(&self) -> usize {
         let words = self.points.words().len() + self.points.count();
         2 * size_of::<u64>() * words + self.source.length() // a list that grows has room for twice what it has
     }
@@ -120,8 +126,12 @@ impl Generation {
     fn new(core: &Core, reading: &Arc<Reading>, limits: Limits) -> Result<Generation, Refused> {
         let most = core.most_series() as u64 * limits.bytes;
         let most = most.min(memory_used().1 / PART_OF_ALL);
+        Generation::with_room(most as usize, reading)
+    }
+
+    fn with_room(most: usize, reading: &Arc<Reading>) -> Result<Generation, Refused> {
         Ok(Generation {
-            series: Series::new(reading.clone(), most as usize),
+            series: Series::new(reading.clone(), most),
             names: Names::new()?,
             began: Instant::now(),
         })
@@ -132,11 +142,36 @@ impl Generation {
     }
 
     fn read(&self, body: &[u8]) -> Option<Numbered> {
-        self.series.read(body, |request| match self.names.learn(request) {
+        self.series.read(body, |request| self.learnt(request))
+    }
+
+    fn read_text(&self, text: &[u8]) -> Result<Option<Numbered>, NotNamed> {
+        self.series.read_text(text, |request| self.learnt(request))
+    }
+
+    fn learnt(&self, request: Bytes) -> Option<Learnt> {
+        match self.names.learn(request) {
             Ok(number) => Some(Learnt::Number(number)),
             Err(Refused::NotOne) => Some(Learnt::Foreign),
             Err(_) => None,
-        })
+        }
+    }
+
+    fn by_number(&self, numbered: Numbered, source: Source) -> ByNumber {
+        let Numbered {
+            points,
+            foreign,
+            rounded,
+            cumulative,
+        } = numbered;
+        ByNumber {
+            points,
+            cumulative,
+            foreign,
+            rounded,
+            names: self.names.clone(),
+            source,
+        }
     }
 }
 
@@ -145,6 +180,7 @@ impl Default for Numbers {
         Numbers {
             now: RwLock::default(),
             limits: LIMITS,
+            of_texts: Arc::default(),
         }
     }
 }
@@ -153,15 +189,20 @@ impl Numbers {
     fn now(&self, core: &Core, reading: &Arc<Reading>) -> Option<Arc<Generation>> {
         let now = self.now.read().unwrap_or_else(PoisonError::into_inner).clone();
         match now {
-            Some(now) if !now.is_over(self.limits) => Some(now),
+            Some(now) if self.serves(&now, reading) => Some(now),
             _ => self.begin(core, reading),
         }
+    }
+
+    fn serves(&self, now: &Generation, reading: &Arc<Reading>) -> bool {
+        let is_of_texts = |one: &Arc<Reading>| Arc::ptr_eq(one, &self.of_texts);
+        !now.is_over(self.limits) && (is_of_texts(reading) || !is_of_texts(now.series.reading()))
     }
 
     /// Numbers that nobody has yet, unless another has begun with some.
     fn begin(&self, core: &Core, reading: &Arc<Reading>) -> Option<Arc<Generation>> {
         let mut now = self.now.write().unwrap_or_else(PoisonError::into_inner);
-        if let Some(other) = now.as_ref().filter(|other| !other.is_over(self.limits)) {
+        if let Some(other) = now.as_ref().filter(|other| self.serves(other, reading)) {
             return Some(other.clone());
         }
         let fresh = Generation::new(core, reading, self.limits).ok().map(Arc::new);
@@ -179,21 +220,25 @@ impl Numbers {
         if !Arc::ptr_eq(now.series.reading(), reading) {
             return None;
         }
-        let Numbered {
-            points,
-            foreign,
-            rounded,
-        } = now.read(body)?;
-        Some(ByNumber {
-            points,
-            foreign,
-            rounded,
-            names: now.names.clone(),
-            source: Source::Protobuf {
-                body: body.clone(),
-                reading: reading.clone(),
-            },
-        })
+        let source = Source::Protobuf {
+            body: body.clone(),
+            reading: reading.clone(),
+        };
+        Some(now.by_number(now.read(body)?, source))
+    }
+
+    /// The points of a request in the book's form, also those that are cumulative; none where the book refuses it whole.
+    fn read_text(&self, core: &Core, text: &Bytes) -> Result<Option<ByNumber>, Refused> {
+        let source = || Source::Text(text.clone());
+        if let Some(now) = self.now(core, &self.of_texts) {
+            if let Ok(read) = now.read_text(text) {
+                return Ok(read.map(|numbered| now.by_number(numbered, source())));
+            }
+        }
+        // Numbers for this one alone: there is no room for more.
+        let own = Generation::with_room(usize::MAX, &self.of_texts)?;
+        let read = own.read_text(text).map_err(|NotNamed| Refused::NoMemory)?;
+        Ok(read.map(|numbered| own.by_number(numbered, source())))
     }
 }
 
@@ -201,6 +246,11 @@ impl Slot {
     /// The points of a request in protobuf by their numbers; none where it is to be read otherwise, which says nothing of it.
     pub fn numbered(&self, body: &Bytes, reading: &Arc<Reading>) -> Option<ByNumber> {
         self.numbers.read(&self.core, body, reading)
+    }
+
+    /// The same of a request in the book's form, also of what is cumulative; none where the book refuses it whole.
+    pub fn numbered_text(&self, text: &Bytes) -> Result<Option<ByNumber>, Refused> {
+        self.numbers.read_text(&self.core, text)
     }
 }
 

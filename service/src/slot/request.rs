@@ -11,20 +11,23 @@ use crate::work::blocking;
 use std::sync::Arc;
 
 /// What takes so much is read in place, what takes more on a thread beside the runtime's: no short post waits for it.
-const SHORT: usize = 64 << 10;
+pub(super) const SHORT: usize = 64 << 10;
 
 impl Slot {
     /// As `post`, of a request in any form.
-    pub async fn request(&self, sender: String, request: Request) -> Outcome {
+    pub async fn request(self: &Arc<Slot>, sender: String, request: Request) -> Outcome {
         if !is_sender(&sender) {
             return Refused::BadSender.into();
         }
         if let Some(why) = self.unavailable() {
             return unavailable(why);
         }
-        let said = match self.read(sender, request).await {
-            Ok(read) => self.put(read),
-            Err(refused) => Ok(Journalled::refused(refused, &self.journal)),
+        let said = match request {
+            Request::Numbered(by) if !by.cumulative.is_empty() => self.put_cumulative(sender, by).await,
+            request => match self.read(sender, request).await {
+                Ok(read) => self.put(read),
+                Err(refused) => Ok(Journalled::refused(refused, &self.journal)),
+            },
         };
         match said {
             Ok(journalled) => journalled.durable(&self.journal).await,
@@ -42,7 +45,13 @@ impl Slot {
     }
 
     /// Puts a post into the book and into the journal. The error is why the book was not asked.
-    fn put(&self, mut read: Read) -> Result<Journalled, &'static str> {
+    fn put(&self, read: Read) -> Result<Journalled, &'static str> {
+        let put = self.try_put(read)?;
+        Ok(put.unwrap_or_else(|refused| Journalled::refused(refused, &self.journal)))
+    }
+
+    /// The same, and why the book refused it.
+    pub(super) fn try_put(&self, mut read: Read) -> Result<Result<Journalled, Refused>, &'static str> {
         // Others may have come through the door at once.
         let Some(_room) = self.folder.room_for(read.bytes()) else {
             return Err(NO_ROOM);
@@ -59,14 +68,14 @@ impl Slot {
             if refused == Refused::TooManySeries {
                 self.crowded.notify_one();
             }
-            return Ok(Journalled::refused(refused, &self.journal));
+            return Ok(Err(refused));
         }
         self.count_post();
         // Under the lock: so the journal has the book's order, and a checkpoint finds the post in both or in neither.
         let (post, names) = (&read.post, read.names());
         let journalled = Taken { post, names }.journal(&self.journal);
         drop(book);
-        Ok(journalled)
+        Ok(Ok(journalled))
     }
 }
 

@@ -6,7 +6,8 @@
 
 use crate::core::Refused;
 use crate::files::{Journal, Names, Post, Ticket};
-use crate::otlp::Outcome;
+use crate::otlp::{Causes, Outcome};
+use crate::runs::Turned;
 
 /// A post that the book took, and that is in no journal yet.
 #[must_use = "what the book took has to be in the journal"]
@@ -39,6 +40,24 @@ impl Journalled {
             ticket: journal.now(),
             outcome: Outcome::from(refused),
         }
+    }
+
+    /// What has nothing that was not taken before: this is waited for.
+    pub fn again(journal: &Journal) -> Journalled {
+        Journalled {
+            ticket: journal.now(),
+            outcome: Outcome::taken(0),
+        }
+    }
+
+    /// The same of a post of which so many points were not taken, some for these reasons.
+    pub fn without(mut self, rejected: u64, turned: &Turned) -> Journalled {
+        self.outcome = Outcome::Taken {
+            rejected,
+            known: Causes::of_runs(turned),
+            message: None,
+        };
+        self
     }
 
     /// Waits until it may be said.

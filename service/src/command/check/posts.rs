@@ -2,9 +2,8 @@
 
 use super::{opened, Failure};
 use crate::command::show;
-use crate::files::{Body, Journal, Outbox, Points, Replayed};
-use crate::keeper::only_series;
-use crate::otlp::series::{Kind, SeriesKey};
+use crate::files::{Body, Journal, OfRun, Outbox, Points, Replayed};
+use crate::otlp::series::{only, Kind, SeriesKey};
 use serde::Serialize;
 use serde_json::value::RawValue;
 use std::collections::HashMap;
@@ -38,6 +37,9 @@ struct Point<'a> {
     end: u64,
     #[serde(flatten)]
     says: Says,
+    /// Of one that was made of a cumulative one.
+    #[serde(skip_serializing_if = "Option::is_none")]
+    run: Option<&'a OfRun>,
 }
 
 #[derive(Serialize)]
@@ -111,9 +113,16 @@ impl Series {
         Ok(())
     }
 
-    fn points(&self, points: &Points) -> anyhow::Result<Vec<Point<'_>>> {
-        let point = |words: &[u64]| self.point(words);
-        let points: Option<Vec<Point<'_>>> = points.each().map(point).collect();
+    fn points<'a>(&'a self, points: &'a Points) -> anyhow::Result<Vec<Point<'a>>> {
+        let mut runs = points.runs().iter().peekable();
+        let point = |(place, words): (u32, &[u64])| {
+            let run = runs.next_if(|run| run.0 == place).map(|run| &run.1);
+            Some(Point {
+                run,
+                ..self.point(words)?
+            })
+        };
+        let points: Option<Vec<Point<'a>>> = (0..).zip(points.each()).map(point).collect();
         points.ok_or_else(|| anyhow::anyhow!("the journal has a point that is none of its series"))
     }
 
@@ -137,12 +146,13 @@ impl Series {
             start,
             end,
             says,
+            run: None,
         })
     }
 }
 
 fn named(text: &[u8]) -> Option<(Box<RawValue>, Kind)> {
-    let key: SeriesKey = only_series(text)?;
+    let key: SeriesKey = only(text)?;
     let kind = key.parts().ok()?.kind;
     Some((RawValue::from_string(key.0.to_string()).ok()?, kind))
 }

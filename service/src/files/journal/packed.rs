@@ -14,6 +14,11 @@
 //! may be negative, as a difference or a word, n is written as 2n, and -n as 2n-1. All wraps, so any 64 bits can be written.
 //! Points have one form alone.
 
+//!
+//! Where points are of runs, `runs` has what is ahead of them.
+
+mod runs;
+
 use super::post::Points;
 
 /// The byte of a 0; lower ones may be kinds of records.
@@ -27,6 +32,9 @@ const SIX: usize = 6;
 
 pub(super) fn of(points: &Points) -> Vec<u8> {
     let mut out = Vec::with_capacity(points.words().len() * 2);
+    if !points.runs().is_empty() {
+        runs::put(&mut out, points);
+    }
     let mut last = Last::default();
     for point in points.each() {
         last.put(&mut out, point);
@@ -41,6 +49,15 @@ pub(super) fn read(mut bytes: &[u8]) -> Option<Points> {
         last.read(&mut bytes, &mut points)?;
     }
     Some(points)
+}
+
+/// The same of points that are of runs.
+pub(super) fn read_with_runs(mut bytes: &[u8]) -> Option<Points> {
+    let of_runs = runs::take(&mut bytes)?;
+    let mut points = read(bytes)?;
+    let is_one_form = !of_runs.is_empty();
+    runs::give(&mut points, of_runs)?;
+    is_one_form.then_some(points)
 }
 
 pub(super) fn put_number(out: &mut Vec<u8>, mut number: u64) {

@@ -2,6 +2,7 @@
 
 use super::packed;
 use bytes::Bytes;
+use serde::Serialize;
 use std::sync::OnceLock;
 
 /// A post that the book took.
@@ -49,7 +50,21 @@ pub struct Points {
     words: Vec<u64>,
     /// Where each point ends.
     ends: Vec<usize>,
+    /// Of those that were made of cumulative ones, by their places, ascending.
+    runs: Vec<(u32, OfRun)>,
     packed: OnceLock<Vec<u8>>,
+}
+
+/// What a point that was made of a cumulative one says of its run, beside what it adds.
+#[derive(Clone, Debug, PartialEq, Eq, Serialize)]
+#[serde(rename_all = "snake_case")]
+pub enum OfRun {
+    /// It goes on.
+    More,
+    /// It began then, and the point has all of it.
+    Began(u64),
+    /// It began then and has come to these words, of which the point has none.
+    Noted { start: u64, words: Vec<u64> },
 }
 
 /// Ahead of what a point says.
@@ -79,8 +94,11 @@ impl Points {
         let mut begin = 0;
         let is_point = |end: &usize| *end >= std::mem::replace(&mut begin, *end) + HEAD;
         let are_points = ends.iter().all(is_point) && begin == words.len();
-        let packed = OnceLock::new();
-        are_points.then_some(Points { words, ends, packed })
+        are_points.then_some(Points {
+            words,
+            ends,
+            ..Points::default()
+        })
     }
 
     /// Puts a point behind the others; `says` is a sum's value, or a histogram's count, whether it has a sum, the sum, and
@@ -90,6 +108,39 @@ impl Points {
         self.words.extend(says);
         self.ends.push(self.words.len());
         self.packed.take();
+    }
+
+    /// The same of the words behind its number.
+    pub fn push_words(&mut self, number: u64, words: &[u64]) {
+        self.push(number, words[0], words[1], words[2..].iter().copied());
+    }
+
+    /// Says of a point that was made of a cumulative one, and is behind all others of which that was said, what its run is.
+    pub fn put_run(&mut self, place: u32, of_run: OfRun) {
+        self.runs.push((place, of_run));
+        self.packed.take();
+    }
+
+    /// Of the points that were made of cumulative ones their places, and what their runs are.
+    pub fn runs(&self) -> &[(u32, OfRun)] {
+        &self.runs
+    }
+
+    /// The same with the words of each.
+    pub fn with_runs(&self) -> impl Iterator<Item = (&(u32, OfRun), &[u64])> {
+        self.runs.iter().filter_map(|run| Some((run, self.point(run.0)?)))
+    }
+
+    fn point(&self, place: u32) -> Option<&[u64]> {
+        let place = place as usize;
+        let end = *self.ends.get(place)?;
+        let begin = place.checked_sub(1).map_or(0, |before| self.ends[before]);
+        Some(&self.words[begin..end])
+    }
+
+    /// Where a point begins.
+    pub(super) fn start(&self, place: u32) -> Option<u64> {
+        Some(self.point(place)?[1])
     }
 
     /// All of them, as the library takes them.
@@ -122,7 +173,7 @@ impl Points {
 
 impl PartialEq for Points {
     fn eq(&self, other: &Points) -> bool {
-        (&self.words, &self.ends) == (&other.words, &other.ends)
+        (&self.words, &self.ends, &self.runs) == (&other.words, &other.ends, &other.runs)
     }
 }
 

@@ -1,13 +1,16 @@
 //! Posts as records, and records as posts.
 
-use super::post::{Body, Post, Replayed};
-use super::{packed, COPY, NAME, POINTS, POST};
+use super::post::{Body, Points, Post, Replayed};
+use super::{packed, COPY, NAME, POINTS, POST, RUNS};
 use crate::files::{judge, records};
 use bytes::Bytes;
 use std::collections::HashSet;
 
 const NO_POST: &str = "is no post that was written here";
 const NO_NAME: &str = "has points of a series that this file names nowhere before it";
+
+/// Points of the bytes behind the sender.
+type ReadPoints = fn(&[u8]) -> Option<Points>;
 
 /// What is ahead of sender and body in the record of a text.
 pub(super) fn numbers(since: u64, post: &Post) -> [[u8; 8]; 3] {
@@ -27,7 +30,8 @@ pub(super) fn put(out: &mut Vec<u8>, since: u64, post: &Post) {
             for number in [since, post.foreign, sender.len() as u64] {
                 packed::put_number(&mut head, number);
             }
-            records::put(out, POINTS, &[&head, sender, points.packed()]);
+            let kind = if points.runs().is_empty() { POINTS } else { RUNS };
+            records::put(out, kind, &[&head, sender, points.packed()]);
         }
     }
 }
@@ -36,7 +40,7 @@ pub(super) fn put(out: &mut Vec<u8>, since: u64, post: &Post) {
 pub(super) fn since(kind: u8, mut bytes: &[u8]) -> Option<u64> {
     match kind {
         POST | COPY => records::take_number(&mut bytes),
-        POINTS => packed::take_number(&mut bytes),
+        POINTS | RUNS => packed::take_number(&mut bytes),
         _ => None,
     }
 }
@@ -62,15 +66,16 @@ impl Posts {
                 return Ok(None);
             }
             POST | COPY => text(bytes).ok_or(NO_POST)?,
-            POINTS => self.points(bytes)?,
+            POINTS => self.points(bytes, packed::read)?,
+            RUNS => self.points(bytes, packed::read_with_runs)?,
             _ => return Err(judge::CHANGED),
         };
         let named = std::mem::take(&mut self.named);
         Ok(Some((since, Replayed { post, named })))
     }
 
-    fn points(&self, bytes: Bytes) -> Result<(u64, Post), &'static str> {
-        let (since, post) = points(&bytes).ok_or(NO_POST)?;
+    fn points(&self, bytes: Bytes, read: ReadPoints) -> Result<(u64, Post), &'static str> {
+        let (since, post) = points(&bytes, read).ok_or(NO_POST)?;
         let is_unknown = |number: u64| !self.known.contains(&number);
         if post.numbers().any(is_unknown) {
             return Err(NO_NAME);
@@ -96,12 +101,12 @@ fn text(bytes: Bytes) -> Option<(u64, Post)> {
     ))
 }
 
-fn points(mut rest: &[u8]) -> Option<(u64, Post)> {
+fn points(mut rest: &[u8], read: ReadPoints) -> Option<(u64, Post)> {
     let since = packed::take_number(&mut rest)?;
     let foreign = packed::take_number(&mut rest)?;
     let length = packed::take_number(&mut rest)?;
     let sender = take_text(&mut rest, length)?;
-    let body = Body::Points(packed::read(rest)?);
+    let body = Body::Points(read(rest)?);
     Some((
         since,
         Post {

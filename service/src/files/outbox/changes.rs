@@ -1,5 +1,6 @@
 //! What can become of an outbox.
 
+use super::Runs;
 use crate::otlp::series::SeriesKey;
 use std::collections::HashMap;
 use std::ops::Range;
@@ -38,6 +39,8 @@ pub struct Group {
     pub journal: u64,
     /// Where the last point of each of its series ends.
     pub ends: HashMap<SeriesKey, u64>,
+    /// Of some of these their runs.
+    pub runs: Runs,
 }
 
 impl Change {

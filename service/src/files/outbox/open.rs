@@ -11,8 +11,9 @@ use crate::files::disk::Disk;
 use crate::files::judge::{is_torn, CHANGED};
 use crate::files::records::{Next, Reader, Which, HEADER};
 use crate::files::room::Room;
-use crate::files::{segment, Dropped, Fault};
+use crate::files::{nanoseconds, segment, Dropped, Fault};
 use crate::otlp::series::SeriesKey;
+use crate::runs::Since;
 use std::path::{Path, PathBuf};
 use std::sync::{Arc, Mutex};
 use tokio::sync::Notify;
@@ -49,6 +50,10 @@ impl Outbox {
             dropped,
         } = read_all(disk, folder, &numbers, epoch)?;
         state.next_epoch = epoch.into();
+        state.since.get_or_insert_with(|| Since {
+            made: nanoseconds(),
+            forgotten: 0,
+        });
         // A segment without a request is replaced: starts that end at once would leave one each.
         let number = numbers.last().map_or(1, |last| last + u64::from(has_requests));
         let segment = begin(disk, folder, number, &state.snapshot())?;
@@ -359,7 +364,7 @@ impl Reading {
         else {
             return Err(wrong());
         };
-        let ends = rows::ends_of(&ends, keys).ok_or_else(wrong)?;
+        let (ends, runs) = rows::ends_of(&ends, keys).ok_or_else(wrong)?;
         let group = Group {
             first: head.first,
             epoch: head.epoch.as_str().into(),
@@ -367,6 +372,7 @@ impl Reading {
             heard: None,
             journal,
             ends,
+            runs,
         };
         Ok(Change::Group {
             group,

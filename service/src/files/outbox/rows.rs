@@ -16,11 +16,12 @@
 
 use super::changes::{Change, Group};
 use super::state::{Front, Known, State};
-use super::Series;
+use super::{Runs, Series};
 use crate::files::disk::io_fault;
 use crate::files::records::{self, put, take_number, HEAD, OWN};
 use crate::files::Fault;
 use crate::otlp::series::SeriesKey;
+use crate::runs::{Run, Since};
 use flate2::{read::DeflateDecoder, write::DeflateEncoder, Compression};
 use serde::{de::DeserializeOwned, Deserialize, Serialize};
 use std::collections::{BTreeSet, HashMap};
@@ -28,6 +29,7 @@ use std::io::{Read, Write};
 use std::ops::Range;
 use std::os::unix::fs::FileExt;
 use std::path::Path;
+use std::sync::Arc;
 
 pub const SNAPSHOT: u8 = OWN;
 pub const GROUP: u8 = OWN + 1;
@@ -49,7 +51,15 @@ pub struct Snapshot {
     pub quarantined: BTreeSet<String>,
     /// Key, frontier, seconds since 1970 when last seen, owner.
     pub series: Vec<(String, u64, u64, Option<String>)>,
+    /// None in an outbox of version 1, and so it has no runs.
+    #[serde(default)]
+    pub since: Option<Since>,
+    #[serde(default)]
+    pub runs: Vec<RunRow>,
 }
+
+/// The run of a series: its id, its start, how far its frontier is after the last point, that point's words.
+pub type RunRow = (u32, u64, u64, Vec<u64>);
 
 /// What a group did to series.
 #[derive(Serialize, Deserialize)]
@@ -58,6 +68,17 @@ pub struct Ends {
     known: Vec<(u32, u64)>,
     /// Key and frontier of those that get the next ids.
     new: Vec<(String, u64)>,
+    #[serde(default)]
+    runs: Vec<RunRow>,
+}
+
+pub fn run_row(id: u32, frontier: u64, run: &Run) -> RunRow {
+    (id, run.start, frontier.wrapping_sub(run.time), run.words.clone())
+}
+
+fn run_of((_, start, after, words): RunRow, frontier: u64) -> Arc<Run> {
+    let time = frontier.wrapping_sub(after);
+    Arc::new(Run { start, time, words })
 }
 
 /// A group's records, and where in them its items are.
@@ -113,7 +134,9 @@ impl Snapshot {
         let mut state = State::new(&snapshot.epoch);
         (state.next, state.acknowledged, state.journal) =
             (snapshot.next, snapshot.acknowledged, snapshot.journal);
-        state.quarantined = snapshot.quarantined;
+        (state.quarantined, state.since) = (snapshot.quarantined, snapshot.since);
+        let runs = snapshot.runs.into_iter().map(|row| (row.0, row));
+        let mut runs: HashMap<u32, RunRow> = runs.collect();
         for (key, frontier, seen, owner) in snapshot.series {
             let known = Known {
                 id: state.next_id,
@@ -121,13 +144,14 @@ impl Snapshot {
                     frontier,
                     owner,
                     seen,
+                    run: runs.remove(&state.next_id).map(|row| run_of(row, frontier)),
                 },
                 heard: None,
             };
             state.series.insert(SeriesKey(key.into()), known);
             state.next_id += 1;
         }
-        Some(state)
+        runs.is_empty().then_some(state)
     }
 }
 
@@ -142,24 +166,38 @@ pub fn group(group: &Group, items: &[Vec<u8>], state: &State) -> GroupBytes {
     put(&mut out, GROUP, &[&head, group.epoch.as_bytes()]);
     let items = out.len()..out.len() + bodies.len();
     out.append(&mut bodies);
-    let mut ends = Ends {
-        known: Vec::new(),
-        new: Vec::new(),
-    };
-    for (key, end) in &group.ends {
-        match state.series.get(key) {
-            Some(known) => ends.known.push((known.id, *end)),
-            None => ends.new.push((key.0.to_string(), *end)),
-        }
-    }
-    ends.known.sort_unstable();
-    ends.new.sort_unstable();
+    let ends = ends(group, state);
     put(
         &mut out,
         COMMIT,
         &[&numbers([group.first, count, group.journal]), &packed(&ends)],
     );
     GroupBytes { records: out, items }
+}
+
+fn ends(group: &Group, state: &State) -> Ends {
+    let (mut known, mut new, mut runs) = (Vec::new(), Vec::new(), Vec::new());
+    let run = |id: u32, key: &SeriesKey, end: u64| group.runs.get(key).map(|run| run_row(id, end, run));
+    for (key, end) in &group.ends {
+        match state.series.get(key) {
+            Some(series) => {
+                known.push((series.id, *end));
+                runs.extend(run(series.id, key, *end));
+            }
+            None => new.push((key, *end)),
+        }
+    }
+    known.sort_unstable();
+    new.sort_unstable();
+    for (id, (key, end)) in (state.next_id..).zip(&new) {
+        runs.extend(run(id, key, *end));
+    }
+    runs.sort_unstable();
+    let new = new
+        .into_iter()
+        .map(|(key, end)| (key.0.to_string(), end))
+        .collect();
+    Ends { known, new, runs }
 }
 
 pub fn head_of(mut bytes: &[u8]) -> Option<GroupHead> {
@@ -184,8 +222,8 @@ pub fn commit_of<'a>(mut bytes: &'a [u8], head: &GroupHead) -> Option<(u64, &'a 
     is_its.then_some((journal, *rest))
 }
 
-/// `keys` are the series by their ids; it gets the new ones.
-pub fn ends_of(bytes: &[u8], keys: &mut Vec<SeriesKey>) -> Option<HashMap<SeriesKey, u64>> {
+/// Where series end, and their runs. `keys` are the series by their ids; it gets the new ones.
+pub fn ends_of(bytes: &[u8], keys: &mut Vec<SeriesKey>) -> Option<(HashMap<SeriesKey, u64>, Runs)> {
     let ends: Ends = unpacked(bytes)?;
     let mut all = HashMap::new();
     for (id, end) in ends.known {
@@ -196,7 +234,13 @@ pub fn ends_of(bytes: &[u8], keys: &mut Vec<SeriesKey>) -> Option<HashMap<Series
         keys.push(key.clone());
         all.insert(key, end);
     }
-    Some(all)
+    let run = |row: RunRow| {
+        let key = keys.get(row.0 as usize)?.clone();
+        let end = *all.get(&key)?;
+        Some((key, run_of(row, end)))
+    };
+    let runs = ends.runs.into_iter().map(run).collect::<Option<Runs>>()?;
+    Some((all, runs))
 }
 
 /// The record of a change that is no group.

@@ -1,9 +1,10 @@
 //! What the outbox knows, in memory: some bytes a series, and some a group, but none a waiting request.
 
 use super::changes::Change;
-use super::rows::Snapshot;
+use super::rows::{run_row, Snapshot};
 use super::{Series, Waiting};
 use crate::otlp::series::SeriesKey;
+use crate::runs::Since;
 use std::collections::{BTreeSet, HashMap, VecDeque};
 use std::sync::Arc;
 use std::time::{Duration, Instant, SystemTime, UNIX_EPOCH};
@@ -71,6 +72,8 @@ pub struct State {
     pub acknowledged: u64,
     pub journal: u64,
     pub quarantined: BTreeSet<String>,
+    /// None until the outbox is opened.
+    pub since: Option<Since>,
     pub series: HashMap<SeriesKey, Known>,
     /// The id of the next new series.
     pub next_id: u32,
@@ -87,6 +90,7 @@ impl State {
             acknowledged: 0,
             journal: 1,
             quarantined: BTreeSet::new(),
+            since: None,
             series: HashMap::new(),
             next_id: 0,
             batches: VecDeque::new(),
@@ -117,6 +121,7 @@ impl State {
     pub fn snapshot(&mut self) -> Snapshot {
         self.next_id = 0;
         let mut series = Vec::with_capacity(self.series.len());
+        let mut runs = Vec::new();
         for (key, known) in &mut self.series {
             known.id = self.next_id;
             self.next_id += 1;
@@ -124,8 +129,10 @@ impl State {
                 frontier,
                 owner,
                 seen,
+                run,
             } = known.series.clone();
             series.push((key.0.to_string(), frontier, seen, owner));
+            runs.extend(run.map(|run| run_row(known.id, frontier, &run)));
         }
         let (next, acknowledged, journal) = (self.next, self.acknowledged, self.journal);
         let (epoch, quarantined) = (self.next_epoch.to_string(), self.quarantined.clone());
@@ -136,6 +143,8 @@ impl State {
             journal,
             quarantined,
             series,
+            since: self.since,
+            runs,
         }
     }
 
@@ -155,6 +164,11 @@ impl State {
                 self.journal = group.journal;
                 self.next = group.first + count;
                 self.advance(group.ends, group.since, group.heard);
+                for (key, run) in group.runs {
+                    if let Some(known) = self.series.get_mut(&key) {
+                        known.series.run = Some(run);
+                    }
+                }
                 if count > 0 {
                     let (first, epoch, since) = (group.first, group.epoch, group.since);
                     self.wait(Batch {
@@ -178,8 +192,14 @@ impl State {
             }
             Change::Quarantine(sender) => drop(self.quarantined.insert(sender)),
             Change::Lift(sender) => drop(self.quarantined.remove(&sender)),
-            Change::Forget(series) => series.iter().for_each(|key| drop(self.series.remove(key))),
+            Change::Forget(series) => series.iter().for_each(|key| self.forget(key)),
         }
+    }
+
+    fn forget(&mut self, key: &SeriesKey) {
+        let forgotten = self.series.remove(key).map_or(0, |known| known.series.frontier);
+        let since = self.since.get_or_insert_default();
+        since.forgotten = since.forgotten.max(forgotten);
     }
 
     /// A snapshot has to follow: no record names these.
@@ -206,6 +226,7 @@ impl State {
                         frontier: 0,
                         owner: None,
                         seen,
+                        run: None,
                     },
                     heard,
                 }

@@ -213,3 +213,84 @@ fn a_series_without_an_owner_is_never_forgotten() {
     assert_eq!(outbox.series_count(), 2);
     assert!(!outbox.series().contains_key(&key_of("a")));
 }
+
+fn run_of(start: u64, time: u64, words: &[u64]) -> Arc<Run> {
+    let words = words.to_vec();
+    Arc::new(Run { start, time, words })
+}
+
+/// As durable as where the series ends, and by the same record.
+#[test]
+fn runs_of_a_group_last() {
+    let folder = tempfile::tempdir().unwrap();
+    let path = folder.path();
+    let since = open(path).since();
+    assert!(since.made > 1_700_000_000_000_000_000 && since.forgotten == 0);
+    let runs = |all: &[(&str, Arc<Run>)]| -> Runs {
+        let all = all.iter().map(|(key, run)| (key_of(key), run.clone()));
+        all.collect()
+    };
+    let found = |outbox: &Outbox| {
+        let all = outbox
+            .series()
+            .into_iter()
+            .map(|(key, series)| (key.0.to_string(), series.run));
+        let mut all: Vec<_> = all
+            .map(|(key, run)| (key, run.map(|run| (*run).clone())))
+            .collect();
+        all.sort_by(|one, other| one.0.cmp(&other.0));
+        all
+    };
+    let (a, b, late) = (
+        run_of(3, 10, &[5]),
+        run_of(4, 11, &[2, 1, 9, 1, 1]),
+        run_of(3, 20, &[6]),
+    );
+    {
+        let outbox = open(path);
+        let given = runs(&[("a", a.clone()), ("b", b.clone()), ("held", late.clone())]);
+        let bodies = [body(&[("a", 10), ("b", 11), ("c", 12)], "")];
+        let saved = outbox.commit_with(&bodies, 2, given).unwrap();
+        assert_eq!(
+            saved,
+            runs(&[("a", a.clone()), ("b", b.clone())]),
+            "what the group has"
+        );
+        // The book is ahead of the run: it has delta points.
+        outbox
+            .commit_with(&[body(&[("a", 30)], "")], 3, runs(&[("a", late.clone())]))
+            .unwrap();
+    }
+    let wanted = [
+        ("a".to_string(), Some((*late).clone())),
+        ("b".to_string(), Some((*b).clone())),
+        ("c".to_string(), None),
+    ];
+    // The first start reads the commits, the others the snapshot that it wrote.
+    for start in 0..3 {
+        let outbox = open(path);
+        assert_eq!(found(&outbox), wanted, "{start}");
+        assert_eq!((outbox.since(), outbox.frontier(&key_of("a"))), (since, 30));
+    }
+}
+
+/// A run that goes on behind it must not count again.
+#[test]
+fn what_was_forgotten_is_known_by_when_it_ended() {
+    let folder = tempfile::tempdir().unwrap();
+    let made = {
+        let outbox = open(folder.path());
+        outbox
+            .commit(&[body(&[("a", 40), ("b", 70), ("c", 90)], "")], 2)
+            .unwrap();
+        let owners = ["a", "b", "c"].map(|key| (key_of(key), "A".to_string()));
+        outbox.own(owners.into()).unwrap();
+        let keep = HashSet::from([key_of("c")]);
+        assert_eq!(outbox.forget_of(AT_ONCE, &keep).unwrap().len(), 2);
+        outbox.since().made
+    };
+    for _ in 0..2 {
+        let wanted = Since { made, forgotten: 70 };
+        assert_eq!(open(folder.path()).since(), wanted);
+    }
+}

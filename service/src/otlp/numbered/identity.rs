@@ -1,12 +1,13 @@
 //! What is not known yet is read once by the reader for all requests: a request that has this alone.
 
-use super::levels::{Full, Level, Levels, FOREIGN};
-use super::walk::{Find, Known, Own, Path, Stop};
+use super::levels::{Full, Level, Levels, CUMULATIVE, FOREIGN};
+use super::walk::{Find, Head, Known, Own, Path, Stop};
 use super::Learnt;
 use crate::otlp::from_protobuf;
 use crate::otlp::output::Written;
 use crate::otlp::whole::{rewritten, scale_of, shown_of, Scale, Scaled, ShownSeries};
-use crate::otlp::Reading;
+use crate::otlp::wire::{Fields, Payload};
+use crate::otlp::{Cumulative, Reading};
 use bytes::Bytes;
 use std::sync::atomic::{AtomicBool, Ordering::Relaxed};
 use std::sync::{Arc, PoisonError, RwLock, RwLockReadGuard};
@@ -28,7 +29,10 @@ impl Find for Learner<'_> {
             Err(Stop::Unknown) => {}
             known => return known,
         }
-        let written = self.written(&request(path, &[]))?;
+        let written = self.written(&match self.makes_deltas(path) {
+            true => as_delta(path, &[]),
+            false => request(path, &[]),
+        })?;
         let scaled = match written.is_measured {
             true => scale_of(&written.text, &self.reading.whole).ok_or(Stop::Slow)?,
             false => Scaled::Plain,
@@ -54,7 +58,11 @@ impl Find for Learner<'_> {
         if let Some(number) = self.known().find(within, own.attributes) {
             return Ok(number);
         }
-        let written = self.written(&request(path, &field(1, &point(own))))?;
+        let (is_cumulative, points) = (self.makes_deltas(path), field(1, &point(own)));
+        let written = self.written(&match is_cumulative {
+            true => as_delta(path, &points),
+            false => request(path, &points),
+        })?;
         let text = match scale {
             Some(_) => self.in_finer(&written.text)?,
             None => written.text,
@@ -62,15 +70,12 @@ impl Find for Learner<'_> {
         let series = scale
             .filter(|scale| scale.is_finer())
             .and_then(|scale| shown_of(&text, scale.rule.clone()));
-        self.fitting(|levels| levels.take_room(own.attributes, text.len()))?;
-        let number = match (self.learn)(text.into_boxed_slice().into()).ok_or(Stop::Slow)? {
-            Learnt::Foreign => FOREIGN,
-            Learnt::Number(number) => u32::try_from(number).map_err(|_| Stop::Slow)?,
-        };
+        let flags = if is_cumulative { CUMULATIVE } else { 0 };
+        let number = self.name(within, own.attributes, text, flags)?;
         if let Some(series) = series {
             self.fitting(|levels| levels.show(number, series))?;
         }
-        self.fitting(|levels| Ok(levels.put(within, own.attributes, number)))
+        Ok(number)
     }
 
     fn scale(&self, level: Level) -> Option<Arc<Scale>> {
@@ -83,7 +88,26 @@ impl Find for Learner<'_> {
 }
 
 impl Learner<'_> {
-    fn known(&self) -> RwLockReadGuard<'_, Levels> {
+    /// Whether deltas are made of a metric's points.
+    fn makes_deltas(&self, path: &Path<'_>) -> bool {
+        let is_wanted = self.reading.cumulative == Cumulative::On;
+        is_wanted
+            && path
+                .head
+                .is_some_and(|head| temporality(head.tail) == CUMULATIVE_OF_OTLP)
+    }
+
+    /// The number of a series that has these bytes, by a request of one point, with these flags.
+    pub fn name(&self, within: Level, bytes: &[u8], request: Vec<u8>, flags: u32) -> Result<u32, Stop> {
+        self.fitting(|levels| levels.take_room(bytes, request.len()))?;
+        let number = match (self.learn)(request.into_boxed_slice().into()).ok_or(Stop::Slow)? {
+            Learnt::Foreign => FOREIGN,
+            Learnt::Number(number) => u32::try_from(number).map_err(|_| Stop::Slow)? | flags,
+        };
+        self.fitting(|levels| Ok(levels.put(within, bytes, number)))
+    }
+
+    pub fn known(&self) -> RwLockReadGuard<'_, Levels> {
         self.levels.read().unwrap_or_else(PoisonError::into_inner) // each change of it is whole
     }
 
@@ -122,6 +146,27 @@ fn request(path: &Path<'_>, points: &[u8]) -> Vec<u8> {
         field(2, &[&field(1, scope), &metric[..]].concat())
     });
     field(1, &[field(1, path.resource), scope].concat())
+}
+
+/// The number of a temporality, and how it is written; of several in a message the last counts.
+const CUMULATIVE_OF_OTLP: i32 = 2;
+const DELTA: [u8; 2] = [TEMPORALITY << 3, 1];
+const TEMPORALITY: u8 = 2;
+
+fn temporality(tail: &[u8]) -> i32 {
+    let own = |field| match field {
+        Ok((number, Payload::Varint(found))) if number == u32::from(TEMPORALITY) => Some(found as i32),
+        _ => None,
+    };
+    Fields::of(tail).filter_map(own).last().unwrap_or(0)
+}
+
+/// The same of the delta metric of its name: what deltas are made of has its series.
+fn as_delta(path: &Path<'_>, points: &[u8]) -> Vec<u8> {
+    let tail = path.head.map_or(&[][..], |head| head.tail);
+    let tail = [tail, &DELTA].concat();
+    let head = path.head.map(|head| Head { tail: &tail, ..head });
+    request(&Path { head, ..*path }, points)
 }
 
 /// A point of a series that nothing is wrong with.

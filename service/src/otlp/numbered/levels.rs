@@ -1,5 +1,5 @@
 //! What is known by its bytes: resources, in each its scopes, in each its metrics, in a histogram its bounds, and then the
-//! points' attributes, which have the number of their series.
+//! points' attributes, which have the number of their series. Beside them the keys of series, which have numbers too.
 
 use crate::otlp::whole::{Scale, ShownSeries};
 use ahash::RandomState;
@@ -11,6 +11,10 @@ pub type Level = u32;
 
 /// The level of resources.
 pub const TOP: Level = 0;
+/// The level of series' keys, by which points of a text are known.
+pub const KEYS: Level = 1;
+/// With a number: the points of the series are cumulative.
+pub const CUMULATIVE: u32 = 1 << 31;
 /// In the place of a number: no point of the series is taken.
 pub const FOREIGN: u32 = u32::MAX;
 
@@ -38,7 +42,7 @@ impl Levels {
     pub fn new(most: usize) -> Levels {
         let hasher = RandomState::new();
         Levels {
-            all: vec![HashMap::with_hasher(hasher.clone())],
+            all: vec![HashMap::with_hasher(hasher.clone()); 2],
             scales: HashMap::with_hasher(hasher.clone()),
             shown: HashMap::with_hasher(hasher.clone()),
             hasher,

@@ -1,7 +1,7 @@
 //! Looks a request through: its fields in the order in which nearly all encoders write them, each once. Of anything else
 //! it says `Slow`, and then the request is read as any other.
 
-use super::levels::{Level, Levels, FOREIGN, TOP};
+use super::levels::{Level, Levels, CUMULATIVE, FOREIGN, TOP};
 use super::Numbered;
 use crate::files::Points;
 use crate::otlp::from_protobuf::is_exemplar;
@@ -119,6 +119,8 @@ pub struct Walk<'b, F> {
     bounds: Option<(Level, &'b [u8], Level)>,
     words: Vec<u64>,
     ends: Vec<usize>,
+    /// The places of the points that are cumulative.
+    cumulative: Vec<u32>,
     foreign: u64,
     rounded: Vec<RoundedPoint>,
 }
@@ -169,6 +171,7 @@ impl<'b, F: Find> Walk<'b, F> {
             bounds: None,
             words: Vec::with_capacity(length / BYTES_OF_A_WORD),
             ends: Vec::with_capacity(length / BYTES_OF_A_POINT),
+            cumulative: Vec::new(),
             foreign: 0,
             rounded: Vec::new(),
         }
@@ -177,11 +180,11 @@ impl<'b, F: Find> Walk<'b, F> {
     pub fn request(mut self, body: &'b [u8]) -> Result<Numbered, Stop> {
         each(&REQUEST, 1, Fields::of(body), |resource| self.resource(resource))?;
         let points = Points::new(self.words, self.ends).ok_or(Stop::Slow)?;
-        let (foreign, rounded) = (self.foreign, Rounded::of_points(self.rounded));
         Ok(Numbered {
             points,
-            foreign,
-            rounded,
+            foreign: self.foreign,
+            cumulative: self.cumulative,
+            rounded: Rounded::of_points(self.rounded),
         })
     }
 
@@ -288,7 +291,7 @@ impl<'b, F: Find> Walk<'b, F> {
         };
         match value {
             Some(value) if is_recorded(number, flags) => {
-                let words = [u64::from(number), start, end, value];
+                let words = [self.noted(number), start, end, value];
                 self.words.extend_from_slice(&words);
                 self.ends.push(self.words.len());
             }
@@ -335,7 +338,7 @@ impl<'b, F: Find> Walk<'b, F> {
         };
         match sum {
             Some([has, sum]) if is_recorded(number, flags) && buckets.len() == bound_count + 1 => {
-                let before = [u64::from(number), start, end, count, has, sum];
+                let before = [self.noted(number), start, end, count, has, sum];
                 self.words.extend_from_slice(&before);
                 let buckets = buckets.iter().map(|bucket| u64::from_le_bytes(*bucket));
                 self.words.extend(buckets);
@@ -355,6 +358,15 @@ impl<'b, F: Find> Walk<'b, F> {
             self.rounded.push(RoundedPoint { of, by });
         }
         Ok(value)
+    }
+
+    /// The number of the series of the next point, of which is noted whether it is cumulative.
+    #[inline]
+    fn noted(&mut self, number: u32) -> u64 {
+        if number & CUMULATIVE != 0 {
+            self.cumulative.push(self.ends.len() as u32);
+        }
+        u64::from(number & !CUMULATIVE)
     }
 
     /// Passes the exemplars that come next. They are new each time, and say nothing.

@@ -1,7 +1,7 @@
 //! A body read as the book reads it: which series it has points of, and which points are foreign.
 
 use super::identity::{text, write_attributes};
-use super::point::{histogram_point, sum_kind, sum_point};
+use super::point::{histogram_point, sum_kind, sum_point, Put, Temporality};
 use super::why::{What, Why};
 use super::{Posted, SeriesKey};
 use crate::otlp::json::{write_text, Document, Elements, Value};
@@ -14,10 +14,27 @@ pub struct Seen<'s, 'd> {
     /// The field of the metric's data.
     pub kind: &'static str,
     pub point: Value<'d>,
-    /// The series' key, where the point is of the profile.
+    /// Where it is of the profile the series' key, and its start, its end and what it says.
     pub key: &'s str,
-    /// Where it ends.
-    pub found: Result<u64, Why<'d>>,
+    pub words: &'s [u64],
+    pub found: Result<Temporality, Why<'d>>,
+}
+
+/// Which points are of the profile.
+#[derive(Clone, Copy, Debug, Default, PartialEq, Eq)]
+pub enum Profile {
+    /// Those that the book takes.
+    #[default]
+    Deltas,
+    /// Also what deltas can be made of.
+    AlsoCumulative,
+}
+
+impl Seen<'_, '_> {
+    /// Where a point of the profile ends.
+    pub fn end(&self) -> u64 {
+        self.words[1]
+    }
 }
 
 /// The series of a body that the book took; none where the book refuses the body whole.
@@ -29,9 +46,15 @@ pub fn posted(body: &[u8]) -> Option<Posted> {
     };
     visit(&document, |seen| match seen.found {
         Err(_) => posted.foreign += 1,
-        Ok(end) => posted.add(seen.key, end),
+        Ok(_) => posted.add(seen.key, seen.end()),
     })?;
     Some(posted)
+}
+
+/// The series of a request of one point, by which a number has its name.
+pub fn only(text: &[u8]) -> Option<SeriesKey> {
+    let mut series = posted(text)?.series.into_keys();
+    series.next().filter(|_| series.next().is_none())
 }
 
 impl Posted {
@@ -45,9 +68,19 @@ impl Posted {
 
 /// Shows each point of a body, in order; `None` where the book refuses the body whole.
 pub fn visit<'d>(document: &'d Document<'_>, each: impl FnMut(Seen<'_, 'd>)) -> Option<()> {
+    visit_with(document, Profile::Deltas, each)
+}
+
+/// The same by another profile.
+pub fn visit_with<'d>(
+    document: &'d Document<'_>,
+    profile: Profile,
+    each: impl FnMut(Seen<'_, 'd>),
+) -> Option<()> {
     let mut walk = Walk {
         each,
-        key: String::new(),
+        profile,
+        put: Put::default(),
     };
     let [resources] = document.root().named(["resourceMetrics"])?;
     for resource in objects(resources)? {
@@ -86,20 +119,21 @@ type Known<'d> = Result<(), Why<'d>>;
 
 struct Walk<F> {
     each: F,
-    /// Where keys are put together: what is above a point stays while its siblings are read.
-    key: String,
+    profile: Profile,
+    /// Where a point is put together: what is above it stays in the key while its siblings are read.
+    put: Put,
 }
 
 impl<'d, F: FnMut(Seen<'_, 'd>)> Walk<F> {
     fn resource(&mut self, value: Value<'d>) -> Option<()> {
         let [resource, scopes] = value.named(["resource", "scopeMetrics"])?;
         let [attributes] = members(resource, ["attributes"])?;
-        self.key.clear();
-        self.key.push('[');
-        let known = write_attributes(&mut self.key, "resource attribute", attributes);
-        let above = self.key.len();
+        self.put.key.clear();
+        self.put.key.push('[');
+        let known = write_attributes(&mut self.put.key, "resource attribute", attributes);
+        let above = self.put.key.len();
         for scope in objects(scopes)? {
-            self.key.truncate(above);
+            self.put.key.truncate(above);
             self.scope(scope, known)?;
         }
         Some(())
@@ -109,14 +143,14 @@ impl<'d, F: FnMut(Seen<'_, 'd>)> Walk<F> {
         let [scope, metrics] = value.named(["scope", "metrics"])?;
         let [name, version, attributes] = members(scope, ["name", "version", "attributes"])?;
         let known = known.and_then(|()| {
-            write_part(&mut self.key, &text("scope name", name)?);
-            write_part(&mut self.key, &text("scope version", version)?);
-            self.key.push(',');
-            write_attributes(&mut self.key, "scope attribute", attributes)
+            write_part(&mut self.put.key, &text("scope name", name)?);
+            write_part(&mut self.put.key, &text("scope version", version)?);
+            self.put.key.push(',');
+            write_attributes(&mut self.put.key, "scope attribute", attributes)
         });
-        let above = self.key.len();
+        let above = self.put.key.len();
         for metric in objects(metrics)? {
-            self.key.truncate(above);
+            self.put.key.truncate(above);
             self.metric(metric, known)?;
         }
         Some(())
@@ -152,8 +186,8 @@ impl<'d, F: FnMut(Seen<'_, 'd>)> Walk<F> {
             }
         }
         let known = known.and_then(|()| {
-            write_part(&mut self.key, &text("metric name", name)?);
-            write_part(&mut self.key, &text("unit", unit)?);
+            write_part(&mut self.put.key, &text("metric name", name)?);
+            write_part(&mut self.put.key, &text("unit", unit)?);
             Ok(())
         });
         if let Some(sum) = sum {
@@ -171,31 +205,36 @@ impl<'d, F: FnMut(Seen<'_, 'd>)> Walk<F> {
         metric: Value<'d>,
         part: Part<'d>,
         known: Known<'d>,
-        kind: fn(&mut String, Value<'d>) -> Known<'d>,
-        point: fn(&mut String, Value<'d>) -> Result<u64, Why<'d>>,
+        kind: fn(&mut Put, Value<'d>) -> Known<'d>,
+        point: fn(&mut Put, Value<'d>, Temporality) -> Known<'d>,
     ) -> Option<()> {
         let known = known
-            .and_then(|()| is_delta(part.whole))
-            .and_then(|()| kind(&mut self.key, part.whole));
-        let above = self.key.len();
+            .and_then(|()| temporality(part.whole, self.profile))
+            .and_then(|temporality| kind(&mut self.put, part.whole).map(|()| temporality));
+        let above = self.put.key.len();
         for value in objects(part.points)? {
-            self.key.truncate(above);
-            let found = match known {
-                Ok(()) => point(&mut self.key, value),
-                Err(why) => Err(why),
-            };
+            self.put.key.truncate(above);
+            self.put.words.clear();
+            let found =
+                known.and_then(|temporality| point(&mut self.put, value, temporality).map(|()| temporality));
             self.show(metric, part.kind, value, found);
         }
         Some(())
     }
 
-    fn show(&mut self, metric: Value<'d>, kind: &'static str, point: Value<'d>, found: Result<u64, Why<'d>>) {
-        let key = &self.key;
+    fn show(
+        &mut self,
+        metric: Value<'d>,
+        kind: &'static str,
+        point: Value<'d>,
+        found: Result<Temporality, Why<'d>>,
+    ) {
         (self.each)(Seen {
             metric,
             kind,
             point,
-            key,
+            key: &self.put.key,
+            words: &self.put.words,
             found,
         });
     }
@@ -221,10 +260,11 @@ fn in_words(kind: &'static str) -> &'static str {
     }
 }
 
-fn is_delta(data: Value<'_>) -> Known<'_> {
+fn temporality(data: Value<'_>, profile: Profile) -> Result<Temporality, Why<'_>> {
     let [found] = data.named(["aggregationTemporality"]).unwrap_or_default();
     match found.and_then(Value::number) {
-        Some("1") => Ok(()),
+        Some("1") => Ok(Temporality::Delta),
+        Some("2") if profile == Profile::AlsoCumulative => Ok(Temporality::Cumulative),
         Some("2") => Err(Why::new(What::Cumulative, "aggregationTemporality", found)),
         _ => Err(Why::new(What::NotDelta, "aggregationTemporality", found)),
     }

@@ -65,7 +65,11 @@ fn an_up_down_counter_is_told_what_helps() {
     let why = |more: &str| {
         let metric = format!(r#"{{"sum":{{"aggregationTemporality":2{more},"dataPoints":[{{}}]}}}}"#);
         let written = prepared(Encoding::Json, request(&metric)).unwrap();
-        explained(&written).unwrap().remove(0).foreign.unwrap()
+        explained(&written, Profile::Deltas)
+            .unwrap()
+            .remove(0)
+            .foreign
+            .unwrap()
     };
     assert!(why("").contains("UpDownCounter is also with the temporality preference delta: use two Counters"));
     let counter = why(r#","isMonotonic":true"#);

@@ -7,7 +7,7 @@ const SPAN: &str = r#""startTimeUnixNano":"1","timeUnixNano":"2""#;
 /// Why the one point of a request is foreign.
 fn why(body: String) -> String {
     let written = prepared(Encoding::Json, body.clone()).unwrap();
-    let points = explained(&written).unwrap();
+    let points = explained(&written, Profile::Deltas).unwrap();
     let [point] = &points[..] else {
         panic!("{body}: {points:?}")
     };
@@ -219,7 +219,7 @@ fn a_point_that_the_book_counts_is_found_again() {
     let body = request(&format!(
         r#"{{"name":"m","sum":{{"aggregationTemporality":1,"dataPoints":[{{{SPAN},"asInt":1}},{{}},{{{SPAN},"asInt":1,"attributes":[{{"key":"k"}}]}}]}}}}"#
     ));
-    let key = |place| point_at(body.as_bytes(), place).map(|(_, key)| key.0.to_string());
+    let key = |place| point_at(body.as_bytes(), Profile::Deltas, place).map(|(_, key)| key.0.to_string());
     assert_eq!(
         key(1).unwrap(),
         r#"[[],"","",[],"m","","sum",[{"key":"k","value":{}}]]"#

@@ -7,7 +7,7 @@ use super::messages::{
 use super::{in_json, prepared};
 use crate::otlp::output::LONGEST_LIST;
 use crate::otlp::series::posted;
-use crate::otlp::{explained, Encoding};
+use crate::otlp::{explained, Encoding, Profile};
 use prost::Message;
 
 /// How many points a request has.
@@ -99,7 +99,7 @@ fn a_list_that_is_too_long_makes_foreign_what_it_identifies() {
         ] {
             for body in bodies(&request) {
                 assert_eq!(posted(&body).unwrap().foreign, expected, "{of} {length}");
-                let why = explained(&body).unwrap().remove(0).foreign;
+                let why = explained(&body, Profile::Deltas).unwrap().remove(0).foreign;
                 let wanted = format!("{of} is a list of over 16384 bytes, no list of attributes");
                 assert_eq!(why, (expected > 0).then_some(wanted));
             }

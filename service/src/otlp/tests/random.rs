@@ -229,7 +229,7 @@ fn both_mean_the_same(reading: &Reading) -> BTreeMap<String, Rounding> {
         let request = random.request();
         let binary = prepared(Encoding::Protobuf, request.encode_to_vec());
         let expected = posted(&binary.body).unwrap();
-        let explained = explained(&binary.body).unwrap();
+        let explained = explained(&binary.body, Profile::Deltas).unwrap();
         let told = explained.iter().filter(|point| point.foreign.is_some()).count();
         assert_eq!(told as u64, expected.foreign);
         let points = |metric: &Metric| match &metric.data {

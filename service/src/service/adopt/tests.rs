@@ -216,6 +216,7 @@ async fn a_quarantine_and_too_many_series_are_named_and_change_nothing() {
         frontier: 2,
         owner: Some("s1".into()),
         seen: number as u64,
+        run: None,
     };
     let many = (0..FEW).map(|number| {
         let key = format!("[[],\"\",\"\",[],\"m{number}\",\"\",\"sum\",[]]");

@@ -3,7 +3,7 @@
 use super::*;
 use crate::core::Read;
 use crate::files::{self, Body, Durability, Folder};
-use crate::otlp::{posts_of_test, Choice, Rule, Whole};
+use crate::otlp::{posts_of_test, requests_of_test, Choice, Rule, Whole};
 use crate::slot::request::read;
 use std::collections::HashSet;
 
@@ -87,6 +87,97 @@ fn by_number(read: &Read) -> Option<&Points> {
 fn rules(rules: &[&str]) -> Whole {
     let rules = rules.iter().map(|rule| rule.parse::<Rule>().unwrap());
     Whole::new(rules).unwrap()
+}
+
+/// The same of texts, of both encodings.
+#[test]
+fn a_text_by_number_is_what_the_library_reads_of_it() {
+    let reading = Arc::new(Reading::default());
+    let of_protobuf = posts_of_test(11, 2_000).into_iter().flat_map(|body| {
+        let prepared = prepare(Encoding::Protobuf, body.into(), &reading);
+        prepared.map(|prepared| prepared.body)
+    });
+    let mut both = Both::new(Reading::default());
+    for (number, text) in of_protobuf
+        .chain(requests_of_test(2_000).into_iter().flatten())
+        .enumerate()
+    {
+        let sender = ["A", "B"][number / 7 % 2];
+        let slow = admitted(&both.slow, sender, text.clone().into());
+        let by_number = both.numbers.read_text(&both.fast, &text).unwrap();
+        both.by_number += usize::from(by_number.is_some());
+        let fast = match by_number {
+            None => admitted(&both.fast, sender, text.clone().into()),
+            // Not by the way back to its text.
+            Some(by) => admitted_as_it_is(&both.fast, sender, deltas(by)),
+        };
+        assert_eq!(fast, slow, "{text:?}");
+        if let Ok(foreign) = slow {
+            (both.taken, both.foreign) = (both.taken + 1, both.foreign + foreign);
+        }
+        if number % 100 == 99 {
+            both.flush();
+        }
+    }
+    assert!(
+        both.by_number > 5_000 && both.taken > 2_000,
+        "{} {}",
+        both.by_number,
+        both.taken
+    );
+    assert!(both.foreign > 2_000, "{}", both.foreign);
+}
+
+/// Without what is cumulative, which is foreign to the library.
+fn deltas(by: ByNumber) -> ByNumber {
+    let mut points = Points::default();
+    for (place, point) in (0..).zip(by.points.each()) {
+        if !by.cumulative.contains(&place) {
+            points.push_words(point[0], &point[1..]);
+        }
+    }
+    let foreign = by.foreign + by.cumulative.len() as u64;
+    ByNumber {
+        points,
+        foreign,
+        ..by
+    }
+}
+
+fn admitted_as_it_is(core: &Arc<Core>, sender: &str, by: ByNumber) -> Result<u64, String> {
+    let read = core.read_points(sender.into(), by.points, by.names, by.foreign);
+    let admitted = read.and_then(|mut read| {
+        assert_eq!(
+            read.post.foreign, by.foreign,
+            "the library finds no other foreign"
+        );
+        core.lock().admit(&mut read)?;
+        Ok(read.post.foreign)
+    });
+    admitted.map_err(|refused| refused.to_string())
+}
+
+/// Where there is room for few series a text has numbers of its own.
+#[test]
+fn a_text_has_numbers_also_where_there_is_no_room_for_them() {
+    let core = Core::new(1).unwrap();
+    let numbers = Numbers {
+        limits: Limits {
+            bytes: 0,
+            kept: Duration::from_secs(60),
+        },
+        ..Numbers::default()
+    };
+    let text = requests_of_test(20)
+        .into_iter()
+        .flatten()
+        .max_by_key(Bytes::len)
+        .unwrap();
+    let generation = |by: &ByNumber| files::Names::generation(&*by.names);
+    let [one, other] = [(); 2].map(|()| numbers.read_text(&core, &text).unwrap().unwrap());
+    assert!(one.points.count() > 0);
+    assert_eq!(one.points, other.points);
+    assert_ne!(generation(&one), generation(&other));
 }
 
 /// A post that takes more than it asks room for uses up what the disk keeps back, where many come at once.

@@ -1,5 +1,6 @@
 //! Points come back as they were, in few bytes; what is no points is refused.
 
+use super::super::post::OfRun;
 use super::*;
 use crate::files::numbers::Numbers;
 use crate::files::records;
@@ -50,6 +51,72 @@ fn the_bytes_are_those_of_the_table() {
         ],
     ];
     assert_eq!(of(&points), bytes.concat());
+}
+
+/// The same of points some of which are of runs.
+fn of_runs(chance: &mut Numbers) -> Points {
+    let mut points = random(chance);
+    points.push(any(chance), any(chance), any(chance), [any(chance)]);
+    for place in 0..points.count() as u32 {
+        let start = any(chance);
+        let is_last = place + 1 == points.count() as u32;
+        match chance.below(4) {
+            0 if !is_last || !points.runs().is_empty() => {}
+            1 => points.put_run(place, OfRun::Began(start)),
+            2 => {
+                let words = (0..chance.below(9)).map(|_| any(chance)).collect();
+                points.put_run(place, OfRun::Noted { start, words });
+            }
+            _ => points.put_run(place, OfRun::More),
+        }
+    }
+    points
+}
+
+#[test]
+fn the_bytes_of_runs_are_those_of_the_table() {
+    let mut points = Points::default();
+    for _ in 0..4 {
+        points.push(0, 70, 100, [5]);
+    }
+    let plain = of(&points);
+    points.put_run(0, OfRun::More);
+    points.put_run(2, OfRun::Began(60));
+    let (start, words) = (70, vec![300, 0]);
+    points.put_run(3, OfRun::Noted { start, words });
+    let bytes = [
+        32 + 3,
+        32,
+        32 + 3 + 1,
+        32 + 20,
+        32 + 2,
+        32,
+        32 + 2,
+        128 + 88,
+        32 + 4,
+        32,
+    ];
+    assert_eq!(of(&points), [&bytes[..], &plain].concat());
+}
+
+#[test]
+fn random_runs_come_back_and_changed_ones_are_none_or_of_others() {
+    let mut chance = Numbers(3);
+    for _ in 0..3_000 {
+        let points = of_runs(&mut chance);
+        let bytes = of(&points);
+        let is_kind = |byte: &u8| (records::HEADER..=records::LAST).contains(byte);
+        assert!(!bytes.iter().any(is_kind), "a record could be in it");
+        assert_eq!(read_with_runs(&bytes), Some(points));
+        let at = chance.below(bytes.len() as u64) as usize;
+        let mut flipped = bytes.clone();
+        flipped[at] ^= 1 << chance.below(8);
+        for changed in [&bytes[..at], &flipped] {
+            if let Some(points) = read_with_runs(changed) {
+                assert_eq!(of(&points), changed);
+            }
+        }
+    }
 }
 
 #[test]

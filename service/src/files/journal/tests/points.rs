@@ -118,16 +118,16 @@ fn points_without_a_name_are_refused_by_name() {
     assert!(fault.contains(&place), "{fault}");
 }
 
-/// Totxegun up to 0.5.0 looks at this number, and says that it is a later one's.
+/// An earlier totxegun looks at this number, and says that it is a later one's.
 #[test]
-fn a_journal_that_may_have_points_is_of_version_2() {
+fn a_journal_that_may_have_runs_is_of_version_3() {
     let folder = tempfile::tempdir().unwrap();
     kill(open(folder.path()));
     let found = bytes(&segment::path(folder.path(), 1));
     let header = &found[records::MARK_LENGTHS[1]..];
     assert_eq!(
         header[8..19],
-        [1, b't', b'o', b't', b'x', b'e', b'g', b'u', b'n', 2, 0]
+        [1, b't', b'o', b't', b'x', b'e', b'g', b'u', b'n', 3, 0]
     );
 }
 

@@ -124,6 +124,7 @@ fn commit_without_sync(outbox: &Outbox, bodies: &[Vec<u8>], journal: u64) {
     let (group, bytes) = {
         let state = lock(&outbox.state);
         let group = Group {
+            runs: Runs::new(),
             first: state.next,
             epoch: state.next_epoch.clone(),
             since: 1,

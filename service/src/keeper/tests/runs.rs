@@ -1,0 +1,463 @@
+//! Cumulative points over checkpoints, kills, quarantines and what is forgotten: what reaches the outbox is what a plain count
+//! of the same posts says.
+
+use super::*;
+use crate::files::numbers::Numbers;
+use crate::otlp::series::{forwarded, Value};
+use crate::otlp::Outcome;
+use crate::runs::{First, Options, Reset};
+use crate::slot::Request;
+use std::collections::BTreeMap;
+
+/// Points begin here, so that they are of runs that began after the folder was made.
+const BEGIN: u64 = 4_000_000_000_000_000_000;
+
+/// A cumulative point of a series: its name says its kind.
+#[derive(Clone, Debug)]
+struct Point {
+    name: String,
+    start: u64,
+    time: u64,
+    /// A histogram's, of one bound: below it, and all.
+    value: i64,
+    all: i64,
+}
+
+impl Point {
+    fn text(&self, temporality: u8) -> String {
+        let Point {
+            name,
+            start,
+            time,
+            value,
+            all,
+        } = self;
+        let span = format!(r#""startTimeUnixNano":"{start}","timeUnixNano":"{time}""#);
+        let head = format!(r#""aggregationTemporality":{temporality},"dataPoints":[{{{span}"#);
+        match &name[..1] {
+            "h" => format!(
+                r#"{{"name":"{name}","histogram":{{{head},"count":"{all}","sum":{value},"explicitBounds":[5],"bucketCounts":["{value}","{}"]}}]}}}}"#,
+                all - value
+            ),
+            kind => format!(
+                r#"{{"name":"{name}","sum":{{"isMonotonic":{},{head},"asInt":"{value}"}}]}}}}"#,
+                kind == "m"
+            ),
+        }
+    }
+}
+
+fn text(points: &[Point], temporality: u8) -> String {
+    let metrics: Vec<String> = points.iter().map(|point| point.text(temporality)).collect();
+    let metrics = metrics.join(",");
+    format!(r#"{{"resourceMetrics":[{{"scopeMetrics":[{{"metrics":[{metrics}]}}]}}]}}"#)
+}
+
+impl Run {
+    async fn begin_runs(path: &Path, options: Options) -> Run {
+        let folder = Folder::open(path, Durability::Process).unwrap();
+        let run = Run::begin_in(folder, settings()).await;
+        run.slot.runs.set(options);
+        run
+    }
+
+    async fn cumulative(&self, sender: &str, points: &[Point]) -> Outcome {
+        let by = self.slot.numbered_text(&text(points, 2).into()).unwrap().unwrap();
+        self.slot.request(sender.into(), Request::Numbered(by)).await
+    }
+
+    /// What it has forwarded.
+    async fn forwarded(&self) -> BTreeMap<String, (i128, i128)> {
+        let mut sums: BTreeMap<String, (i128, i128)> = BTreeMap::new();
+        while self.slot.outbox.waiting().0 > 0 {
+            let (waiting, body) = self.slot.outbox.first().await.unwrap();
+            self.slot.outbox.acknowledge(waiting.number).unwrap();
+            for point in forwarded(&body).unwrap() {
+                let (value, all): (i128, i128) = match point.value {
+                    Value::Sum(value) => (value.into(), 0),
+                    Value::Histogram { count, sum, buckets } => {
+                        assert_eq!(sum, Some(buckets[0]));
+                        (buckets[0].into(), count.into())
+                    }
+                };
+                let sum = sums.entry(point.series.parts().unwrap().name).or_default();
+                *sum = (sum.0 + value, sum.1 + all);
+            }
+        }
+        sums
+    }
+}
+
+/// Begins where a `kill -9` would have left a run.
+async fn killed(run: Run, place: &Path, number: usize, options: Options) -> Run {
+    let [from, to] = [number, number + 1].map(|number| place.join(format!("data{number}")));
+    copy(&from, &to);
+    // What it still does is for nobody.
+    run.end().await;
+    Run::begin_runs(&to, options).await
+}
+
+fn copy(from: &Path, to: &Path) {
+    let copied = std::process::Command::new("cp")
+        .arg("-r")
+        .args([from, to])
+        .status();
+    assert!(copied.unwrap().success());
+}
+
+/// What is counted, without a thought for deltas: of each run of a series its last values.
+#[derive(Default)]
+struct Plain {
+    last: BTreeMap<String, (u64, u64)>,
+    runs: BTreeMap<String, Vec<(i64, i64)>>,
+}
+
+impl Plain {
+    fn take(&mut self, point: &Point) {
+        let runs = self.runs.entry(point.name.clone()).or_default();
+        match self.last.get(&point.name) {
+            Some((_, last)) if point.time <= *last => return,
+            Some((start, last)) if *start != point.start && point.start < *last => return,
+            Some((start, _)) if *start == point.start => drop(runs.pop()),
+            _ => {}
+        }
+        let all = if point.name.starts_with('h') { point.all } else { 0 };
+        runs.push((point.value, all));
+        self.last.insert(point.name.clone(), (point.start, point.time));
+    }
+
+    fn sums(&self) -> BTreeMap<String, (i128, i128)> {
+        let sum = |runs: &Vec<(i64, i64)>| {
+            let value = runs.iter().map(|run| i128::from(run.0)).sum();
+            (value, runs.iter().map(|run| i128::from(run.1)).sum())
+        };
+        self.runs
+            .iter()
+            .map(|(name, runs)| (name.clone(), sum(runs)))
+            .collect()
+    }
+}
+
+/// A sender's program.
+struct Program {
+    sender: &'static str,
+    start: u64,
+    points: Vec<Point>,
+    sent: Vec<Vec<Point>>,
+}
+
+impl Program {
+    fn new(sender: &'static str) -> Program {
+        let names = ["m", "u", "h"].map(|kind| format!("{kind}-{sender}"));
+        let point = |name| Point {
+            name,
+            start: BEGIN,
+            time: BEGIN,
+            value: 0,
+            all: 0,
+        };
+        Program {
+            sender,
+            start: BEGIN,
+            points: names.map(point).into(),
+            sent: Vec::new(),
+        }
+    }
+
+    /// What it sends next; nothing where that is lost on its way.
+    fn next(&mut self, now: u64, chance: &mut Numbers) -> Option<Vec<Point>> {
+        if chance.below(12) == 0 {
+            self.start = now - 1;
+            self.points
+                .iter_mut()
+                .for_each(|point| (point.value, point.all) = (0, 0));
+        }
+        for point in &mut self.points {
+            let more = chance.below(9) as i64;
+            (point.start, point.time) = (self.start, now);
+            point.value += if point.name.starts_with('u') {
+                more - 4
+            } else {
+                more
+            };
+            point.all += more + chance.below(5) as i64;
+        }
+        let few = 1 + chance.below(3) as usize;
+        self.sent.push(self.points[..few].to_vec());
+        match chance.below(6) {
+            0 => None,
+            // Again, or one that was late.
+            1 => Some(self.sent[chance.below(self.sent.len() as u64) as usize].clone()),
+            _ => self.sent.last().cloned(),
+        }
+    }
+}
+
+#[tokio::test(flavor = "multi_thread")]
+async fn runs_over_kills_and_quarantines_come_to_the_sum_of_their_last_values() {
+    let options = Options {
+        first: First::Count,
+        reset: Reset::Refuse,
+    };
+    for seed in 1..=4 {
+        let place = tempfile::tempdir().unwrap();
+        let (mut chance, mut now, mut kills) = (Numbers(seed), BEGIN + 10, 0);
+        let mut run = Run::begin_runs(&place.path().join("data0"), options).await;
+        let (mut plain, mut sums) = (Plain::default(), BTreeMap::<String, (i128, i128)>::new());
+        let mut programs = ["A", "B"].map(Program::new);
+        let mut quarantined = false;
+        for _ in 0..150 {
+            now += 1 + chance.below(20);
+            match chance.below(12) {
+                0 => drop(run.flush().await),
+                1 => {
+                    run = killed(run, place.path(), kills, options).await;
+                    kills += 1;
+                }
+                2 => {
+                    let order = if quarantined {
+                        Order::Lift
+                    } else {
+                        Order::Quarantine
+                    };
+                    let done = run.orders.order(order("B".into())).await;
+                    assert_eq!(done, Some(Done::Answered(Outcome::taken(0))));
+                    quarantined = !quarantined;
+                }
+                3 => {
+                    for (name, sum) in run.forwarded().await {
+                        let known = sums.entry(name).or_default();
+                        *known = (known.0 + sum.0, known.1 + sum.1);
+                    }
+                }
+                _ => {
+                    let program = &mut programs[chance.below(2) as usize];
+                    let Some(points) = program.next(now, &mut chance) else {
+                        continue;
+                    };
+                    let outcome = run.cumulative(program.sender, &points).await;
+                    match outcome {
+                        Outcome::Refused { status: 403, .. } => assert!(quarantined),
+                        Outcome::Taken { .. } => points.iter().for_each(|point| plain.take(point)),
+                        other => panic!("{other:?}"),
+                    }
+                }
+            }
+        }
+        if quarantined {
+            run.orders.order(Order::Lift("B".into())).await;
+        }
+        run.flush().await;
+        for (name, sum) in run.forwarded().await {
+            let known = sums.entry(name).or_default();
+            *known = (known.0 + sum.0, known.1 + sum.1);
+        }
+        assert_eq!(sums, plain.sums(), "seed {seed}");
+        assert!(kills > 3 && sums.len() == 6, "{kills} kills");
+        for kind in ["reading", "replay", "owner"] {
+            assert_eq!(
+                run.slot.metrics.faults.with_label_values(&[kind]).get(),
+                0,
+                "{kind}"
+            );
+        }
+        run.end().await;
+    }
+}
+
+fn point(name: &str, start: u64, time: u64, value: i64) -> Point {
+    Point {
+        name: name.into(),
+        start,
+        time,
+        value,
+        all: value,
+    }
+}
+
+fn rejected(outcome: &Outcome) -> (u64, String) {
+    match outcome {
+        Outcome::Taken { rejected, known, .. } => (*rejected, known.to_string()),
+        other => panic!("{other:?}"),
+    }
+}
+
+/// A run that goes on after its series was forgotten is none that began anew.
+#[tokio::test(flavor = "multi_thread")]
+async fn a_run_whose_series_was_forgotten_counts_from_there_on() {
+    let place = tempfile::tempdir().unwrap();
+    let run = Run::begin_runs(&place.path().join("data"), Options::default()).await;
+    assert_eq!(
+        run.cumulative("A", &[point("m", BEGIN, BEGIN + 10, 5)]).await,
+        Outcome::taken(0)
+    );
+    run.flush().await;
+    assert_eq!(run.slot.outbox.series_count(), 1);
+    let forgotten = run
+        .slot
+        .outbox
+        .forget(Duration::ZERO, &Default::default())
+        .unwrap();
+    // What was heard of in this second is not old yet.
+    if forgotten.is_empty() {
+        tokio::time::sleep(Duration::from_millis(2_100)).await;
+        assert_eq!(
+            run.slot
+                .outbox
+                .forget(Duration::from_secs(1), &Default::default())
+                .unwrap()
+                .len(),
+            1
+        );
+    }
+    run.end().await;
+    let run = Run::begin_runs(&place.path().join("data"), Options::default()).await;
+    run.forwarded().await;
+    // Late: it was counted.
+    let late = run.cumulative("A", &[point("m", BEGIN, BEGIN + 9, 4)]).await;
+    let why = "1 cumulative point from before series were forgotten".to_string();
+    assert_eq!(rejected(&late), (1, why));
+    assert_eq!(
+        run.cumulative("A", &[point("m", BEGIN, BEGIN + 20, 9)]).await,
+        Outcome::taken(0)
+    );
+    assert_eq!(run.slot.metrics.noted_runs.get(), 1);
+    assert_eq!(
+        run.cumulative("A", &[point("m", BEGIN, BEGIN + 30, 11)]).await,
+        Outcome::taken(0)
+    );
+    // Another series of that time may be one that was forgotten; one that began after it is not.
+    let others = [
+        point("n", BEGIN + 9, BEGIN + 30, 4),
+        point("o", BEGIN + 10, BEGIN + 30, 3),
+    ];
+    assert_eq!(run.cumulative("A", &others).await, Outcome::taken(0));
+    run.flush().await;
+    let sums = run.forwarded().await;
+    assert_eq!((sums["m"].0, sums["n"].0, sums["o"].0), (2, 0, 3));
+    run.end().await;
+}
+
+/// Of what is refused all else of its post is taken, and another sender's series stays its own.
+#[tokio::test(flavor = "multi_thread")]
+async fn what_is_refused_has_its_name() {
+    let place = tempfile::tempdir().unwrap();
+    let run = Run::begin_runs(&place.path().join("data"), Options::default()).await;
+    let old = point("m", 10, BEGIN, 5);
+    assert_eq!(
+        run.cumulative("A", &[old.clone(), point("m2", BEGIN, BEGIN + 1, 3)])
+            .await,
+        Outcome::taken(0)
+    );
+    assert_eq!(run.slot.metrics.noted_runs.get(), 1);
+    // The same again, also of another, adds nothing.
+    assert_eq!(run.cumulative("A", &[old.clone()]).await, Outcome::taken(0));
+    let other = run.cumulative("B", &[point("m", 10, BEGIN + 5, 7)]).await;
+    let message = "other writer: point 0".into();
+    assert_eq!(other, Outcome::Refused { status: 400, message });
+    let down = [point("m", 10, BEGIN + 5, 7), point("m2", BEGIN, BEGIN + 5, 1)];
+    let said = rejected(&run.cumulative("A", &down).await);
+    assert_eq!(said, (1, "1 cumulative point that went down".into()));
+    let earlier = [point("m", 11, BEGIN + 6, 8)];
+    let said = rejected(&run.cumulative("A", &earlier).await);
+    assert_eq!(
+        said,
+        (
+            1,
+            "1 point of a run that began before the last point of another".into()
+        )
+    );
+    run.flush().await;
+    let sums = run.forwarded().await;
+    assert_eq!((sums["m"].0, sums["m2"].0), (2, 3));
+    run.end().await;
+}
+
+/// Delta points that begin where a run has come to are taken, and then the run's are not: no span counts twice.
+#[tokio::test(flavor = "multi_thread")]
+async fn delta_and_cumulative_points_of_a_series_never_count_one_span_twice() {
+    let place = tempfile::tempdir().unwrap();
+    let path = place.path().join("data");
+    let mut run = Run::begin_runs(&path, Options::default()).await;
+    let delta = |name: &str, start, end, value| text(&[point(name, start, end, value)], 1);
+    let mixed = "1 cumulative point of a series with delta points".to_string();
+    for (name, flushes) in [("m", false), ("n", true)] {
+        assert_eq!(
+            run.cumulative("A", &[point(name, BEGIN, BEGIN + 10, 5)]).await,
+            Outcome::taken(0)
+        );
+        let body = delta(name, BEGIN + 10, BEGIN + 20, 2);
+        assert_eq!(run.slot.post("A".into(), body.into()).await, Outcome::taken(0));
+        if flushes {
+            run.end().await;
+            run = Run::begin_runs(&path, Options::default()).await;
+        }
+        let beside = format!("m-{name}");
+        let points = [
+            point(&beside, BEGIN, BEGIN + 20, 4),
+            point(name, BEGIN, BEGIN + 20, 7),
+        ];
+        assert_eq!(rejected(&run.cumulative("A", &points).await), (1, mixed.clone()));
+        // One that began behind them is another run.
+        let anew = [point(name, BEGIN + 20, BEGIN + 30, 1)];
+        assert_eq!(run.cumulative("A", &anew).await, Outcome::taken(0));
+    }
+    // A series that had delta points alone.
+    let body = delta("d", BEGIN, BEGIN + 10, 5);
+    assert_eq!(run.slot.post("A".into(), body.into()).await, Outcome::taken(0));
+    let all = [point("d", BEGIN, BEGIN + 20, 7)];
+    assert_eq!(rejected(&run.cumulative("A", &all).await), (1, mixed.clone()));
+    run.flush().await;
+    assert_eq!(rejected(&run.cumulative("A", &all).await), (1, mixed));
+    assert_eq!(
+        run.cumulative("A", &[point("d", BEGIN + 10, BEGIN + 30, 3)])
+            .await,
+        Outcome::taken(0)
+    );
+    run.flush().await;
+    let sums = run.forwarded().await;
+    let sum = |name: &str| sums[name].0;
+    assert_eq!(["m", "n", "d", "m-m", "m-n"].map(sum), [8, 8, 8, 4, 4]);
+    run.end().await;
+}
+
+/// Wherever a kill has cut the journal: a start has the posts before, and what is posted again is added once.
+#[tokio::test(flavor = "multi_thread")]
+async fn a_journal_that_is_cut_anywhere_goes_on_with_what_is_posted_again() {
+    const HEADER: usize = 64; // and the mark ahead of it
+    let place = tempfile::tempdir().unwrap();
+    let path = place.path().join("data0");
+    let options = Options {
+        first: First::Count,
+        reset: Reset::Refuse,
+    };
+    let run = Run::begin_runs(&path, options).await;
+    let (mut chance, mut plain, mut program) = (Numbers(7), Plain::default(), Program::new("A"));
+    let mut posts = Vec::new();
+    while posts.len() < 12 {
+        posts.extend(program.next(BEGIN + 100 * (1 + posts.len() as u64), &mut chance));
+    }
+    for points in &posts {
+        assert_eq!(run.cumulative("A", points).await, Outcome::taken(0));
+        points.iter().for_each(|point| plain.take(point));
+    }
+    let name = "slot-0/journal/000000000001.seg";
+    let whole = std::fs::read(path.join(name)).unwrap();
+    for end in (HEADER..whole.len()).step_by(97) {
+        let cut = place.path().join(format!("cut{end}"));
+        copy(&path, &cut);
+        std::fs::write(cut.join(name), &whole[..end]).unwrap();
+        let run = Run::begin_runs(&cut, options).await;
+        for points in &posts {
+            assert_eq!(
+                run.cumulative("A", points).await,
+                Outcome::taken(0),
+                "cut at {end}"
+            );
+        }
+        run.flush().await;
+        assert_eq!(run.forwarded().await, plain.sums(), "cut at {end}");
+        run.end().await;
+    }
+    run.end().await;
+}

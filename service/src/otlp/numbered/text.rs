@@ -1,0 +1,48 @@
+//! The points of a request in the book's form by number: each series is known by its key.
+
+use super::identity::Learner;
+use super::levels::{FOREIGN, KEYS};
+use super::walk::Stop;
+use super::{NotNamed, Numbered};
+use crate::otlp::json::Document;
+use crate::otlp::series::{visit_with, zeros, Profile, Seen, SeriesKey, Temporality};
+
+pub fn read(learner: &Learner<'_>, text: &[u8]) -> Result<Option<Numbered>, NotNamed> {
+    let Ok(document) = Document::parse(text) else {
+        return Ok(None);
+    };
+    let (mut read, mut goes_on) = (Numbered::default(), Ok(()));
+    let whole = visit_with(&document, Profile::AlsoCumulative, |seen| {
+        if goes_on.is_ok() {
+            goes_on = add(&mut read, learner, &seen);
+        }
+    });
+    goes_on.map_err(|_| NotNamed)?;
+    Ok(whole.map(|()| read))
+}
+
+fn add(read: &mut Numbered, learner: &Learner<'_>, seen: &Seen<'_, '_>) -> Result<(), Stop> {
+    let Ok(temporality) = seen.found else {
+        read.foreign += 1;
+        return Ok(());
+    };
+    match number(learner, seen.key)? {
+        FOREIGN => read.foreign += 1,
+        number => {
+            if temporality == Temporality::Cumulative {
+                read.cumulative.push(read.points.count() as u32);
+            }
+            read.points.push_words(number.into(), seen.words);
+        }
+    }
+    Ok(())
+}
+
+fn number(learner: &Learner<'_>, key: &str) -> Result<u32, Stop> {
+    if let Some(number) = learner.known().find(KEYS, key.as_bytes()) {
+        return Ok(number);
+    }
+    let end = 2; // of a point from 1 on
+    let mut request = zeros(&[(SeriesKey(key.into()), end)]).map_err(|_| Stop::Slow)?;
+    learner.name(KEYS, key.as_bytes(), request.pop().ok_or(Stop::Slow)?, 0)
+}

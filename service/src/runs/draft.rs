@@ -1,0 +1,255 @@
+//! The points that the book is asked to take of a post.
+
+use super::{Added, Entry, Found, Kind, Locked, Names, Options, Points, Refused, Run, Runs, SeriesKey};
+use crate::core;
+use crate::files::OfRun;
+use std::collections::BTreeMap;
+use std::sync::Arc;
+
+/// Of a post. Unless it is kept all is as it was before.
+pub struct Draft<'r> {
+    of: &'r Runs,
+    runs: Locked<'r>,
+    /// In their order: those that were made of cumulative ones, and delta points as they came.
+    pub points: Points,
+    /// How many points are not sound.
+    pub foreign: u64,
+    pub turned: Turned,
+    pub noted: Vec<Noted>,
+    before: Vec<(u32, Option<Arc<Run>>)>,
+    /// How many series were known.
+    first_new: usize,
+    is_kept: bool,
+    /// By the place of a point that was made here, its series.
+    made: Vec<(u32, u32)>,
+    /// Of each point its place in the post.
+    places: Vec<u32>,
+}
+
+/// Sound points that are not taken.
+#[derive(Clone, Debug, Default, PartialEq, Eq)]
+pub struct Turned {
+    pub by: BTreeMap<Refused, u64>,
+    /// One of them.
+    pub first: Option<(Refused, SeriesKey)>,
+}
+
+/// A first point from which alone its series counts: what it has from before is left out.
+#[derive(Clone, Debug, PartialEq, Eq)]
+pub struct Noted {
+    pub series: SeriesKey,
+    pub run: Run,
+}
+
+/// Points some of which are cumulative, by their places.
+#[derive(Clone, Copy)]
+pub struct Posted<'p> {
+    pub points: &'p Points,
+    pub cumulative: &'p [u32],
+    pub names: &'p Names,
+}
+
+impl Runs {
+    /// What the points of a post come to. `frontier` is where a series ends that has no run.
+    pub fn draft(&self, posted: Posted<'_>, frontier: impl Fn(&SeriesKey) -> u64) -> Draft<'_> {
+        let runs = self.lock();
+        let mut draft = Draft {
+            of: self,
+            first_new: runs.series.len(),
+            is_kept: false,
+            runs,
+            points: Points::default(),
+            foreign: 0,
+            turned: Turned::default(),
+            noted: Vec::new(),
+            before: Vec::new(),
+            made: Vec::new(),
+            places: Vec::new(),
+        };
+        let mut cumulative = posted.cumulative.iter().copied().peekable();
+        for (place, point) in (0..).zip(posted.points.each()) {
+            match cumulative.next_if_eq(&place) {
+                None => draft.points.push_words(point[0], &point[1..]),
+                Some(_) => draft.add(self.options(), posted.names, point, &frontier),
+            }
+            draft.places.resize(draft.points.count(), place);
+        }
+        draft
+    }
+}
+
+impl Draft<'_> {
+    fn add(&mut self, options: Options, names: &Names, point: &[u64], frontier: impl Fn(&SeriesKey) -> u64) {
+        let Some(found) = self.runs.find(names, point[0], frontier) else {
+            self.foreign += 1;
+            return;
+        };
+        let series = match &found {
+            Found::At(place) => &self.runs.series[*place as usize],
+            Found::New(series) => series,
+        };
+        let run = Run::of(point);
+        if !run.is_sound(series.kind) {
+            self.foreign += 1;
+            return;
+        }
+        match series.entry(options, self.runs.since, &run) {
+            Ok(None) => {}
+            Ok(Some(entry)) => self.take(found, point[0], entry),
+            Err(refused) => self.turned.add(refused, &series.key),
+        }
+    }
+
+    fn take(&mut self, found: Found, number: u64, entry: Entry) {
+        let place = self.runs.place(found, number);
+        let series = &self.runs.series[place as usize];
+        let (known, kind) = (series.run.clone(), series.kind);
+        if let Entry::Noted(run) = &entry {
+            let series = series.key.clone();
+            self.noted.push(Noted {
+                series,
+                run: run.clone(),
+            });
+        }
+        let after = entry.after(kind, known.as_deref()).map(Arc::new);
+        let at = self.points.count() as u32;
+        entry.put(&mut self.points, number);
+        self.made.push((at, place));
+        self.before.push((place, known));
+        self.runs.set(place, after);
+    }
+
+    /// The book has refused this point, since the series ends there in it: it has delta points too. The series, where the
+    /// point was made here.
+    pub fn note_frontier(&mut self, at: u64, frontier: u64) -> Option<SeriesKey> {
+        let found = self.made.binary_search_by_key(&at, |made| made.0.into()).ok()?;
+        let place = self.made[found].1;
+        let series = &mut self.runs.series[place as usize];
+        series.frontier = frontier;
+        Some(series.key.clone())
+    }
+
+    /// A refusal that names a point, by its place in the post.
+    pub fn refused(&self, refused: core::Refused) -> core::Refused {
+        let placed = |point: u64| {
+            self.places
+                .get(point as usize)
+                .map_or(point, |place| u64::from(*place))
+        };
+        match refused {
+            core::Refused::OtherWriter { point } => core::Refused::OtherWriter { point: placed(point) },
+            core::Refused::OutOfOrder { point, frontier } => {
+                let point = placed(point);
+                core::Refused::OutOfOrder { point, frontier }
+            }
+            other => other,
+        }
+    }
+
+    /// The book has taken it.
+    pub fn keep(mut self) {
+        self.is_kept = true;
+        self.of.note_count(&self.runs);
+    }
+}
+
+impl Drop for Draft<'_> {
+    fn drop(&mut self) {
+        if self.is_kept {
+            return;
+        }
+        for (place, run) in std::mem::take(&mut self.before).into_iter().rev() {
+            self.runs.series[place as usize].run = run;
+        }
+        let first_new = self.first_new;
+        self.runs.truncate(first_new);
+    }
+}
+
+impl Turned {
+    fn add(&mut self, refused: Refused, series: &SeriesKey) {
+        *self.by.entry(refused).or_default() += 1;
+        self.first.get_or_insert_with(|| (refused, series.clone()));
+    }
+
+    pub fn count(&self) -> u64 {
+        self.by.values().sum()
+    }
+}
+
+impl Run {
+    /// A cumulative point, by its words.
+    fn of(point: &[u64]) -> Run {
+        Run {
+            start: point[1],
+            time: point[2],
+            words: point[3..].to_vec(),
+        }
+    }
+
+    /// Whether the book could take such a point, of whatever span.
+    fn is_sound(&self, kind: Kind) -> bool {
+        const LONGEST_SUM: u64 = 1 << 53;
+        let is_spanned = self.start <= self.time && self.time > 1;
+        is_spanned
+            && match (kind, &self.words[..]) {
+                (Kind::Sum, [value]) => *value != 1 << 63,
+                (Kind::Monotonic, [value]) => *value < 1 << 63,
+                (Kind::Histogram, [count, _, sum, buckets @ ..]) => {
+                    let all: u128 = buckets.iter().map(|bucket| u128::from(*bucket)).sum();
+                    all == u128::from(*count) && *sum <= LONGEST_SUM
+                }
+                _ => false,
+            }
+    }
+}
+
+impl Entry {
+    /// By what the journal says of a point.
+    pub fn of(of_run: &OfRun, point: &[u64]) -> Entry {
+        let added = || Added {
+            from: point[1],
+            time: point[2],
+            words: point[3..].to_vec(),
+        };
+        match of_run {
+            OfRun::More => Entry::More(added()),
+            OfRun::Began(start) => Entry::Counted {
+                start: *start,
+                added: added(),
+            },
+            OfRun::Noted { start, words } => Entry::Noted(Run {
+                start: *start,
+                time: point[2],
+                words: words.clone(),
+            }),
+        }
+    }
+
+    /// Behind points as what the book is asked to take: of what is only noted a zero, by which the series is its sender's.
+    fn put(self, points: &mut Points, number: u64) {
+        let (of_run, added) = match self {
+            Entry::More(added) => (OfRun::More, added),
+            Entry::Counted { start, added } => (OfRun::Began(start), added),
+            Entry::Noted(Run { start, time, words }) => {
+                let mut zeros = vec![0; words.len()];
+                if let [_, has_sum, _, ..] = &mut zeros[..] {
+                    *has_sum = words[1];
+                }
+                let from = time - 1; // a sound point ends behind 1
+                let words_of_run = OfRun::Noted { start, words };
+                (
+                    words_of_run,
+                    Added {
+                        from,
+                        time,
+                        words: zeros,
+                    },
+                )
+            }
+        };
+        let at = points.count() as u32;
+        points.push(number, added.from, added.time, added.words);
+        points.put_run(at, of_run);
+    }
+}

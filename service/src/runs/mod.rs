@@ -1,0 +1,254 @@
+//! Cumulative points become deltas before they reach the book: what a series' run has come to since its last point.
+//!
+//! `law` is what becomes of a point, case by case, as `crates/service_law` has it; `draft` makes the points that the book is asked to take of a post. Of each
+//! series the last point that was taken is kept here, under a lock of its own: it is taken before the book's, and held until
+//! the journal has the post. So a refused post changes nothing, and posts that have no cumulative point never wait for it.
+//!
+//! It lasts as a frontier does. The journal has what was added, and what a run that is new or only noted is; a commit has the
+//! run of each series of its group as it was at the turn, and so has the snapshot. A start puts the journal's on top, each
+//! that is not in it yet.
+
+mod draft;
+mod law;
+
+pub use draft::{Draft, Noted, Posted, Turned};
+pub use law::{Entry, First, Kind, Options, Refused, Reset, Run, Since};
+
+use crate::core::Names;
+use crate::files::{self, Outbox, Points};
+use crate::otlp::series::{self, SeriesKey};
+use law::{entry, Added};
+use std::collections::HashMap;
+use std::sync::atomic::{AtomicUsize, Ordering::Relaxed};
+use std::sync::{Arc, Mutex, MutexGuard, OnceLock, PoisonError};
+
+/// Of all series.
+#[derive(Default)]
+pub struct Runs {
+    options: OnceLock<Options>,
+    state: Mutex<State>,
+    /// Who asks how many there are must not wait for the lock, which is held over a call of the disk.
+    count: AtomicUsize,
+}
+
+/// For who has the lock.
+pub type Locked<'r> = MutexGuard<'r, State>;
+
+/// In the place of a place: not looked up yet.
+const UNKNOWN: u32 = u32::MAX;
+
+#[derive(Default)]
+pub struct State {
+    since: Since,
+    series: Vec<Series>,
+    places: HashMap<SeriesKey, u32>,
+    /// By the number of a series in the names that were used last.
+    by_number: Vec<u32>,
+    generation: u64,
+    /// The places of series whose runs are in no commit as they are.
+    changed: Vec<u32>,
+}
+
+struct Series {
+    key: SeriesKey,
+    kind: Kind,
+    run: Option<Arc<Run>>,
+    is_changed: bool,
+    /// Where the book was found to be, where that is not the run's own last time: it has delta points too.
+    frontier: u64,
+}
+
+impl Runs {
+    /// How points are taken from now on; only the first call counts.
+    pub fn set(&self, options: Options) {
+        self.options.get_or_init(|| options);
+    }
+
+    fn options(&self) -> Options {
+        self.options.get().copied().unwrap_or_default()
+    }
+
+    /// Waits for the lock. It is taken before that of the book.
+    pub fn lock(&self) -> Locked<'_> {
+        self.state.lock().unwrap_or_else(PoisonError::into_inner) // each change of it is whole, or undone by a draft
+    }
+
+    /// Puts what a start has found in the place of all.
+    pub fn put(&self, locked: &mut Locked<'_>, state: State) {
+        **locked = state;
+        self.note_count(locked);
+    }
+
+    fn note_count(&self, state: &State) {
+        self.count.store(state.series.len(), Relaxed);
+    }
+
+    /// How many series have a run. Never waits.
+    pub fn count(&self) -> usize {
+        self.count.load(Relaxed)
+    }
+}
+
+impl State {
+    /// What an outbox knows.
+    pub fn of(outbox: &Outbox) -> State {
+        let mut state = State {
+            since: outbox.since(),
+            ..State::default()
+        };
+        for (key, known) in outbox.series() {
+            if let (Some(run), Some(mut series)) = (known.run, Series::new(key, known.frontier)) {
+                series.run = Some(run);
+                state.put(series);
+            }
+        }
+        state
+    }
+
+    /// What a post of the journal says of runs. What is known already stays.
+    pub fn replay(&mut self, names: &Names, points: &Points) {
+        for ((_, of_run), point) in points.with_runs() {
+            let found = self.find(names, point[0], |_| 0);
+            let place = found.map(|found| self.place(found, point[0]));
+            let Some(place) = place else { continue }; // each name that was written is that of a series
+            let series = &self.series[place as usize];
+            let after = Entry::of(of_run, point).after(series.kind, series.run.as_deref());
+            self.set(place, after.map(Arc::new));
+        }
+    }
+
+    fn set(&mut self, place: u32, run: Option<Arc<Run>>) {
+        let series = &mut self.series[place as usize];
+        series.run = run;
+        if !series.is_changed {
+            series.is_changed = true;
+            self.changed.push(place);
+        }
+    }
+
+    /// The runs that are in no commit as they are.
+    pub fn changed(&self) -> files::Runs {
+        let changed = self.changed.iter().map(|place| &self.series[*place as usize]);
+        let runs = changed.filter_map(|series| Some((series.key.clone(), series.run.clone()?)));
+        runs.collect()
+    }
+
+    /// These are in a commit.
+    pub fn saved(&mut self, runs: &files::Runs) {
+        for (key, saved) in runs {
+            let Some(place) = self.places.get(key) else {
+                continue;
+            };
+            let series = &mut self.series[*place as usize];
+            series.is_changed = !series.run.as_ref().is_some_and(|run| Arc::ptr_eq(run, saved));
+        }
+        let series = &self.series;
+        self.changed.retain(|place| series[*place as usize].is_changed);
+    }
+
+    /// The series of a number; none where its name is that of none. `frontier` is asked of one that is new here.
+    fn find(&mut self, names: &Names, number: u64, frontier: impl Fn(&SeriesKey) -> u64) -> Option<Found> {
+        let generation = files::Names::generation(names);
+        if self.generation != generation {
+            self.generation = generation;
+            self.by_number.clear();
+        }
+        let known = self.by_number.get(number as usize);
+        if let Some(place) = known.filter(|place| **place != UNKNOWN) {
+            return Some(Found::At(*place));
+        }
+        let key = series::only(&files::Names::text(names, number))?;
+        if let Some(place) = self.places.get(&key).copied() {
+            self.number(number, place);
+            return Some(Found::At(place));
+        }
+        let frontier = frontier(&key);
+        Series::new(key, frontier).map(Found::New)
+    }
+
+    /// The place of what was found, from now on.
+    fn place(&mut self, found: Found, number: u64) -> u32 {
+        let series = match found {
+            Found::At(place) => return place,
+            Found::New(series) => series,
+        };
+        let place = self.put(series);
+        self.number(number, place);
+        place
+    }
+
+    fn put(&mut self, series: Series) -> u32 {
+        let place = self.series.len() as u32;
+        self.places.insert(series.key.clone(), place);
+        self.series.push(series);
+        place
+    }
+
+    fn number(&mut self, number: u64, place: u32) {
+        let index = number as usize; // names have fewer than 2^32
+        if index >= self.by_number.len() {
+            self.by_number.resize(index + 1, UNKNOWN);
+        }
+        self.by_number[index] = place;
+    }
+
+    /// Forgets the series from this place on.
+    fn truncate(&mut self, first: usize) {
+        if first == self.series.len() {
+            return;
+        }
+        for series in self.series.drain(first..) {
+            self.places.remove(&series.key);
+        }
+        let is_left = |place: u32| (place as usize) < first;
+        self.changed.retain(|place| is_left(*place));
+        for place in &mut self.by_number {
+            if !is_left(*place) {
+                *place = UNKNOWN;
+            }
+        }
+    }
+}
+
+/// What a number stands for.
+enum Found {
+    At(u32),
+    /// One that is not here yet.
+    New(Series),
+}
+
+impl Series {
+    fn new(key: SeriesKey, frontier: u64) -> Option<Series> {
+        let kind = match key.parts().ok()?.kind {
+            series::Kind::Sum => Kind::Sum,
+            series::Kind::Monotonic => Kind::Monotonic,
+            series::Kind::Histogram { .. } => Kind::Histogram,
+        };
+        Some(Series {
+            key,
+            kind,
+            run: None,
+            is_changed: false,
+            frontier,
+        })
+    }
+
+    /// What a point of it adds. Where the book has more of it than its run, that is of delta points: what begins before these
+    /// end was counted by them.
+    fn entry(&self, options: Options, since: Since, point: &Run) -> Result<Option<Entry>, Refused> {
+        let known = self.run.as_deref();
+        let found = entry(options, since, self.kind, known, point)?;
+        let begins = found.as_ref().map_or(u64::MAX, |entry| match (entry, known) {
+            (Entry::Noted(run), None) => run.start.min(run.time - 1),
+            (Entry::Noted(run), Some(_)) => run.time - 1,
+            (Entry::Counted { added, .. } | Entry::More(added), _) => added.from,
+        });
+        match begins < self.frontier {
+            true => Err(Refused::Delta),
+            false => Ok(found),
+        }
+    }
+}
+
+#[cfg(test)]
+mod tests;

@@ -1,0 +1,274 @@
+//! Each case of the law, and any points of runs beside a plain count.
+
+use super::law::entry;
+use super::*;
+use crate::files::numbers::Numbers;
+
+fn run(start: u64, time: u64, words: &[u64]) -> Run {
+    let words = words.to_vec();
+    Run { start, time, words }
+}
+
+fn more(from: u64, time: u64, words: &[u64]) -> Result<Option<Entry>, Refused> {
+    let words = words.to_vec();
+    Ok(Some(Entry::More(Added { from, time, words })))
+}
+
+fn counted(start: u64, from: u64, time: u64, words: &[u64]) -> Result<Option<Entry>, Refused> {
+    let words = words.to_vec();
+    let added = Added { from, time, words };
+    Ok(Some(Entry::Counted { start, added }))
+}
+
+fn noted(start: u64, time: u64, words: &[u64]) -> Result<Option<Entry>, Refused> {
+    Ok(Some(Entry::Noted(run(start, time, words))))
+}
+
+const SINCE: Since = Since {
+    made: 100,
+    forgotten: 50,
+};
+
+fn options(first: First, reset: Reset) -> Options {
+    Options { first, reset }
+}
+
+#[test]
+fn a_first_point_counts_from_its_start_as_it_was_told() {
+    let first = |first, start, time| {
+        let options = options(first, Reset::Refuse);
+        entry(options, SINCE, Kind::Monotonic, None, &run(start, time, &[7]))
+    };
+    let cases = [
+        (First::Auto, 100, counted(100, 100, 200, &[7])),
+        (First::Auto, 99, noted(99, 200, &[7])),
+        (First::Auto, 0, noted(0, 200, &[7])),
+        // Its start is not known.
+        (First::Auto, 200, noted(200, 200, &[7])),
+        (First::Count, 99, counted(99, 99, 200, &[7])),
+        // It may be a series that was forgotten.
+        (First::Count, 49, noted(49, 200, &[7])),
+        (First::Count, 0, noted(0, 200, &[7])),
+        (First::Drop, 150, noted(150, 200, &[7])),
+    ];
+    for (option, start, wanted) in cases {
+        assert_eq!(first(option, start, 200), wanted, "{option:?} {start}");
+    }
+    // Late, of a series that may have been counted and forgotten since.
+    assert_eq!(first(First::Auto, 40, 50), Err(Refused::Forgotten));
+    assert_eq!(first(First::Auto, 40, 51), noted(40, 51, &[7]));
+}
+
+#[test]
+fn a_later_point_adds_what_its_run_has_more_or_all_of_a_new_run() {
+    let known = run(110, 200, &[7]);
+    let next = |reset, kind, start, time, value: i64| {
+        let options = options(First::Auto, reset);
+        entry(
+            options,
+            SINCE,
+            kind,
+            Some(&known),
+            &run(start, time, &[value as u64]),
+        )
+    };
+    let refuse = |start, time, value| next(Reset::Refuse, Kind::Monotonic, start, time, value);
+    assert_eq!(refuse(110, 210, 9), more(200, 210, &[2]));
+    assert_eq!(refuse(110, 210, 7), more(200, 210, &[0]));
+    assert_eq!(refuse(200, 210, 3), counted(200, 200, 210, &[3]));
+    assert_eq!(refuse(205, 210, 3), counted(205, 205, 210, &[3]));
+    // Also with less than it was: it is another run. Where this one began nobody knows.
+    assert_eq!(refuse(210, 210, 3), noted(210, 210, &[3]));
+    for start in [0, 109, 111, 199] {
+        assert_eq!(refuse(start, 210, 9), Err(Refused::EarlierRun), "{start}");
+    }
+    // The same point again, an older one, whatever it says.
+    for (start, time) in [(110, 200), (110, 199), (150, 200), (0, 1)] {
+        assert_eq!(refuse(start, time, 9), Ok(None), "{start} {time}");
+    }
+    assert_eq!(refuse(110, 210, 6), Err(Refused::WentDown));
+    let reset = next(Reset::Count, Kind::Monotonic, 110, 210, 6);
+    assert_eq!(reset, counted(110, 200, 210, &[6]));
+    let down = next(Reset::Refuse, Kind::Sum, 110, 210, -6);
+    assert_eq!(down, more(200, 210, &[-13i64 as u64]));
+    // Over 63 bits.
+    let lowest = next(Reset::Refuse, Kind::Sum, 110, 210, i64::MIN + 1);
+    assert_eq!(lowest, Err(Refused::TooLarge));
+}
+
+/// Nothing else could say that a counter began anew.
+#[test]
+fn without_a_start_a_word_that_goes_down_begins_the_run_anew() {
+    let known = run(0, 200, &[7]);
+    let next = |value| {
+        entry(
+            Options::default(),
+            SINCE,
+            Kind::Monotonic,
+            Some(&known),
+            &run(0, 210, &[value]),
+        )
+    };
+    assert_eq!(next(9), more(200, 210, &[2]));
+    assert_eq!(next(6), counted(0, 200, 210, &[6]));
+}
+
+#[test]
+fn a_histogram_has_a_sum_more_where_both_points_have_one() {
+    let next = |before: &[u64], now: &[u64]| {
+        let known = run(110, 200, before);
+        let entry = entry(
+            Options::default(),
+            SINCE,
+            Kind::Histogram,
+            Some(&known),
+            &run(110, 210, now),
+        );
+        let after = entry
+            .clone()
+            .ok()
+            .flatten()
+            .and_then(|entry| entry.after(Kind::Histogram, Some(&known)));
+        (entry, after.map(|run| run.words))
+    };
+    let both = next(&[3, 1, 30, 1, 2], &[5, 1, 70, 2, 3]);
+    assert_eq!(
+        both,
+        (more(200, 210, &[2, 1, 40, 1, 1]), Some(vec![5, 1, 70, 2, 3]))
+    );
+    let lost = next(&[3, 1, 30, 1, 2], &[5, 0, 0, 2, 3]);
+    assert_eq!(
+        lost,
+        (more(200, 210, &[2, 0, 0, 1, 1]), Some(vec![5, 0, 0, 2, 3]))
+    );
+    // What a start reads again is what was added: so the sum stays away until a new run.
+    let came = next(&[3, 0, 0, 1, 2], &[5, 1, 70, 2, 3]);
+    assert_eq!(
+        came,
+        (more(200, 210, &[2, 0, 0, 1, 1]), Some(vec![5, 0, 0, 2, 3]))
+    );
+    for now in [[2, 1, 30, 0, 2], [4, 1, 29, 2, 2], [4, 1, 40, 0, 4]] {
+        assert_eq!(next(&[3, 1, 30, 1, 2], &now).0, Err(Refused::WentDown), "{now:?}");
+    }
+}
+
+/// What is counted of points, without a thought for deltas: of each run the last value.
+#[derive(Default)]
+struct Plain {
+    last: Option<(u64, u64)>,
+    runs: Vec<i128>,
+}
+
+impl Plain {
+    fn take(&mut self, start: u64, time: u64, value: i64) {
+        match self.last {
+            Some((_, last)) if time <= last => return,
+            Some((run, last)) if start != run && start < last => return,
+            Some((run, _)) if run == start => drop(self.runs.pop()),
+            _ => {}
+        }
+        self.runs.push(value.into());
+        self.last = Some((start, time));
+    }
+}
+
+/// Lost, repeated, reordered points, runs that begin anew, clocks that jump.
+#[test]
+fn what_was_added_is_the_sum_of_the_last_values_of_the_runs() {
+    let mut chance = Numbers(1);
+    for kind in [Kind::Monotonic, Kind::Sum] {
+        for _ in 0..2_000 {
+            let (mut plain, mut added, mut kept) = (Plain::default(), 0i128, None);
+            let (mut start, mut time, mut value) = (1_000u64, 1_000u64, 0i64);
+            let mut sent = Vec::new();
+            for _ in 0..30 {
+                time = match chance.below(20) {
+                    0 => time.saturating_sub(chance.below(50)).max(start + 1),
+                    _ => time + 1 + chance.below(10),
+                };
+                if chance.below(8) == 0 {
+                    (start, value) = (time - chance.below(2), 0);
+                    time += 1;
+                }
+                value += chance.below(9) as i64 - if kind == Kind::Sum { 4 } else { 0 };
+                sent.push((start, time, value));
+                let (start, time, value) = match chance.below(5) {
+                    0 => continue, // it is lost
+                    1 => sent[chance.below(sent.len() as u64) as usize],
+                    _ => (start, time, value),
+                };
+                let point = run(start, time, &[value as u64]);
+                let Ok(entry) = entry(
+                    options(First::Count, Reset::Refuse),
+                    Since::default(),
+                    kind,
+                    kept.as_ref(),
+                    &point,
+                ) else {
+                    // A clock that went back gives a time to two values.
+                    continue;
+                };
+                let Some(entry) = entry else { continue };
+                plain.take(start, time, value);
+                added += match &entry {
+                    Entry::More(added) | Entry::Counted { added, .. } => i128::from(added.words[0] as i64),
+                    Entry::Noted(_) => 0,
+                };
+                kept = entry.after(kind, kept.as_ref());
+                assert_eq!(kept.as_ref(), Some(&point));
+            }
+            assert_eq!(added, plain.runs.iter().sum(), "{sent:?}");
+        }
+    }
+}
+
+/// A start finds entries that a commit has already, and others.
+#[test]
+fn entries_behind_any_commit_come_to_what_was_kept() {
+    let mut chance = Numbers(2);
+    for _ in 0..2_000 {
+        let (mut kept, mut entries) = (vec![None], Vec::new());
+        let (mut start, mut time, mut words) = (10, 10, [0, 1, 0, 0, 0]);
+        for _ in 0..12 {
+            if chance.below(5) == 0 {
+                (start, words) = (time, [0, 1, 0, 0, 0]);
+            }
+            time += 1 + chance.below(5);
+            let bucket = 3 + chance.below(2) as usize;
+            words[bucket] += 2;
+            (words[0], words[2]) = (words[3] + words[4], words[2] + chance.below(9));
+            words[1] = u64::from(chance.below(6) > 0);
+            let point = run(
+                start,
+                time,
+                &words.map(|word| {
+                    if words[1] == 0 && word == words[2] {
+                        0
+                    } else {
+                        word
+                    }
+                }),
+            );
+            let before = kept.last().cloned().flatten();
+            let first = [First::Auto, First::Drop][chance.below(2) as usize];
+            let found = entry(
+                options(first, Reset::Count),
+                Since::default(),
+                Kind::Histogram,
+                before.as_ref(),
+                &point,
+            );
+            let Ok(Some(entry)) = found else { continue };
+            kept.push(entry.after(Kind::Histogram, before.as_ref()));
+            entries.push(entry);
+        }
+        for commit in 0..kept.len() {
+            let replayed_from = chance.below(commit as u64 + 1) as usize;
+            let behind = entries[replayed_from..].iter();
+            let replayed = behind.fold(kept[commit].clone(), |known, entry| {
+                entry.after(Kind::Histogram, known.as_ref())
+            });
+            assert_eq!(&replayed, kept.last().unwrap(), "{entries:?}");
+        }
+    }
+}
