@@ -1,7 +1,7 @@
 //! What is not known yet is read once by the reader for all requests: a request that has this alone.
 
-use super::levels::{Full, Level, Levels, CUMULATIVE, FOREIGN};
-use super::walk::{Find, Head, Known, Own, Path, Stop};
+use super::levels::{Full, Known, Level, Levels, CUMULATIVE, FOREIGN};
+use super::walk::{Find, Head, Own, Path, Stop};
 use super::Learnt;
 use crate::otlp::from_protobuf;
 use crate::otlp::output::Written;
