@@ -165,6 +165,7 @@ impl Cause {
             Cause::Gauge | Cause::Summary | Cause::ExponentialHistogram => true,
             Cause::CumulativeSum | Cause::CumulativeHistogram | Cause::UpDownCounter => true,
             Cause::Double | Cause::Fraction => true,
+            Cause::EarlierRun | Cause::WentDown | Cause::Mixed | Cause::Leap | Cause::Forgotten => false,
             Cause::Attribute | Cause::Span | Cause::NoValue | Cause::Other => false,
         }
     }

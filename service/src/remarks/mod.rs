@@ -15,9 +15,7 @@ use crate::intake::Taker;
 use crate::log::{all_shown, cut, shown};
 use crate::metrics::Metrics;
 use crate::otlp::series::SeriesKey;
-use crate::otlp::{
-    foreign_points, point_at, Cause, Causes, Explained, Original, Outcome, Profile, Reading,
-};
+use crate::otlp::{foreign_points, point_at, Cause, Causes, Explained, Original, Outcome, Profile, Reading};
 use crate::pass::Pass;
 use crate::slot::{ByNumber, Request, Source};
 use crate::work::blocking;

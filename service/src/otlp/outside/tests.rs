@@ -143,7 +143,10 @@ fn random_requests_have_their_points() {
             assert_eq!((points, causes.count()), (passed, foreign - passed));
             if let Some(outside) = outside {
                 let again = prepare(Encoding::Protobuf, outside.body, &Reading::default()).unwrap();
-                assert_eq!(super::points(&again.body, Profile::Deltas).unwrap().len() as u64, passed);
+                assert_eq!(
+                    super::points(&again.body, Profile::Deltas).unwrap().len() as u64,
+                    passed
+                );
                 handed += 1;
             }
         }

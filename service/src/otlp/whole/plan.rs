@@ -123,7 +123,8 @@ fn plan<'r, 'd>(
     };
     let name = || member(metric, "name").map_or(Some("".into()), Value::text);
     if let Some(rule) = whole.rules.get(&*own) {
-        if let (Some(units), Some(to), Some(_)) = (&whole.units, Unit::of(&rule.to), Delta::of(whole, metric)) {
+        if let (Some(units), Some(to), Some(_)) = (&whole.units, Unit::of(&rule.to), Delta::of(whole, metric))
+        {
             name().iter().for_each(|name| units.note(name, to));
         }
         return Some(Taken::In(rule));
@@ -154,7 +155,9 @@ pub fn changes(whole: &Whole, metric: Value<'_>) -> bool {
         && match taken(whole, metric) {
             Taken::AsItIs => false,
             Taken::In(rule) if !rule.is_same() => true,
-            Taken::Whole(_) | Taken::In(_) => Delta::of(whole, metric).is_some_and(|delta| delta.has_doubles()),
+            Taken::Whole(_) | Taken::In(_) => {
+                Delta::of(whole, metric).is_some_and(|delta| delta.has_doubles())
+            }
         }
 }
 
