@@ -5,10 +5,11 @@
 
 Twelve programs count at once, each with the SDK's own instruments, aggregation and clock: four send JSON, four protobuf, four
 call gRPC by its own client for Go. Half of them have whole numbers and the default bounds of histograms, the others durations
-in seconds, as the conventions have them, which the service takes by `--whole s=us`; these name no sender, and the service
-finds it in their resource. Half of each are cumulative, as the SDK is by default, and half delta. A batch is sent again as the
-specification says. Each program ends, and begins anew; meanwhile the service is killed for so many seconds (8). At the end the
-sink has, by program, series and bucket, what the programs counted.
+in seconds, as the conventions have them, which the service takes in microseconds; these name no sender, and the service finds
+it in their resource. Half of each are cumulative, as the SDK is by default, and half delta. Each has counters that are asked,
+up and down too, and a gauge, which goes to another receiver, as does a counter of doubles in euros. A batch is sent again as
+the specification says. Each program ends, and begins anew; meanwhile the service is killed for so many seconds (8). At the end
+the sink has, by program, series and bucket, what the programs counted, and no point was rejected.
 
 The exporter is in tests/sdk_go: Debian's package of the SDK has none. It needs golang-go, golang-opentelemetry-otel-dev,
 golang-google-grpc-dev and python3-protobuf; where one is missing a line says so, and the status is 77. Each other line is
@@ -131,16 +132,26 @@ def compare(checks, what, sink, number, told):
     checks.same(f"{what}: the sink has its buckets", told["buckets"], buckets)
     _, _, in_seconds, temporality = PROGRAMS[number]
     if in_seconds:
-        checks.same(f"{what}: its units are the finer one", {"us"}, {unit for _, unit in units})
-        checks.same(f"{what}: nothing was foreign", 0, told["rejected"])
-    else:
-        checks.true(f"{what}: its foreign points are counted", told["rejected"] > 0, told["rejected"])
+        wanted = {("http.server.request.duration", "us"), ("worker.busy", "us"), ("worker.ticks", "s")}
+        checks.same(f"{what}: doubles are in the finer unit", wanted, {one for one in units if one[1]})
+    checks.same(f"{what}: nothing was rejected", 0, told["rejected"])
     # A repeat of what is cumulative is no fault.
     may_be_late = temporality == DELTA
     surprises = [answer for answer in told["answers"]
                  if answer not in EXPECTED and not (may_be_late and "out of order" in answer)]
     checks.same(f"{what}: no answer surprises", ([], 0), (surprises, told["gave_up"]))
     print(f"note: {what}: {told['answers']}", flush=True)
+
+
+def look_at_others(checks, receiver):
+    """What is not added up is at the other receiver: of each program, in its own encoding."""
+    for number, (encoding, _, in_seconds, _) in enumerate(PROGRAMS):
+        names = [b"queue.length", b"i-%d" % number] + ([] if in_seconds else [b"money"])
+        kind = "json" if encoding == "json" else "protobuf"
+        found = [body for content, body in receiver.bodies if kind in content and all(name in body for name in names)]
+        checks.true(f"the other receiver has the gauge of program {number}", len(found) > 3, len(found))
+    counted = [body for _, body in receiver.bodies if b"http.server" in body or b"work." in body]
+    checks.same("it has nothing that is counted here", [], counted[:1])
 
 
 def run(checks, totxegun, seconds, folder):

@@ -50,11 +50,17 @@ impl OfReading {
     }
 
     pub fn reading(self) -> anyhow::Result<Reading> {
-        Ok(Reading {
+        let whole = Whole::of(self.whole).map_err(|why| anyhow!(why))?;
+        let reading = Reading {
             dropped: self.drop_attributes,
-            whole: Whole::of(self.whole).map_err(|why| anyhow!(why))?,
+            whole,
             sender_from: self.sender_from,
             cumulative: self.cumulative,
+        };
+        let profile = reading.profile();
+        Ok(Reading {
+            whole: reading.whole.with_profile(profile),
+            ..reading
         })
     }
 }

@@ -8,6 +8,7 @@
 //!
 //! A text in the book's form is read as `series` reads it (`text`), where its points are wanted by number too.
 
+mod fields;
 mod identity;
 mod levels;
 mod text;
@@ -17,10 +18,10 @@ use super::{Reading, Rounded};
 use crate::files::Points;
 use bytes::Bytes;
 use identity::{Learn, Learner};
-use levels::Levels;
+use levels::{Known, Levels};
 use std::sync::atomic::{AtomicBool, Ordering::Relaxed};
 use std::sync::{Arc, PoisonError, RwLock};
-use walk::{Find, Known, Stop, Walk};
+use walk::{Find, Stop, Walk};
 
 /// What naming a series said.
 #[derive(Clone, Copy, Debug, PartialEq, Eq)]

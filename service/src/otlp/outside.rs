@@ -9,7 +9,7 @@ mod protobuf;
 
 use super::causes::{Cause, Causes};
 use super::json::Document;
-use super::series::visit;
+use super::series::{visit_with, Profile};
 use super::Encoding;
 use bytes::Bytes;
 
@@ -60,7 +60,12 @@ type Choose<'c> = dyn FnMut(usize) -> bool + 'c;
 impl Original {
     /// What is handed on of a request with so many foreign points, and the causes of the others. `text` is the request in the
     /// book's form.
-    pub fn outside(&self, foreign: u64, text: impl FnOnce() -> Option<Bytes>) -> (Option<Outside>, Causes) {
+    pub fn outside(
+        &self,
+        foreign: u64,
+        profile: Profile,
+        text: impl FnOnce() -> Option<Bytes>,
+    ) -> (Option<Outside>, Causes) {
         // As a rule all of them are of kinds that are of no series.
         if self.encoding == Encoding::Protobuf {
             let (body, points) = self.with(|kind| kind < OF_NO_SERIES);
@@ -69,7 +74,7 @@ impl Original {
             }
         }
         let text = text().unwrap_or_default();
-        let Some(found) = points(&text) else {
+        let Some(found) = points(&text, profile) else {
             return (None, Causes::of(&text, foreign));
         };
         let (passed, rest): (Vec<&Point>, Vec<&Point>) = found.iter().partition(|point| point.is_passed());
@@ -128,10 +133,10 @@ impl Point {
 }
 
 /// All points of a request in the book's form; none where it can't be read.
-fn points(text: &[u8]) -> Option<Vec<Point>> {
+fn points(text: &[u8], profile: Profile) -> Option<Vec<Point>> {
     let document = Document::parse(text).ok()?;
     let mut points = Vec::new();
-    visit(&document, |seen| {
+    visit_with(&document, profile, |seen| {
         points.push(Point {
             is_of_no_series: is_of_no_series(seen.kind),
             cause: Cause::of(&seen),

@@ -19,6 +19,7 @@ pub(super) use rounded::{shown_of, RoundedPoint, ShownSeries};
 pub use rounded::{Rounded, Rounding};
 pub(super) use scale::{scale_of, InFiner, Scale, Scaled};
 
+use super::series::Profile;
 use std::collections::BTreeMap;
 use std::fmt;
 use std::str::FromStr;
@@ -156,6 +157,8 @@ pub struct Whole {
     rules: BTreeMap<String, Rule>,
     /// For known units without a rule; none where these are off.
     units: Option<Arc<Units>>,
+    /// Of which points it is.
+    profile: Profile,
 }
 
 impl Whole {
@@ -170,6 +173,7 @@ impl Whole {
         Ok(Whole {
             rules: all,
             units: None,
+            profile: Profile::default(),
         })
     }
 
@@ -191,6 +195,11 @@ impl Whole {
                 ..Whole::new(rules)?
             }),
         }
+    }
+
+    /// The same, for these points.
+    pub fn with_profile(self, profile: Profile) -> Whole {
+        Whole { profile, ..self }
     }
 
     /// Whether metrics without a unit have a rule, also where their field is not there.

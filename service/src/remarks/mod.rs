@@ -185,7 +185,8 @@ impl<T: Taker> Remarks<T> {
             return causes.unwrap_or_else(|| Causes::of(b"", foreign));
         };
         let (length, source) = (source.length(), source.clone());
-        let find = move || original.outside(foreign, || source.text());
+        let profile = self.telling.profile;
+        let find = move || original.outside(foreign, profile, || source.text());
         let (outside, causes) = self.work(length, find).await;
         if let Some(outside) = outside {
             pass.hand_on(outside);

@@ -1,7 +1,7 @@
 //! What is not known yet is read once by the reader for all requests: a request that has this alone.
 
-use super::levels::{Full, Level, Levels, CUMULATIVE, FOREIGN};
-use super::walk::{Find, Head, Known, Own, Path, Stop};
+use super::levels::{Full, Known, Level, Levels, CUMULATIVE, FOREIGN};
+use super::walk::{Find, Head, Own, Path, Stop};
 use super::Learnt;
 use crate::otlp::from_protobuf;
 use crate::otlp::output::Written;
@@ -29,7 +29,10 @@ impl Find for Learner<'_> {
             Err(Stop::Unknown) => {}
             known => return known,
         }
-        let written = self.written(&request(path, &[]))?;
+        let written = self.written(&match self.makes_deltas(path) {
+            true => as_delta(path, &[]),
+            false => request(path, &[]),
+        })?;
         let scaled = match written.is_measured {
             true => scale_of(&written.text, &self.reading.whole).ok_or(Stop::Slow)?,
             false => Scaled::Plain,

@@ -1,11 +1,11 @@
 //! Looks a request through: its fields in the order in which nearly all encoders write them, each once. Of anything else
 //! it says `Slow`, and then the request is read as any other.
 
-use super::levels::{Level, Levels, CUMULATIVE, FOREIGN, TOP};
+use super::fields::{adds_up, eights, is_recorded, is_span, number, pass_extremes, span, whole_sum, Number};
+use super::levels::{Level, CUMULATIVE, TOP};
 use super::Numbered;
 use crate::files::Points;
 use crate::otlp::from_protobuf::is_exemplar;
-use crate::otlp::number::whole_double;
 use crate::otlp::schema::{Message, METRIC, REQUEST, RESOURCE_METRICS, SCOPE_METRICS};
 use crate::otlp::whole::{InFiner, RoundedPoint, Scale, ShownSeries};
 use crate::otlp::wire::{Fields, Payload};
@@ -78,35 +78,6 @@ pub trait Find {
     fn scale(&self, level: Level) -> Option<Arc<Scale>>;
     /// How a series of such a metric is shown.
     fn shown(&self, number: u32) -> Option<Arc<ShownSeries>>;
-}
-
-/// Who learns nothing.
-pub struct Known<'l>(pub &'l Levels);
-
-impl Find for Known<'_> {
-    #[inline]
-    fn level(&mut self, _: &Path<'_>, within: Level, bytes: &[u8]) -> Result<Level, Stop> {
-        self.0.find(within, bytes).ok_or(Stop::Unknown)
-    }
-
-    #[inline]
-    fn bounds(&mut self, within: Level, bounds: &[u8]) -> Result<Level, Stop> {
-        self.0.find(within, bounds).ok_or(Stop::Unknown)
-    }
-
-    #[inline]
-    fn series(&mut self, _: &Path<'_>, within: Level, own: Own<'_>, _: Option<&Scale>) -> Result<u32, Stop> {
-        self.0.find(within, own.attributes).ok_or(Stop::Unknown)
-    }
-
-    #[inline]
-    fn scale(&self, level: Level) -> Option<Arc<Scale>> {
-        self.0.scale(level)
-    }
-
-    fn shown(&self, number: u32) -> Option<Arc<ShownSeries>> {
-        self.0.shown(number)
-    }
 }
 
 pub struct Walk<'b, F> {
@@ -404,68 +375,5 @@ impl<'b, F: Find> Walk<'b, F> {
             true => self.find.series(&self.path, level, own, scale),
             false => Err(Stop::Slow),
         }
-    }
-}
-
-/// Passes a point's times, which are 0 where they are not there.
-#[inline]
-fn span(fields: &mut Fields<'_>) -> (u64, u64) {
-    let start = fields.fixed64(2).unwrap_or(0);
-    (start, fields.fixed64(3).unwrap_or(0))
-}
-
-/// Passes the least and the largest value, which say nothing.
-#[inline]
-fn pass_extremes(fields: &mut Fields<'_>) {
-    let _ = fields.fixed64(11);
-    let _ = fields.fixed64(12);
-}
-
-/// That a histogram's point has a sum, as a word, and the sum; none of one that is not taken.
-#[inline]
-fn whole_sum(sum: f64) -> Option<[u64; 2]> {
-    Some([1, u64::try_from(whole_double(sum)?).ok()?])
-}
-
-/// The value of a sum's point.
-enum Number {
-    /// Its bits.
-    Whole(u64),
-    Double(f64),
-}
-
-/// Passes the value of a sum's point, if it is next.
-#[inline]
-fn number(fields: &mut Fields<'_>) -> Option<Number> {
-    let value = fields.fixed64(6).map(Number::Whole);
-    value.or_else(|| fields.fixed64(4).map(|bits| Number::Double(f64::from_bits(bits))))
-}
-
-/// Whether a point has a span.
-fn is_span(start: u64, end: u64) -> bool {
-    0 < start && start < end
-}
-
-/// Whether buckets add up to their count.
-fn adds_up(buckets: &[[u8; 8]], count: u64) -> bool {
-    let all = buckets
-        .iter()
-        .map(|bucket| u128::from(u64::from_le_bytes(*bucket)));
-    all.sum::<u128>() == u128::from(count)
-}
-
-/// Whether a point may be taken, by its series and its flags. Of these 32 bits are read, and the lowest is that nothing
-/// was recorded.
-#[inline]
-fn is_recorded(number: u32, flags: Option<u64>) -> bool {
-    number != FOREIGN && flags.unwrap_or(0) & 1 == 0
-}
-
-/// A list of eight bytes each; empty where it is not there.
-#[inline]
-fn eights(packed: Option<&[u8]>) -> Result<&[[u8; 8]], Stop> {
-    match packed.unwrap_or_default().as_chunks() {
-        (all, []) => Ok(all),
-        _ => Err(Stop::Slow),
     }
 }

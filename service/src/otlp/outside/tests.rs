@@ -26,7 +26,7 @@ fn of(request: &Value, reading: &Reading) -> (Option<(Value, u64)>, Causes) {
         encoding: Encoding::Json,
         body,
     };
-    let (outside, causes) = original.outside(foreign, || Some(prepared.body));
+    let (outside, causes) = original.outside(foreign, Profile::Deltas, || Some(prepared.body));
     let read = |outside: Outside| (serde_json::from_slice(&outside.body).unwrap(), outside.points);
     (outside.map(read), causes)
 }
@@ -112,7 +112,7 @@ fn fields_of_protobuf_are_copied() {
             encoding: Encoding::Protobuf,
             body,
         };
-        let (outside, causes) = original.outside(foreign, || Some(prepared.body));
+        let (outside, causes) = original.outside(foreign, Profile::Deltas, || Some(prepared.body));
         let outside = outside.unwrap();
         assert_eq!((&outside.body[..], outside.points), (&wanted[..], foreign));
         assert_eq!(causes, Causes::default());
@@ -131,19 +131,22 @@ fn random_requests_have_their_points() {
             let Ok(prepared) = prepare(Encoding::Protobuf, body.clone(), &Reading::default()) else {
                 continue;
             };
-            let all = points(&prepared.body).unwrap();
+            let all = points(&prepared.body, Profile::Deltas).unwrap();
             let foreign = all.iter().filter(|point| point.cause.is_some()).count() as u64;
             let passed = all.iter().filter(|point| point.is_passed()).count() as u64;
             let original = Original {
                 encoding: Encoding::Protobuf,
                 body,
             };
-            let (outside, causes) = original.outside(foreign, || Some(prepared.body));
+            let (outside, causes) = original.outside(foreign, Profile::Deltas, || Some(prepared.body));
             let points = outside.as_ref().map_or(0, |outside| outside.points);
             assert_eq!((points, causes.count()), (passed, foreign - passed));
             if let Some(outside) = outside {
                 let again = prepare(Encoding::Protobuf, outside.body, &Reading::default()).unwrap();
-                assert_eq!(super::points(&again.body).unwrap().len() as u64, passed);
+                assert_eq!(
+                    super::points(&again.body, Profile::Deltas).unwrap().len() as u64,
+                    passed
+                );
                 handed += 1;
             }
         }

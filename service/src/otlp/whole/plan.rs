@@ -5,6 +5,7 @@ use super::units::{Unit, Units};
 use super::{Rule, Whole};
 use crate::otlp::json::Value;
 use crate::otlp::number::book_whole;
+use crate::otlp::series::Profile;
 
 pub(super) const DATA: [&str; 5] = ["sum", "histogram", "gauge", "exponentialHistogram", "summary"];
 /// No series has a longer name.
@@ -27,7 +28,7 @@ pub(super) struct Delta<'d> {
 }
 
 impl<'d> Delta<'d> {
-    pub fn of(metric: Value<'d>) -> Option<Delta<'d>> {
+    pub fn of(whole: &Whole, metric: Value<'d>) -> Option<Delta<'d>> {
         let found = metric.named(DATA)?;
         let mut there = DATA
             .into_iter()
@@ -35,7 +36,7 @@ impl<'d> Delta<'d> {
             .filter_map(|(kind, data)| Some((kind, data?)));
         let (kind, data) = there.next()?;
         let is_one = there.next().is_none() && DATA[..2].contains(&kind);
-        (is_one && is_delta(data)).then_some(Delta { kind, data })
+        (is_one && whole.adds_up(data)).then_some(Delta { kind, data })
     }
 
     pub fn points(&self) -> impl Iterator<Item = Value<'d>> {
@@ -55,8 +56,15 @@ impl<'d> Delta<'d> {
     }
 }
 
-pub(super) fn is_delta(data: Value<'_>) -> bool {
-    member(data, "aggregationTemporality").and_then(Value::number) == Some("1")
+impl Whole {
+    /// Whether points are added up, by their temporality.
+    pub(super) fn adds_up(&self, data: Value<'_>) -> bool {
+        match member(data, "aggregationTemporality").and_then(Value::number) {
+            Some("1") => true,
+            Some("2") => self.profile == Profile::AlsoCumulative,
+            _ => false,
+        }
+    }
 }
 
 /// Whether a sum's point has a double and no whole number.
@@ -115,7 +123,8 @@ fn plan<'r, 'd>(
     };
     let name = || member(metric, "name").map_or(Some("".into()), Value::text);
     if let Some(rule) = whole.rules.get(&*own) {
-        if let (Some(units), Some(to), Some(_)) = (&whole.units, Unit::of(&rule.to), Delta::of(metric)) {
+        if let (Some(units), Some(to), Some(_)) = (&whole.units, Unit::of(&rule.to), Delta::of(whole, metric))
+        {
             name().iter().for_each(|name| units.note(name, to));
         }
         return Some(Taken::In(rule));
@@ -124,7 +133,7 @@ fn plan<'r, 'd>(
         return Some(Taken::AsItIs);
     };
     let name = name().filter(|name| name.len() <= MAX_NAME);
-    let (Some(name), Some(delta)) = (name, Delta::of(metric)) else {
+    let (Some(name), Some(delta)) = (name, Delta::of(whole, metric)) else {
         return Some(Taken::AsItIs);
     };
     let wanted = unit_of(units, &name, unit, &delta)?;
@@ -146,13 +155,15 @@ pub fn changes(whole: &Whole, metric: Value<'_>) -> bool {
         && match taken(whole, metric) {
             Taken::AsItIs => false,
             Taken::In(rule) if !rule.is_same() => true,
-            Taken::Whole(_) | Taken::In(_) => Delta::of(metric).is_some_and(|delta| delta.has_doubles()),
+            Taken::Whole(_) | Taken::In(_) => {
+                Delta::of(whole, metric).is_some_and(|delta| delta.has_doubles())
+            }
         }
 }
 
 /// The first double of a metric that is taken in whole numbers alone, and what it is.
-pub(super) fn first_double<'d>(metric: Value<'d>) -> Option<(&'static str, Value<'d>)> {
-    let delta = Delta::of(metric)?;
+pub(super) fn first_double<'d>(whole: &Whole, metric: Value<'d>) -> Option<(&'static str, Value<'d>)> {
+    let delta = Delta::of(whole, metric)?;
     if delta.kind == "sum" {
         let point = delta.points().find(|point| is_double(*point))?;
         return Some(("the value", member(point, "asDouble")?));

@@ -4,7 +4,7 @@
 //! for a number. Nothing is changed in a metric that is foreign as a whole, but its unit.
 
 use super::decimal::Decimal;
-use super::plan::{elements, first_double, is_delta, member, taken, Taken, DATA};
+use super::plan::{elements, first_double, member, taken, Taken, DATA};
 use super::rounded::{resource_shown, rounded, Mark};
 use super::{Rounded, Rule, Whole};
 use crate::otlp::json::{write_text, Document, NotJson, Value};
@@ -34,7 +34,7 @@ pub fn rewritten(text: &[u8], whole: &Whole) -> Result<(String, Rounded), NotJso
     let Rewriting {
         out, marks, unfit, ..
     } = rewriting;
-    let rounded = rounded(&out, marks)?;
+    let rounded = rounded(&out, marks, whole.profile)?;
     Ok((out, Rounded { unfit, ..rounded }))
 }
 
@@ -113,8 +113,8 @@ impl<'r> Rewriting<'r> {
                     write_text(&mut unit, &rule.to);
                     self.put((part.range(), unit));
                 }
-                "sum" if there == 1 && is_delta(part) => self.sum(&metric, part),
-                "histogram" if there == 1 && is_delta(part) => {
+                "sum" if there == 1 && self.whole.adds_up(part) => self.sum(&metric, part),
+                "histogram" if there == 1 && self.whole.adds_up(part) => {
                     for point in elements(part, "dataPoints") {
                         self.histogram_point(&metric, point);
                     }
@@ -216,7 +216,7 @@ impl<'r> Rewriting<'r> {
 
     /// Names the first double of a metric that was first taken in whole numbers of its own unit.
     fn first_double(&mut self, metric: Value<'_>, unit: &str) {
-        if let (None, Some((what, value))) = (&self.unfit, first_double(metric)) {
+        if let (None, Some((what, value))) = (&self.unfit, first_double(self.whole, metric)) {
             let name = name_shown(member(metric, "name"));
             let value = shown(value).unwrap_or_default();
             self.unfit = Some(format!(

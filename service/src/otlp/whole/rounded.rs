@@ -7,7 +7,7 @@
 use super::plan::{elements, member};
 use super::Rule;
 use crate::otlp::json::{Document, NotJson, Value};
-use crate::otlp::series::{visit, Seen};
+use crate::otlp::series::{visit, visit_with, Profile, Seen};
 use std::collections::hash_map::DefaultHasher;
 use std::collections::BTreeMap;
 use std::hash::Hasher;
@@ -108,7 +108,7 @@ pub(super) struct Mark<'r> {
 }
 
 /// What was rounded. The marks are in the order of the text, which is the new one.
-pub(super) fn rounded(text: &str, marks: Vec<Mark<'_>>) -> Result<Rounded, NotJson> {
+pub(super) fn rounded(text: &str, marks: Vec<Mark<'_>>, profile: Profile) -> Result<Rounded, NotJson> {
     if marks.is_empty() {
         return Ok(Rounded::default());
     }
@@ -116,7 +116,7 @@ pub(super) fn rounded(text: &str, marks: Vec<Mark<'_>>) -> Result<Rounded, NotJs
     let rules = Rules::of(&marks);
     let mut points = Vec::new();
     let mut marks = marks.into_iter().peekable();
-    let whole = visit(&document, |seen| {
+    let whole = visit_with(&document, profile, |seen| {
         let place = seen.point.range();
         while let Some(mark) = marks.next_if(|mark| mark.at < place.end) {
             if place.contains(&mark.at) && seen.found.is_ok() {

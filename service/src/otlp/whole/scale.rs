@@ -34,7 +34,7 @@ pub fn scale_of(request: &[u8], whole: &Whole) -> Option<Scaled> {
     let resource = elements(document.root(), "resourceMetrics").next()?;
     let scope = elements(resource, "scopeMetrics").next()?;
     let metric = elements(scope, "metrics").next()?;
-    let Some(delta) = Delta::of(metric) else {
+    let Some(delta) = Delta::of(whole, metric) else {
         return Some(Scaled::Plain); // none of its points is taken
     };
     let is_monotonic = delta.is_monotonic();

@@ -91,7 +91,7 @@ fn what_can_not_be_taken_makes_no_total_less_exact() {
         rule: &"s=us".parse().unwrap(),
         resource: "".into(),
     };
-    let found = noted(r#"{"resourceMetrics":{}}"#, vec![mark]).unwrap();
+    let found = noted(r#"{"resourceMetrics":{}}"#, vec![mark], Default::default()).unwrap();
     assert!(found.points.is_empty());
 }
 
