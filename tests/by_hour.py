@@ -33,7 +33,7 @@ SENDERS = 4
 SECONDS = 15
 # What waits may be a request for each hour and book.
 PATIENCE = 120
-# They go through so much time, up to yesterday.
+# They go through so much time, and end some days ago.
 LONG = 62 * DAY
 ROWS = "select name, {hour}, total, buckets from {by_hour}"
 MONTHS = "select name, {month}, total from {by_month}"
@@ -45,7 +45,7 @@ class HourlySender(Sender):
 
     def __init__(self, service, number, seed):
         super().__init__(service, number, seed)
-        self.end = time.time_ns() - DAY
+        self.end = time.time_ns() - 3 * DAY  # a post may have two days
         self.time = self.end - LONG + self.chance.randrange(HOUR)
         self.hours, self.edges, self.lumps, self.ahead = {}, 0, 0, 0
 

@@ -27,6 +27,7 @@ import time
 
 from protobuf_bodies import definitions, descriptor_pb2
 from checks import Checks
+from handed_on import Receiver
 from loopback import free_port
 from service import Service, wait_until
 
@@ -159,9 +160,10 @@ def run(checks, totxegun, seconds, folder):
     checks.same("the program is built", "", fault)
     if fault:
         return
-    sink, grpc = f"{folder}/sink.db", free_port()
+    sink, grpc, receiver = f"{folder}/sink.db", free_port(), Receiver()
     service = Service(totxegun, f"{folder}/data", f"sqlite:{sink}", "--flush-every", "1s", "--listen-grpc",
-                      f"127.0.0.1:{grpc}", "--whole", "s=us", "--sender-from", "service.instance.id", "--log-foreign", "2")
+                      f"127.0.0.1:{grpc}", "--sender-from", "service.instance.id", "--log-foreign", "2",
+                      "--pass", f"http://127.0.0.1:{receiver.port}")
     try:
         service.start()
         checks.true("the service is ready", service.wait_ready(), service.last_lines())
@@ -185,12 +187,13 @@ def run(checks, totxegun, seconds, folder):
         checks.same("the service found nothing that must not be", [], service.faults())
         with open(service.log, encoding="utf-8", errors="replace") as file:
             log = file.read()
-        checks.true("the log says why points are foreign", "points of shop-0 are not taken: gauge `queue.length`: gauges are not"
-                    in log, service.last_lines())
+        checks.true("the log calls no point foreign", "are not taken" not in log, service.last_lines())
+        look_at_others(checks, receiver)
         ended = service.end()
         checks.true("SIGTERM ends the service", ended[0] == 0 and ended[1] < 10, ended)
     finally:
         service.kill()
+        receiver.close()
 
 
 def main(totxegun, seconds=SECONDS):

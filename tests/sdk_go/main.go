@@ -10,6 +10,7 @@ import (
 	"math/rand"
 	"os"
 	"sync"
+	"sync/atomic"
 	"time"
 
 	"go.opentelemetry.io/otel"
@@ -95,7 +96,8 @@ func main() {
 	if *inSeconds {
 		work = secondsWork
 	}
-	one := work(metric.Must(c.Meter("example.org/shop", metric.WithInstrumentationVersion("1.2.3"))), t)
+	meter := metric.Must(c.Meter("example.org/shop", metric.WithInstrumentationVersion("1.2.3")))
+	one, asked := work(meter, t), askedWork(meter, t)
 	if err := c.Start(context.Background()); err != nil {
 		log.Fatal(err)
 	}
@@ -107,6 +109,7 @@ func main() {
 			defer users.Done()
 			for time.Now().Before(until) {
 				one(chance)
+				asked(chance)
 				time.Sleep(2 * time.Millisecond)
 			}
 		}(rand.New(rand.NewSource(int64(user))))
@@ -125,14 +128,13 @@ func main() {
 
 var routes = []string{"/", "/orders", "/orders/:id", "/µ \"quoted\" \\ \u2028"}
 
-// wholeWork has instruments of whole numbers, with the bounds that are the default, and two that are foreign.
+// wholeWork has instruments of whole numbers, with the bounds that are the default, and one that is foreign.
 func wholeWork(meter metric.MeterMust, t *truth) func(*rand.Rand) {
 	ctx := context.Background()
 	requests := meter.NewInt64Counter("http.server.requests", metric.WithDescription("Requests"))
 	sizes := meter.NewInt64Histogram("http.server.request.size", metric.WithUnit(unit.Bytes))
 	open := meter.NewInt64UpDownCounter("orders.open")
 	money := meter.NewFloat64Counter("money", metric.WithUnit("EUR"))
-	meter.NewInt64GaugeObserver("queue.length", func(_ context.Context, result metric.Int64ObserverResult) { result.Observe(7) })
 	return func(chance *rand.Rand) {
 		route := routes[chance.Intn(len(routes))]
 		labels := []attribute.KeyValue{attribute.String("http.route", route), attribute.Int("http.status_code", 200)}
@@ -164,7 +166,27 @@ func secondsWork(meter metric.MeterMust, t *truth) func(*rand.Rand) {
 		busy.Add(ctx, value, label)
 		t.add("worker.busy "+route, microseconds)
 		uptime.Add(ctx, 2, label)
-		t.add("worker.ticks "+route, 2_000_000)
+		t.add("worker.ticks "+route, 2)
+	}
+}
+
+// askedWork has instruments that are asked each time: what was done so far, what is under way, and a gauge.
+func askedWork(meter metric.MeterMust, t *truth) func(*rand.Rand) {
+	label := attribute.String("http.route", routes[0])
+	var done, open int64
+	meter.NewInt64CounterObserver("work.done", func(_ context.Context, result metric.Int64ObserverResult) {
+		result.Observe(atomic.LoadInt64(&done), label)
+	})
+	meter.NewInt64UpDownCounterObserver("work.open", func(_ context.Context, result metric.Int64ObserverResult) {
+		result.Observe(atomic.LoadInt64(&open), label)
+	})
+	meter.NewInt64GaugeObserver("queue.length", func(_ context.Context, result metric.Int64ObserverResult) { result.Observe(7) })
+	return func(chance *rand.Rand) {
+		change := chance.Int63n(7) - 3
+		atomic.AddInt64(&done, 1)
+		atomic.AddInt64(&open, change)
+		t.add("work.done "+routes[0], 1)
+		t.add("work.open "+routes[0], change)
 	}
 }
 
