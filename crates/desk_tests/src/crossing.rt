@@ -74,20 +74,6 @@ fn home_of(alloc: Global, series: u64) -> Result<usize, Fail> {
     Ok(home)
 }
 
-/// All series, of which nothing is pending.
-fn all_known(alloc: Global) -> Result<Vec<Known>, Fail> {
-    let mut all = Vec::new(alloc);
-    for series in 0..SERIES {
-        let home = home_of(alloc, series)?;
-        all.push(Known {
-            series,
-            home,
-            pending: None,
-        })?;
-    }
-    Ok(all)
-}
-
 /// Whether the point is of a later stretch than what is pending of its series.
 fn is_beyond(known: &Known, points: &[(u64, (u64, u64))]) -> bool {
     let Some(pending) = known.pending else {
@@ -166,7 +152,15 @@ fn what_is_forwarded_is_within_one_stretch(rt: HostRuntime) -> Result<(), Fail> 
     let mut reader = Reader::new(alloc);
     let mut desk = Desk::new(alloc, BOOKS)?;
     let mut flushes = Flushes::new(alloc);
-    let mut all = all_known(alloc)?;
+    let mut all = Vec::new(alloc);
+    for series in 0..SERIES {
+        let home = home_of(alloc, series)?;
+        all.push(Known {
+            series,
+            home,
+            pending: None,
+        })?;
+    }
     let (mut taken, mut posted): (u64, u64) = (0, 0);
     for post in 0..POSTS {
         let points = points_of(&mut chance, alloc, post)?;
