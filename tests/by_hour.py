@@ -31,10 +31,11 @@ from parts import Database, initdb  # noqa: E402
 MINUTE, HOUR, DAY = (60 * 10**9, 3600 * 10**9, 86_400 * 10**9)
 SENDERS = 4
 SECONDS = 15
-# What waits may be a request for each hour and book.
 PATIENCE = 120
 # They go through so much time, and end some days ago.
-LONG = 62 * DAY
+LONG = 31 * DAY
+# Of two books: what waits for a database is a request for each of them and each hour.
+SERIES = "16000"
 ROWS = "select name, {hour}, total, buckets from {by_hour}"
 MONTHS = "select name, {month}, total from {by_month}"
 CROSSING = "select count(*) from {span} where start_ns / {HOUR} < (end_ns - 1) / {HOUR}"
@@ -162,7 +163,7 @@ def trouble(service, until, chance):
 
 def run(checks, program, folder, sink, seconds, seed):
     kind = type(sink).__name__
-    service = Service(program, f"{folder}/data-{kind}", sink.address, "--flush-every", "1s")
+    service = Service(program, f"{folder}/data-{kind}", sink.address, "--flush-every", "1s", "--most-series", SERIES)
     service.start()
     checks.true(f"{kind}: the service is ready", service.wait_ready(), service.last_lines())
     senders = [HourlySender(service, number, f"{kind} {seed}") for number in range(SENDERS)]

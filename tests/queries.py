@@ -436,7 +436,7 @@ class Bill:
         line, _, _ = self.of_today(line).partition(" > ")
         words = shlex.split(line)
         words += ["--sink", self.sink] if words[0] == "export" else []
-        words += ["--operate", f"127.0.0.1:{self.service.operate}"]
+        words += ["--data", f"{self.folder}/bill"]
         done = subprocess.run([self.program, *words], capture_output=True, text=True, check=False, env=dict(os.environ))
         self.checks.same(f"{self.what}: totxegun {line}", 0, done.returncode if done.returncode == 0 else done.stderr)
         return done.stdout, done.stderr
@@ -462,7 +462,7 @@ class Bill:
             said = [self.totxegun(line)[0] for line in correct]
         self.checks.true(f"{self.what}: the same correction again", "is there already" in said[0], said)
         self.post("s1", 2, 0, 5)
-        refused = subprocess.run([self.program, "close", self.months[0], "--operate", f"127.0.0.1:{self.service.operate}"],
+        refused = subprocess.run([self.program, "close", self.months[0], "--data", f"{self.folder}/bill"],
                                  capture_output=True, text=True, check=False)
         self.checks.true(f"{self.what}: a close names what waits", refused.returncode == 1 and "--flush" in refused.stderr, refused)
         for line in close:
