@@ -11,7 +11,7 @@ pub use forwarded::forwarded;
 pub(super) use forwarded::protobuf_of_forwarded;
 pub(super) use point::Temporality;
 pub use posted::Profile;
-pub use posted::{only, posted};
+pub use posted::{only, posted, posted_with};
 pub(super) use posted::{visit, visit_with, Seen};
 pub(super) use why::What;
 pub use zeros::zeros;

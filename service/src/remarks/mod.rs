@@ -158,10 +158,11 @@ impl<T: Taker> Remarks<T> {
                     0 => Causes::default(),
                     _ => self.causes(source, original, foreign).await,
                 };
-                let (foreign, known) = (causes.count(), known.clone());
-                let causes = causes.and(&known).and(&Causes::of_clocks(off));
+                let causes = causes.and(known);
+                let rejected = causes.count();
+                let causes = causes.and(&Causes::of_clocks(off));
                 self.metrics.foreign(sender, &causes, &self.telling.expected);
-                Outcome::taken_but(foreign, off).with_causes(&causes)
+                Outcome::taken_but(rejected, off).with_causes(&causes)
             }
             Outcome::Refused { status, message } => {
                 let Some(place) = place_of(&message) else {

@@ -2,6 +2,7 @@
 
 use super::*;
 use crate::otlp::{Clock, OffClock};
+use crate::runs::{Refused, Turned};
 use std::time::Duration;
 
 /// Answers as it was told.
@@ -294,4 +295,36 @@ async fn refusals_are_noted() {
         .unwrap()
         .1;
     assert_eq!((of_a.taken, of_a.refused["out of order"].posts), (0, 2));
+}
+
+/// Cumulative points that are refused by name count, beside foreign ones and alone.
+#[tokio::test]
+async fn what_is_refused_of_runs_is_counted() {
+    let turned = Turned {
+        by: [(Refused::WentDown, 2)].into(),
+        first: None,
+    };
+    for (gauges, metrics) in [(0, ""), (3, GAUGES)] {
+        let outcome = Outcome::Taken {
+            rejected: 2 + gauges,
+            off: OffClock::default(),
+            known: Causes::of_runs(&turned),
+            message: None,
+        };
+        let remarks = remarks(outcome, None, Telling::default());
+        let said = remarks.post("a".into(), body(metrics).into()).await;
+        let Outcome::Taken {
+            rejected,
+            message: Some(message),
+            ..
+        } = said
+        else {
+            panic!("{said:?}");
+        };
+        assert_eq!(rejected, 2 + gauges);
+        assert!(
+            message.contains("2 cumulative points that went down"),
+            "{message}"
+        );
+    }
 }

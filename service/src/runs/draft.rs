@@ -16,6 +16,8 @@ pub struct Draft<'r> {
     pub foreign: u64,
     pub turned: Turned,
     pub noted: Vec<Noted>,
+    /// Points that add nothing, since they are no later than their runs: each by its place in the post, and its series.
+    pub late: Vec<(u32, SeriesKey)>,
     before: Vec<(u32, Option<Arc<Run>>)>,
     /// How many series were known.
     first_new: usize,
@@ -62,6 +64,7 @@ impl Runs {
             foreign: 0,
             turned: Turned::default(),
             noted: Vec::new(),
+            late: Vec::new(),
             before: Vec::new(),
             made: Vec::new(),
             places: Vec::new(),
@@ -70,7 +73,7 @@ impl Runs {
         for (place, point) in (0..).zip(posted.points.each()) {
             match cumulative.next_if_eq(&place) {
                 None => draft.points.push_words(point[0], &point[1..]),
-                Some(_) => draft.add(self.options(), posted.names, point, &frontier),
+                Some(_) => draft.add(self.options(), posted.names, (place, point), &frontier),
             }
             draft.places.resize(draft.points.count(), place);
         }
@@ -79,7 +82,13 @@ impl Runs {
 }
 
 impl Draft<'_> {
-    fn add(&mut self, options: Options, names: &Names, point: &[u64], frontier: impl Fn(&SeriesKey) -> u64) {
+    fn add(
+        &mut self,
+        options: Options,
+        names: &Names,
+        (place, point): (u32, &[u64]),
+        frontier: impl Fn(&SeriesKey) -> u64,
+    ) {
         let Some(found) = self.runs.find(names, point[0], frontier) else {
             self.foreign += 1;
             return;
@@ -94,7 +103,7 @@ impl Draft<'_> {
             return;
         }
         match series.entry(options, self.runs.since, &run) {
-            Ok(None) => {}
+            Ok(None) => self.late.push((place, series.key.clone())),
             Ok(Some(entry)) => self.take(found, point[0], entry),
             Err(refused) => self.turned.add(refused, &series.key),
         }

@@ -116,6 +116,7 @@ impl Parts {
             most_series: settings.most_series as u64,
             of_each: settings.of_each,
             tokens: settings.door.tokens(),
+            profile: settings.reading.profile(),
             owned: Box::new(slot.outbox.clone()),
         });
         let left = deliver(slot.number(), slot.outbox.clone());

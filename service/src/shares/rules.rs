@@ -2,7 +2,7 @@
 
 use crate::files::Outbox;
 use crate::identity::Tokens;
-use crate::otlp::series::{posted, SeriesKey};
+use crate::otlp::series::{posted_with, Profile, SeriesKey};
 use crate::renewed::Renewed;
 use bytes::Bytes;
 use std::collections::HashMap;
@@ -60,6 +60,8 @@ pub struct Rules {
     pub of_each: Share,
     /// Whose are its own.
     pub tokens: Option<Arc<Renewed<Tokens>>>,
+    /// Which points have a series.
+    pub profile: Profile,
     pub owned: Box<dyn Owned>,
 }
 
@@ -76,7 +78,7 @@ impl Rules {
 
     /// Whether a post has no series but those of an earlier flush.
     pub fn knows_all(&self, text: Option<Bytes>) -> bool {
-        let read = text.and_then(|text| posted(&text));
+        let read = text.and_then(|text| posted_with(&text, self.profile));
         read.is_some_and(|read| read.series.keys().all(|key| self.owned.has(key)))
     }
 }

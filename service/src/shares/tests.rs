@@ -69,6 +69,7 @@ fn shares(of_each: Share, flushed: &Flushed) -> Arc<Shares> {
     let rules = Rules {
         most_series: 100,
         of_each,
+        profile: crate::otlp::Profile::Deltas,
         tokens: None,
         owned: Box::new(flushed.clone()),
     };

@@ -65,7 +65,9 @@ impl Slot {
             (making, put) = self.made(making).await;
             match put? {
                 Some(put) => {
-                    claim.keep(&making.sender, put.new_series);
+                    if let Some(new_series) = put.new_series {
+                        claim.keep(&making.sender, new_series);
+                    }
                     return Ok(put.journalled);
                 }
                 None => landed.await,
@@ -109,7 +111,7 @@ impl Slot {
     fn not_made(&self, refused: Refused) -> Put {
         Put {
             journalled: Journalled::refused(refused, &self.journal),
-            new_series: 0,
+            new_series: None,
         }
     }
 
@@ -131,6 +133,10 @@ impl Slot {
             None => self.outbox.frontier(series),
         };
         let mut draft = self.runs.draft(posted, frontier);
+        if let Some(point) = self.of_another(&making.sender, &draft) {
+            let refused = Refused::OtherWriter { point };
+            return Ok(Tried::Put(self.not_made(left_out.refused(refused))));
+        }
         let foreign = by.foreign + draft.foreign;
         let said = |journalled: Journalled, draft: &Draft<'_>| {
             journalled.without(foreign, left_out.off(), &draft.turned)
@@ -138,7 +144,7 @@ impl Slot {
         if draft.points.count() == 0 {
             return Ok(Tried::Put(Put {
                 journalled: said(Journalled::again(&self.journal), &draft),
-                new_series: 0,
+                new_series: Some(0),
             }));
         }
         let mut read = match self.read_made(making, &mut draft, foreign) {
@@ -168,6 +174,14 @@ impl Slot {
                 Tried::Put(self.not_made(left_out.refused(draft.refused(refused))))
             }
         })
+    }
+
+    /// The place of a point that adds nothing, and whose series is another sender's: it is no repeat.
+    fn of_another(&self, sender: &str, draft: &Draft<'_>) -> Option<u64> {
+        let is_of_another = |series| self.outbox.owner(series).is_some_and(|owner| owner != sender);
+        let mut late = draft.late.iter();
+        let found = late.find(|(_, series)| is_of_another(series));
+        found.map(|(place, _)| u64::from(*place))
     }
 
     /// None where the library finds another number of them foreign.

@@ -22,8 +22,8 @@ const MANY_BYTES: usize = 32 << 20;
 /// A post that the book and the journal have.
 pub(super) struct Put {
     pub journalled: Journalled,
-    /// How many of its series the book had not.
-    pub new_series: usize,
+    /// How many of its series the book had not; none where nothing was taken.
+    pub new_series: Option<usize>,
 }
 
 impl Slot {
@@ -89,7 +89,7 @@ impl Slot {
             let landed = self.landed.notified(); // from here on none is missed
             match self.put(&mut posted)? {
                 Ok(put) => {
-                    claim.keep(&posted.read.post.sender, put.new_series);
+                    claim.keep(&posted.read.post.sender, put.new_series.unwrap_or(0));
                     return Ok(put.journalled);
                 }
                 Err(Refused::InFlight) => landed.await,
@@ -119,7 +119,7 @@ impl Slot {
             self.note_refusal(book, refused);
             return Ok(Err(refused));
         }
-        let new_series = book.series().saturating_sub(before);
+        let new_series = Some(book.series().saturating_sub(before));
         self.count_post();
         // Under the lock: so the journal has the book's order, and a checkpoint finds the post in both or in neither.
         let journalled = Taken::of(posted).journal(&self.journal);

@@ -371,6 +371,13 @@ async fn what_is_refused_has_its_name() {
         )
     );
     run.flush().await;
+    // A point of another's that is no later than the run is no repeat: it names the one, though another was left out.
+    let other = [point("m3", BEGIN, BEGIN + 1, 1), point("m", 10, BEGIN, 5)];
+    let message = "other writer: point 1".into();
+    assert_eq!(
+        run.cumulative("B", &other).await,
+        Outcome::Refused { status: 400, message }
+    );
     let sums = run.forwarded().await;
     assert_eq!((sums["m"].0, sums["m2"].0), (2, 3));
     run.end().await;

@@ -39,12 +39,17 @@ impl Seen<'_, '_> {
 
 /// The series of a body that the book took; none where the book refuses the body whole.
 pub fn posted(body: &[u8]) -> Option<Posted> {
+    posted_with(body, Profile::Deltas)
+}
+
+/// The same of points of this profile.
+pub fn posted_with(body: &[u8], profile: Profile) -> Option<Posted> {
     let document = Document::parse(body).ok()?;
     let mut posted = Posted {
         series: HashMap::new(),
         foreign: 0,
     };
-    visit(&document, |seen| match seen.found {
+    visit_with(&document, profile, |seen| match seen.found {
         Err(_) => posted.foreign += 1,
         Ok(_) => posted.add(seen.key, seen.end()),
     })?;
