@@ -12,7 +12,7 @@ is crates/alloc_failures/stdout. For each k from 1 until a run meets no refusal:
   - No call says that something changed, and none but the last ones ends the program.
   - Of the calls that take none, whose lines begin with `end: `, none has a growth, counted before and behind
     each in a run that is refused nothing.
-  - Where the books that it keeps find no memory the program ends with `alloc_failures: no memory`, and no
+  - Where the two books that it keeps find no memory the program ends with `alloc_failures: no memory`, and no
     line.
 The last line counts the runs that passed and failed, and the status is 0 where none failed.
 """

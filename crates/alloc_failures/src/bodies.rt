@@ -43,11 +43,6 @@ pub const WAIT: &[u8] = b"HTTP/1.1 503 Service Unavailable\r\nRetry-After: 2\r\n
 /// A body without points.
 pub const NO_POINTS: &[u8] = b"{}";
 
-/// A body with a point of 5 in (10, 20] of the sum `a` alone.
-pub const ONE: &[u8] = br#"{"resourceMetrics":[{"scopeMetrics":[{"metrics":[
-    {"name":"a","sum":{"aggregationTemporality":1,"isMonotonic":true,"dataPoints":[
-    {"asInt":"5","startTimeUnixNano":"10","timeUnixNano":"20"}]}}]}]}]}"#;
-
 /// A body with a point of 5 in (10, 20] of the sum `a`, and three points that are foreign.
 pub const FOREIGN: &[u8] = br#"{"resourceMetrics":[{"scopeMetrics":[{"metrics":[
     {"name":"a","sum":{"aggregationTemporality":1,"isMonotonic":true,"dataPoints":[

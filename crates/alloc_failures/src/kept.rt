@@ -1,13 +1,13 @@
-//! A book and a shared one, which are made before the calls and get the same entries; and many
-//! books. After the calls their batches and flushes end, and their quarantined sender is released,
-//! by calls that allocate nothing.
+//! A book and a shared one, which are made before the calls and get the same entries. After the
+//! calls their batches and flushes end, and their quarantined sender is released, by calls that
+//! allocate nothing.
 ghost use Rattle.std.specs.Prelude.{◌≡◌, ◌≤◌};
 ghost use Rattle.metric_events.specs.Opening.{first_opening};
 
 use crate::bodies::{FOREIGN, MIXED, SUMS, WAIT};
 use crate::lines::{print_number, print_right};
+use crate::make_calls;
 use crate::making::{batch_of, first_point, name_of};
-use crate::{desks, make_calls};
 use byte_ends::Script;
 use delta_book::book::Book;
 use gate_workers::{SeatedBook, SharedKeeper, Store};
@@ -131,7 +131,6 @@ pub fn run<L: Round, R: Print + Wait>(rt: &R, alloc: Global, blank: Blank) -> Re
     };
     let mut keeper = SharedKeeper::new(rt, alloc, &shared, seat, None);
     fill(alloc, &mut keeper)?;
-    let mut desk = desks::kept(alloc)?;
     let quarantined = name_of(alloc, b"H")?;
     let identity = first_point(alloc, MIXED)?.shared_series().share()?;
     make_calls(rt, alloc);
@@ -146,7 +145,6 @@ pub fn run<L: Round, R: Print + Wait>(rt: &R, alloc: Global, blank: Blank) -> Re
         is_copied(alloc, &identity),
     );
     print_right(rt, "end: read_response", is_read());
-    desks::end(rt, &mut desk);
     end(rt, &mut keeper, &quarantined);
     let seat = keeper.into_seat();
     print_number(rt, "end: Seat::receipts", seat.receipts().len() as u64);

@@ -41,7 +41,6 @@ macro_rules! put {
 mod bodies;
 mod books;
 mod caller;
-mod desks;
 mod handed;
 mod kept;
 mod lines;
@@ -61,7 +60,6 @@ fn make_all<R: Print + Wait>(rt: &R, alloc: Global) -> Result<(), AllocError> {
     values::make_all(rt, alloc)?;
     handed::make_all(rt, alloc)?;
     books::two_rounds(rt, alloc)?;
-    desks::make_all(rt, alloc)?;
     shared_calls::make_all(rt, alloc)?;
     served::make_all(rt, alloc)
 }
