@@ -1,21 +1,10 @@
-//! Tests of many books: that each call succeeds with ample memory and at its limits, that series
-//! are spread over the books, that many books answer as one book does, and that what is forwarded
-//! of a series does not go over the edge of a stretch of time.
+//! Tests of many books: that each call succeeds with ample memory, that series are spread over the
+//! books, and that many books answer as one book does.
 #![tactic(auto)]
 
 #[cfg(test)]
 mod bodies;
 #[cfg(test)]
-mod by_number;
-#[cfg(test)]
-mod chance;
-#[cfg(test)]
-mod crossing;
-#[cfg(test)]
 mod flow;
-#[cfg(test)]
-mod limits;
-#[cfg(test)]
-mod one_book;
 #[cfg(test)]
 mod same;

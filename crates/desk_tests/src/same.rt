@@ -2,7 +2,6 @@
 ghost use Rattle.std.specs.Prelude.{◌<◌};
 
 use crate::bodies::body_of;
-use crate::chance::Chance;
 use book_desk::desk::{Desk, DeskFault};
 use book_desk::reader::Reader;
 use book_desk::window::Window;
@@ -12,20 +11,37 @@ use std::test::Fail;
 /// How many posts are tried.
 const POSTS: u64 = 400;
 
-/// One to six points of thirty series, most of them later than those of earlier posts.
-fn points_of(chance: &mut Chance, alloc: Global, post: u64) -> Result<Vec<(u64, u64)>, Fail> {
-    let mut points = Vec::new(alloc);
-    let count = chance.below(6);
-    for _ in 0..count + 1 {
-        let start = post.saturating_mul(2).saturating_add(chance.below(40));
-        points.push((chance.below(30), start))?;
-    }
-    Ok(points)
+/// Numbers in a fixed order that looks like chance.
+#[derive(Drop)]
+struct Chance {
+    state: u64,
 }
 
-/// Two senders; the second one has a fourth of the posts.
-fn sender_of(chance: &mut Chance) -> &'static [u8] {
-    if chance.below(4) == 0 { b"B" } else { b"A" }
+impl Chance {
+    fn below(&mut self, limit: u64) -> u64
+        requires { 0 < limit }
+        ensures { result < limit }
+    {
+        let next = self.state.wrapping_mul(6_364_136_223_846_793_005);
+        self.state = next.wrapping_add(1_442_695_040_888_963_407);
+        (self.state >> 33) % limit
+    }
+
+    /// One to six points of thirty series, most of them later than those of earlier posts.
+    fn points(&mut self, alloc: Global, post: u64) -> Result<Vec<(u64, u64)>, Fail> {
+        let mut points = Vec::new(alloc);
+        let count = self.below(6);
+        for _ in 0..count + 1 {
+            let start = post.saturating_mul(2).saturating_add(self.below(40));
+            points.push((self.below(30), start))?;
+        }
+        Ok(points)
+    }
+
+    /// Two senders; the second one has a fourth of the posts.
+    fn sender(&mut self) -> &'static [u8] {
+        if self.below(4) == 0 { b"B" } else { b"A" }
+    }
 }
 
 /// Some books, and who reads for them.
@@ -62,14 +78,14 @@ impl Side {
 #[test]
 fn posts_over_many_books_are_answered_as_by_one(rt: HostRuntime) -> Result<(), Fail> {
     let alloc = rt.alloc();
-    let mut chance = Chance::new(7);
+    let mut chance = Chance { state: 7 };
     let mut one = Side::new(alloc, 1)?;
     let mut many = Side::new(alloc, 8)?;
     let mut taken: u64 = 0;
     for post in 0..POSTS {
-        let points = points_of(&mut chance, alloc, post)?;
+        let points = chance.points(alloc, post)?;
         let body = body_of(alloc, &points)?;
-        let sender = sender_of(&mut chance);
+        let sender = chance.sender();
         let answer = one.post(1, sender, body.as_str())?;
         assert_eq!(rt; many.post(8, sender, body.as_str())?, answer);
         if answer.is_ok() {
