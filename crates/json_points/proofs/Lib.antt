@@ -1,0 +1,6 @@
+pub mod NodeLemmas
+pub mod PlainLemmas
+pub mod WalkLemmas
+pub mod PairLemmas
+pub mod MetricLemmas
+pub mod TextLemmas

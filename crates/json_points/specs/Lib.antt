@@ -1,0 +1,4 @@
+pub mod Nodes
+pub mod Plain
+pub mod Slots
+pub mod inner

@@ -1,0 +1,2 @@
+pub mod RefViews
+pub mod StreamViews
