@@ -1,6 +1,6 @@
 # The commands of the README. Their scripts are in tools/; what they log is in out/logs.
 
-.PHONY: help run serve demo build check fmt test edits wrong soak bench install deb image life version reproduce
+.PHONY: help run serve demo build check fmt test edits wrong soak bench install deb image life version release reproduce
 
 # The first one: what there is to make. Each line is the text behind ## at a target.
 help:
@@ -71,6 +71,10 @@ life: ## tries package and image: installed, upgraded under load, killed, purged
 version: ## the version, and which book bin/totxegun has
 	@cat VERSION
 	@[ ! -x bin/totxegun ] || bin/totxegun version
+
+# VERSION=0.6.0, over a clean tree on which make test has passed here: docs/RELEASING.md.
+release: ## commits and tags a version, and makes its files: VERSION=
+	@tools/release.py '$(VERSION)'
 
 reproduce: ## builds the service twice, in two folders, and compares
 	@tools/reproduce

@@ -82,6 +82,8 @@ SERVICE_STEPS = (
     ("package_installs.py", [], 15),
 )
 STEP_LIMIT = 600
+# Which revision has passed here, wholly: tools/release.py asks.
+PASSED = f"{OUT}/passed"
 # A network of its own for each step, so that none takes another's port.
 OWN_NETWORK = "tools/own_network.py"
 # The status of a script that lacks a program that it needs; its last line says which.
@@ -229,6 +231,18 @@ def show_faults(step):
         print(f"{step.name}: {line[:FAULT_WIDTH]}")
 
 
+def clean_revision():
+    """The commit that the tree is, or nothing where it has changes."""
+    changed = subprocess.run(["git", "status", "--porcelain"], cwd=ROOT, stdout=subprocess.PIPE, check=True).stdout
+    head = subprocess.run(["git", "rev-parse", "HEAD"], cwd=ROOT, stdout=subprocess.PIPE, text=True, check=True).stdout
+    return "" if changed else head.strip()
+
+
+def note_passed(revision):
+    with open(PASSED, "w", encoding="ascii") as file:
+        file.write(f"{revision}\n")
+
+
 def has_networks():
     ran = subprocess.run([OWN_NETWORK, "true"], cwd=ROOT, stderr=subprocess.DEVNULL)
     return ran.returncode == 0
@@ -239,6 +253,7 @@ def main(words):
         sys.exit("usage: tools/gate.py [--without-prover]")
     prover = Prover()
     passed = failed = 0
+    revision = clean_revision()
     if not words:
         with locked(OUT):
             Steps([prover.step()]).run()
@@ -259,6 +274,8 @@ def main(words):
         for step in steps.failed:
             show_faults(step)
         print("beside the prover:" if words else "the gate, the prover's part and the steps beside it:")
+    if revision and not failed and not words and clean_revision() == revision:
+        note_passed(revision)
     print(f"{passed} passed, {failed} failed")
     return 1 if failed else 0
 

@@ -1,0 +1,183 @@
+#!/usr/bin/env python3
+"""Lists what the program totxegun is made of, each part with its version and its licence.
+
+    tools/contents.py TOTXEGUN FOLDER
+
+FOLDER gets totxegun.spdx.json (SPDX 2.3) and LICENCES.txt, a line a part. The parts are the crates that it is compiled
+from, as Cargo resolves them; the proved book and the toolchain that made it; and the libraries that it loads, by Debian's
+packages. A licence that nobody wrote down as an expression is named, and its text is in both files.
+"""
+import hashlib
+import json
+import os
+import re
+import subprocess
+import sys
+
+from crates import ROOT
+
+MANIFEST = f"{ROOT}/service/Cargo.toml"
+SYSTEM = "x86_64-unknown-linux-gnu"
+# The ways in which manifests write OR and AND.
+SLASH = re.compile(r"\s*/\s*")
+# A line of ldd: the name, and the file that is loaded.
+LOADED = re.compile(r"^\s*(?:\S+ => )?(/\S+) \(0x", re.MULTILINE)
+NOT_SAID = "NOASSERTION"
+
+
+class Part:
+    """A part: `licence` is an expression of SPDX, or of a text that stands for itself `text` has it."""
+
+    def __init__(self, name, version, licence, text="", comment=""):
+        self.name = name
+        self.version = version
+        self.licence = licence
+        self.text = text
+        self.comment = comment
+
+    def reference(self):
+        return "SPDXRef-" + re.sub(r"[^A-Za-z0-9.-]", "-", f"{self.name}-{self.version}")
+
+    def shown(self):
+        return f"{self.name} {self.version}: {self.licence}{f' ({self.comment})' if self.comment else ''}"
+
+
+def printed(*command):
+    return subprocess.run(command, stdout=subprocess.PIPE, text=True, check=True, cwd=ROOT).stdout
+
+
+def read(path):
+    with open(path, encoding="utf-8", errors="replace") as file:
+        return file.read()
+
+
+def crates():
+    """What is compiled into the program, but for what only builds or tests it."""
+    words = ["metadata", "--format-version", "1", "--filter-platform", SYSTEM]
+    found = json.loads(printed(f"{ROOT}/tools/cargo", *words))
+    packages = {it["id"]: it for it in found["packages"]}
+    nodes = {it["id"]: it for it in found["resolve"]["nodes"]}
+    root = found["resolve"]["root"]
+    known, left = {root}, [root]
+    while left:
+        for below in nodes[left.pop()]["deps"]:
+            is_linked = any(kind["kind"] is None for kind in below["dep_kinds"])
+            if is_linked and below["pkg"] not in known:
+                known.add(below["pkg"])
+                left.append(below["pkg"])
+    linked = [packages[it] for it in known - {root} if not is_macro(packages[it])]
+    return [crate(it) for it in sorted(linked, key=lambda it: (it["name"], it["version"]))]
+
+
+def is_macro(package):
+    """One that runs in the compiler, and is not in the program."""
+    return all("proc-macro" in it["kind"] or "custom-build" in it["kind"] for it in package["targets"])
+
+
+def crate(package):
+    name, version, licence = package["name"], package["version"], package["license"]
+    if licence:
+        return Part(name, version, SLASH.sub(" OR ", licence))
+    file = os.path.join(os.path.dirname(package["manifest_path"]), package["license_file"] or "LICENSE")
+    return Part(name, version, f"LicenseRef-{name}", read(file), "its own text")
+
+
+def book():
+    """What `totxegun version` says of the proved part is its revision; the toolchain's libraries are in it."""
+    toolchain = printed("rt", "version").split()[0]
+    comment = "the toolchain that compiled the book, whose libraries are in it"
+    return [Part("rattle", toolchain, NOT_SAID, comment=comment)]
+
+
+def libraries(program):
+    """What the program loads, by the packages that it is of."""
+    owners = {}
+    for file in LOADED.findall(printed("ldd", program)):
+        for name in (file, os.path.realpath(file)):
+            found = subprocess.run(["dpkg", "-S", name], stdout=subprocess.PIPE, stderr=subprocess.DEVNULL, text=True, check=False)
+            if found.returncode == 0:
+                owners[found.stdout.partition(": ")[0]] = None
+                break
+        else:
+            sys.exit(f"{sys.argv[0]}: {file} is of no package")
+    return [library(it) for it in sorted(owners)]
+
+
+def library(package):
+    name, version = printed("dpkg-query", "-W", "-f", "${Package} ${Version}", package).split()
+    return Part(name, version, NOT_SAID, comment=f"loaded; its licences are in /usr/share/doc/{name}/copyright")
+
+
+def document(program, version, parts):
+    """All of it as SPDX 2.3 (its JSON has the names of its clause 7)."""
+    with open(program, "rb") as file:
+        digest = hashlib.file_digest(file, "sha256").hexdigest()
+    top = Part("totxegun", version, "Apache-2.0")
+    packages = [described(it) for it in (top, *parts)]
+    packages[0]["checksums"] = [{"algorithm": "SHA256", "checksumValue": digest}]
+    return {
+        "spdxVersion": "SPDX-2.3",
+        "dataLicense": "CC0-1.0",
+        "SPDXID": "SPDXRef-DOCUMENT",
+        "name": f"totxegun-{version}",
+        "documentNamespace": f"urn:totxegun:{version}:{digest}",
+        "creationInfo": {"created": f"{day(version)}T12:00:00Z", "creators": ["Tool: tools/contents.py"]},
+        "packages": packages,
+        "hasExtractedLicensingInfos": [
+            {"licenseId": it.licence, "extractedText": it.text} for it in parts if it.text
+        ],
+        "relationships": [
+            relation("SPDXRef-DOCUMENT", "DESCRIBES", top.reference()),
+            *(relation(top.reference(), "DEPENDS_ON", it.reference()) for it in parts),
+        ],
+    }
+
+
+def described(part):
+    known = {
+        "SPDXID": part.reference(),
+        "name": part.name,
+        "versionInfo": part.version,
+        "downloadLocation": NOT_SAID,
+        "filesAnalyzed": False,
+        "licenseConcluded": part.licence,
+        "licenseDeclared": part.licence,
+        "copyrightText": NOT_SAID,
+    }
+    return {**known, "comment": part.comment} if part.comment else known
+
+
+def relation(whose, kind, which):
+    return {"spdxElementId": whose, "relationshipType": kind, "relatedSpdxElement": which}
+
+
+def day(version):
+    """The day of a version, or of the newest one that has a day: the same program gives the same bytes."""
+    days = dict(re.findall(r"^## (\S+), (\S+)", read(f"{ROOT}/CHANGELOG.md"), flags=re.MULTILINE))
+    return days.get(version) or next(iter(days.values()))
+
+
+def listed(parts):
+    lines = ["What totxegun is made of, and the licence of each part. Its own is Apache-2.0.", ""]
+    lines += [it.shown() for it in parts]
+    for it in parts:
+        if it.text:
+            lines += ["", f"{it.licence}:", "", it.text.rstrip()]
+    return "\n".join(lines) + "\n"
+
+
+def main(words):
+    if len(words) != 2:
+        sys.exit(f"usage: {sys.argv[0]} TOTXEGUN FOLDER")
+    program, folder = words
+    version = read(f"{ROOT}/VERSION").strip()
+    parts = [*crates(), *book(), *libraries(program)]
+    with open(f"{folder}/totxegun.spdx.json", "w", encoding="utf-8") as file:
+        json.dump(document(program, version, parts), file, indent=1)
+    with open(f"{folder}/LICENCES.txt", "w", encoding="utf-8") as file:
+        file.write(listed(parts))
+    print(f"{len(parts)} parts: {folder}/totxegun.spdx.json, {folder}/LICENCES.txt")
+
+
+if __name__ == "__main__":
+    main(sys.argv[1:])

@@ -1,0 +1,116 @@
+#!/usr/bin/env python3
+"""Makes a release of what is committed: tools/release.py VERSION
+
+The tree has to be clean, and the gate to have passed on it here. CHANGELOG.md's `Unreleased` becomes the version, each
+file that names the last one names this one; that is committed and tagged. Then all is built, and out/release has the package,
+the image, what both are made of, and SHA256SUMS. Nothing is pushed. Where the tag is there already only the files are made.
+"""
+import datetime
+import os
+import re
+import shutil
+import subprocess
+import sys
+
+from crates import OUT, ROOT
+from gate import PASSED, clean_revision
+
+MADE = f"{OUT}/release"
+FORM = re.compile(r"\d+\.\d+\.\d+")
+UNRELEASED = "## Unreleased\n"
+# Files that name the version, each by a text around it.
+NAMING = (
+    ("VERSION", "{}"),
+    ("service/Cargo.toml", 'version = "{}"'),
+    ("service/Cargo.lock", 'name = "totxegun"\nversion = "{}"'),
+    ("README.md", "totxegun_{}_"),
+    ("docs/OPERATING.md", "totxegun_{}_"),
+)
+
+
+class Refused(Exception):
+    """Why nothing is released."""
+
+
+def read(name):
+    with open(f"{ROOT}/{name}", encoding="utf-8") as file:
+        return file.read()
+
+
+def write(name, text):
+    with open(f"{ROOT}/{name}", "w", encoding="utf-8") as file:
+        file.write(text)
+
+
+def git(*words):
+    return subprocess.run(["git", *words], cwd=ROOT, stdout=subprocess.PIPE, text=True, check=True).stdout.strip()
+
+
+def check(version):
+    """Whether all is ready for a version after the last one."""
+    last = read("VERSION").strip()
+    if not FORM.fullmatch(version) or numbers(version) <= numbers(last):
+        raise Refused(f"a version is three numbers, and comes after {last}: {version} does not")
+    revision = clean_revision()
+    if not revision:
+        raise Refused("there are changes that are not committed: git status names them")
+    if not os.path.exists(PASSED) or read(os.path.relpath(PASSED, ROOT)).strip() != revision:
+        raise Refused(f"the gate has not passed here on {revision[:12]}: make test")
+    if UNRELEASED not in read("CHANGELOG.md"):
+        raise Refused(f"CHANGELOG.md has no line `{UNRELEASED.strip()}`: it says what this version changes")
+
+
+def numbers(version):
+    return [int(it) for it in version.split(".")]
+
+
+def name(version, day):
+    """Writes the version wherever the last one is named."""
+    last = read("VERSION").strip()
+    for file, around in NAMING:
+        text = read(file)
+        if around.format(last) not in text:
+            raise Refused(f"{file} does not have `{around.format(last)}`")
+        write(file, text.replace(around.format(last), around.format(version)))
+    write("CHANGELOG.md", read("CHANGELOG.md").replace(UNRELEASED, f"## {version}, {day}\n", 1))
+
+
+def tag(version):
+    git("commit", "--all", "--quiet", "--message", f"Version {version}")
+    git("tag", "--annotate", f"v{version}", "--message", f"Version {version}")
+
+
+def is_tagged(version):
+    return f"v{version}" in git("tag", "--points-at", "HEAD").split()
+
+
+def make(version):
+    """Builds what is released."""
+    shutil.rmtree(MADE, ignore_errors=True)
+    os.makedirs(MADE)
+    for command in (["tools/build.py"], ["tools/deb.py"], ["tools/image"], ["tools/contents.py", "bin/totxegun", MADE]):
+        subprocess.run(command, cwd=ROOT, check=True)
+    for file in (f"totxegun_{version}_amd64.deb", f"totxegun_{version}_image.tar"):
+        shutil.copy(f"{OUT}/{file}", MADE)
+    names = sorted(os.listdir(MADE))
+    sums = subprocess.run(["sha256sum", *names], cwd=MADE, stdout=subprocess.PIPE, text=True, check=True).stdout
+    write(f"{os.path.relpath(MADE, ROOT)}/SHA256SUMS", sums)
+    print(f"{os.path.relpath(MADE)}: {', '.join(names)}, SHA256SUMS. To publish: git push --follow-tags")
+
+
+def main(words):
+    if len(words) != 1 or not words[0]:
+        sys.exit("usage: make release VERSION=X.Y.Z")
+    version = words[0]
+    try:
+        if not is_tagged(version):
+            check(version)
+            name(version, datetime.datetime.now(datetime.timezone.utc).date().isoformat())
+            tag(version)
+        make(version)
+    except (Refused, subprocess.CalledProcessError) as why:
+        sys.exit(f"tools/release.py: {why}")
+
+
+if __name__ == "__main__":
+    main(sys.argv[1:])
