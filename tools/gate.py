@@ -17,7 +17,7 @@ import time
 import prover
 from build import MOST_JOBS, SERVICE_MADE
 from crates import OUT, ROOT, content, read_crates
-from proved import write_proof
+from proved import said, write_proof
 from steps import Failed, Step, Steps, end_of, end_of_lines, locked, shown
 
 PLAY = "crates/play/out/play"
@@ -233,9 +233,7 @@ def show_faults(step):
 
 def clean_revision():
     """The commit that the tree is, or nothing where it has changes."""
-    changed = subprocess.run(["git", "status", "--porcelain"], cwd=ROOT, stdout=subprocess.PIPE, check=True).stdout
-    head = subprocess.run(["git", "rev-parse", "HEAD"], cwd=ROOT, stdout=subprocess.PIPE, text=True, check=True).stdout
-    return "" if changed else head.strip()
+    return "" if said(["git", "status", "--porcelain"]) else said(["git", "rev-parse", "HEAD"])
 
 
 def note_passed(revision):
