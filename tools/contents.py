@@ -15,6 +15,7 @@ import subprocess
 import sys
 
 from crates import ROOT
+from proved import said
 
 MANIFEST = f"{ROOT}/service/Cargo.toml"
 SYSTEM = "x86_64-unknown-linux-gnu"
@@ -83,8 +84,8 @@ def crate(package):
 
 
 def book():
-    """What `totxegun version` says of the proved part is its revision; the toolchain's libraries are in it."""
-    toolchain = printed("rt", "version").split()[0]
+    """The toolchain of the proved book. The book itself is the program's own."""
+    toolchain = (said(["rt", "version"]) or "unknown").split()[0]
     comment = "the toolchain that compiled the book, whose libraries are in it"
     return [Part("rattle", toolchain, NOT_SAID, comment=comment)]
 
@@ -115,6 +116,7 @@ def document(program, version, parts):
     top = Part("totxegun", version, "Apache-2.0")
     packages = [described(it) for it in (top, *parts)]
     packages[0]["checksums"] = [{"algorithm": "SHA256", "checksumValue": digest}]
+    packages[0]["comment"] = "the checksum is that of the program as it was built: a package or an image has it stripped"
     return {
         "spdxVersion": "SPDX-2.3",
         "dataLicense": "CC0-1.0",

@@ -66,8 +66,10 @@ def prepare(folder, programs):
     with open(f"{folder}/debian/changelog", "w", encoding="utf-8") as file:
         file.write(changelog())
     places = {"DESTDIR": f"{folder}/installed", "PREFIX": "/usr", "SYSCONFDIR": "/etc", "UNITDIR": "/lib/systemd/system"}
-    ran = subprocess.run([f"{ROOT}/tools/install", programs], env={**os.environ, **places}, check=False)
-    return ran.returncode == 0
+    if subprocess.run([f"{ROOT}/tools/install", programs], env={**os.environ, **places}, check=False).returncode:
+        return False
+    words = [f"{programs}/totxegun", f"{folder}/installed/usr/share/doc/totxegun"]
+    return subprocess.run([f"{ROOT}/tools/contents.py", *words], stdout=subprocess.DEVNULL, check=False).returncode == 0
 
 
 def build(folder, second):

@@ -81,6 +81,8 @@ SERVICE_STEPS = (
     ("unit_tasks.py", [], 5),
     ("package_installs.py", [], 15),
 )
+# These run no program.
+WITHOUT_PROGRAM = ("service_model.py", "runs_model.py", "releases.py")
 STEP_LIMIT = 600
 # Which revision has passed here, wholly: tools/release.py asks.
 PASSED = f"{OUT}/passed"
@@ -215,7 +217,7 @@ def cargo_steps():
 
 def service_steps(before):
     """The steps that run the service, after the one that builds it."""
-    steps = [step_of("service_model.py", "", 60, False, []), step_of("runs_model.py", "", 60, False, [])]
+    steps = [step_of(it, "", 60, False, []) for it in WITHOUT_PROGRAM]
     for script, words, seconds in SERVICE_STEPS:
         step = step_of(script, " ".join([SERVICE_MADE, *words]), seconds, False, before, "service_")
         step.after = ["service_is_built"]

@@ -1,0 +1,103 @@
+#!/usr/bin/env python3
+"""Whether tools/release.py refuses what is not ready, and what it commits and tags. It runs in a clone, and builds nothing.
+
+    tests/releases.py
+
+Each line is one check; the last line counts those that passed and failed, and the status is 1 where one failed.
+"""
+import os
+import re
+import subprocess
+import sys
+import tempfile
+
+from checks import Checks
+
+ROOT = os.path.dirname(os.path.dirname(os.path.realpath(__file__)))
+# The same tool, but for what takes long.
+RELEASE = "import sys; sys.path.insert(0, 'tools'); import release; release.make = lambda version: None; release.main([sys.argv[1]])"
+
+
+class Clone:
+    """The repository with what is changed here, committed."""
+
+    def __init__(self, folder):
+        self.folder = folder
+        names = subprocess.run(["git", "ls-files", "-z", "--cached", "--others", "--exclude-standard"], cwd=ROOT, stdout=subprocess.PIPE, check=True)
+        for name in filter(None, names.stdout.decode().split("\0")):
+            if os.path.isfile(f"{ROOT}/{name}"):
+                os.makedirs(os.path.dirname(f"{folder}/{name}"), exist_ok=True)
+                subprocess.run(["cp", "-p", f"{ROOT}/{name}", f"{folder}/{name}"], check=True)
+        self.git("init", "--quiet")
+        self.git("config", "user.name", "nobody")
+        self.git("config", "user.email", "nobody@localhost")
+        self.git("add", "--all")
+        self.git("commit", "--quiet", "--message", "all")
+
+    def git(self, *words):
+        return subprocess.run(["git", *words], cwd=self.folder, stdout=subprocess.PIPE, text=True, check=True).stdout.strip()
+
+    def read(self, name):
+        with open(f"{self.folder}/{name}", encoding="utf-8") as file:
+            return file.read()
+
+    def write(self, name, text):
+        os.makedirs(os.path.dirname(f"{self.folder}/{name}"), exist_ok=True)
+        with open(f"{self.folder}/{name}", "w", encoding="utf-8") as file:
+            file.write(text)
+
+    def pass_gate(self):
+        self.write("out/passed", self.git("rev-parse", "HEAD") + "\n")
+
+    def release(self, version):
+        """What it says on standard error; nothing where it released."""
+        ran = subprocess.run([sys.executable, "-c", RELEASE, version], cwd=self.folder, stderr=subprocess.PIPE, text=True, check=False)
+        return ran.stderr.strip()
+
+
+def refusals(checks, clone, last, version):
+    clone.write("new", "")
+    checks.true("a change that is not committed is refused", "not committed" in clone.release(version), "taken")
+    os.remove(f"{clone.folder}/new")
+    checks.true("a revision on which no gate has passed is refused", "gate has not passed" in clone.release(version), "taken")
+    clone.pass_gate()
+    for wrong in (last, "0.1.0", "1", "1.2.x"):
+        checks.true(f"the version {wrong} is refused", "comes after" in clone.release(wrong), "taken")
+    clone.git("commit", "--quiet", "--allow-empty", "--message", "later")
+    checks.true("a gate that has passed on an earlier revision does not count", "gate has not passed" in clone.release(version), "taken")
+    clone.pass_gate()
+
+
+def released(checks, clone, last, version):
+    checks.same("it is released", "", clone.release(version))
+    checks.same("the commit has the tag", f"v{version}", clone.git("tag", "--points-at", "HEAD"))
+    checks.same("nothing is left uncommitted", "", clone.git("status", "--porcelain"))
+    checks.true("CHANGELOG names version and day", re.search(rf"^## {version}, \d{{4}}-\d\d-\d\d$", clone.read("CHANGELOG.md"), re.M), "not there")
+    checks.true("CHANGELOG has nothing unreleased", "## Unreleased" not in clone.read("CHANGELOG.md"), "there")
+    for name in ("VERSION", "service/Cargo.toml", "service/Cargo.lock", "README.md", "docs/OPERATING.md"):
+        text = clone.read(name)
+        checks.true(f"{name} names it", version in text and f"totxegun_{last}" not in text, "not there")
+    checks.same("once more changes nothing", ("", f"Version {version}"), (clone.release(version), clone.git("log", "-1", "--format=%s")))
+    clone.git("commit", "--quiet", "--allow-empty", "--message", "later")
+    clone.pass_gate()
+    further = f"{version[:-1]}{int(version[-1]) + 1}"
+    checks.true("without changes in CHANGELOG the next one is refused", "CHANGELOG.md has no line" in clone.release(further), "taken")
+
+
+def main():
+    checks = Checks()
+    with tempfile.TemporaryDirectory() as folder:
+        clone = Clone(folder)
+        if "## Unreleased" not in clone.read("CHANGELOG.md"):
+            clone.write("CHANGELOG.md", clone.read("CHANGELOG.md").replace("\n## ", "\n## Unreleased\n\n- A change.\n\n## ", 1))
+            clone.git("commit", "--quiet", "--all", "--message", "a change")
+        last = clone.read("VERSION").strip()
+        major, minor, _ = map(int, last.split("."))
+        version = f"{major}.{minor + 1}.0"
+        refusals(checks, clone, last, version)
+        released(checks, clone, last, version)
+    return checks.end()
+
+
+if __name__ == "__main__":
+    sys.exit(main())
