@@ -1,10 +1,11 @@
-/* Posts OTLP to a gateway or to the service, and prints how long it took. Built with -pthread -lz.
+/* Posts OTLP to a gateway or to the service, and prints how long it took. Built with -pthread -lz -lssl -lcrypto.
  *
  *     load PORT CLIENTS REQUESTS POINTS SERIES KIND ENCODING CONNECTIONS FROM [PERIOD]
  *
  * CLIENTS threads, each a sender of its own, post so many requests together, of so many points each, as fast as they are
  * answered; or each once in PERIOD microseconds, and what is late counts as waiting for its answer. The SERIES are shared out among the senders; KIND is sum or histogram (11 buckets); ENCODING is json,
- * protobuf or gzip, which is packed protobuf; CONNECTIONS is each, one for each request, or kept. A sender's points go
+ * protobuf or gzip, which is packed protobuf; CONNECTIONS is each, one for each request, or kept, and each-tls or kept-tls over
+ * TLS, by whatever certificate: a connection that is made anew shakes hands wholly. A sender's points go
  * round its series and on in time, so a second run begins at the point FROM of each sender, where the first one ended.
  * ENCODING may also be grpc: protobuf over HTTP/2, on connections that are kept, whatever CONNECTIONS says.
  * All requests are written before the first is posted. Prints, separated by blanks: requests, those that were not answered
@@ -14,6 +15,7 @@
 #include <arpa/inet.h>
 #include <netinet/in.h>
 #include <netinet/tcp.h>
+#include <openssl/ssl.h>
 #include <pthread.h>
 #include <stdio.h>
 #include <stdlib.h>
@@ -27,7 +29,7 @@
 #define IP_BIND_ADDRESS_NO_PORT 24
 #endif
 
-enum { HEAD_ROOM = 1024, POINT_ROOM = 768, BODY_ROOM = 2048, ANSWER_ROOM = 4096, MOST_CLIENTS = 64, BUCKETS = 11 };
+enum { HEAD_ROOM = 1024, POINT_ROOM = 768, BODY_ROOM = 2048, ANSWER_ROOM = 4096, MOST_CLIENTS = 1000, BUCKETS = 11 };
 enum { WITH_GZIP_HEAD = 15 + 16 };
 #define FIRST_TIME 1700000000000000000ull
 #define SECOND 1000000000ull
@@ -37,6 +39,7 @@ struct text { char *bytes; size_t length; };
 struct client {
     pthread_t thread;
     int number, socket_;
+    SSL *tls;
     long requests, failed;
     size_t bytes;
     struct text *posts;
@@ -44,6 +47,7 @@ struct client {
 };
 
 static int port, is_histogram, is_protobuf, is_packed, is_kept, is_grpc;
+static SSL_CTX *tls;
 static long clients, points, series, from;
 static double period;
 static pthread_barrier_t prepared;
@@ -312,7 +316,7 @@ static struct text request_of(struct client *client, long index, long first) {
 }
 
 /* A connection; each sender has an address of its own, so that no run is short of ports. */
-static int connection_of(struct client *client) {
+static void connect_to(struct client *client) {
     struct sockaddr_in own = { .sin_family = AF_INET, .sin_addr.s_addr = htonl(INADDR_LOOPBACK + 1 + client->number) };
     struct sockaddr_in to = { .sin_family = AF_INET, .sin_port = htons(port), .sin_addr.s_addr = htonl(INADDR_LOOPBACK) };
     int one = 1, socket_ = socket(AF_INET, SOCK_STREAM | SOCK_CLOEXEC, 0);
@@ -320,7 +324,17 @@ static int connection_of(struct client *client) {
     setsockopt(socket_, IPPROTO_IP, IP_BIND_ADDRESS_NO_PORT, &one, sizeof one);
     if (is_kept) setsockopt(socket_, IPPROTO_TCP, TCP_NODELAY, &one, sizeof one);
     if (bind(socket_, (void *)&own, sizeof own) || connect(socket_, (void *)&to, sizeof to)) stop("connect");
-    return socket_;
+    client->socket_ = socket_;
+    if (!tls) return;
+    client->tls = SSL_new(tls);
+    if (!client->tls || !SSL_set_fd(client->tls, socket_) || SSL_connect(client->tls) != 1) stop("TLS");
+}
+
+static void end_connection(struct client *client) {
+    if (client->tls) SSL_free(client->tls);
+    client->tls = NULL;
+    close(client->socket_);
+    client->socket_ = -1;
 }
 
 /* Whether an answer of this many bytes is whole by its own length. */
@@ -330,17 +344,22 @@ static int is_whole(char *answer, size_t held) {
     return end && length && length < end && held >= (size_t)(end + 4 - answer) + atol(length + 15);
 }
 
-static void send_all(int socket_, const char *bytes, size_t length) {
+static void send_all(struct client *client, const char *bytes, size_t length) {
     for (size_t sent = 0; sent < length;) {
-        ssize_t more = send(socket_, bytes + sent, length - sent, MSG_NOSIGNAL);
+        ssize_t more = client->tls ? SSL_write(client->tls, bytes + sent, length - sent)
+                                   : send(client->socket_, bytes + sent, length - sent, MSG_NOSIGNAL);
         if (more <= 0) break;
         sent += more;
     }
 }
 
-static void read_all(int socket_, char *to, size_t length) {
+static ssize_t read_some(struct client *client, char *to, size_t most) {
+    return client->tls ? SSL_read(client->tls, to, most) : recv(client->socket_, to, most, 0);
+}
+
+static void read_all(struct client *client, char *to, size_t length) {
     for (size_t held = 0; held < length;) {
-        ssize_t more = recv(socket_, to + held, length - held, 0);
+        ssize_t more = read_some(client, to + held, length - held);
         if (more <= 0) stop("an HTTP/2 connection ended");
         held += more;
     }
@@ -350,21 +369,21 @@ static void read_all(int socket_, char *to, size_t length) {
 static int call(struct client *client, struct text request) {
     char head[FRAME], held[MOST_OF_A_FRAME];
     if (client->socket_ < 0) {
-        client->socket_ = connection_of(client);
-        send_all(client->socket_, PREFACE, sizeof PREFACE - 1);
+        connect_to(client);
+        send_all(client, PREFACE, sizeof PREFACE - 1);
     }
-    send_all(client->socket_, request.bytes, request.length);
+    send_all(client, request.bytes, request.length);
     for (int has_message = 0;;) {
-        read_all(client->socket_, head, FRAME);
+        read_all(client, head, FRAME);
         size_t length = (unsigned char)head[0] << 16 | (unsigned char)head[1] << 8 | (unsigned char)head[2];
         if (length > sizeof held || head[3] == GO_AWAY) return 0;
-        read_all(client->socket_, held, length);
+        read_all(client, held, length);
         if ((head[3] == SETTINGS || head[3] == PING) && !(head[4] & ACKNOWLEDGED)) {
             char answer[FRAME + 8];
             size_t whole = head[3] == PING ? 8 : 0;
             put_frame(answer, whole, head[3], ACKNOWLEDGED, 0);
             memcpy(answer + FRAME, held, whole);
-            send_all(client->socket_, answer, FRAME + whole);
+            send_all(client, answer, FRAME + whole);
         }
         has_message |= head[3] == DATA && length >= 5;
         if ((head[3] == DATA || head[3] == HEADERS) && head[4] & END_STREAM) return has_message;
@@ -375,18 +394,15 @@ static int call(struct client *client, struct text request) {
 static int post(struct client *client, struct text request) {
     char answer[ANSWER_ROOM];
     size_t held = 0;
-    if (client->socket_ < 0) client->socket_ = connection_of(client);
-    send_all(client->socket_, request.bytes, request.length);
+    if (client->socket_ < 0) connect_to(client);
+    send_all(client, request.bytes, request.length);
     int is_ended = 0;
     while (!is_ended && !(is_kept && is_whole(answer, held))) {
-        ssize_t more = recv(client->socket_, answer + held, sizeof answer - 1 - held, 0);
+        ssize_t more = read_some(client, answer + held, sizeof answer - 1 - held);
         if (more <= 0) is_ended = 1;
         else held += more;
     }
-    if (is_ended) {
-        close(client->socket_);
-        client->socket_ = -1;
-    }
+    if (is_ended) end_connection(client);
     return held >= 12 && !memcmp(answer + 9, "200", 3);
 }
 
@@ -413,6 +429,14 @@ static void *run(void *given) {
     return NULL;
 }
 
+/* Any certificate will do; over gRPC ALPN has to say HTTP/2. */
+static SSL_CTX *context(void) {
+    SSL_CTX *made = SSL_CTX_new(TLS_client_method());
+    const char *names = is_grpc ? "\x02h2" : "\x08http/1.1";
+    if (!made || SSL_CTX_set_alpn_protos(made, (const void *)names, strlen(names))) stop("TLS");
+    return made;
+}
+
 static int order(const void *a, const void *b) {
     double x = *(const double *)a, y = *(const double *)b;
     return (x > y) - (x < y);
@@ -431,7 +455,8 @@ int main(int count, char **words) {
     is_packed = !strcmp(words[7], "gzip");
     is_grpc = !strcmp(words[7], "grpc");
     is_protobuf = is_packed || is_grpc || !strcmp(words[7], "protobuf");
-    is_kept = is_grpc || !strcmp(words[8], "kept");
+    is_kept = is_grpc || !strncmp(words[8], "kept", 4);
+    if (strstr(words[8], "-tls")) tls = context();
     from = atol(words[9]);
     period = count == 11 ? atof(words[10]) * 1e-6 : 0;
     if (clients < 1 || clients > MOST_CLIENTS || requests < 1 || points < 1 || series < clients) return 2;

@@ -9,7 +9,7 @@ from process import ROOT
 
 MADE = f"{ROOT}/out/bench"
 LOAD = f"{MADE}/load"
-PACKAGES = ["gcc", "libc6-dev", "zlib1g-dev"]
+PACKAGES = ["gcc", "libc6-dev", "zlib1g-dev", "libssl-dev"]
 
 # Of a post that makes series.
 MOST_POINTS = 1000
@@ -23,7 +23,7 @@ Loaded = collections.namedtuple("Loaded", "requests failed seconds median last b
 def build(name="load"):
     """Builds a program of this folder, or ends the script. Where it is then."""
     os.makedirs(MADE, exist_ok=True)
-    words = ["gcc", "-O2", "-Wall", "-pthread", "-o", f"{MADE}/{name}", f"{ROOT}/bench/{name}.c", "-lz"]
+    words = ["gcc", "-O2", "-Wall", "-pthread", "-o", f"{MADE}/{name}", f"{ROOT}/bench/{name}.c", "-lz", "-lssl", "-lcrypto"]
     if not shutil.which("gcc") or subprocess.run(words, check=False).returncode:
         sys.exit(f"{name}.c can't be built; it needs {' '.join(PACKAGES)}")
     return f"{MADE}/{name}"

@@ -2,15 +2,17 @@
 """Prints what the service takes for a post beside the bare gateway, and beside an earlier service, in one run.
 
     bench/service.py [--totxegun FILE] [--gateway FILE] [--earlier FOLDER] [--senders N,..] [--series N] [--rows NAME,..]
-                     [--parties NAME,..] [--runs N] [--seconds N] [--share N] [--data DIR] [--options WORDS] [--set NAME=VALUE]*
+                     [--parties NAME,..] [--connections kept|each] [--runs N] [--seconds N] [--share N] [--data DIR] [--options WORDS]
+                     [--set NAME=VALUE]*
 
 The programs are bin/totxegun and bin/gateway, as `make build` makes them, where none is named. Rows: json-1, json-20,
 protobuf-103, gzip-103, grpc-1, grpc-103, by the encoding and the points of a post, over 800 series. Parties: gateway, which is
 the bare one, process and disk, which are the service with this durability and a SQLite file as its sink; more options of it
-are in WORDS, and --set sets more of its environment than the shipped unit does, such as LD_PRELOAD. FOLDER has totxegun and
+are in WORDS, and --set sets more of its environment than the shipped unit does, such as LD_PRELOAD. process-tls and disk-tls are the
+same over TLS 1.3, on connections that shake hands wholly, and their ratios are to those without. FOLDER has totxegun and
 gateway of a revision whose service starts a gateway (1383c49c): it is measured as earlier-process and earlier-disk too. The bare
 gateway has four receivers, tcmalloc where that is installed, a connection a request, over TCP, and protobuf's points as JSON: it
-reads no other. The services get kept connections, a sender each. The folder of a service is made in DIR, which is out/bench
+reads no other. The services get kept connections, a sender each, or with `each` one for each post, but for gRPC. The folder of a service is made in DIR, which is out/bench
 where none is named: the disk that `disk` waits for.
 
 The parties run in turn, each run in fresh processes whose series are there already, and of about so many seconds. With a share
@@ -21,6 +23,7 @@ take meanwhile.
 """
 import contextlib
 import os
+import subprocess
 
 import loading
 from loading import Posts, Senders, rounded
@@ -36,6 +39,7 @@ ROWS = {"json-1": ("json", 1, 4000), "json-20": ("json", 20, 1000), "protobuf-10
 SERVICE = ["process", "disk"]
 PARTIES = ["gateway", *SERVICE]
 EARLIER = "earlier-"
+OVER_TLS = "-tls"
 # Of the bare gateway.
 RECEIVERS = ["--receivers", "4"]
 # Of each sender, so that what a run begins with does not count.
@@ -61,10 +65,19 @@ def measured(port, pids, clients, posts, requests, period):
     return Figures(sum(map(processor_seconds, pids)) - before, loaded)
 
 
+def certificate(folder):
+    """The options by which a service has a certificate, which is made where there is none."""
+    certificate, key = f"{folder}/bench.pem", f"{folder}/bench.key"
+    if not os.path.exists(certificate):
+        subprocess.run(["openssl", "req", "-x509", "-newkey", "ec", "-pkeyopt", "ec_paramgen_curve:prime256v1", "-nodes", "-keyout", key,
+                        "-out", certificate, "-subj", "/CN=bench", "-addext", "subjectAltName=DNS:localhost"], check=True, capture_output=True)
+    return ["--tls-cert", certificate, "--tls-key", key]
+
+
 def run(party, arguments, row, clients, requests, period):
     """The figures of one run."""
     encoding, points, _ = ROWS[row]
-    connections = "kept"
+    connections = arguments.connections
     with contextlib.ExitStack() as stack:
         if party == "gateway":
             words = [arguments.gateway, "serve", "--connections", "1000000", *RECEIVERS]
@@ -72,7 +85,10 @@ def run(party, arguments, row, clients, requests, period):
             pids, encoding, connections = [gateway.pid], "json", "each"
         else:
             grpc = free_port()
-            words = ["--durable", party.removeprefix(EARLIER), "--listen-grpc", f"127.0.0.1:{grpc}"]
+            words = ["--durable", party.removeprefix(EARLIER).removesuffix(OVER_TLS), "--listen-grpc", f"127.0.0.1:{grpc}"]
+            if party.endswith(OVER_TLS):
+                words += certificate(arguments.data)
+                connections += OVER_TLS
             one = stack.enter_context(serving(arguments, *words, is_earlier=party.startswith(EARLIER)))
             port, pids = grpc if encoding == "grpc" else one.listen, processes(one)
         posts = Posts("sum", points, arguments.series, encoding, connections)
@@ -97,8 +113,8 @@ def print_row(arguments, row, clients):
     print(f"\n{row}, {clients} senders", flush=True)
     for party, all_of_it in runs.items():
         print_party(party, all_of_it)
-        for other in ("gateway", EARLIER + party):
-            if party != "gateway" and other in runs and not party.startswith(EARLIER):
+        for other in ("gateway", EARLIER + party, party.removesuffix(OVER_TLS)):
+            if party not in ("gateway", other) and other in runs and not party.startswith(EARLIER):
                 print_ratios(other, runs[other], all_of_it)
 
 
@@ -126,6 +142,7 @@ def main():
     parser.add_argument("--series", type=int, default=800)
     parser.add_argument("--rows", type=lambda text: text.split(","), default=list(ROWS))
     parser.add_argument("--parties", type=lambda text: text.split(","), default=PARTIES)
+    parser.add_argument("--connections", choices=("kept", "each"), default="kept")
     parser.add_argument("--runs", type=int, default=5)
     parser.add_argument("--seconds", type=float, default=1)
     parser.add_argument("--share", type=float, default=1)
