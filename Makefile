@@ -1,6 +1,6 @@
 # The commands of the README. Their scripts are in tools/; what they log is in out/logs.
 
-.PHONY: help run serve demo build check fmt test edits wrong soak bench install deb image life version release reproduce
+.PHONY: help run serve demo build check quick fmt test edits wrong soak bench install deb image life version release reproduce
 
 # The first one: what there is to make. Each line is the text behind ## at a target.
 help:
@@ -29,6 +29,10 @@ build: ## proves the core, and builds totxegun, gateway and play into bin/
 check: ## checks one crate: make check NAME=delta_book
 	@tools/toolchain
 	@tools/check.py $(NAME)
+
+# A crate, or a folder of service/src: make quick NAME=delta_book, make quick NAME=sinks/postgres.
+quick: ## checks one part, and runs its tests: make quick NAME=sinks
+	@tools/quick.py $(NAME)
 
 fmt: ## lays out the code of the crates and of the service
 	@tools/format.py && tools/cargo fmt

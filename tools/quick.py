@@ -1,0 +1,65 @@
+#!/usr/bin/env python3
+"""Tries one part, in seconds to two minutes: tools/quick.py NAME
+
+NAME is a crate, or a folder or file of service/src. Of a crate: its check over what an earlier one has kept, and the tests of
+each crate above it, unproved. Of the service: what the compiler and clippy say, and the tests of that part. Each command
+is shown with how long it took. It is not the gate: CONTRIBUTING.md says what else to run.
+"""
+import os
+import subprocess
+import sys
+import time
+
+from crates import ROOT, content, read_crates
+from steps import shown
+
+SOURCE = f"{ROOT}/service/src"
+
+
+def commands_of_crate(crate, crates):
+    """Commands, each with the folder where it runs."""
+    above = [it for it in crates.values() if crate in (it, *it.all_below()) and has_tests(it)]
+    return [([f"{ROOT}/tools/check.py", crate.name], ROOT), *((["rt", "try", "--test"], it.folder) for it in above)]
+
+
+def has_tests(crate):
+    return any(b"#[test]" in content(file) for file in crate.files())
+
+
+def commands_of_service(part):
+    """The same of a part of the service, as its path below src says."""
+    module = part.removesuffix(".rs").removesuffix("/mod").replace("/", "::")
+    cargo = f"{ROOT}/tools/cargo"
+    return [
+        ([cargo, "clippy", "--all-targets", "--", "-D", "warnings"], ROOT),
+        ([cargo, "test", "--lib", f"{module}::"], ROOT),
+    ]
+
+
+def commands(name):
+    crates = read_crates()
+    if name in crates:
+        return commands_of_crate(crates[name], crates)
+    part = name.removeprefix("service/").removeprefix("src/").strip("/")
+    if part and (os.path.exists(f"{SOURCE}/{part}") or os.path.exists(f"{SOURCE}/{part}.rs")):
+        return commands_of_service(part)
+    sys.exit(f"{sys.argv[0]}: {name!r} is no crate of crates.txt, and no part of service/src")
+
+
+def main(words):
+    if len(words) != 1:
+        sys.exit(f"usage: {sys.argv[0]} NAME, of a crate or of a part of service/src")
+    begun = time.monotonic()
+    for words, folder in commands(words[0]):
+        at = time.monotonic()
+        shown_words = " ".join(os.path.relpath(it, ROOT) if it.startswith(ROOT) else it for it in words)
+        print(f"{os.path.relpath(folder, ROOT)}: {shown_words}", flush=True)
+        if subprocess.run(words, cwd=folder, check=False).returncode:
+            return 1
+        print(f"    {shown(time.monotonic() - at)}", flush=True)
+    print(f"done in {shown(time.monotonic() - begun)}")
+    return 0
+
+
+if __name__ == "__main__":
+    sys.exit(main(sys.argv[1:]))
