@@ -68,6 +68,11 @@ impl Read {
         Ok(reader)
     }
 
+    /// Has the reader have it again, behind a book that was asked to take it.
+    pub fn be_read_again(&mut self) -> Result<(), Refused> {
+        self.again().map(drop)
+    }
+
     /// Has the reader have a part of its points.
     pub(super) fn put(&mut self, part: &Points) -> Result<&mut Reader, Refused> {
         let reader = self.reader.as_mut().ok_or(Refused::NoMemory)?;

@@ -1,4 +1,5 @@
-//! Brings all to rest without serving: all that was taken is in groups then, and the journal has nothing more.
+//! Brings all to rest without serving: all that was taken is in groups then, and the journal has nothing more, but for posts
+//! of quarantined senders.
 
 use super::{Keeper, Trouble};
 use crate::files::Fault;
@@ -18,14 +19,14 @@ impl Keeper {
         Ok(self.checkpoint().await?.is_ok() && !self.has_posts().await?)
     }
 
-    /// Whether the journal has a post that is in no group.
+    /// Whether the journal has a post that a flush would take.
     async fn has_posts(&self) -> Result<bool, Fault> {
         let slot = self.slot.clone();
         blocking(move || {
-            let mut found = false;
-            slot.journal.posts(slot.outbox.journal(), u64::MAX, |_| {
-                found = true;
-                false
+            let (mut found, held) = (false, slot.outbox.quarantined());
+            slot.journal.posts(slot.outbox.journal(), u64::MAX, |read| {
+                found = !held.contains(&read.post.sender);
+                !found
             })?;
             Ok(found)
         })

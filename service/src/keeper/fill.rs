@@ -6,6 +6,7 @@
 //! before. Then it gets the posts in the journal's order, which was the order of the book that is gone, but for those of
 //! quarantined senders, which come last.
 
+use super::ahead::{Ahead, Coming};
 use super::numbers::Numbers;
 use super::Trouble;
 use crate::core::{Book, Read, Refused};
@@ -43,6 +44,7 @@ pub(super) fn fill(
         slot,
         book,
         numbers: Numbers::new(slot.core.clone()),
+        ahead: Ahead::default(),
         filled: Filled {
             runs: State::of(&slot.outbox),
             ..Filled::default()
@@ -72,6 +74,7 @@ struct Filling<'a, S> {
     slot: &'a Arc<Slot>,
     book: &'a mut Book,
     numbers: Numbers,
+    ahead: Ahead,
     filled: Filled,
     shown: Instant,
     /// Whether it was told to stop.
@@ -87,8 +90,11 @@ impl<S: Fn() -> bool> Filling<'_, S> {
             if (self.stops)() {
                 return Ok(());
             }
-            let put = self.put(post, Book::admit);
-            put.map_err(|refused| self.not_filled(post, refused))?;
+            let put = self
+                .numbers
+                .read(post)
+                .and_then(|mut read| self.book.admit(&mut read));
+            put.map_err(|refused| self.not_filled(&post.sender, refused))?;
         }
         let taken = self.book.take_all().map_err(not_taken)?;
         self.book.settle(taken).map_err(not_taken)
@@ -102,28 +108,66 @@ impl<S: Fn() -> bool> Filling<'_, S> {
             // Also of a post that is not wanted: no later one says it again.
             self.numbers.note(read.named);
             if is_wanted(&read.post) {
-                ended = self.replay_one(&read.post, admit);
+                ended = self.go_on(read.post, admit);
             }
             ended.is_ok() && !(self.stops)()
         })?;
-        ended
+        ended.and_then(|()| self.put_ahead(admit))
+    }
+
+    /// A post is read by what numbers stand for now, and a text with those that come next.
+    fn go_on(&mut self, post: Post, admit: Admit) -> Result<(), Trouble> {
+        let (sender, foreign) = (post.sender.clone(), post.foreign);
+        let coming = match &post.body {
+            Body::Text(body) => Coming::text(sender, foreign, body.clone()),
+            Body::Points(_) => {
+                let mut read = self.numbers.read(&post);
+                if read.as_ref().is_err_and(|refused| refused.status() == 503) {
+                    self.put_ahead(admit)?;
+                    self.make_room()?;
+                    read = self.numbers.read(&post);
+                }
+                match read {
+                    Ok(read) => Coming::read(sender, foreign, read),
+                    Err(refused) => return self.count(&sender, foreign, Err(refused)),
+                }
+            }
+        };
+        match self.ahead.push(coming) {
+            true => self.put_ahead(admit),
+            false => Ok(()),
+        }
+    }
+
+    /// Puts in what waits for its turn.
+    fn put_ahead(&mut self, admit: Admit) -> Result<(), Trouble> {
+        let core = self.slot.core.clone();
+        self.ahead
+            .take(&core)
+            .into_iter()
+            .try_for_each(|coming| self.replay_one(coming, admit))
+    }
+
+    /// A post that a limit refuses is put after a flush.
+    fn replay_one(&mut self, mut coming: Coming, admit: Admit) -> Result<(), Trouble> {
+        self.say_progress();
+        let mut put = self.put(&mut coming, admit);
+        if matches!(put, Err(refused) if refused.status() == 503 && refused != Refused::HalfTaken) {
+            self.make_room()?;
+            coming.be_read_again(&self.slot.core);
+            put = self.put(&mut coming, admit);
+        }
+        self.count(&coming.sender, coming.foreign, put)
     }
 
     /// A post that is refused for good now was in a group before: that is a fault, and nothing would be better for a
-    /// service that stops there. One that a limit refuses is put after a flush.
-    fn replay_one(&mut self, post: &Post, admit: Admit) -> Result<(), Trouble> {
-        self.say_progress();
-        let mut put = self.put(post, admit);
-        if matches!(put, Err(refused) if refused.status() == 503 && refused != Refused::HalfTaken) {
-            self.make_room()?;
-            put = self.put(post, admit);
-        }
+    /// service that stops there.
+    fn count(&mut self, sender: &str, foreign: u64, put: Result<u64, Refused>) -> Result<(), Trouble> {
         match put {
-            Ok(foreign) if foreign == post.foreign => {}
-            Err(refused) if refused.status() == 503 => return Err(self.not_filled(post, refused)),
+            Ok(now) if now == foreign => {}
+            Err(refused) if refused.status() == 503 => return Err(self.not_filled(sender, refused)),
             other => {
-                let (slot, sender, foreign) = (self.slot.number(), &post.sender, post.foreign);
-                let reason = format!("{other:?}");
+                let (slot, reason) = (self.slot.number(), format!("{other:?}"));
                 tracing::error!(
                     slot,
                     sender,
@@ -139,9 +183,9 @@ impl<S: Fn() -> bool> Filling<'_, S> {
     }
 
     /// How many points are foreign.
-    fn put(&mut self, post: &Post, admit: Admit) -> Result<u64, Refused> {
-        let mut read = self.numbers.read(post)?;
-        admit(self.book, &mut read)?;
+    fn put(&mut self, coming: &mut Coming, admit: Admit) -> Result<u64, Refused> {
+        let read = coming.as_read()?;
+        admit(self.book, read)?;
         if let (Body::Points(points), Some(names)) = (&read.post.body, self.numbers.named()) {
             self.filled.runs.replay(names, points);
         }
@@ -161,14 +205,13 @@ impl<S: Fn() -> bool> Filling<'_, S> {
         Ok(())
     }
 
-    fn not_filled(&self, post: &Post, refused: Refused) -> Trouble {
+    fn not_filled(&self, sender: &str, refused: Refused) -> Trouble {
         let series = self.slot.outbox.series_count();
         let help = match refused {
             Refused::TooManySeries => "give a greater --most-series",
             Refused::NoMemory | Refused::HalfTaken => "give a greater --book-memory",
             _ => "the log of the run before may say more",
         };
-        let sender = &post.sender;
         Trouble::NotFilled(format!(
             "the book does not take what the folder has, {series} series and the posts of its journal: {refused}, at a post of \
              {sender}. Nothing is changed or lost: {help}"

@@ -1,10 +1,11 @@
 //! Keeps the book: checkpoints, quarantines, what is forgotten, and its start.
 //!
 //! One task does all of this, one after the other: `run` waits for what is to be done, `checkpoint` moves what the book
-//! has to the outbox, `forget` leaves out series, `fill` gives a fresh book what the files say, `owners` finds whose
+//! has to the outbox, `forget` leaves out series, `fill` gives a fresh book what the files say (`ahead` reads posts for it side by side), `owners` finds whose
 //! series these are, `series` says which ones a post has, `numbers` gives them numbers for the book, `drain` brings all to
 //! rest. What takes long is done on threads beside the runtime's.
 
+mod ahead;
 mod checkpoint;
 mod drain;
 mod fill;

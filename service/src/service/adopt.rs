@@ -4,17 +4,19 @@
 //! series of the others. Then the number 1 is written, in one step. Each start leaves out of an outbox the series whose
 //! owners had another slot by the number that is written: before that step what was adopted; after it, all that is not
 //! slot 0's. So a kill leaves the old number or the new one, and never a mix. Requests that wait stay where they are,
-//! and are delivered under their keys.
+//! and are delivered under their keys. Posts of quarantined senders, which no flush takes, come last: with the new number, and
+//! before slot 0 is filled.
 
 use super::running::LAST_CHANGES;
 use super::Ended;
 use crate::core::Core;
-use crate::files::{Fault, Folder, Outbox};
+use crate::files::{Body, Fault, Folder, Journal, NoNames, Outbox};
 use crate::keeper::{Keeper, Settings};
 use crate::metrics::Metrics;
 use crate::slot::Slot;
 use anyhow::{anyhow, Context};
 use sha2::{Digest, Sha256};
+use std::collections::{BTreeSet, HashMap};
 use std::future::Future;
 use std::pin::pin;
 use std::sync::Arc;
@@ -69,14 +71,23 @@ async fn adopt(
     stop: watch::Receiver<bool>,
 ) -> Result<(), Ended> {
     let slots = folder.slots();
-    if slots == 1 {
-        return Ok(());
+    if slots > 1 {
+        adopt_series(folder, slots, most_series, settings, stop).await?;
     }
+    move_held(folder)
+}
+
+async fn adopt_series(
+    folder: &Arc<Folder>,
+    slots: u16,
+    most_series: usize,
+    settings: &Settings,
+    stop: watch::Receiver<bool>,
+) -> Result<(), Ended> {
     tracing::info!(
         slots,
         "the folder has {slots} slots, as totxegun had them up to 0.5.0: their series come into one"
     );
-    nobody_is_quarantined(folder, slots)?;
     for number in 0..slots {
         rest(folder, number, slots, most_series, settings, &stop).await?;
     }
@@ -90,23 +101,80 @@ async fn adopt(
     Ok(())
 }
 
-/// Their posts are in the journal of their slot alone, where no flush takes them.
-fn nobody_is_quarantined(folder: &Folder, slots: u16) -> Result<(), Ended> {
-    let mut held = Vec::new();
-    for number in 0..slots {
-        held.extend(folder.outbox(number)?.quarantined());
+/// Slot 0 gets the posts of senders who are quarantined in other slots.
+fn move_held(folder: &Folder) -> Result<(), Ended> {
+    for number in folder
+        .slots_with_files()?
+        .into_iter()
+        .filter(|number| *number > 0)
+    {
+        let held = folder.outbox(number)?.quarantined();
+        if !held.is_empty() {
+            move_held_of(folder, number, &held)?;
+        }
     }
-    if held.is_empty() {
-        return Ok(());
-    }
-    let names = held.join(", ");
-    Err(refused(format!(
-        "the folder has {slots} slots, which come into one at the first start, but not while senders are quarantined \
-         ({names}): start totxegun 0.5.0 with --slots {slots}, lift them, end it, and start this one"
-    )))
+    Ok(())
 }
 
-/// Brings a slot to rest: all that was taken is in its outbox then.
+/// A slot is done once nobody is quarantined there. Where an earlier start was killed before that, slot 0's journal has the
+/// first posts of some of them already, and nobody else has put any there.
+fn move_held_of(folder: &Folder, number: u16, held: &BTreeSet<String>) -> Result<(), Ended> {
+    let (from, outbox) = folder.slot(number)?;
+    let (to, first) = folder.slot(0)?;
+    let mut there = posts_of(&to, &first, held)?;
+    let (mut posts, mut by_number) = (0u64, false);
+    from.posts(outbox.journal(), u64::MAX, |read| {
+        let sender = &read.post.sender;
+        by_number = matches!(read.post.body, Body::Points(_));
+        if by_number || !held.contains(sender) {
+            return !by_number;
+        }
+        posts += 1;
+        match there.get_mut(sender) {
+            Some(left @ 1..) => *left -= 1,
+            _ => drop(to.append(&read.post, &NoNames)),
+        }
+        true
+    })?;
+    if by_number {
+        let text = format!(
+            "the journal of slot {number} has points by number, which no totxegun of several slots wrote"
+        );
+        return Err(refused(text));
+    }
+    to.settle(to.now());
+    held.iter().try_for_each(|sender| first.quarantine(sender))?;
+    held.iter().try_for_each(|sender| outbox.lift(sender))?;
+    let (next, turned) = from.turn();
+    from.settle(turned);
+    from.forget(next)?;
+    let senders = held.len();
+    tracing::info!(
+        slot = number,
+        senders,
+        posts,
+        "slot 0 has the posts of {senders} quarantined senders of slot {number}: {posts}"
+    );
+    Ok(())
+}
+
+/// How many posts a journal has of each of them.
+fn posts_of(
+    journal: &Journal,
+    outbox: &Outbox,
+    senders: &BTreeSet<String>,
+) -> Result<HashMap<String, u64>, Fault> {
+    let mut there = HashMap::new();
+    journal.posts(outbox.journal(), u64::MAX, |read| {
+        if senders.contains(&read.post.sender) {
+            *there.entry(read.post.sender).or_default() += 1;
+        }
+        true
+    })?;
+    Ok(there)
+}
+
+/// Brings a slot to rest: all that was taken is in its outbox then, but for posts of quarantined senders.
 async fn rest(
     folder: &Arc<Folder>,
     number: u16,

@@ -194,24 +194,11 @@ async fn a_kill_at_any_call_loses_and_doubles_nothing() {
 }
 
 #[tokio::test(flavor = "multi_thread")]
-async fn a_quarantine_and_too_many_series_are_named_and_change_nothing() {
+async fn too_many_series_are_named_and_change_nothing() {
     const FEW: usize = 1_000;
     let place = place();
     let path = place.path().join("data");
     filled(&path, 2, 2);
-    let open = || {
-        Folder::open(&path, Durability::Process)
-            .unwrap()
-            .outbox(1)
-            .unwrap()
-    };
-    open().quarantine("s1").unwrap();
-    let text = adopted(&path, FEW).await.unwrap_err().to_string();
-    assert!(
-        text.contains("(s1)") && text.contains("0.5.0 with --slots 2"),
-        "{text}"
-    );
-    open().lift("s1").unwrap();
     let series = |number: usize| Series {
         frontier: 2,
         owner: Some("s1".into()),
@@ -222,7 +209,9 @@ async fn a_quarantine_and_too_many_series_are_named_and_change_nothing() {
         let key = format!("[[],\"\",\"\",[],\"m{number}\",\"\",\"sum\",[]]");
         (SeriesKey(key.into()), series(number))
     });
-    open().adopt(many.collect()).unwrap();
+    let folder = Folder::open(&path, Durability::Process).unwrap();
+    folder.outbox(1).unwrap().adopt(many.collect()).unwrap();
+    drop(folder);
     assert_eq!(slot_of("s1", 2), 1, "so they stay there");
     let text = adopted(&path, FEW).await.unwrap_err().to_string();
     assert!(
@@ -232,6 +221,97 @@ async fn a_quarantine_and_too_many_series_are_named_and_change_nothing() {
     assert_eq!(Folder::open(&path, Durability::Process).unwrap().slots(), 2);
     adopted(&path, FEW + WAIT as usize).await.unwrap();
     assert_eq!(Folder::open(&path, Durability::Process).unwrap().slots(), 1);
+}
+
+/// Two of slot 0, and two of others.
+const HELD: [&str; 4] = ["s0", "s1", "s4", "s5"];
+
+fn quarantine(path: &Path, slots: u16) {
+    let folder = Folder::open(path, Durability::Process).unwrap();
+    for slot in 0..slots {
+        let outbox = folder.outbox(slot).unwrap();
+        for sender in HELD.iter().filter(|sender| slot_of(sender, slots) == slot) {
+            outbox.quarantine(sender).unwrap();
+        }
+    }
+}
+
+/// Who is quarantined in slot 0, and the ends of the points of each post of theirs in its journal, in order; in how many other
+/// slots somebody is.
+fn held(path: &Path) -> (Vec<String>, BTreeMap<String, Vec<u64>>, usize) {
+    let folder = Folder::open(path, Durability::Process).unwrap();
+    let (journal, outbox) = folder.slot(0).unwrap();
+    let mut posts = BTreeMap::<_, Vec<u64>>::new();
+    let read = journal.posts(outbox.journal(), u64::MAX, |read| {
+        if let Body::Text(text) = &read.post.body {
+            let ends = forwarded(text).unwrap().into_iter().map(|point| point.end);
+            posts.entry(read.post.sender).or_default().extend(ends);
+        }
+        true
+    });
+    read.unwrap();
+    let others = folder
+        .slots_with_files()
+        .unwrap()
+        .into_iter()
+        .filter(|slot| *slot > 0);
+    let left = others.filter(|slot| !folder.outbox(*slot).unwrap().quarantined().is_empty());
+    (outbox.quarantined().into_iter().collect(), posts, left.count())
+}
+
+/// What that has to be: no post of them is in a group, and each is there once.
+fn wanted_of_held(from: u16, posts: u64) -> (Vec<String>, BTreeMap<String, Vec<u64>>, usize) {
+    let names = HELD.map(str::to_string).to_vec();
+    let ends = |sender: &String| {
+        let frontier = frontier(sender, from);
+        (frontier + 1..=frontier + posts).collect()
+    };
+    let all = names
+        .iter()
+        .map(|sender| (sender.clone(), ends(sender)))
+        .collect();
+    (names, all, 0)
+}
+
+#[tokio::test(flavor = "multi_thread")]
+async fn quarantined_senders_and_their_posts_come_to_slot_0_also_over_a_kill_at_any_call() {
+    const FROM: u16 = 3;
+    const POSTS: u64 = 3;
+    let slots_of_held = HELD.map(|sender| slot_of(sender, FROM));
+    assert!(
+        (0..FROM).all(|slot| slots_of_held.contains(&slot)),
+        "{slots_of_held:?}"
+    );
+    let place = place();
+    let path = place.path().join("data");
+    filled(&path, FROM, POSTS);
+    quarantine(&path, FROM);
+    let (data, copies) = (path.clone(), place.path().to_path_buf());
+    let count = Arc::new(AtomicUsize::new(0));
+    let called = count.clone();
+    let disk = Disk::failing(move |_, _| {
+        let call = called.fetch_add(1, SeqCst);
+        copy(&data, &copies.join(format!("kill-{call}")));
+        Ok(())
+    });
+    let folder = Arc::new(Folder::open_on(disk, &path, Durability::Process).unwrap());
+    assert!(slots(&folder, MOST, &settings(), pending()).await.unwrap());
+    drop(folder);
+    let calls = count.load(SeqCst);
+    let lefts = (0..calls).map(|call| place.path().join(format!("kill-{call}")));
+    for left in lefts.chain([path]) {
+        adopted(&left, MOST).await.unwrap();
+        assert_eq!(held(&left), wanted_of_held(FROM, POSTS), "{}", left.display());
+        let (slots, _, found, _) = known(&left).await;
+        let of = |(sender, sum): (String, i64)| {
+            let sum = if HELD.contains(&&*sender) { 1 } else { sum };
+            (sender, sum)
+        };
+        let sums: BTreeMap<_, _> = sums(POSTS).into_iter().map(of).collect();
+        assert_eq!((slots, found), (1, sums), "{}", left.display());
+        std::fs::remove_dir_all(&left).unwrap();
+    }
+    assert!(calls > 50, "{calls}");
 }
 
 /// As at a SIGTERM: the fault would else be lost, and the status say that all is well.
