@@ -39,10 +39,10 @@ test: ## the gate: all proofs, wrong code that must be refused, tests
 	@tools/toolchain
 	@tools/gate.py
 
-# Those too that the gate leaves out, many in one check: make edits, or make edits NAME=delta_book.
-edits: ## tries all wrong code
-	@tools/toolchain
-	@tools/edits.py $(NAME)
+# Those too that the gate leaves out, many in one check: make edits, or make edits NAME=delta_book. LIST=1 only prints them.
+edits: ## tries all wrong code: LIST=1 lists it
+	@$(if $(LIST),,tools/toolchain)
+	@tools/edits.py $(if $(LIST),--list) $(NAME)
 
 # A minute or two each: a test has to find what is wrong with each.
 wrong: ## tries wrong copies of the service
