@@ -1,6 +1,6 @@
 # The commands of the README. Their scripts are in tools/; what they log is in out/logs.
 
-.PHONY: help run serve demo build check fmt test edits wrong soak bench install deb image life version reproduce
+.PHONY: help run serve demo build check fmt test edits tried wrong soak bench install deb image life version reproduce
 
 # The first one: what there is to make. Each line is the text behind ## at a target.
 help:
@@ -43,6 +43,10 @@ test: ## the gate: all proofs, wrong code that must be refused, tests
 edits: ## tries all wrong code: LIST=1 lists it
 	@$(if $(LIST),,tools/toolchain)
 	@tools/edits.py $(if $(LIST),--list) $(NAME)
+
+# By the heads of the tests themselves.
+tried: ## lists each test with what it tries: NAME=word
+	@tools/tried.py $(NAME)
 
 # A minute or two each: a test has to find what is wrong with each.
 wrong: ## tries wrong copies of the service
