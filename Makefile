@@ -1,6 +1,6 @@
 # The commands of the README. Their scripts are in tools/; what they log is in out/logs.
 
-.PHONY: help run serve demo build check quick fmt test edits wrong soak bench install deb image life version release reproduce
+.PHONY: help run serve demo build check quick fmt test edits tried wrong soak bench install deb image life version release reproduce
 
 # The first one: what there is to make. Each line is the text behind ## at a target.
 help:
@@ -43,10 +43,14 @@ test: ## the gate: all proofs, wrong code that must be refused, tests
 	@tools/toolchain
 	@tools/gate.py
 
-# Those too that the gate leaves out, many in one check: make edits, or make edits NAME=delta_book.
-edits: ## tries all wrong code
-	@tools/toolchain
-	@tools/edits.py $(NAME)
+# Those too that the gate leaves out, many in one check: make edits, or make edits NAME=delta_book. LIST=1 only prints them.
+edits: ## tries all wrong code: LIST=1 lists it
+	@$(if $(LIST),,tools/toolchain)
+	@tools/edits.py $(if $(LIST),--list) $(NAME)
+
+# By the heads of the tests themselves.
+tried: ## lists each test with what it tries: NAME=word
+	@tools/tried.py $(NAME)
 
 # A minute or two each: a test has to find what is wrong with each.
 wrong: ## tries wrong copies of the service

@@ -1,7 +1,9 @@
 #!/usr/bin/env python3
 """Tries every edit of the crates, those of must-fail/ and those of more-edits/: the prover must refuse each.
 
-    tools/edits.py [CRATE ..]
+    tools/edits.py [CRATE ..]           tries them
+    tools/edits.py --list [CRATE ..]    only prints them: of each crate the file and the function that an edit changes,
+                                        and the mistake that it is named after; * before those that the gate tries
 
 All crates, or those that are named. What stands below them is proved and built first. The edits of a crate
 are tried over a copy of what a check of the crate as it is has kept. Edits that each change the bodies of other
@@ -38,6 +40,9 @@ UNREADABLE = re.compile(
     r"(?:\./)?(?:src|specs)/\S+: error(?:\[|: [^`]|: `.*(?:is not in scope|has no field|is no name))"
 )
 MEMORY = 4 * GIGABYTE
+LIST = "--list"
+# The folder of those that the gate tries.
+OF_GATE = "must-fail"
 
 
 class BadEdit(Exception):
@@ -241,12 +246,39 @@ def text_of(folder, path):
     return content(f"{folder}/{path}").decode()
 
 
-def main(names):
+def show_list(crates):
+    """Prints the edits of these crates, and how many there are."""
+    every, of_gate = 0, 0
+    for crate in crates:
+        files = crate.edits()
+        gate = [file for file in files if f"/{OF_GATE}/" in file]
+        every, of_gate = every + len(files), of_gate + len(gate)
+        if files:
+            print(f"{crate.name}: {len(files)}, the gate tries {len(gate)}")
+            print("\n".join(sorted(f"    {listed(file, crate.folder, file in gate)}" for file in files)))
+    print(f"{every} edits, the gate tries {of_gate}")
+
+
+def listed(file, folder, is_of_gate):
+    """An edit as a line: where it changes what, and its mistake."""
+    try:
+        edit = Edit(file, folder)
+    except BadEdit as fault:
+        return f"{os.path.basename(file)}: bad edit: {fault}"
+    functions = {path: [name for at, name in edit.bodies if at == path] for path in edit.texts}
+    places = " and ".join(" ".join([path.removeprefix("src/"), *functions[path]]) for path in sorted(functions))
+    return f"{places}: {'* ' if is_of_gate else ''}{edit.name.replace('_', ' ')}"
+
+
+def main(words):
     known = read_crates()
+    names = [it for it in words if it != LIST]
     unknown = [name for name in names if name not in known]
     if unknown:
         sys.exit(f"crates.txt lists no crate {' '.join(unknown)}")
     crates = [known[name] for name in names] or known.values()
+    if LIST in words:
+        return show_list(crates)
     building = Building()
     tried = [Edits(crate, building.prover) for crate in crates if crate.edits()]
     with locked(OUT):

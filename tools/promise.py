@@ -2,7 +2,8 @@
 """What the promise stands on: the definitions that the top contracts name, and those that these name, all the way down.
 
     tools/promise.py                    the number of each top contract, and of all together
-    tools/promise.py CRATE FUNCTION     the reading list of one: what to read, lowest first, with lines
+    tools/promise.py CRATE FUNCTION     the reading list of one: what to read, lowest first, with lines and with what is said
+                                        of each definition before it
     tools/promise.py --check            whether docs/PROOFS.md has the number of all, and whether just that stands in
                                         specs/inner which no public contract needs: a step of the gate
 
@@ -10,6 +11,7 @@ It goes by names and imports, and reads no type: what a trait's function means, 
 followed. What the toolchain's libraries define is not counted.
 """
 import glob
+import itertools
 import os
 import re
 import sys
@@ -94,6 +96,8 @@ class Definition:
         self.lines = text.count("\n") + 1
         self.code = "\n".join(it for it in text.split("\n") if not BEFORE.match(it))
         self.name = DEFINED.match(self.code).group(1)
+        before = itertools.takewhile(BEFORE.match, text.split("\n"))
+        self.meaning = " ".join(it.strip().lstrip("- ") for it in before if it.lstrip().startswith("--"))
 
 
 class Specs:
@@ -266,7 +270,7 @@ def show_list(promise, crate, name):
     for file, definitions in promise.in_order(found):
         print(f"{os.path.relpath(file.path, ROOT)}, {sum(it.lines for it in definitions)} lines")
         for it in definitions:
-            print(f"    {it.line}: {it.name}")
+            print(f"    {it.line}: {it.name}{it.meaning and f': {it.meaning}'}")
     print(f"{crate} {name} " + NUMBERED.format(**number(found)))
     return None
 

@@ -1,3 +1,5 @@
+//! Shares of points and series: what uses them up, what gives back, and what is refused.
+
 use super::*;
 use crate::otlp::series::SeriesKey;
 use std::collections::HashMap;
