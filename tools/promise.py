@@ -1,14 +1,15 @@
 #!/usr/bin/env python3
 """What the promise stands on: the definitions that the top contracts name, and those that these name, all the way down.
 
-    tools/promise.py                    the number of each top contract, and of all together
-    tools/promise.py CRATE FUNCTION     the reading list of one: what to read, lowest first, with lines and with what is said
-                                        of each definition before it
-    tools/promise.py --check            whether docs/PROOFS.md has the number of all, and whether just that stands in
-                                        specs/inner which no public contract needs: a step of the gate
+    tools/promise.py                    the number of each top contract, by tiers: of each what it adds to those before it
+    tools/promise.py TIER               the reading list of a tier, 1 for the store: what to read, lowest first, with lines
+                                        and with what is said of each definition before it
+    tools/promise.py CRATE FUNCTION     that of one contract
+    tools/promise.py --check            whether docs/PROOFS.md has these numbers and the files of the first tier, and whether
+                                        just that stands in specs/inner which no public contract needs: a step of the gate
 
 It goes by names and imports, and reads no type: what a trait's function means, and the fields of types of src/, are not
-followed. What the toolchain's libraries define is not counted.
+followed. What is named of src/ (types, constants) and of the toolchain's libraries is counted apart, each once.
 """
 import glob
 import itertools
@@ -18,23 +19,42 @@ import sys
 
 from crates import ROOT, read_crates
 
-# The contracts that docs/MODEL.md begins with: a crate, and its functions, or a file of definitions.
-TOP = (
-    ("book_c", ["desk_new", "names_learn", "reader_read", "reader_put", "reader_ends", "desk_admit", "desk_try",
-                "desk_crosses", "desk_take", "desk_take_book", "flushes_text", "flushes_copy", "desk_settle",
-                "desk_drop", "desk_give_back", "desk_quarantine", "desk_lift", "desk_close_round", "desk_report"]),
-    ("delta_book", ["specs/Calls"]),
-    ("play_script", ["play"]),
-    ("gate_workers", ["serve_with", "serve_book", "flush_turn", "book_turn"]),
-    ("shared_book", ["finish"]),
-    ("gateway_serve", ["serve_bound"]),
-    ("metric_events", ["striking", "closing", "recovery", "priming", "congruence"]),
-    ("service_law", ["counting", "booking", "running"]),
+# The contracts that docs/MODEL.md begins with, by tiers: what a tier is, and of each crate the functions, or a file of
+# definitions. One who reads a tier has read those before it.
+TIERS = (
+    ("the store", (
+        ("delta_book", ["specs/Calls", "admit", "undo", "confirm", "take", "settle", "drop_flush", "give_back", "quarantine",
+                        "lift", "totals"]),
+        ("metric_events", ["striking"]),
+    )),
+    ("texts and messages", (
+        ("gate_workers", ["serve_with", "serve_book", "flush_turn", "book_turn"]),
+        ("shared_book", ["finish"]),
+        ("gateway_serve", ["serve_bound"]),
+    )),
+    ("play, and the service's library", (
+        ("play_script", ["play"]),
+        ("book_c", ["desk_new", "names_learn", "reader_read", "reader_put", "reader_ends", "desk_admit", "desk_try",
+                    "desk_crosses", "desk_take", "desk_take_book", "flushes_text", "flushes_copy", "desk_settle",
+                    "desk_drop", "desk_give_back", "desk_quarantine", "desk_lift", "desk_close_round", "desk_report"]),
+    )),
+    ("rounds, recovery, and the service's machine", (
+        ("metric_events", ["closing", "recovery", "priming", "congruence"]),
+        ("service_law", ["counting", "booking", "running"]),
+    )),
+)
+# The contracts that do nothing, each a law: a crate, and where the answers to its goals are.
+LAWS = (
+    ("metric_events", "laws", ["striking", "closing", "marking", "limiting", "recovery", "priming", "congruence"]),
+    ("service_law", "counting", ["counting"]), ("service_law", "books", ["booking"]), ("service_law", "runs", ["running"]),
 )
 PROOFS = f"{ROOT}/docs/PROOFS.md"
 # In the name of each module that stands apart from what the promise says.
 INNER = ".specs.inner."
-NUMBERED = "stands on {definitions:,} definitions, {lines:,} lines in {files} files"
+NUMBERED = "{definitions:,} definitions, {lines:,} lines in {files} files"
+APART = "{types} types and constants of `src/` and {kit} definitions and types of the kit"
+# A file of the reading list of docs/PROOFS.md.
+LISTED = re.compile(r"^\d+\. `(\w+/specs/[\w/]+)`: ", re.MULTILINE)
 
 IMPORT = re.compile(r"^\s*(?:ghost |pub )*use Rattle\.([\w.]+)(?:\.\{([^}]*)\}| as (\w+))?;?$", re.MULTILINE)
 DEFINED = re.compile(r"^(?:(?:abbrev|unfoldable|pub|record|data) )*([^\s:({]+)")
@@ -101,12 +121,12 @@ class Definition:
 
 
 class Specs:
-    """A file of specs/."""
+    """A file of specs/, or of proofs/."""
 
     def __init__(self, crate, path):
         self.crate = crate
         self.path = path
-        self.module = f"{crate}.specs.{os.path.relpath(path, f'{ROOT}/crates/{crate}/specs')[:-5].replace('/', '.')}"
+        self.module = f"{crate}.{os.path.relpath(path, f'{ROOT}/crates/{crate}')[:-5].replace('/', '.')}"
         text = read(path)
         self.names = Names(text)
         self.imports = {module for module, _, _ in IMPORT.findall(text)}
@@ -114,7 +134,7 @@ class Specs:
         line = 1
         for block in text.split("\n\n"):
             code = [it for it in block.split("\n") if it and not BEFORE.match(it)]
-            if code and not DIRECTIVE.match(code[0]):
+            if code and DEFINED.match(code[0]) and not DIRECTIVE.match(code[0]):
                 # A blank line before it was split off.
                 it = Definition(self, line, block.strip("\n"))
                 for part in parts_of(it.name):
@@ -164,35 +184,53 @@ def signature(text, start, indent):
 
 
 class Promise:
-    """All files of specs/, by their modules."""
+    """All files of specs/, by their modules; and those of proofs/, where they are asked for."""
 
-    def __init__(self):
+    def __init__(self, parts=("specs",)):
         self.crates = list(read_crates())
         self.files = {}
-        for crate in self.crates:
-            for path in sorted(glob.glob(f"{ROOT}/crates/{crate}/specs/**/*.antt", recursive=True)):
+        for crate, part in itertools.product(self.crates, parts):
+            for path in sorted(glob.glob(f"{ROOT}/crates/{crate}/{part}/**/*.antt", recursive=True)):
                 file = Specs(crate, path)
                 self.files[file.module] = file
 
-    def found(self, names, word, file=None):
-        """The definition behind a word of a text with these imports, if it is one of the repository."""
+    def meant(self, names, word, file=None):
+        """What a word of a text with these imports stands for: a definition, or a module elsewhere and its name there."""
         if file and word.partition(".")[0] in file.definitions:
             return file.definitions[word.partition(".")[0]]
         meant = names.meant(word)
         module, name = meant or (None, None)
         if module not in self.files:
-            return None
+            return meant
         target = self.files[module]
         for part in parts_of(name):
             if part in target.definitions:
                 return target.definitions[part]
         # It is passed on from another file.
-        return self.found(target.names, parts_of(name)[0]) if target.names.meant(parts_of(name)[0]) else None
+        return self.meant(target.names, parts_of(name)[0])
+
+    def named(self, names, text, file=None):
+        """All that a text names; a step with an arrow names its operator."""
+        found = (self.meant(names, word, file) for word in WORD.findall(text.replace("←", ">>=")))
+        return {it for it in found if it}
 
     def needed(self, names, text, file=None):
-        """The definitions that a text names; a step with an arrow names its operator."""
-        found = (self.found(names, word, file) for word in WORD.findall(text.replace("←", ">>=")))
-        return {it for it in found if it}
+        """The definitions that a text names."""
+        return {it for it in self.named(names, text, file) if isinstance(it, Definition)}
+
+    def apart(self, definitions, tops):
+        """What definitions and the contracts of these functions name elsewhere: of src/, and of the toolchain's libraries."""
+        found = set().union(*(self.named(it.file.names, it.code, it.file) for it in definitions))
+        for crate, names in tops:
+            for function, contract, imports in self.contracts(crate):
+                found |= self.named(imports, contract) if function in names else set()
+        own, kit = set(), set()
+        for module, name in (it for it in found if isinstance(it, tuple)):
+            # A type counts once, however many of its variants are named.
+            is_type = ".declared." in module and not module.endswith(".TheConstants")
+            side = own if module.partition(".")[0] in self.crates else kit
+            side.add(module.removesuffix(".TheVariants") if is_type else (module, name))
+        return own, kit
 
     def below(self, definitions):
         """These, and all that they name."""
@@ -248,31 +286,82 @@ def number(definitions):
     return {"definitions": len(definitions), "lines": sum(it.lines for it in definitions), "files": len({it.file for it in definitions})}
 
 
-def tops(promise):
-    """Each top contract's crate and name, and what it stands on."""
-    return [(crate, name, promise.of(crate, name)) for crate, names in TOP for name in names]
+class Tier:
+    """What a tier adds to those before it."""
+
+    def __init__(self, promise, what, tops, before):
+        self.what = what
+        self.tops = [(crate, name, promise.of(crate, name)) for crate, names in tops for name in names]
+        known = set().union(*(it.all for it in before))
+        self.all = set().union(*(found for _, _, found in self.tops)) | known
+        self.added = self.all - known
+        own, kit = promise.apart(self.all, tops)
+        self.own = own.union(*(it.own for it in before))
+        self.kit = kit.union(*(it.kit for it in before))
+        self.apart = {
+            "types": len(self.own) - (len(before[-1].own) if before else 0), "kit": len(self.kit) - (len(before[-1].kit) if before else 0),
+        }
 
 
-def all_of(promise):
-    return set().union(*(found for _, _, found in tops(promise)))
+def tiers(promise):
+    found = []
+    for what, tops in TIERS:
+        found.append(Tier(promise, what, tops, found))
+    return found
 
 
-def show_tops(promise):
-    for crate, name, found in tops(promise):
-        print("{:<40}{definitions:>6} definitions {lines:>6} lines {files:>4} files".format(f"{crate} {name}", **number(found)))
-    print("all together " + NUMBERED.format(**number(all_of(promise))))
+def show_tiers(promise):
+    all_tiers = tiers(promise)
+    for at, tier in enumerate(all_tiers):
+        print(f"{at + 1}. {tier.what}")
+        for crate, name, found in tier.tops:
+            print("   {:<40}{definitions:>6} definitions {lines:>6} lines {files:>4} files".format(f"{crate} {name}", **number(found)))
+        print(f"   {'adds' if at else 'together'} {NUMBERED.format(**number(tier.added))}; {APART.format(**tier.apart)}")
+    print(f"all together {all_numbers(all_tiers)}")
 
 
-def show_list(promise, crate, name):
+def all_numbers(all_tiers):
+    last = all_tiers[-1]
+    return f"{NUMBERED.format(**number(last.all))}; they name {APART.format(types=len(last.own), kit=len(last.kit))}"
+
+
+def show_tier(promise, at):
+    all_tiers = tiers(promise)
+    if not 1 <= at <= len(all_tiers):
+        return f"there are tiers 1 to {len(all_tiers)}"
+    tier = all_tiers[at - 1]
+    show_list(promise, tier.added)
+    print(f"{tier.what}: {NUMBERED.format(**number(tier.added))}; {APART.format(**tier.apart)}")
+    return None
+
+
+def show_contract(promise, crate, name):
     found = promise.of(crate, name)
     if not found:
         return f"no public function {name} of {crate} has a contract that names a definition"
+    show_list(promise, found)
+    print(f"{crate} {name} stands on {NUMBERED.format(**number(found))}")
+    return None
+
+
+def show_list(promise, found):
     for file, definitions in promise.in_order(found):
         print(f"{os.path.relpath(file.path, ROOT)}, {sum(it.lines for it in definitions)} lines")
         for it in definitions:
             print(f"    {it.line}: {it.name}{it.meaning and f': {it.meaning}'}")
-    print(f"{crate} {name} " + NUMBERED.format(**number(found)))
-    return None
+
+
+def laws():
+    """Which law rests on which: its proofs, all the way down, cite what proves a clause of the other. Each by its nearest."""
+    promise = Promise(("specs", "proofs"))
+    clauses, reached = {}, {}
+    for crate, module, names in LAWS:
+        for name in names:
+            answers = promise.files[f"{crate}.proofs.{module}.{name}.Answers"]
+            cited = promise.needed(answers.names, "\n".join(it.code for it in answers.definitions.values()))
+            clauses[name], reached[name] = cited, promise.below(cited)
+    rests = {(one, other) for one in clauses for other in clauses if one != other and reached[one] & clauses[other]}
+    return {(a, c) for a, c in rests if not any((a, b) in rests and (b, c) in rests for b in clauses)}
 
 
 def public(promise):
@@ -298,24 +387,30 @@ def misplaced(promise):
 
 
 def check(promise):
-    wanted = NUMBERED.format(**number(all_of(promise)))
-    if wanted not in read(PROOFS):
-        return f"docs/PROOFS.md has to say that the promise {wanted}"
-    wrong = list(misplaced(promise))
+    all_tiers, said = tiers(promise), read(PROOFS)
+    store = all_tiers[0]
+    wanted = [f"{NUMBERED.format(**number(store.added))}; {APART.format(**store.apart)}", all_numbers(all_tiers)]
+    wrong = [f"docs/PROOFS.md has to say: {it}" for it in wanted if it not in said]
+    files = [f"{it.crate}/{it.module.partition('.')[2].replace('.', '/')}" for it, _ in promise.in_order(store.added)]
+    if LISTED.findall(said) != files:
+        wrong += ["the reading list of docs/PROOFS.md has to have these files, in this order:", *files]
+    wrong += misplaced(promise)
     if wrong:
         return "\n".join(wrong)
-    print(f"the promise {wanted}, as docs/PROOFS.md says; specs/inner has what no public contract needs")
+    print(f"the promise: {wanted[-1]}, as docs/PROOFS.md says; specs/inner has what no public contract needs")
     return None
 
 
 def main():
     promise, words = Promise(), sys.argv[1:]
     if not words:
-        return show_tops(promise)
+        return show_tiers(promise)
     if words == ["--check"]:
         return check(promise)
+    if len(words) == 1 and words[0].isdigit():
+        return show_tier(promise, int(words[0]))
     if len(words) == 2 and words[0] in promise.crates:
-        return show_list(promise, *words)
+        return show_contract(promise, *words)
     return __doc__
 
 
