@@ -45,10 +45,11 @@ STEPS = (
     ("readme_examples.py", PLAY, 1, False),
     ("gateway_load.py", GATEWAY, 5, True),
 )
-# Of the sources alone: what `make fmt` would change, and the number of definitions that docs/PROOFS.md begins with.
+# Of the sources alone: what `make fmt` would change, the definitions that docs/PROOFS.md counts and lists, the pictures.
 TOOL_STEPS = (
     ("crates_are_laid_out", ["tools/format.py", "--check"], 20),
     ("promise_is_counted", ["tools/promise.py", "--check"], 2),
+    ("pictures_are_drawn", ["tools/pictures.py", "--check"], 2),
 )
 # The service: cargo's steps, one after another over one folder, and scripts of tests/ with what they run.
 CARGO_STEPS = (
@@ -82,7 +83,7 @@ SERVICE_STEPS = (
     ("package_installs.py", [], 15),
 )
 # These run no program.
-WITHOUT_PROGRAM = ("service_model.py", "runs_model.py", "releases.py")
+WITHOUT_PROGRAM = ("service_model.py", "runs_model.py", "releases.py", "drawn.py")
 STEP_LIMIT = 600
 # Which revision has passed here, wholly: tools/release.py asks.
 PASSED = f"{OUT}/passed"

@@ -1,0 +1,219 @@
+#!/usr/bin/env python3
+"""Draws the pictures of docs/pictures, each from the description beside it, and gives their words to the pages.
+
+    tools/pictures.py             writes docs/pictures/NAME.svg of each NAME.txt, and its alt text wherever a page shows it
+    tools/pictures.py --check     whether just that is there, and each picture is shown: a step of the gate
+
+A description has a line for each thing, `#` begins a comment, and `/` begins a new line of words:
+
+    size WIDTH HEIGHT
+    alt WORDS                                 what the picture says, for who does not see it; of several lines one text
+    box NAME X Y WIDTH HEIGHT KIND | WORDS    its name first, in bold
+    frame NAME X Y WIDTH HEIGHT | WORDS       around boxes
+    words X Y KIND ANCHOR | WORDS             KIND is - or bold or quiet, ANCHOR start, middle or end
+    arrow KIND END .. | WORDS                 from end to end, with words at its longest stretch. An END is NAME.SIDE,
+                                              with +N or -N from the middle of that side, or X,Y, where either may be
+                                              left out: as before
+    steps X Y WIDTH STEP COLUMN ..            then `step KIND | WORDS` is the next box below, and `kill WORDS | WORDS`
+                                              a mark behind it, with words in these columns
+    crates                                    the crates of crates.txt, each over what it uses; `note CRATE WORDS` says
+                                              what one is
+    laws                                      the proofs are asked which law rests on which: just these arrows are drawn
+"""
+import os
+import re
+import sys
+
+import promise
+from crates import ROOT, content, read_crates
+from layers import Layers
+from shapes import LINE, PAD, Picture, Wrong, width_of
+
+FOLDER = f"{ROOT}/docs/pictures"
+PAGES = ["README.md", *(f"docs/{it}" for it in sorted(os.listdir(f"{ROOT}/docs")) if it.endswith(".md"))]
+SHOWN = re.compile(r"!\[[^\]]*\]\(((?:docs/)?pictures/(\w+)\.svg)\)")
+# The crates from here on are of tests.
+FIRST_TEST = "test_support"
+SIDES = {"left": (0, 0.5), "right": (1, 0.5), "top": (0.5, 0), "bottom": (0.5, 1)}
+END = re.compile(r"(?P<name>\w+)\.(?P<side>left|right|top|bottom)(?P<by>[+-]\d+)?$")
+
+
+def split(text, by="/"):
+    return [it.strip() for it in text.split(by)] if text else []
+
+
+class Description:
+    """A description, drawn line by line."""
+
+    def __init__(self, name):
+        self.path = f"{FOLDER}/{name}.txt"
+        with open(self.path, encoding="utf-8") as file:
+            self.lines = [it.rstrip("\n") for it in file if it.strip() and not it.startswith("#")]
+        self.alt = " ".join(self.all_of("alt"))
+        self.notes = dict(it.split(" ", 1) for it in self.all_of("note"))
+        self.crates = shown_crates() if "crates" in self.lines else None
+        if self.crates:
+            self.alt += " " + "; ".join(self.told(it) for it in reversed(self.crates)) + "."
+        self.arrows = set()
+        self.steps = None
+
+    def all_of(self, word):
+        return [it.partition(" ")[2] for it in self.lines if it.startswith(f"{word} ")]
+
+    def told(self, crate):
+        """A crate in words."""
+        note = self.notes.get(crate.name)
+        below = ", ".join(it.name for it in direct(crate)) or "no other"
+        return f"{crate.name}{f' ({note})' if note else ''} on {below}"
+
+    def draw(self):
+        width, height = map(int, self.all_of("size")[0].split())
+        self.picture = Picture(width, height, self.alt)
+        for line in self.lines:
+            word, _, rest = line.partition(" ")
+            how, _, text = (it.strip() for it in rest.partition("|"))
+            try:
+                if word not in ("size", "alt", "note"):
+                    getattr(self, f"draw_{word}")(how.split(), text)
+            except (AttributeError, KeyError, ValueError) as why:
+                raise Wrong(f"{line}: {why}") from why
+        return self.picture.svg()
+
+    def draw_box(self, how, text):
+        self.picture.box(how[0], area(how[1:5]), how[5], split(text))
+
+    def draw_frame(self, how, text):
+        self.picture.frame(how[0], area(how[1:5]), text)
+
+    def draw_words(self, how, text):
+        x, top, kind, anchor = how
+        for at, line in enumerate(split(text)):
+            self.picture.words(float(x), float(top) + LINE * at, line, kind.strip("-"), anchor)
+
+    def draw_arrow(self, how, text):
+        kind, *ends = how
+        points = []
+        for it in ends:
+            end, is_across = self.point(it, points[-1] if points else None)
+            if len(points) > 1 and END.match(it) and points[-1][0] != end[0] and points[-1][1] != end[1]:
+                points.append((points[-1][0], end[1]) if is_across else (end[0], points[-1][1]))
+            points.append(end)
+        self.arrows.add((kind, ends[0].partition(".")[0], ends[-1].partition(".")[0]))
+        self.picture.line(points, kind.replace("-dashed", " dashed"))
+        if text:
+            self.label(points, split(text))
+
+    def point(self, end, before):
+        """Where an end is, and whether a line comes to it from the left or right."""
+        at = END.match(end)
+        if not at:
+            x, _, y = end.partition(",")
+            return (float(x) if x else before[0], float(y) if y else before[1]), False
+        left, top, right, bottom = self.picture.boxes[at["name"]]
+        u, v = SIDES[at["side"]]
+        is_across, by = u != 0.5, float(at["by"] or 0)
+        return (left + (right - left) * u + (0 if is_across else by), top + (bottom - top) * v + (by if is_across else 0)), is_across
+
+    def label(self, points, lines):
+        """Words of a line: of a level one the first above it and the others below, else to its right."""
+        (a, b), (x, y) = max(zip(points, points[1:]), key=lambda it: abs(it[0][0] - it[1][0]) + abs(it[0][1] - it[1][1]))
+        for at, line in enumerate(lines):
+            if b == y:
+                self.picture.words((a + x) / 2, y - LINE - 3 if at == 0 else y + 2 + LINE * (at - 1), line, "quiet", "middle")
+            else:
+                self.picture.words(x + PAD, (b + y - LINE * len(lines)) / 2 + LINE * at, line, "quiet")
+
+    def draw_steps(self, how, _):
+        x, y, width, pitch, *columns = map(int, how)
+        self.steps = {"x": x, "y": y, "width": width, "pitch": pitch, "columns": columns, "last": None}
+
+    def draw_step(self, how, text):
+        it = self.steps
+        lines = split(text)
+        top, bottom = it["y"], it["y"] + LINE * len(lines) + PAD
+        name = f"step{top}"
+        self.picture.box(name, (it["x"], top, it["x"] + it["width"], bottom), how[0], lines)
+        if it["last"]:
+            self.draw_arrow(["plain", f"{it['last']}.bottom", f"{name}.top"], "")
+        it["last"], it["y"], it["bottom"] = name, top + it["pitch"], bottom
+
+    def draw_kill(self, how, text):
+        it = self.steps
+        x, y = it["x"] + it["width"] / 2, (it["bottom"] + it["y"]) / 2
+        self.picture.cross(x, y)
+        self.picture.line([(x + 12, y), (it["columns"][0] - PAD, y)], "killed dashed", False)
+        for column, words in zip(it["columns"], (" ".join(how), text)):
+            for at, line in enumerate(split(words)):
+                self.picture.words(column, y - LINE * len(split(words)) / 2 + LINE * at, line)
+
+    def draw_crates(self, _how, _text):
+        wide = {it.name: max(width_of(it.name, True), width_of(self.notes.get(it.name, ""))) + 2 * PAD for it in self.crates}
+        layers = Layers([it.name for it in self.crates], {it.name: [b.name for b in direct(it)] for it in self.crates}, wide)
+        places, lines = layers.placed(self.picture.width, self.picture.height, 2 * LINE + PAD)
+        for line in lines:
+            self.picture.line(line, "plain", False)
+        for crate in self.crates:
+            kind = "disk" if crate.is_program or crate.is_static else "plain"
+            self.picture.box(crate.name, places[crate.name], kind, [crate.name, *split(self.notes.get(crate.name, ""))])
+
+    def draw_laws(self, _how, _text):
+        wrong = {(one, other) for kind, one, other in self.arrows if kind == "proved"} ^ promise.laws()
+        if wrong:
+            raise Wrong(f"by the proofs other laws rest on one another: {sorted(wrong)}")
+
+
+def area(how):
+    x, y, width, height = map(float, how)
+    return x, y, x + width, y + height
+
+
+def shown_crates():
+    crates = read_crates()
+    return [crates[it] for it in list(crates)[:list(crates).index(FIRST_TEST)]]
+
+
+def direct(crate):
+    """What a crate uses, but for what these use themselves."""
+    implied = {it.name for below in crate.below for it in below.all_below()}
+    return [it for it in crate.below if it.name not in implied]
+
+
+def made():
+    """What each file has to have, by its path."""
+    files, alts = {}, {}
+    for name in sorted(it[:-4] for it in os.listdir(FOLDER) if it.endswith(".txt")):
+        it = Description(name)
+        try:
+            files[f"docs/pictures/{name}.svg"] = it.draw()
+        except Wrong as why:
+            raise Wrong(f"docs/pictures/{name}.txt: {why}") from why
+        alts[name] = it.alt
+    shown = set()
+    for page in PAGES:
+        text = content(f"{ROOT}/{page}").decode()
+        shown |= {it[2] for it in SHOWN.finditer(text)}
+        files[page] = SHOWN.sub(lambda it: f"![{alts[it[2]]}]({it[1]})" if it[2] in alts else it[0], text)
+    if shown != set(alts):
+        raise Wrong(f"not both described and shown: {' '.join(sorted(shown ^ set(alts)))}")
+    return files
+
+
+def main(words):
+    if words not in ([], ["--check"]):
+        sys.exit(__doc__)
+    try:
+        files = made()
+    except Wrong as why:
+        sys.exit(f"tools/pictures.py: {why}")
+    others = [it for it, text in files.items() if content(f"{ROOT}/{it}") != text.encode()]
+    if not words:
+        for path in others:
+            with open(f"{ROOT}/{path}", "w", encoding="utf-8") as file:
+                file.write(files[path])
+    elif others:
+        sys.exit(f"call tools/pictures.py: not as it makes them: {' '.join(others)}")
+    print(f"{len(files) - len(PAGES)} pictures" + (", as they are made" if words else f"; written: {' '.join(others) or 'nothing'}"))
+
+
+if __name__ == "__main__":
+    main(sys.argv[1:])
