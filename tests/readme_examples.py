@@ -1,6 +1,6 @@
 #!/usr/bin/env python3
 """What the READMEs show is what is run: each crate's example is a file of crates/example_tests, whose tests the gate
-runs, and the top README's script has the replies of the built program play.
+runs, and the script of docs/GATEWAY.md has the replies of the built program play.
 
     tests/readme_examples.py PROGRAM
 
@@ -14,6 +14,7 @@ import sys
 
 ROOT = os.path.dirname(os.path.dirname(os.path.abspath(__file__)))
 CRATE_BLOCK = re.compile(r"^## Example\n.*?^```rust\n(.*?)^```$", re.MULTILINE | re.DOTALL)
+PAGE = "docs/GATEWAY.md"
 PLAY_BLOCK = re.compile(r"^\$ (printf .*\| )bin/play\n(.*?)^```$", re.MULTILINE | re.DOTALL)
 
 
@@ -33,11 +34,11 @@ def crate_examples():
 
 
 def play_examples(program):
-    """Of each script of the top README what is shown as its replies, and what the program replies."""
-    for number, (before, shown) in enumerate(PLAY_BLOCK.findall(content("README.md")), 1):
+    """Of each script of a page what is shown as its replies, and what the program replies."""
+    for number, (before, shown) in enumerate(PLAY_BLOCK.findall(content(PAGE)), 1):
         command = f'{before}"$0"'
         ran = subprocess.run(["sh", "-c", command, program], stdout=subprocess.PIPE, timeout=60)
-        yield f"README.md, script {number}", shown, ran.stdout.decode()
+        yield f"{PAGE}, script {number}", shown, ran.stdout.decode()
 
 
 def main(words):
@@ -47,7 +48,7 @@ def main(words):
     examples = [*crate_examples(), *scripts]
     wrong = [where for where, shown, ran in examples if shown != ran]
     if not scripts:
-        wrong.append("README.md: no script of play")
+        wrong.append(f"{PAGE}: no script of play")
     for where in wrong:
         print(f"wrong: {where}")
     print(f"{len(examples)} examples, {len(wrong)} wrong")

@@ -6,6 +6,7 @@
 use std::future::{poll_fn, Future};
 use std::pin::pin;
 use std::task::Poll;
+use std::thread;
 use std::time::Duration;
 
 /// Does work that waits for the disk, or computes for long, without holding a thread of the runtime.
@@ -26,5 +27,37 @@ pub async fn within<T>(time: Duration, future: impl Future<Output = T>) -> Optio
     match poll_fn(|context| Poll::Ready(future.as_mut().poll(context))).await {
         Poll::Ready(done) => Some(done),
         Poll::Pending => Box::pin(tokio::time::timeout(time, future)).await.ok(),
+    }
+}
+
+/// So many threads at most: more wait for each other.
+const MOST_THREADS: usize = 8;
+
+/// Does something with each, on as many threads as there are processors. Returns once all is done.
+pub fn side_by_side<T: Send>(all: &mut [T], each: impl Fn(&mut T) + Sync) {
+    let threads = thread::available_parallelism().map_or(1, |most| most.get().min(MOST_THREADS));
+    let of_one = all.len().div_ceil(threads).max(1);
+    let each = &each;
+    thread::scope(|scope| {
+        let mut parts = all.chunks_mut(of_one);
+        let own = parts.next();
+        for part in parts {
+            scope.spawn(move || part.iter_mut().for_each(each));
+        }
+        own.into_iter().flatten().for_each(each);
+    });
+}
+
+#[cfg(test)]
+mod tests {
+    use super::*;
+
+    #[test]
+    fn each_is_done_once() {
+        for count in [0, 1, 2, 7, 64, 1000] {
+            let mut all = vec![0; count];
+            side_by_side(&mut all, |one| *one += 1);
+            assert_eq!(all, vec![1; count]);
+        }
     }
 }

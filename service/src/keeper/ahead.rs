@@ -1,15 +1,13 @@
 //! Posts of the journal on their way into a fresh book: they go in one after the other, and texts are read side by side before.
 
 use crate::core::{Core, Read, Refused};
+use crate::work::side_by_side;
 use bytes::Bytes;
 use std::sync::Arc;
-use std::thread;
 
 /// So many are read at once, or of so many bytes: each has a reader of the library until it is in.
 const MOST_POSTS: usize = 64;
 const MOST_BYTES: usize = 1 << 20;
-/// More threads wait for each other.
-const MOST_THREADS: usize = 8;
 
 /// A post that a book had, and is to have again.
 pub(super) struct Coming {
@@ -95,16 +93,7 @@ impl Ahead {
     pub fn take(&mut self, core: &Arc<Core>) -> Vec<Coming> {
         self.bytes = 0;
         let mut posts = std::mem::take(&mut self.posts);
-        let threads = thread::available_parallelism().map_or(1, |most| most.get().min(MOST_THREADS));
-        let each = posts.len().div_ceil(threads).max(1);
-        thread::scope(|scope| {
-            let mut parts = posts.chunks_mut(each);
-            let own = parts.next();
-            for part in parts {
-                scope.spawn(move || part.iter_mut().for_each(|post| post.be_read(core)));
-            }
-            own.into_iter().flatten().for_each(|post| post.be_read(core));
-        });
+        side_by_side(&mut posts, |post| post.be_read(core));
         posts
     }
 }

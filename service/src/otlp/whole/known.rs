@@ -6,6 +6,12 @@ use super::Whole;
 use crate::files::{Body, Fault, Journal, Outbox};
 use crate::otlp::json::{Document, Value};
 use crate::otlp::series::visit;
+use crate::work::side_by_side;
+use bytes::Bytes;
+
+/// So many bytes, or texts, are read at once, on several threads.
+const AT_ONCE: usize = 1 << 20;
+const MOST_AT_ONCE: usize = 1000;
 
 impl Whole {
     /// Notes the units of all series of a folder.
@@ -16,13 +22,27 @@ impl Whole {
         for key in outbox.series().keys() {
             self.know_series(&key.0);
         }
+        let (mut texts, mut bytes) = (Vec::new(), 0);
         journal.posts(outbox.journal(), u64::MAX, |read| {
-            read.named.iter().for_each(|(_, text)| self.know_request(text));
-            if let Body::Text(text) = &read.post.body {
-                self.know_request(text);
+            texts.extend(read.named.into_iter().map(|(_, text)| text));
+            if let Body::Text(text) = read.post.body {
+                bytes += text.len();
+                texts.push(text);
+            }
+            if bytes >= AT_ONCE || texts.len() >= MOST_AT_ONCE {
+                bytes = 0;
+                self.know_requests(&mut texts);
             }
             true
-        })
+        })?;
+        self.know_requests(&mut texts);
+        Ok(())
+    }
+
+    /// In whatever order: what is known of a metric is a set of units.
+    fn know_requests(&self, texts: &mut Vec<Bytes>) {
+        side_by_side(texts, |text| self.know_request(text));
+        texts.clear();
     }
 
     pub(super) fn know_series(&self, key: &str) {

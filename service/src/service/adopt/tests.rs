@@ -223,8 +223,8 @@ async fn too_many_series_are_named_and_change_nothing() {
     assert_eq!(Folder::open(&path, Durability::Process).unwrap().slots(), 1);
 }
 
-/// Two of slot 0, and two of others.
-const HELD: [&str; 4] = ["s0", "s1", "s4", "s5"];
+/// One of each of three slots, and one more.
+const HELD: [&str; 4] = ["s1", "s2", "s3", "s5"];
 
 fn quarantine(path: &Path, slots: u16) {
     let folder = Folder::open(path, Durability::Process).unwrap();
