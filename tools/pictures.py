@@ -46,8 +46,8 @@ class Description:
     """A description, drawn line by line."""
 
     def __init__(self, name):
-        self.path = f"{FOLDER}/{name}.txt"
-        with open(self.path, encoding="utf-8") as file:
+        self.name = name
+        with open(f"{FOLDER}/{name}.txt", encoding="utf-8") as file:
             self.lines = [it.rstrip("\n") for it in file if it.strip() and not it.startswith("#")]
         self.alt = " ".join(self.all_of("alt"))
         self.notes = dict(it.split(" ", 1) for it in self.all_of("note"))
@@ -69,6 +69,7 @@ class Description:
     def draw(self):
         width, height = map(int, self.all_of("size")[0].split())
         self.picture = Picture(width, height, self.alt)
+        self.picture.drawn.append(f"<!-- tools/pictures.py has made this of {self.name}.txt -->")
         for line in self.lines:
             word, _, rest = line.partition(" ")
             how, _, text = (it.strip() for it in rest.partition("|"))
