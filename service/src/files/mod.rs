@@ -2,6 +2,7 @@
 
 pub mod dead;
 mod disk;
+pub mod drive;
 pub mod folder;
 pub mod journal;
 mod judge;
