@@ -59,7 +59,6 @@ impl Parts {
         let shared = Shared::new(settings.metrics.clone(), settings.clock);
         let files = Files {
             number: 0,
-            folder,
             journal,
             outbox,
             dead,

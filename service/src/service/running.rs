@@ -1,6 +1,6 @@
 //! The parts at work, and their end.
 
-use super::unit::cause;
+use super::unit::{cause, End};
 use super::units::{AtWork, Ends};
 use super::Ended;
 use crate::files::Fault;
@@ -27,12 +27,17 @@ pub(super) struct Running {
 }
 
 impl Running {
-    /// Returns once a part has ended that nobody told to end.
+    /// Returns once a part has ended that nobody told to end. A slot that is lost has ended alone: all else goes on.
     pub async fn ended(&mut self) -> Ended {
-        tokio::select! {
-            Some((_, ended)) = self.ends.recv() => ended,
-            end = &mut self.intake => cause("the intake", end.map(Ok::<(), Fault>)),
-            end = &mut self.operate => cause("the operator's address", end.map(Ok::<(), Fault>)),
+        loop {
+            tokio::select! {
+                Some((slot, end)) = self.ends.recv() => match end {
+                    End::Lost => self.at_work.lose(slot),
+                    End::Failed(why) => return why,
+                },
+                end = &mut self.intake => return cause("the intake", end.map(Ok::<(), Fault>)),
+                end = &mut self.operate => return cause("the operator's address", end.map(Ok::<(), Fault>)),
+            }
         }
     }
 
