@@ -7,7 +7,7 @@
 //! and are delivered under their keys. Posts of quarantined senders, which no flush takes, come last: with the new number, and
 //! before slot 0 is filled.
 
-use super::running::LAST_CHANGES;
+use super::unit::LAST_CHANGES;
 use super::Ended;
 use crate::core::Core;
 use crate::files::{Body, Fault, Folder, Journal, NoNames, Outbox};
@@ -187,7 +187,7 @@ async fn rest(
     leave_others(&outbox, number, slots)?;
     let metrics = Arc::new(Metrics::new().context("metrics")?); // nobody sees them
     let core = Core::new(most_series).context("there is no book")?;
-    let slot = Slot::new(number, folder.clone(), journal, Arc::new(outbox), metrics, core);
+    let slot = Slot::new(number, journal, Arc::new(outbox), metrics, core);
     match Keeper::new(slot, settings.clone()).0.drain(stop.clone()).await? {
         true => Ok(()),
         false => Err(refused(

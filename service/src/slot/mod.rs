@@ -1,7 +1,7 @@
 //! The book with its journal and outbox, and the way of a post through them.
 //!
 //! `request` is that way, `posted` reads a request, `cumulative` what is done ahead of it with cumulative points, `numbers` which series have numbers, `verdict` what is said of a post and when, `phase` whether
-//! posts are taken, `disk` whether the disk answers.
+//! posts are taken, `disk` whether the disk answers. `slots` is where posts of each slot go.
 
 mod cumulative;
 mod disk;
@@ -9,13 +9,15 @@ mod numbers;
 mod phase;
 mod posted;
 mod request;
+mod slots;
 mod verdict;
 
 pub use numbers::{ByNumber, Request, Source};
 pub(crate) use phase::Phase;
+pub use slots::{Elsewhere, Place, Slots, Way, NO_OWNER};
 
 use crate::core::{Core, Refused};
-use crate::files::{Folder, Held, Journal, Outbox};
+use crate::files::{Held, Journal, Outbox, Room};
 use crate::metrics::Metrics;
 use crate::otlp::{Clock, Outcome};
 use crate::runs::Runs;
@@ -28,8 +30,12 @@ use tokio::sync::{Notify, Semaphore};
 
 /// What is kept free of the disk is all that is left of it.
 pub const NO_ROOM: &str = "no room for the journal";
+/// Another instance has the slot, or will have it in a moment.
+pub const MOVED: &str = "this slot is being moved";
 /// A call of the disk takes long.
 pub const NO_ANSWER: &str = "the disk does not answer";
+/// The same, where a store has the slot's files.
+pub const NO_STORE: &str = "the store does not answer";
 
 /// How many long bodies are read at a time: while it is read, one takes several times its length.
 const READERS: usize = 2;
@@ -37,13 +43,13 @@ const READERS: usize = 2;
 /// Shared by the intake, which posts, and the keeper.
 pub struct Slot {
     number: u16,
-    folder: Arc<Folder>,
+    room: Arc<Room>,
     pub(crate) journal: Arc<Journal>,
     pub(crate) outbox: Arc<Outbox>,
     pub(crate) metrics: Arc<Metrics>,
     pub(crate) core: Arc<Core>,
     phases: Phases,
-    readers: Semaphore,
+    readers: Arc<Semaphore>,
     numbers: Arc<numbers::Numbers>,
     clock: Clock,
     pub(crate) runs: Runs,
@@ -60,46 +66,77 @@ pub struct Slot {
     pub(crate) shares: Arc<Shares>,
 }
 
+/// What all slots of a process share.
+pub struct Shared {
+    pub metrics: Arc<Metrics>,
+    /// How far from it points may end.
+    pub clock: Clock,
+    pub shares: Arc<Shares>,
+    readers: Arc<Semaphore>,
+    numbers: Arc<numbers::Numbers>,
+}
+
+impl Shared {
+    pub fn new(metrics: Arc<Metrics>, clock: Clock) -> Shared {
+        Shared {
+            metrics,
+            clock,
+            shares: Arc::default(),
+            readers: Arc::new(Semaphore::new(READERS)),
+            numbers: Arc::default(),
+        }
+    }
+}
+
 impl Slot {
     pub fn new(
         number: u16,
-        folder: Arc<Folder>,
         journal: Journal,
         outbox: Arc<Outbox>,
         metrics: Arc<Metrics>,
         core: Arc<Core>,
     ) -> Arc<Slot> {
-        Slot::by_clock(number, folder, journal, outbox, metrics, core, Clock::default())
+        Slot::by_clock(number, journal, outbox, metrics, core, Clock::default())
     }
 
     /// The same, for points that end not too far from the service's clock.
     pub fn by_clock(
         number: u16,
-        folder: Arc<Folder>,
         journal: Journal,
         outbox: Arc<Outbox>,
         metrics: Arc<Metrics>,
         core: Arc<Core>,
         clock: Clock,
     ) -> Arc<Slot> {
+        Slot::of(number, journal, outbox, core, &Shared::new(metrics, clock))
+    }
+
+    /// One of several.
+    pub fn of(
+        number: u16,
+        journal: Journal,
+        outbox: Arc<Outbox>,
+        core: Arc<Core>,
+        shared: &Shared,
+    ) -> Arc<Slot> {
         Arc::new(Slot {
             number,
-            folder,
+            room: journal.room().clone(),
             journal: Arc::new(journal),
             outbox,
-            metrics,
+            metrics: shared.metrics.clone(),
             core,
             phases: Phases::new(),
-            readers: Semaphore::new(READERS),
-            numbers: Arc::default(),
-            clock,
+            readers: shared.readers.clone(),
+            numbers: shared.numbers.clone(),
+            clock: shared.clock,
             runs: Runs::default(),
             ungrouped: AtomicU64::new(0),
             crowded: Notify::new(),
             hurried: Notify::new(),
             landed: Notify::new(),
             told: disk::Told::default(),
-            shares: Arc::default(),
+            shares: shared.shares.clone(),
         })
     }
 
@@ -118,9 +155,13 @@ impl Slot {
         match self.phase() {
             Phase::Recovering => Some("recovering"),
             Phase::Stopping => Some("stopping"),
+            Phase::Lost => Some(MOVED),
             // Before its room, for which the disk is asked.
-            Phase::Serving if !self.disk_answers() => Some(NO_ANSWER),
-            Phase::Serving if self.folder.has_room() => None,
+            Phase::Serving if !self.disk_answers() => Some(match self.journal.is_in_store() {
+                true => NO_STORE,
+                false => NO_ANSWER,
+            }),
+            Phase::Serving if self.room.is_left() => None,
             Phase::Serving => Some(NO_ROOM),
         }
     }
@@ -171,6 +212,11 @@ impl Slot {
     /// Takes none any more.
     pub(crate) fn stop(&self) {
         self.phases.stop();
+    }
+
+    /// The same, for another instance takes them.
+    pub(crate) fn lose(&self) {
+        self.phases.lose();
     }
 
     fn count_post(&self) {
