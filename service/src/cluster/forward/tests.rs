@@ -14,10 +14,13 @@ use tokio::io::{AsyncReadExt, AsyncWriteExt};
 use tokio::net::TcpListener;
 use tokio::time::sleep;
 
+/// Slot, term, sender, and the part.
+type Came = (u16, u64, String, Encoding, Bytes);
+
 /// The slots of an instance: what came, and what is said of it.
 #[derive(Default)]
 struct Slots {
-    came: Mutex<Vec<(u16, u64, String, Encoding, Bytes)>>,
+    came: Mutex<Vec<Came>>,
     says: Mutex<VecDeque<Option<Outcome>>>,
     takes: Duration,
     at_once: AtomicUsize,
@@ -154,7 +157,7 @@ async fn an_owners_answer_comes_back_as_it_said_it() {
         peer.slots.says.lock().unwrap().push_back(Some(outcome.clone()));
         assert_eq!(posted(&forward, "{}").await, *outcome);
     }
-    let body = Bytes::from(vec![0, 159, 255, 10].repeat(1 << 18));
+    let body = Bytes::from([0, 159, 255, 10].repeat(1 << 18));
     let part = Original {
         encoding: Encoding::Protobuf,
         body: body.clone(),
