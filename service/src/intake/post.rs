@@ -229,3 +229,6 @@ impl<'r> Reader<'r> {
         Ok((numbered.map_or(Request::Text(body), Request::Numbered), rounded))
     }
 }
+
+#[cfg(test)]
+mod tests;

@@ -143,3 +143,6 @@ impl<T> Slots<T> {
         }
     }
 }
+
+#[cfg(test)]
+mod tests;
