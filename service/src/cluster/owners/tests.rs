@@ -303,8 +303,8 @@ fn a_store_that_stands_still_moves_no_slot() {
         world.stalls_for = 120;
         world.rounds(240);
         assert_eq!((world.takes, world.hand_overs), before);
-        // Nor does an instance that stands still for less than the others' patience.
-        world.nodes[1].stands_for = u64::from(GONE) - 2;
+        // Nor does an instance that stands still for two seconds.
+        world.nodes[1].stands_for = 4;
         world.rounds(60);
         assert_eq!((world.takes, world.hand_overs), before);
     }
@@ -344,7 +344,7 @@ fn who_comes_gets_slots_one_by_one_and_not_before_it_has_beaten_for_a_while() {
     for round in 0..200 {
         if round % 12 == 0 {
             // It takes none for a while, so it gets no further one.
-            world.nodes[1].stands_for = u64::from(GONE) - 2;
+            world.nodes[1].stands_for = 4;
         }
         world.round();
         assert!(world.store.rows.iter().filter(|row| row.owner.is_empty()).count() <= 1);
