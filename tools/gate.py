@@ -83,7 +83,7 @@ SERVICE_STEPS = (
     ("package_installs.py", [], 15),
 )
 # These run no program.
-WITHOUT_PROGRAM = ("service_model.py", "runs_model.py", "releases.py", "drawn.py")
+WITHOUT_PROGRAM = ("service_model.py", "runs_model.py", "cluster_model.py", "releases.py", "drawn.py")
 STEP_LIMIT = 600
 # Which revision has passed here, wholly: tools/release.py asks.
 PASSED = f"{OUT}/passed"

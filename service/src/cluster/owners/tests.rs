@@ -1,0 +1,144 @@
+//! Random schedules of instances over a store in memory.
+
+mod world;
+
+use super::*;
+use world::World;
+
+#[test]
+fn over_random_schedules_two_never_own_a_slot_and_each_has_its_place_in_the_end() {
+    for seed in 1..50 {
+        let mut world = World::of(seed, &["a", "b", "c"]);
+        world.is_rough = true;
+        for _ in 0..60 {
+            world.disturb();
+            let count = world.random.below(8) as usize;
+            world.rounds(count);
+        }
+        world.is_rough = false;
+        world.stalls_for = 0;
+        world.nodes.iter_mut().for_each(|node| node.stands_for = 0);
+        world.rounds(400);
+        assert!(world.is_settled(), "seed {seed}: {:?}", world.store.rows);
+        let before = (world.takes, world.hand_overs);
+        world.rounds(100);
+        assert_eq!(
+            (world.takes, world.hand_overs),
+            before,
+            "seed {seed}: slots move without a reason"
+        );
+    }
+}
+
+#[test]
+fn a_store_that_stands_still_moves_no_slot() {
+    for seed in 1..10 {
+        let mut world = World::of(seed, &["a", "b", "c"]);
+        world.rounds(300);
+        assert!(world.is_settled());
+        let before = (world.takes, world.hand_overs);
+        world.stalls_for = 120;
+        // One finds the store again later than the others.
+        world.nodes[2].stands_for = 130;
+        world.rounds(240);
+        assert_eq!((world.takes, world.hand_overs), before);
+        // Nor does an instance that stands still for two seconds.
+        world.nodes[1].stands_for = 4;
+        world.rounds(60);
+        assert_eq!((world.takes, world.hand_overs), before);
+    }
+}
+
+#[test]
+fn who_is_gone_loses_its_slots_after_six_beats_and_gets_them_back_one_by_one() {
+    let mut world = World::of(7, &["a", "b"]);
+    world.rounds(200);
+    let of_a = world.store.rows.iter().filter(|row| row.owner == "a").count();
+    assert!(world.is_settled() && of_a > 0);
+    world.nodes[0].stands_for = 30;
+    world.rounds(GONE as usize - 1);
+    assert_eq!(
+        world.store.rows.iter().filter(|row| row.owner == "a").count(),
+        of_a
+    );
+    world.rounds(8);
+    assert!(world.store.rows.iter().all(|row| row.owner == "b"));
+    let before = world.hand_overs;
+    for _ in 0..200 {
+        world.round();
+        let free = world.store.rows.iter().filter(|row| row.owner.is_empty()).count();
+        assert!(free <= 1, "{free} slots are on their way at once");
+    }
+    assert!(world.is_settled());
+    assert_eq!(world.hand_overs - before, of_a);
+}
+
+#[test]
+fn who_comes_gets_slots_one_by_one_and_not_before_it_has_beaten_for_a_while() {
+    let mut world = World::of(3, &["a"]);
+    world.rounds(20);
+    world.join("b");
+    world.rounds(SETTLED as usize - 1);
+    assert_eq!(world.hand_overs, 0);
+    for round in 0..200 {
+        if round % 12 == 0 {
+            // It takes none for a while, so it gets no further one.
+            world.nodes[1].stands_for = 4;
+        }
+        world.round();
+        assert!(world.store.rows.iter().filter(|row| row.owner.is_empty()).count() <= 1);
+    }
+    world.rounds(40);
+    assert!(world.is_settled() && world.hand_overs > 1);
+}
+
+#[test]
+fn who_leaves_hands_all_over_and_takes_nothing() {
+    let mut world = World::of(5, &["a", "b", "c"]);
+    world.rounds(200);
+    world.nodes[2].owners.leave();
+    world.rounds(3);
+    assert!(world.nodes[2].owners.is_rid_of_all());
+    world.nodes.pop();
+    world.store.instances.remove("c");
+    world.rounds(5);
+    assert!(world.is_settled());
+    // The last one leaves them without an owner.
+    world.nodes[0].owners.leave();
+    world.nodes[1].owners.leave();
+    world.rounds(6);
+    assert!(world.store.rows.iter().all(|row| row.owner.is_empty()));
+}
+
+#[test]
+fn of_two_with_one_name_none_takes_a_slot_from_the_other() {
+    let mut world = World::of(11, &["a"]);
+    world.rounds(20);
+    assert!(world.is_settled());
+    let takes = world.takes;
+    world.join("a");
+    world.rounds(100);
+    assert_eq!(world.takes, takes);
+    assert!(world.nodes.iter().all(|node| node.owners.has_namesake()));
+    world.nodes.pop();
+    world.rounds(20);
+    assert!(world.is_settled() && !world.nodes[0].owners.has_namesake());
+}
+
+#[test]
+fn a_slot_that_was_lost_is_dropped_once() {
+    let mut world = World::of(13, &["a"]);
+    world.rounds(20);
+    world.store.rows[3].term += 1;
+    world.store.rows[3].owner = "z".into();
+    let node = &mut world.nodes[0];
+    let term = world.store.rows[3].term - 1;
+    let steps = node.owners.beat(world.store.beat("a", Stay::Here));
+    assert_eq!(steps, [Step::Drop { slot: 3, term }]);
+    assert_eq!(node.owners.whose()[&3], Whose::Nobody);
+    assert!(!node.owners.lost(3, term));
+    assert_eq!(node.owners.beat(world.store.beat("a", Stay::Here)), []);
+    // `z` has no row, so nobody beats for it.
+    world.rounds(GONE as usize + 2);
+    assert_eq!(world.store.rows[3].owner, "a");
+}
