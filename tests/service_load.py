@@ -100,13 +100,13 @@ class Trouble:
 
     def stall(self):
         """The disk stands still for a while, also for a service that is killed meanwhile."""
-        is_serving = self.service.is_ready()
+        is_serving, is_written = self.service.is_ready(), self.is_taken_of_some()
         until = time.monotonic() + self.chance.choice(STALLS)
         with self.disk.frozen():
             begun = time.monotonic()
             while time.monotonic() < until:
                 if is_serving:
-                    self.look(time.monotonic() - begun)
+                    self.look(time.monotonic() - begun, is_written)
                 time.sleep(0.5)
             is_killed = self.chance.random() < 0.3
             if is_killed:
@@ -114,12 +114,18 @@ class Trouble:
         if is_killed:
             self.kill_service()
 
-    def look(self, seconds):
+    def is_taken_of_some(self):
+        """Whether posts of some sender are taken: where all are quarantined nothing is written, so no call stands still."""
+        status = self.service.status()
+        quarantined = {sender for slot in status["slots"] for sender in slot["quarantined"]} if status else set()
+        return len(quarantined) < len(self.senders)
+
+    def look(self, seconds, is_written):
         """What must be said while the disk has been still for so long."""
         status, _ = self.service.asked("GET", "/health", 2)
         if status != 200:
             self.silences.append(f"/health {status} after {seconds:.1f} s")
-        if seconds > SEEN_AFTER:
+        if seconds > SEEN_AFTER and is_written:
             status, text = self.service.asked("GET", "/ready", 2)
             if status != 503 or NO_ANSWER not in text:
                 self.silences.append(f"/ready {status} {text} after {seconds:.1f} s")
