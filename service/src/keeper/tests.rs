@@ -1,5 +1,6 @@
 //! What a keeper does over files: in which order, while a disk is slow, over restarts, and where series are forgotten.
 
+mod amend;
 mod forget;
 mod runs;
 mod stall;

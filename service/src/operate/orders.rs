@@ -18,6 +18,8 @@ impl Desk {
             None => message(503, "stopping"),
             Some(Done::Flushed { requests }) => reply(200, JSON, json!({ "requests": requests }).to_string()),
             Some(Done::Answered(outcome)) => answered(&outcome),
+            // `amend` gives such orders itself.
+            Some(Done::Amended(_)) => reply(200, JSON, json!({}).to_string()),
         }
     }
 

@@ -10,17 +10,17 @@ use crate::slot::Request;
 use std::collections::BTreeMap;
 
 /// Points begin here, so that they are of runs that began after the folder was made.
-const BEGIN: u64 = 4_000_000_000_000_000_000;
+pub(super) const BEGIN: u64 = 4_000_000_000_000_000_000;
 
 /// A cumulative point of a series: its name says its kind.
 #[derive(Clone, Debug)]
-struct Point {
-    name: String,
-    start: u64,
-    time: u64,
+pub(super) struct Point {
+    pub(super) name: String,
+    pub(super) start: u64,
+    pub(super) time: u64,
     /// A histogram's, of one bound: below it, and all.
-    value: i64,
-    all: i64,
+    pub(super) value: i64,
+    pub(super) all: i64,
 }
 
 impl Point {
@@ -47,27 +47,27 @@ impl Point {
     }
 }
 
-fn text(points: &[Point], temporality: u8) -> String {
+pub(super) fn text(points: &[Point], temporality: u8) -> String {
     let metrics: Vec<String> = points.iter().map(|point| point.text(temporality)).collect();
     let metrics = metrics.join(",");
     format!(r#"{{"resourceMetrics":[{{"scopeMetrics":[{{"metrics":[{metrics}]}}]}}]}}"#)
 }
 
 impl Run {
-    async fn begin_runs(path: &Path, options: Options) -> Run {
+    pub(super) async fn begin_runs(path: &Path, options: Options) -> Run {
         let folder = Folder::open(path, Durability::Process).unwrap();
         let run = Run::begin_in(folder, settings()).await;
         run.slot.runs.set(options);
         run
     }
 
-    async fn cumulative(&self, sender: &str, points: &[Point]) -> Outcome {
+    pub(super) async fn cumulative(&self, sender: &str, points: &[Point]) -> Outcome {
         let by = self.slot.numbered_text(&text(points, 2).into()).unwrap().unwrap();
         self.slot.request(sender.into(), Request::Numbered(by)).await
     }
 
     /// What it has forwarded.
-    async fn forwarded(&self) -> BTreeMap<String, (i128, i128)> {
+    pub(super) async fn forwarded(&self) -> BTreeMap<String, (i128, i128)> {
         let mut sums: BTreeMap<String, (i128, i128)> = BTreeMap::new();
         while self.slot.outbox.waiting().0 > 0 {
             let (waiting, body) = self.slot.outbox.first().await.unwrap();
@@ -97,7 +97,7 @@ async fn killed(run: Run, place: &Path, number: usize, options: Options) -> Run 
     Run::begin_runs(&to, options).await
 }
 
-fn copy(from: &Path, to: &Path) {
+pub(super) fn copy(from: &Path, to: &Path) {
     let copied = std::process::Command::new("cp")
         .arg("-r")
         .args([from, to])
@@ -293,23 +293,7 @@ async fn a_run_whose_series_was_forgotten_counts_from_there_on() {
     );
     run.flush().await;
     assert_eq!(run.slot.outbox.series_count(), 1);
-    let forgotten = run
-        .slot
-        .outbox
-        .forget(Duration::ZERO, &Default::default())
-        .unwrap();
-    // What was heard of in this second is not old yet.
-    if forgotten.is_empty() {
-        tokio::time::sleep(Duration::from_millis(2_100)).await;
-        assert_eq!(
-            run.slot
-                .outbox
-                .forget(Duration::from_secs(1), &Default::default())
-                .unwrap()
-                .len(),
-            1
-        );
-    }
+    run.slot.outbox.leave_these(&run.keys()).unwrap();
     run.end().await;
     let run = Run::begin_runs(&place.path().join("data"), Options::default()).await;
     run.forwarded().await;
