@@ -278,6 +278,7 @@ fn prepare(
         encoding,
         body: plain.clone(),
     });
+    let (plain, _) = otlp::with_instance(&sender, encoding, plain, reading);
     let numbered = match head.encoding {
         Encoding::Json => None,
         Encoding::Protobuf => taker.numbered(&plain, reading),
