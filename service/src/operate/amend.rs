@@ -212,10 +212,12 @@ fn found(
     let mut found: Vec<Was> = found.map(|(key, series)| (key, series.frontier)).collect();
     found.sort_unstable();
     match &found[..] {
-        [] => return Err(format!(
+        [] => {
+            return Err(format!(
             "no series is named {}: `totxegun totals` shows names and attributes, as does the view totals",
             asked.written
-        )),
+        ))
+        }
         [first, second, ..] if !asked.all => {
             return Err(format!(
                 "{} series are named so, as {} and {}: name more attributes, or give --all",

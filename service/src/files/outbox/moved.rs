@@ -37,6 +37,17 @@ impl Outbox {
         Ok(())
     }
 
+    /// How many series end after this time, and the last of them.
+    pub fn ahead_of(&self, time: u64) -> (usize, Option<SeriesKey>) {
+        let state = lock(&self.state);
+        let ahead = || {
+            let all = state.series.iter();
+            all.filter(|(_, known)| known.series.frontier > time)
+        };
+        let last = ahead().max_by_key(|(_, known)| known.series.frontier);
+        (ahead().count(), last.map(|(key, _)| key.clone()))
+    }
+
     /// Leaves these out.
     pub fn leave_these(&self, series: &[SeriesKey]) -> Result<(), Fault> {
         let series: HashSet<&SeriesKey> = series.iter().collect();
