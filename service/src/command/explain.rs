@@ -93,7 +93,7 @@ fn found(body: Vec<u8>, reading: &Reading, clock: &Clock) -> anyhow::Result<Foun
     } else {
         &sender
     };
-    let (body, named) = otlp::with_instance(name, encoding, body.into(), reading);
+    let (body, named) = otlp::with_instance(name, encoding, body.into(), reading).map_err(refused)?;
     let prepared = otlp::prepare(encoding, body, reading).map_err(refused)?;
     let points = otlp::explained(&prepared.body, reading.profile(), clock.window())
         .context("refused with 400: wrong shape")?;

@@ -270,15 +270,18 @@ fn prepare(
         Encoding::Json => WHILE_READ_JSON,
         Encoding::Protobuf => WHILE_READ_PROTOBUF,
     };
-    let length = plain.len();
-    hold.set(grows * length)?;
+    hold.set(grows * plain.len())?;
     let sender = otlp::sender(head.sender, head.encoding, &plain, reading)?;
     let encoding = head.encoding;
     let original = taker.wants_originals().then(|| Original {
         encoding,
         body: plain.clone(),
     });
-    let (plain, _) = otlp::with_instance(&sender, encoding, plain, reading);
+    let (plain, named) = otlp::with_instance(&sender, encoding, plain, reading)?;
+    let length = plain.len();
+    if named > 0 {
+        hold.set(grows * length)?;
+    }
     let numbered = match head.encoding {
         Encoding::Json => None,
         Encoding::Protobuf => taker.numbered(&plain, reading),

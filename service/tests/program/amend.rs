@@ -40,7 +40,7 @@ fn a_series_is_put_back_and_what_the_sink_has_of_it_is_told() {
             "no series is named",
         ),
         (
-            &["repair", "a", "--to", "2999-01-01"],
+            &["repair", "a", "--to", "2100-01-01"],
             "after the service's clock",
         ),
     ] {
@@ -79,7 +79,7 @@ fn a_series_is_put_back_and_what_the_sink_has_of_it_is_told() {
     let wanted = [
         "repair c to 2026-11-27 00:00:00",
         "repair a{host=x} to 2026-11-27 00:00:00",
-        "repair a to 2999-01-01 00:00:00",
+        "repair a to 2100-01-01 00:00:00",
         "repair a to 2026-01-01 00:00:00",
         "forget b",
     ];

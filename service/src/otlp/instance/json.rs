@@ -1,27 +1,24 @@
 //! The same in JSON: members are copied as they are, but those on the way to a resource.
 
-use super::INSTANCE;
+use super::{most, INSTANCE};
 use crate::otlp::json::{write_text, Document, Value};
 use crate::otlp::outside::json::{members, RESOURCES};
 
 /// None where it can't be read.
 pub fn with(request: &[u8], name: &str) -> Option<(Vec<u8>, usize)> {
     let document = Document::parse(request).ok()?;
-    let mut count = 0;
+    let (mut count, most) = (0, most(name));
     let text = members(document.root(), |member, value| {
         let all = RESOURCES.contains(&member).then(|| value.elements()).flatten();
         let Some(all) = all else {
             return Some(value.raw().to_string());
         };
-        let all: Vec<String> = all
-            .map(|element| match named(element, name) {
-                Some(named) => {
-                    count += 1;
-                    named
-                }
-                None => element.raw().to_string(),
-            })
-            .collect();
+        let with_names = all.map(|element| {
+            let named = (count <= most).then(|| named(element, name)).flatten();
+            count += usize::from(named.is_some());
+            named.unwrap_or_else(|| element.raw().to_string())
+        });
+        let all: Vec<String> = with_names.collect();
         Some(format!("[{}]", all.join(",")))
     });
     Some((text.into_bytes(), count))

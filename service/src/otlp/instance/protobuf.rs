@@ -1,6 +1,6 @@
 //! The same in protobuf: fields are copied as they are, but those on the way to a resource.
 
-use super::INSTANCE;
+use super::{most, INSTANCE};
 use crate::otlp::outside::protobuf::{fields, put};
 use crate::otlp::wire::Payload;
 
@@ -20,8 +20,11 @@ pub fn with(request: &[u8], name: &str) -> Option<(Vec<u8>, usize)> {
     for (number, payload, raw) in fields(request)? {
         match payload {
             Payload::Bytes(element) if number == RESOURCES && !has_instance(element)? => {
-                put(&mut out, RESOURCES, &named(element, &attribute)?);
                 count += 1;
+                match count <= most(name) {
+                    true => put(&mut out, RESOURCES, &named(element, &attribute)?),
+                    false => return Some((Vec::new(), count)),
+                }
             }
             _ => out.extend_from_slice(raw),
         }

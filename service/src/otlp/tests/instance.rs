@@ -14,7 +14,7 @@ fn reading() -> Reading {
 }
 
 fn named(encoding: Encoding, body: impl Into<Bytes>) -> (Bytes, usize) {
-    with_instance("shop-1", encoding, body.into(), &reading())
+    with_instance("shop-1", encoding, body.into(), &reading()).unwrap()
 }
 
 fn instance(name: &str) -> KeyValue {
@@ -118,9 +118,9 @@ fn json_is_read_in_any_form() {
 fn a_request_is_left_as_it_is_where_there_is_no_name_to_give() {
     let body: Bytes = a_request().into();
     let off = with_instance("shop-1", Encoding::Protobuf, body.clone(), &Reading::default());
-    assert_eq!(off, (body.clone(), 0));
+    assert_eq!(off.unwrap(), (body.clone(), 0));
     assert_eq!(
-        with_instance("-", Encoding::Protobuf, body.clone(), &reading()),
+        with_instance("-", Encoding::Protobuf, body.clone(), &reading()).unwrap(),
         (body.clone(), 0)
     );
     let cut = body.slice(..body.len() - 1);
@@ -150,4 +150,26 @@ fn a_resource_in_parts_is_one() {
     let attributes = &read.resource_metrics[0].resource.as_ref().unwrap().attributes;
     let keys: Vec<&str> = attributes.iter().map(|pair| pair.key.as_str()).collect();
     assert_eq!((keys, resources), (vec![INSTANCE, "a", "b"], 1));
+}
+
+/// Else a few megabytes became hundreds.
+#[test]
+fn a_request_of_very_many_resources_is_refused_by_name() {
+    let many = |count: usize| format!(r#"{{"resourceMetrics":[{}]}}"#, vec!["{}"; count].join(","));
+    let empty = |count: usize| [0x0a, 0].repeat(count);
+    for (encoding, body) in [
+        (Encoding::Json, Bytes::from(many(100_000))),
+        (Encoding::Protobuf, empty(100_000).into()),
+    ] {
+        let length = body.len();
+        let refused = with_instance("shop-1", encoding, body, &reading())
+            .unwrap_err()
+            .to_string();
+        assert!(
+            refused.contains("resources without a service.instance.id"),
+            "{length} {refused}"
+        );
+    }
+    assert_eq!(named(Encoding::Json, many(10_000)).1, 10_000);
+    assert_eq!(named(Encoding::Protobuf, empty(10_000)).1, 10_000);
 }

@@ -280,11 +280,11 @@ fn a_file_in_a_folder_that_hands_its_group_on_is_for_the_group_to_read() {
         let folder = trial.folder.path().join(format!("{mode:o}"));
         std::fs::create_dir(&folder).expect("a folder");
         std::fs::set_permissions(&folder, std::fs::Permissions::from_mode(mode)).expect("its rights");
-        let writer = writer(&folder.join("totals.db"));
+        let mut writer = writer(&folder.join("totals.db"));
+        assert_eq!(writer.take(&forwarded(1, sum("a", 10, 20, 1))), Fate::Taken);
         for name in ["totals.db", "totals.db-wal", "totals.db-shm"] {
             let found = std::fs::metadata(folder.join(name)).expect(name);
             assert_eq!(found.permissions().mode() & 0o777, wanted, "{name} in {mode:o}");
         }
-        drop(writer);
     }
 }
