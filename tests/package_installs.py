@@ -5,7 +5,8 @@
 
 The program is put where `make build` would have made it. Then: every file has its place and mode; the service started as
 the unit starts it, with the shipped settings, takes a point, flushes and shows it; the settings name every option, and all
-their defaults together start it too; settings that were there stay, with mode 600; the page names every option of the
+their defaults together start it too; a SQLite file in a folder for a group is read by another user of it, and by nobody else;
+settings that were there stay, with mode 600; the page names every option of the
 program and mandoc finds nothing; the completion completes; the version says whether the book inside was proved; systemd
 finds nothing in the unit; what is missing is said in one line.
 
@@ -136,6 +137,44 @@ def serve(checks, what, root, folder, settings):
             status = service.wait()
     checks.true(f"{what}: SIGTERM ends it", status == 0, f"status {status}: {content(log)}")
     shutil.rmtree(f"{folder}/totxegun")
+
+
+# Who reads, and how.
+NOBODY = 65534
+READER = "import sqlite3, sys; print(sqlite3.connect(f'file:{sys.argv[1]}', uri=True).execute('select total from totals').fetchall())"
+
+
+def look_at_group(checks, program, folder):
+    """As OPERATING has the folder made, with the umask of the unit."""
+    if not checks.has("a reader of the sink's group", *([] if os.geteuid() == 0 and shutil.which("setpriv") else ["root"])):
+        return
+    group, at = 54321, f"{folder}/shared"
+    os.chmod(folder, 0o711)
+    os.mkdir(at)
+    os.chown(at, 0, group)
+    os.chmod(at, 0o2750)
+    listen, operate = free_port(), free_port()
+    words = ["serve", "--data", f"{folder}/own", "--sink", f"sqlite:{at}/metrics.db", "--listen", f"127.0.0.1:{listen}",
+             "--operate", f"127.0.0.1:{operate}"]
+
+    def read(of_group, how="?mode=ro"):
+        as_whom = ["setpriv", f"--reuid={NOBODY}", f"--regid={of_group}", "--clear-groups"]
+        return ran([*as_whom, sys.executable, "-c", READER, f"{at}/metrics.db{how}"])
+
+    service = subprocess.Popen([program, *words], env=without_settings(), stdin=subprocess.DEVNULL, stderr=subprocess.DEVNULL,
+                               umask=0o077)
+    try:
+        checks.true("it serves", wait_until(lambda: ask(operate, "GET", "/ready", seconds=2)[0] == 200), "not ready")
+        now = time.time_ns()
+        headers = {"Content-Type": "application/json", "x-sender": "A"}
+        ask(listen, "POST", "/v1/metrics", (POINT % (now - 10_000_000_000, now)).encode(), headers)
+        ran([program, "flush", "--data", f"{folder}/own"])
+        checks.true("who is of the group reads it", wait_until(lambda: read(group)[1] == "[(5,)]\n", 20), read(group))
+        checks.true("nobody else does", read(NOBODY)[0] != 0, read(NOBODY))
+    finally:
+        service.terminate()
+        service.wait(30)
+    checks.same("also while the service is stopped", (0, "[(5,)]\n"), read(group, "?immutable=1"))
 
 
 def version():
@@ -277,6 +316,7 @@ def main(given):
         chosen, (_, defaults) = set_by_unit(root), shipped_settings(root)
         serve(checks, "as shipped", root, folder, chosen)
         serve(checks, "with each default said", root, folder, {**defaults, **chosen})
+        look_at_group(checks, program, folder)
         look_at_version(checks, program)
         look_at_kept_settings(checks, folder, given)
         look_at_what_is_missing(checks, folder)

@@ -1,9 +1,9 @@
 #!/usr/bin/env python3
 """The questions of docs/QUERIES.md, asked of generated data, and its example of a month that is billed and closed.
 
-    tests/queries.py PROGRAM [SERIES]
+    tests/queries.py PROGRAM [SERIES [DAYS]]
 
-35 days of hours of so many series (250) are put into a SQLite file and a PostgreSQL database whose schemas the program
+So many days (35) of hours of so many series (250), up to the end of November, are put into a SQLite file and a PostgreSQL database whose schemas the program
 has made; what each statement gives is compared with plain sums of the same numbers. The time of each statement is shown.
 Then the example is done as the page has it: its commands and statements, with shops that post. PostgreSQL is left out
 where there is none.
@@ -34,8 +34,10 @@ NAMES = ("shop.revenue", "shop.orders", "shop.visits", "shop.wait", "shop.items"
 WAIT = NAMES.index("shop.wait")
 BOUNDS = (5, 10, 25, 50, 100, 250, 500, 1000, 2500, 5000)
 UTC = datetime.timezone.utc
-FIRST = datetime.datetime(2026, 10, 27, tzinfo=UTC)
-DAYS = 35
+DAYS = int(sys.argv[3]) if len(sys.argv) > 3 else 35
+FIRST = datetime.datetime(2026, 12, 1, tzinfo=UTC) - datetime.timedelta(DAYS)
+# Of spans there are no more days.
+DAYS_OF_SPANS = 35
 LATE = 3
 SERIES = 250
 NOVEMBER = datetime.datetime(2026, 11, 1, tzinfo=UTC), datetime.datetime(2026, 12, 1, tzinfo=UTC)
@@ -72,6 +74,12 @@ COUNT = "(" + " + ".join(BUCKETS) + ")"
 
 def at(hour):
     return datetime.datetime.fromtimestamp(hour * 3600, UTC)
+
+
+def month_of(day):
+    """Since 1970."""
+    date = datetime.date(1970, 1, 1) + datetime.timedelta(day)
+    return (date.year - 1970) * 12 + date.month - 1
 
 
 def page():
@@ -191,8 +199,12 @@ class Lite:
         self.series(count)
         self.hours(count)
         self.file.create_aggregate("added", 1, Added)
-        for longer, time_of in (("day", "hour / 24"), ("month", "case when hour < ?1 then ?2 when hour < ?3 then ?2 + 1 else ?2 + 2 end")):
-            self.longer(longer, time_of)
+        self.file.create_function("month_of", 1, month_of, deterministic=True)
+        for day in range(HOURS[0] // 24, HOURS[-1] // 24 + 1):
+            self.longer("day", str(day), f"hour where hour between {day * 24} and {day * 24 + 23}")
+        self.longer("month", "month_of(day)", "day")
+        self.written()
+        self.totals()
         self.late()
         self.file.execute("commit")
 
@@ -224,27 +236,27 @@ class Lite:
             from hour group by 1, 2"""
         )
 
-    def longer(self, unit, time_of):
-        starts = tuple(int(start.timestamp()) // 3600 for start in NOVEMBER)
-        months = (2026 - 1970) * 12 + 9
-        places = (starts[0], months, starts[1]) if unit == "month" else ()
+    def longer(self, unit, time_of, rows):
         self.file.execute(
             f"""insert into {unit} select {time_of}, metric, series, sum(points), 0, sum(total_low), 0, sum(count_low), 0, added(buckets), 0
-            from hour group by 1, 2, 3""",
-            places,
+            from {rows} group by 1, 2, 3"""
         )
-        written = "date(day * 86400, 'unixepoch')" if unit == "day" else "date('1970-01-01', '+' || month || ' months')"
-        self.file.execute(f"insert into utc_{unit} select distinct {unit}, {written} from {unit}")
-        if unit == "month":
-            self.file.execute(
-                """insert into series_total select series, sum(points), 1, ?, 0, sum(total_low), 0, sum(count_low), 0, added(buckets), 0
-                from month group by series""",
-                (HOURS[-1] * 3_600_000_000_000,),
-            )
+
+    def written(self):
+        for unit, date in (("day", "date(day * 86400, 'unixepoch')"), ("month", "date('1970-01-01', '+' || month || ' months')")):
+            self.file.execute(f"insert into utc_{unit} select {unit}, {date} from (select distinct {unit} from {unit})")
+
+    def totals(self):
+        self.file.execute(
+            """insert into series_total select series, sum(points), 1, ?, 0, sum(total_low), 0, sum(count_low), 0, added(buckets), 0
+            from month group by series""",
+            (HOURS[-1] * 3_600_000_000_000,),
+        )
 
     def late(self):
         """A flush each ten seconds, with a span; some came hours later."""
-        seconds = range(HOURS[0] * 3600, HOURS[-1] * 3600, 10)
+        first = max(HOURS[0], HOURS[-1] + 1 - DAYS_OF_SPANS * 24)
+        seconds = range(first * 3600, HOURS[-1] * 3600, 10)
         rows = [
             (number, number, second + (LATE * 3600 if number % 100_000 == 7 else 1), (second - 10) * 10**9, second * 10**9)
             for number, second in enumerate(seconds, 1)

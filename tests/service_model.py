@@ -7,7 +7,8 @@ It needs no program. Two senders have three posts on two series, each of which i
 x, then one of x and one of y; B posts one of y, so that one of the two senders owns y and the other is refused. Each point of
 x is of another hour, and that of y of a third one: so A's second post is of several hours. Posts are on
 the way at once, answers are lost, and a sender repeats until it is answered. Meanwhile there are checkpoints, a quarantine, a
-lift, and deliveries to a sink. Faults come at any place: the service is killed, the power is lost, a write of the outbox fails.
+lift, and deliveries to a sink. In a search of its own the outbox has x ahead of its time, as a wrong clock has left it, and an
+operator has it put back: A posts once he was told so. Faults come at any place: the service is killed, the power is lost, a write of the outbox fails.
 
 In each state in which nothing is on its way:
   - a post whose sender was told that it is taken (200, or `out of order` to a repeat) counts exactly once: in the sink,
@@ -18,8 +19,8 @@ In each state in which nothing is on its way:
 
 And in each state what is pending of a series, and each request, is of one hour, and requests have a series' points in order.
 
-With all rules kept no state breaks this, over all states of two faults and one checkpoint, and of one fault and two
-checkpoints. Without any one of the rules some state does: so the rule is needed, and the model can see it. The search
+With all rules kept no state breaks this, over all states of two faults and one checkpoint, of one fault and two checkpoints,
+and of one of each where x is put back. Without any one of the rules some state does: so the rule is needed, and the model can see it. The search
 goes by breadth, so what is printed is a shortest way. It takes a minute. That no state at all breaks it is proved of a
 coarser machine, in crates/service_law; this is what finds a way where a rule is missing.
 
@@ -80,6 +81,10 @@ class Rules:
     post_of_several_hours_is_tried_whole: bool = True
     # What an earlier run wrote is synced at the start, before anybody is told of it.
     files_are_synced_before_they_are_believed: bool = True
+    # Where a series ends is put back durably before the books have it so.
+    what_is_put_back_is_durable_first: bool = True
+    # The books are filled anew then.
+    what_is_put_back_fills_the_books: bool = True
 
 
 # --------------------------------------------------------------------------------------------------------------------
@@ -181,6 +186,8 @@ class Outbox(NamedTuple):
     # Of each series, where it was found; its frontier is that of its requests.
     owners: tuple
     is_quarantined: bool
+    # Whether x ends ahead of its time, as A's.
+    is_ahead: bool
 
 
 class Step:
@@ -205,6 +212,8 @@ class Left(NamedTuple):
     lost_answers: int
     lost_takings: int
     quarantines: int
+    # How often a series is to be put back: A waits for it.
+    repairs: int
 
 
 class State(NamedTuple):
@@ -228,11 +237,14 @@ class State(NamedTuple):
 
 
 EMPTY_BOOKS = Books((None, None), 0, (), False)
-EMPTY_OUTBOX = Outbox((), 0, 1, (None, None), False)
+EMPTY_OUTBOX = Outbox((), 0, 1, (None, None), False, False)
+AHEAD_OUTBOX = EMPTY_OUTBOX._replace(owners=(A, None), is_ahead=True)
+# After all spans.
+AHEAD = 9
 BEGIN = State(
     told=(Told.NOTHING,) * len(POSTS), attempts=(0,) * len(POSTS), requests=(), books=EMPTY_BOOKS, segment=1, journal=(),
     outbox=EMPTY_OUTBOX, synced_outbox=EMPTY_OUTBOX, checkpoint=None, sink=0, twice=0, highest=0, left=None)
-BOUNDS = (Left(2, 1, 1, 1, 1), Left(1, 2, 1, 0, 1))
+BOUNDS = (Left(2, 1, 1, 1, 1, 0), Left(1, 2, 1, 0, 1, 0), Left(1, 1, 1, 0, 1, 1))
 
 
 def put(items, place, item):
@@ -324,7 +336,7 @@ def post(rules, state):
     """A sender posts what it does not have an answer to, if it waits for no attempt at it, and the books are asked."""
     for sender in (A, B) if state.books else ():
         number = next_post(state, sender)
-        if number is None or state.attempts[number] == MOST_ATTEMPTS:
+        if number is None or state.attempts[number] == MOST_ATTEMPTS or sender == A and state.left.repairs:
             continue
         if any(request.is_awaited and request.post == number for request in state.requests):
             continue
@@ -493,7 +505,7 @@ def frontier(outbox, series):
     for request in outbox.requests:
         points |= request
     ends = [POSTS[post].spans[one][1] for place, (post, one) in enumerate(POINTS) if one == series and points >> place & 1]
-    return max(ends, default=None)
+    return AHEAD if series == X and outbox.is_ahead else max(ends, default=None)
 
 
 def with_owners(outbox, journal):
@@ -553,6 +565,22 @@ def noted(state, is_quarantined):
     """A record of its own, synced at once; what was written before it is synced with it."""
     outbox = state.outbox._replace(is_quarantined=is_quarantined)
     return state._replace(books=state.books._replace(is_quarantined=is_quarantined), outbox=outbox, synced_outbox=outbox)
+
+
+def put_back(rules, state):
+    """Under the lock, where nothing is taken of the books and on its way; then the operator is told so. A's first post is next: x
+    has no other points."""
+    left = spend(state, "repairs")
+    if not left or not state.books or state.checkpoint:
+        return
+    outbox = state.outbox._replace(is_ahead=False)
+    books = state.books
+    if rules.what_is_put_back_fills_the_books:
+        books = fresh_books(rules, outbox, state.journal)
+    if rules.what_is_put_back_is_durable_first:
+        yield "x is put back", state._replace(books=books, outbox=outbox, synced_outbox=outbox, left=left)
+    else:
+        yield "x is put back in the books", state._replace(books=books, left=left)
 
 
 # --------------------------------------------------------------------------------------------------------------------
@@ -615,7 +643,7 @@ def start_service(rules, state):
 
 
 ACTIONS = (post, stop_waiting, place_late, write_journal, sync_journal, begin_checkpoint, turn_late, commit, give_back, sync_outbox,
-           end_checkpoint, deliver, quarantine, lift, kill_service, lose_power, start_service)
+           end_checkpoint, deliver, quarantine, lift, put_back, kill_service, lose_power, start_service)
 
 # --------------------------------------------------------------------------------------------------------------------
 # What holds
@@ -683,6 +711,8 @@ def way_to(parents, state):
 def explore(rules, left):
     """All states by breadth, until one is at fault."""
     begin = BEGIN._replace(left=left)
+    if left.repairs:
+        begin = begin._replace(outbox=AHEAD_OUTBOX, synced_outbox=AHEAD_OUTBOX, books=fresh_books(rules, AHEAD_OUTBOX, ()))
     parents = {begin: None}
     waiting = deque([begin])
     while waiting and len(parents) < MOST_STATES:
@@ -707,11 +737,13 @@ def main():
     checks = Checks()
     for left in BOUNDS:
         found = explore(Rules(), left)
-        what = f"all rules kept, {left.faults} faults and {left.checkpoints} checkpoints: {found.states} states, none at fault"
+        repaired = ", x put back" if left.repairs else ""
+        what = (f"all rules kept, {left.faults} faults and {left.checkpoints} checkpoints{repaired}: {found.states} states, "
+                "none at fault")
         checks.true(what, found.is_whole, found.fault or "not all states")
         show(found)
     for rule in dataclasses.fields(Rules):
-        found = explore(Rules(**{rule.name: False}), BOUNDS[0])
+        found = explore(Rules(**{rule.name: False}), BOUNDS[2 if rule.name.startswith("what_is_put_back") else 0])
         name = rule.name.replace("_", " ")
         what = f"without `{name}`: {found.fault}, after {len(found.way)} events"
         checks.true(what, found.fault, f"none at fault in {found.states} states")

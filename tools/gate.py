@@ -62,7 +62,9 @@ CARGO_STEPS = (
 SERVICE_STEPS = (
     ("service_load.py", ["60"], 120),
     ("by_hour.py", ["10"], 50),
+    ("clock_jumps.py", ["1"], 20),
     ("service_interrupted.py", ["5"], 300),
+    ("close_interrupted.py", ["3"], 60),
     ("same_answers.py", [GATEWAY], 100),
     ("behind_proxies.py", [], 60),
     ("two_services.py", ["0", "1", "--sink", "one"], 40),

@@ -36,6 +36,8 @@ struct Found {
     packed: bool,
     /// Who posts it, where no header says so.
     sender: String,
+    /// How many resources get the sender's name as their instance.
+    named: usize,
     /// Unpacked.
     bytes: usize,
     taken: usize,
@@ -85,7 +87,14 @@ fn found(body: Vec<u8>, reading: &Reading, clock: &Clock) -> anyhow::Result<Foun
         Encoding::of(&body)
     };
     let sender = otlp::sender(otlp::NO_NAME.into(), encoding, &body, reading).map_err(refused)?;
-    let prepared = otlp::prepare(encoding, body.into(), reading).map_err(refused)?;
+    // A header may name it: any name does here.
+    let name = if sender == otlp::NO_NAME {
+        "SENDER"
+    } else {
+        &sender
+    };
+    let (body, named) = otlp::with_instance(name, encoding, body.into(), reading).map_err(refused)?;
+    let prepared = otlp::prepare(encoding, body, reading).map_err(refused)?;
     let points = otlp::explained(&prepared.body, reading.profile(), clock.window())
         .context("refused with 400: wrong shape")?;
     let foreign = points.iter().filter(|point| point.foreign.is_some()).count();
@@ -97,6 +106,7 @@ fn found(body: Vec<u8>, reading: &Reading, clock: &Clock) -> anyhow::Result<Foun
         },
         packed,
         sender,
+        named,
         bytes,
         taken: points.len() - foreign,
         foreign,
@@ -157,6 +167,12 @@ fn text(found: &Found) -> String {
         text.push_str(&format!(
             "of the sender {}, where no header names another\n",
             found.sender
+        ));
+    }
+    if found.named > 0 {
+        let resources = counted(found.named as u64, "resource");
+        text.push_str(&format!(
+            "{resources} without a service.instance.id: the sender's name is given\n"
         ));
     }
     for (rule, rounded) in &found.rounded {
@@ -239,6 +255,19 @@ mod tests {
         .unwrap_err()
         .to_string();
         assert!(error.contains("refused with 400: no sender"), "{error}");
+    }
+
+    #[test]
+    fn a_resource_that_gets_the_senders_name_is_told_of() {
+        let reading = Reading {
+            instance_from_sender: true,
+            ..Reading::default()
+        };
+        let told = text(&found(BODY.into(), &reading, &Clock::default()).unwrap());
+        assert!(
+            told.contains("1 resource without a service.instance.id: "),
+            "{told}"
+        );
     }
 
     #[test]

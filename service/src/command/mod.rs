@@ -2,6 +2,7 @@
 //!
 //! 0: done. 1: refused, or not possible. 2: a faulty command line. 70: the disk, or what is on it. 71: no memory to go on.
 
+mod amend;
 mod ask;
 mod check;
 mod client;
@@ -70,6 +71,10 @@ enum Command {
     Open(periods::Open),
     /// Adds to what a series counted in an hour, by hand
     Correct(periods::Correct),
+    /// Puts back where a series ends, which a wrong clock has put ahead, so that its points are taken again
+    Repair(amend::Repair),
+    /// Forgets whose a series is and where it ends, so that another sender may have it
+    Forget(amend::Forget),
     /// Prints what each series counted in a month or a day; their count and SHA-256 go to standard error
     Export(export::Options),
     /// Says what a start would find in a folder, and changes nothing
@@ -167,6 +172,8 @@ impl Command {
             Command::Close(options) => Ok(options.run()?),
             Command::Open(options) => Ok(options.run()?),
             Command::Correct(options) => Ok(options.run()?),
+            Command::Repair(options) => Ok(options.run()?),
+            Command::Forget(options) => Ok(options.run()?),
             Command::Export(options) => Ok(options.run().map(|()| Vec::new())?),
             Command::Check(options) => options.run(),
             Command::Explain(options) => options.run(),
@@ -289,6 +296,10 @@ mod tests {
             ("open november", "no period"),
             ("correct 7 2026-11-05T13 1.5 x", "1.5"),
             ("correct 7 2026-11-05T13 -1", "<REASON>"),
+            ("repair a --to yesterday", "--to"),
+            ("repair a", "--to"),
+            ("repair {} --to 2026-11-05", "names no series"),
+            ("forget a{b", "names no series"),
             ("export --month 2026-11-05 --csv", "no month"),
             ("export --day 2026-11 --csv", "no day"),
             ("export --csv", "--month"),

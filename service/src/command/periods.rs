@@ -92,7 +92,7 @@ fn written(period: &Period) -> String {
     period.to_string().replace(' ', "T")
 }
 
-fn told(at: &Address, path: &str) -> Result<Vec<u8>> {
+pub fn told(at: &Address, path: &str) -> Result<Vec<u8>> {
     let body = client::ask(at, Method::POST, path)?;
     let read: serde_json::Value = serde_json::from_slice(&body).unwrap_or_default();
     let message = read["message"].as_str().context(client::OTHER_VERSION)?;

@@ -1,8 +1,8 @@
 //! Options that say how requests are read, for what takes posts and for what explains them.
 
 use super::values::{time_or_off, MayBeOff};
-use crate::otlp::{Choice, Clock, Cumulative, Reading, Whole};
-use anyhow::anyhow;
+use crate::otlp::{Choice, Clock, Cumulative, Reading, Whole, INSTANCE};
+use anyhow::{anyhow, bail};
 use clap::builder::NonEmptyStringValueParser;
 use clap::Args;
 
@@ -39,6 +39,9 @@ pub(super) struct OfReading {
         value_enum
     )]
     cumulative: Cumulative,
+    /// Gives a resource that has no service.instance.id its sender's name as one, so that two processes that don't name themselves have series of their own
+    #[arg(long, env = "TOTXEGUN_INSTANCE_FROM_SENDER")]
+    instance_from_sender: bool,
 }
 
 impl OfReading {
@@ -50,12 +53,16 @@ impl OfReading {
     }
 
     pub fn reading(self) -> anyhow::Result<Reading> {
+        if self.instance_from_sender && self.drop_attributes.iter().any(|name| name == INSTANCE) {
+            bail!("--instance-from-sender gives what --drop-attribute {INSTANCE} takes away: leave one of them out");
+        }
         let whole = Whole::of(self.whole).map_err(|why| anyhow!(why))?;
         let reading = Reading {
             dropped: self.drop_attributes,
             whole,
             sender_from: self.sender_from,
             cumulative: self.cumulative,
+            instance_from_sender: self.instance_from_sender,
         };
         let profile = reading.profile();
         Ok(Reading {

@@ -101,6 +101,11 @@ pub(super) fn prepare<T: Taker>(
     let encoding = head.encoding;
     let mut reader = Reader::new(encoding, body.len(), reading, &mut hold)?;
     let sender = otlp::sender(head.sender, encoding, &body, reading)?;
+    // Ahead of the slots: the name is a part of its resource.
+    let (body, named) = otlp::with_instance(&sender, encoding, body, reading)?;
+    if named > 0 {
+        reader.takes(body.len())?;
+    }
     let asked = match slots.way(encoding, &body) {
         Way::Here(taker) => Asked::Whole(reader.here(taker, body)?),
         Way::Split(Split::Whole(slot)) => {
@@ -155,17 +160,25 @@ impl<'r> Reader<'r> {
         reading: &'r Arc<Reading>,
         hold: &'r mut Hold,
     ) -> Result<Reader<'r>, Refusal> {
-        let grows = match encoding {
-            Encoding::Json => WHILE_READ_JSON,
-            Encoding::Protobuf => WHILE_READ_PROTOBUF,
-        };
-        hold.set(grows * length)?;
-        Ok(Reader {
+        let mut reader = Reader {
             encoding,
             reading,
             hold,
-            most: 2 * grows * length,
-        })
+            most: 0,
+        };
+        reader.takes(length)?;
+        Ok(reader)
+    }
+
+    /// It reads a body of so many bytes.
+    fn takes(&mut self, length: usize) -> Result<(), Refusal> {
+        let grows = match self.encoding {
+            Encoding::Json => WHILE_READ_JSON,
+            Encoding::Protobuf => WHILE_READ_PROTOBUF,
+        };
+        self.hold.set(grows * length)?;
+        self.most = 2 * grows * length;
+        Ok(())
     }
 
     /// What can't be read is refused by its slot; what there is no memory for is refused with all of its request.

@@ -1,17 +1,20 @@
-//! Series that nobody posts to are forgotten where there are too many: a fresh book without them takes the place.
+//! Series that nobody posts to are forgotten where there are too many, or where an operator says so; and where one ends is put
+//! back. A fresh book that knows no more of them takes the place.
 //!
 //! All of it is done under the lock of the book: what it has goes to the outbox first, so the fresh one needs what the
-//! files say alone, as at a start. Posts wait meanwhile.
+//! files say alone, as at a start. Posts wait meanwhile. What is changed is durable before the fresh book is filled: else a
+//! post that it takes would be out of order for the next start.
 
 use super::checkpoint::{commit, flush_in_parts};
 use super::fill::fill;
 use super::series::SeriesOfPosts;
-use super::{Keeper, Trouble};
+use super::{not_now, Amend, Done, Keeper, Trouble};
+use crate::core::Refused;
 use crate::files::Fault;
+use crate::otlp::series::SeriesKey;
 use crate::slot::Slot;
 use crate::work::blocking;
 use std::collections::HashSet;
-use std::fmt::Display;
 use std::sync::Arc;
 use std::time::{Duration, Instant};
 
@@ -22,15 +25,52 @@ impl Keeper {
         if self.checkpoint().await?.is_err() {
             return Ok(());
         }
-        let slot = self.slot.clone();
-        let carried = blocking(move || forget(&slot, age)).await?;
-        self.carried.extend(carried);
+        let done = self.renew(move |slot| forget_series(slot, age)).await?;
+        let slot = self.slot.number();
+        match done {
+            Ok(forgotten) => tracing::info!(
+                slot,
+                series_count = forgotten,
+                "slot {slot}: {forgotten} series are forgotten for their age"
+            ),
+            Err(refused) => {
+                let reason = refused.to_string();
+                tracing::error!(
+                    slot,
+                    reason,
+                    "slot {slot}: series were to be forgotten, and the book stays as it is: {reason}"
+                );
+            }
+        }
         Ok(())
+    }
+
+    /// Changes what is known of series. Durable once it is done.
+    pub(super) async fn amend(&mut self, amend: Amend) -> Result<Done, Trouble> {
+        if let Err(refused) = self.checkpoint().await? {
+            return Ok(not_now(refused));
+        }
+        let done = self.renew(move |slot| amended(slot, &amend)).await?;
+        Ok(done.map_or_else(not_now, Done::Amended))
+    }
+
+    /// Changes what the outbox knows of series, and has a fresh book in the place of the one that is there. The error is why
+    /// nothing was changed.
+    async fn renew<T: Send + 'static>(
+        &mut self,
+        change: impl FnOnce(&Slot) -> Result<T, Fault> + Send + 'static,
+    ) -> Result<Result<T, Refused>, Trouble> {
+        let slot = self.slot.clone();
+        let (carried, done) = blocking(move || renew(&slot, change)).await?;
+        self.carried.extend(carried);
+        Ok(done)
     }
 }
 
-/// What belongs to the next group.
-fn forget(slot: &Arc<Slot>, age: Duration) -> Result<Vec<Vec<u8>>, Trouble> {
+/// What belongs to the next group, and what came of it.
+type Renewed<T> = (Vec<Vec<u8>>, Result<T, Refused>);
+
+fn renew<T>(slot: &Arc<Slot>, change: impl FnOnce(&Slot) -> Result<T, Fault>) -> Result<Renewed<T>, Trouble> {
     let began = Instant::now();
     let mut runs = slot.runs.lock();
     let mut book = slot.core.lock();
@@ -40,23 +80,13 @@ fn forget(slot: &Arc<Slot>, age: Duration) -> Result<Vec<Vec<u8>>, Trouble> {
     let flushed = fresh.and_then(|fresh| Ok((fresh, flush_in_parts(slot, &runs, &mut book, &mut bodies)?)));
     let (mut fresh, group) = match flushed {
         Ok(both) => both,
-        Err(refused) => {
-            stays(slot, &refused);
-            return Ok(bodies);
-        }
+        Err(refused) => return Ok((bodies, Err(refused))),
     };
     commit(slot, &bodies, group)?;
-    let forgotten = forget_series(slot, age)?;
-    slot.metrics.forgotten_series.inc_by(forgotten);
-    let filled = match fill(slot, &mut fresh, || false) {
-        Ok(filled) => filled.unwrap_or_default(),
-        Err(trouble @ (Trouble::File(_) | Trouble::Lost(_))) => return Err(trouble),
-        // It knows more series than the files have, which is no fault.
-        Err(why) => {
-            stays(slot, &why);
-            return Ok(Vec::new());
-        }
-    };
+    let changed = change(slot)?;
+    let filled = fill(slot, &mut fresh, || false)
+        .map_err(not_filled)?
+        .unwrap_or_default();
     let old = std::mem::replace(&mut *book, fresh);
     slot.runs.put(&mut runs, filled.runs);
     slot.set_ungrouped(filled.posts);
@@ -66,30 +96,34 @@ fn forget(slot: &Arc<Slot>, age: Duration) -> Result<Vec<Vec<u8>>, Trouble> {
     slot.outbox.settle()?;
     let pause = &slot.metrics.checkpoint_pause_seconds;
     pause.observe(began.elapsed().as_secs_f64());
-    let number = slot.number();
-    tracing::info!(
-        slot = number,
-        series_count = forgotten,
-        "slot {number}: {forgotten} series are forgotten for their age"
-    );
-    Ok(filled.carried)
+    Ok((filled.carried, Ok(changed)))
 }
 
-fn stays(slot: &Slot, why: &dyn Display) {
-    let (slot, reason) = (slot.number(), why.to_string());
-    tracing::error!(
-        slot,
-        reason,
-        "slot {slot}: series were to be forgotten, and the book stays as it is: {reason}"
-    );
+/// The book and the runs know otherwise than the files: only a start has both alike.
+fn not_filled(trouble: Trouble) -> Trouble {
+    match trouble {
+        Trouble::NotFilled(why) => Trouble::NotFilled(format!(
+            "what is known of series was changed, and no fresh book could be filled, so the service ends: the next start fills one \
+             ({why})"
+        )),
+        other => other,
+    }
 }
 
 /// How many. By the clock, not by their points' times. A series with points in the journal that are in no group stays.
 fn forget_series(slot: &Slot, age: Duration) -> Result<u64, Fault> {
-    let mut keep = HashSet::new();
+    let keep = with_posts(slot)?;
+    let forgotten = slot.outbox.forget(age, &keep)?.len() as u64;
+    slot.metrics.forgotten_series.inc_by(forgotten);
+    Ok(forgotten)
+}
+
+/// The series that have points in the journal that are in no group: behind a group those of quarantined senders alone.
+fn with_posts(slot: &Slot) -> Result<HashSet<SeriesKey>, Fault> {
+    let mut found = HashSet::new();
     let mut series = SeriesOfPosts::default();
     slot.journal.posts(slot.outbox.journal(), u64::MAX, |post| {
-        keep.extend(
+        found.extend(
             series
                 .of(&post)
                 .into_iter()
@@ -97,5 +131,19 @@ fn forget_series(slot: &Slot, age: Duration) -> Result<u64, Fault> {
         );
         true
     })?;
-    Ok(slot.outbox.forget(age, &keep)?.len() as u64)
+    Ok(found)
+}
+
+/// The error is a series that is left as it was, and so are all.
+fn amended(slot: &Slot, amend: &Amend) -> Result<Result<(), SeriesKey>, Fault> {
+    let kept_back = with_posts(slot)?;
+    let (Amend::Forget(series) | Amend::PutBack { series, .. }) = amend;
+    if let Some(one) = series.iter().find(|one| kept_back.contains(*one)) {
+        return Ok(Err(one.clone()));
+    }
+    match amend {
+        Amend::Forget(series) => slot.outbox.leave_these(series)?,
+        Amend::PutBack { series, to } => slot.outbox.put_back(series, *to)?,
+    }
+    Ok(Ok(()))
 }

@@ -1,7 +1,8 @@
 //! Keeps the book: checkpoints, quarantines, what is forgotten, and its start.
 //!
 //! One task does all of this, one after the other: `run` waits for what is to be done, `checkpoint` moves what the book
-//! has to the outbox, `forget` leaves out series, `fill` gives a fresh book what the files say (`ahead` reads posts for it side by side), `owners` finds whose
+//! has to the outbox, `forget` leaves out series or puts their ends back, `fill` gives a fresh book what the files say (`ahead`
+//! reads posts for it side by side), `owners` finds whose
 //! series these are, `series` says which ones a post has, `numbers` gives them numbers for the book, `drain` brings all to
 //! rest. What takes long is done on threads beside the runtime's.
 
@@ -18,6 +19,7 @@ mod series;
 
 use crate::core::Refused;
 use crate::files::{Fault, Lost};
+use crate::otlp::series::SeriesKey;
 use crate::otlp::Outcome;
 use crate::slot::Slot;
 use std::sync::Arc;
@@ -41,6 +43,16 @@ pub enum Order {
     Checkpoint,
     Quarantine(String),
     Lift(String),
+    Amend(Amend),
+}
+
+/// What is changed of what is known of series.
+#[derive(Clone, Debug, PartialEq, Eq)]
+pub enum Amend {
+    /// Whose they are, and where they end.
+    Forget(Vec<SeriesKey>),
+    /// They end at this time, in nanoseconds since 1970, where they ended later.
+    PutBack { series: Vec<SeriesKey>, to: u64 },
 }
 
 /// How an order ended.
@@ -50,6 +62,8 @@ pub enum Done {
     Flushed { requests: u64 },
     /// The book's answer.
     Answered(Outcome),
+    /// Nothing is changed where one of the series has posts of a quarantined sender, which are kept back.
+    Amended(Result<(), SeriesKey>),
 }
 
 /// Why a keeper ended, or what it did not do.

@@ -19,6 +19,7 @@ impl Keeper {
             }
             Order::Quarantine(sender) => self.quarantine(sender).await,
             Order::Lift(sender) => self.lift(sender).await,
+            Order::Amend(amend) => self.amend(amend).await,
         }
     }
 

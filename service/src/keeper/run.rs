@@ -3,9 +3,12 @@
 use super::fill::{fill, Filled};
 use super::{Done, Keeper, Order, Trouble};
 use crate::files::Lost;
+use crate::log::shown;
+use crate::remarks::SERIES_SHOWN;
+use crate::slot::Slot;
 use crate::switch::Switch;
 use crate::work::blocking;
-use std::time::{Duration, Instant};
+use std::time::{Duration, Instant, SystemTime, UNIX_EPOCH};
 use tokio::sync::{oneshot, watch};
 use tokio::time::MissedTickBehavior;
 
@@ -16,6 +19,8 @@ const MANY_POSTS: u64 = 300_000;
 /// How often it is looked whether there are series to forget where there are too many, and how often some are.
 const BETWEEN_LOOKS_AT_AGES: Duration = Duration::from_secs(1);
 const BETWEEN_FORGETTING: Duration = Duration::from_secs(10);
+/// A series that ends so long after the clock's time is told of at the start.
+const AHEAD: Duration = Duration::from_secs(3600);
 
 /// What is to be done.
 enum Event {
@@ -107,6 +112,7 @@ impl Keeper {
             posts,
             "slot {slot} goes on after {took:?}; series: {series}, posts of the journal: {posts}"
         );
+        tell_ahead(&self.slot);
         Ok(true)
     }
 
@@ -169,5 +175,23 @@ impl Keeper {
             }
         }
         Ok(())
+    }
+}
+
+/// Of such series right points are refused.
+fn tell_ahead(slot: &Slot) {
+    let now = SystemTime::now().duration_since(UNIX_EPOCH).unwrap_or_default() + AHEAD;
+    let (series_count, last) = slot
+        .outbox
+        .ahead_of(u64::try_from(now.as_nanos()).unwrap_or(u64::MAX));
+    if let Some(last) = last {
+        let (slot, series) = (slot.number(), shown(&last.0, SERIES_SHOWN));
+        tracing::warn!(
+            slot,
+            series_count,
+            series,
+            "slot {slot}: {series_count} series end over an hour ahead of this clock, such as {series}: until then right points of \
+             them are refused; totxegun repair puts their ends back"
+        );
     }
 }

@@ -224,6 +224,7 @@ impl Metrics {
 #[cfg(test)]
 mod tests {
     use super::*;
+    use crate::otlp::Profile;
 
     fn page(metrics: &Metrics) -> String {
         String::from_utf8(metrics.page()).unwrap()
@@ -232,7 +233,7 @@ mod tests {
     #[test]
     fn names_of_senders_are_bounded() {
         let metrics = Metrics::new().unwrap();
-        let other = |points| Causes::of(b"", points);
+        let other = |points| Causes::of(b"", Profile::Deltas, points);
         for sender in 0..1000 {
             metrics.foreign(&format!("sender{sender}"), &other(2), &[]);
         }

@@ -56,9 +56,9 @@ pub struct Acts {
 #[derive(Clone, Debug)]
 pub struct Act {
     pub who: String,
-    /// `quarantine`, `lift`, `dead drop`, `dead resend`, `close`, `open`, `correct`, `new sink`.
+    /// `quarantine`, `lift`, `dead drop`, `dead resend`, `close`, `open`, `correct`, `repair`, `forget`, `new sink`.
     pub what: &'static str,
-    /// A sender, a key, a period, a correction, a sink.
+    /// A sender, a key, a period, a correction, a series, a sink.
     pub of: String,
 }
 

@@ -5,7 +5,9 @@
 //! `pages` are the address's own, which only read.
 
 mod acts;
+mod amend;
 mod letters;
+mod named;
 mod orders;
 mod pages;
 mod periods;
@@ -18,6 +20,7 @@ mod web;
 
 pub use acts::{Act, Actor, Acts};
 pub use letters::Resent;
+pub use named::Named;
 pub use pages::Pulse;
 pub use periods::ANYWAY;
 pub use status::{
@@ -88,6 +91,8 @@ enum Route {
     Drop(String),
     /// `close`, `open` or `correct`, and the parts of the path behind it.
     Period(Vec<String>),
+    /// `repair` or `forget`, and the part of the path behind it.
+    Amend(Vec<String>),
     Page(Page),
 }
 
@@ -110,6 +115,7 @@ impl Route {
             ["dead", key, "resend"] => (Method::POST, Route::Resend(key.into())),
             ["dead", key, "drop"] => (Method::POST, Route::Drop(key.into())),
             ["close" | "open" | "correct", _, ..] => (Method::POST, Route::Period(owned(&parts))),
+            ["repair", _] | ["forget"] => (Method::POST, Route::Amend(owned(&parts))),
             [""] => (Method::GET, Route::Page(Page::Overview)),
             ["series"] => (Method::GET, Route::Page(Page::Series)),
             ["page.css"] => (Method::GET, Route::Page(Page::Style)),
@@ -125,7 +131,7 @@ impl Route {
         use Route::*;
         matches!(
             self,
-            Order(_) | Letters | Letter(_) | Resend(_) | Drop(_) | Period(_)
+            Order(_) | Letters | Letter(_) | Resend(_) | Drop(_) | Period(_) | Amend(_)
         )
     }
 }
@@ -184,7 +190,7 @@ impl Desk {
 
     async fn go(&self, route: Route, actor: Actor, query: &str) -> Response<Body> {
         match route {
-            Route::Order(Order::Checkpoint) => self.order(Order::Checkpoint).await,
+            Route::Order(order @ (Order::Checkpoint | Order::Amend(_))) => self.order(order).await,
             Route::Order(Order::Quarantine(sender)) => {
                 let order = self.order(Order::Quarantine(sender.clone()));
                 self.act(actor, "quarantine", sender, order).await
@@ -219,6 +225,7 @@ impl Desk {
                     .await
             }
             Route::Period(parts) => self.period(actor, &parts, query).await,
+            Route::Amend(parts) => self.amend(actor, &parts, query).await,
             Route::Page(page) => self.page(page, query).await,
         }
     }
@@ -274,6 +281,8 @@ mod tests {
             ("/close/2026-11", Method::POST),
             ("/open/2026-11", Method::POST),
             ("/correct/7/2026-11-05T13/-1", Method::POST),
+            ("/repair/2026-11-05T13", Method::POST),
+            ("/forget", Method::POST),
             ("/", Method::GET),
             ("/series", Method::GET),
             ("/page.css", Method::GET),
@@ -299,6 +308,8 @@ mod tests {
             "/close/2026-11",
             "/open/2026-11",
             "/correct/7/2026-11-05T13/-1",
+            "/repair/2026-11-05T13",
+            "/forget",
         ] {
             assert!(is_order(path), "{path}");
         }
@@ -317,6 +328,7 @@ mod tests {
             "/renew",
             "/quarantine",
             "/close",
+            "/repair",
             "/quarantine/A/B",
             "/dead/0-a-1/send",
             "flush",

@@ -65,6 +65,8 @@ fn together(all: Vec<Done>) -> Response<Body> {
         match done {
             Done::Flushed { requests } => flushed += requests,
             Done::Answered(outcome) => outcomes.push(outcome),
+            // `amend` gives such orders itself.
+            Done::Amended(_) => {}
         }
     }
     let is_taken = |outcome: &&Outcome| outcome.status() == 200;

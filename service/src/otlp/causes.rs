@@ -55,11 +55,11 @@ impl Causes {
         Causes(both.into_iter().filter(|(_, points)| *points > 0).collect())
     }
 
-    /// Of a body, of which the book did not take so many points. Cumulative points are among these, or deltas were made of
-    /// them: that is seen by how many there are. Where this says more or less than the book, the rest is `Other`.
-    pub fn of(body: &[u8], foreign: u64) -> Causes {
-        let mut all =
-            [Profile::Deltas, Profile::AlsoCumulative].map(|profile| Causes::of_profile(body, profile));
+    /// Of a body, of which the book did not take so many points. Where deltas are made of cumulative points these may be
+    /// foreign all the same, as in a text that does not go by number: that is seen by how many there are. Where this says more
+    /// or less than the book, the rest is `Other`.
+    pub fn of(body: &[u8], profile: Profile, foreign: u64) -> Causes {
+        let mut all = [profile, Profile::Deltas].map(|profile| Causes::of_profile(body, profile));
         let found = all.iter().position(|causes| causes.count() == foreign);
         let found = found.or_else(|| all.iter().position(|causes| causes.count() < foreign));
         let Some(found) = found else {

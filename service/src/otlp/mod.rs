@@ -4,6 +4,7 @@
 //! by the tables of `schema`, over the readers `wire` and `json`; `usual` sees at once most JSON that goes on as it came;
 //! `numbered` reads nearly all protobuf without that, by the numbers of series that are known;
 //! `whole` takes fractions as whole numbers of a finer unit. `series` reads bodies as the book does, and what it forwards.
+//! `sender` finds a request's sender in it, `instance` puts a sender's name into its resources.
 //! `outside` is what of a request is handed on to another receiver, `answers` what senders are answered, `clock` which points
 //! end too far from the service's clock. `resources` says which slot a resource has and takes requests apart, `together` is one
 //! answer of several.
@@ -14,6 +15,7 @@ mod clock;
 mod explain;
 mod from_json;
 mod from_protobuf;
+mod instance;
 mod json;
 mod messages;
 mod number;
@@ -33,6 +35,7 @@ pub(crate) use answers::partial_success;
 pub use causes::{Cause, Causes};
 pub use clock::{Clock, Off, OffClock, Window};
 pub use explain::{explained, foreign_points, point_at, Explained};
+pub use instance::{with_instance, INSTANCE};
 pub(crate) use messages::ExportMetricsServiceResponse;
 pub use numbered::{Learnt, NotNamed, Numbered, Series};
 pub use outside::{Original, Outside};
@@ -87,6 +90,8 @@ pub struct Reading {
     pub sender_from: Option<String>,
     /// What becomes of cumulative points.
     pub cumulative: Cumulative,
+    /// A resource without a `service.instance.id` gets its sender's name as one.
+    pub instance_from_sender: bool,
 }
 
 /// What becomes of cumulative points.

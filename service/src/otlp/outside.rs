@@ -4,8 +4,8 @@
 //! `visit` says of each point of the request in the book's form whether it is one; `protobuf` and `json` take these out of the
 //! request as it came, which has the same points in the same order.
 
-mod json;
-mod protobuf;
+pub(super) mod json;
+pub(super) mod protobuf;
 
 use super::causes::{Cause, Causes};
 use super::json::Document;
@@ -75,7 +75,7 @@ impl Original {
         }
         let text = text().unwrap_or_default();
         let Some(found) = points(&text, profile) else {
-            return (None, Causes::of(&text, foreign));
+            return (None, Causes::of(&text, profile, foreign));
         };
         let (passed, rest): (Vec<&Point>, Vec<&Point>) = found.iter().partition(|point| point.is_passed());
         let rest = rest.into_iter().filter_map(|point| point.cause);
@@ -85,7 +85,7 @@ impl Original {
         let causes = Causes::of_points(rest);
         match is_same && points + causes.count() == foreign {
             true => (self.made(body, points), causes),
-            false => (None, Causes::of(&text, foreign)),
+            false => (None, Causes::of(&text, profile, foreign)),
         }
     }
 

@@ -7,6 +7,7 @@ use prost::Message;
 
 mod causes;
 mod explain;
+mod instance;
 mod long;
 mod mapping;
 mod points;

@@ -204,12 +204,13 @@ impl Teller {
 
     /// Why so many points were not taken, without those that are handed on.
     async fn causes(&self, source: &Source, original: Option<Original>, foreign: u64) -> Causes {
+        let profile = self.telling.profile;
         let (Some(pass), Some(original)) = (&self.pass, original) else {
-            let causes = self.read(source, move |body| Causes::of(body, foreign)).await;
-            return causes.unwrap_or_else(|| Causes::of(b"", foreign));
+            let find = move |body: &[u8]| Causes::of(body, profile, foreign);
+            let causes = self.read(source, find).await;
+            return causes.unwrap_or_else(|| find(b""));
         };
         let (length, source) = (source.length(), source.clone());
-        let profile = self.telling.profile;
         let find = move || original.outside(foreign, profile, || source.text());
         let (outside, causes) = self.work(length, find).await;
         if let Some(outside) = outside {

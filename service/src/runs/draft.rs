@@ -12,8 +12,8 @@ pub struct Draft<'r> {
     runs: Locked<'r>,
     /// In their order: those that were made of cumulative ones, and delta points as they came.
     pub points: Points,
-    /// How many points are not sound.
-    pub foreign: u64,
+    /// The places of the points that are not sound, ascending.
+    unsound: Vec<u32>,
     pub turned: Turned,
     pub noted: Vec<Noted>,
     /// Points that add nothing, since they are no later than their runs: each by its place in the post, and its series.
@@ -61,7 +61,7 @@ impl Runs {
             is_kept: false,
             runs,
             points: Points::default(),
-            foreign: 0,
+            unsound: Vec::new(),
             turned: Turned::default(),
             noted: Vec::new(),
             late: Vec::new(),
@@ -90,7 +90,7 @@ impl Draft<'_> {
         frontier: impl Fn(&SeriesKey) -> u64,
     ) {
         let Some(found) = self.runs.find(names, point[0], frontier) else {
-            self.foreign += 1;
+            self.unsound.push(place);
             return;
         };
         let series = match &found {
@@ -99,7 +99,7 @@ impl Draft<'_> {
         };
         let run = Run::of(point);
         if !run.is_sound(series.kind) {
-            self.foreign += 1;
+            self.unsound.push(place);
             return;
         }
         match series.entry(options, self.runs.since, &run) {
@@ -138,12 +138,22 @@ impl Draft<'_> {
         Some(series.key.clone())
     }
 
-    /// A refusal that names a point, by its place in the post.
-    pub fn refused(&self, refused: core::Refused) -> core::Refused {
-        let placed = |point: u64| {
-            self.places
-                .get(point as usize)
-                .map_or(point, |place| u64::from(*place))
+    /// How many points are not sound.
+    pub fn foreign(&self) -> u64 {
+        self.unsound.len() as u64
+    }
+
+    /// The place of a point among those of the profile, by its place in the post; `among_all` says where that is in the request.
+    pub fn placed(&self, place: u32, among_all: impl Fn(u64) -> u64) -> u64 {
+        let before = self.unsound.partition_point(|unsound| *unsound < place);
+        among_all(place.into()) - before as u64
+    }
+
+    /// A refusal that names a point, by its place there.
+    pub fn refused(&self, refused: core::Refused, among_all: impl Fn(u64) -> u64) -> core::Refused {
+        let placed = |point: u64| match self.places.get(point as usize) {
+            Some(place) => self.placed(*place, &among_all),
+            None => point,
         };
         match refused {
             core::Refused::OtherWriter { point } => core::Refused::OtherWriter { point: placed(point) },

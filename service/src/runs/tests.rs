@@ -222,6 +222,37 @@ fn what_was_added_is_the_sum_of_the_last_values_of_the_runs() {
     }
 }
 
+/// Who reads the post for a place does not count what is not sound.
+#[test]
+fn a_place_is_told_among_the_points_of_the_profile() {
+    let names = Names::new().unwrap();
+    let number = |name: &str| {
+        let sum = r#""aggregationTemporality":1,"isMonotonic":true,"dataPoints":[{"startTimeUnixNano":"1","timeUnixNano":"2","asInt":"0"}]"#;
+        let text = format!(
+            r#"{{"resourceMetrics":[{{"scopeMetrics":[{{"metrics":[{{"name":"{name}","sum":{{{sum}}}}}]}}]}}]}}"#
+        );
+        names.learn(text.into()).unwrap()
+    };
+    let mut points = Points::default();
+    for (name, value) in [("a", -5i64), ("b", 5), ("c", -7), ("d", 7)] {
+        points.push(number(name), 10, 20, [value as u64]);
+    }
+    let runs = Runs::default();
+    let posted = Posted {
+        points: &points,
+        cumulative: &[0, 1, 2, 3],
+        names: &names,
+    };
+    let draft = runs.draft(posted, |_| 0);
+    assert_eq!((draft.foreign(), draft.points.count()), (2, 2));
+    // Of the request the first point is off by its clock.
+    let among_all = |place| place + 1;
+    for point in [0, 1] {
+        let refused = draft.refused(crate::core::Refused::OtherWriter { point }, among_all);
+        assert_eq!(refused, crate::core::Refused::OtherWriter { point: point + 1 });
+    }
+}
+
 /// A start finds entries that a commit has already, and others.
 #[test]
 fn entries_behind_any_commit_come_to_what_was_kept() {

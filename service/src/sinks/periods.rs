@@ -6,7 +6,7 @@
 
 mod period;
 
-pub use period::{hour_shown, Period};
+pub use period::{hour_shown, seconds_of, Period};
 
 use crate::log::utc;
 

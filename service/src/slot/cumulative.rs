@@ -133,11 +133,12 @@ impl Slot {
             None => self.outbox.frontier(series),
         };
         let mut draft = self.runs.draft(posted, frontier);
-        if let Some(point) = self.of_another(&making.sender, &draft) {
-            let refused = Refused::OtherWriter { point };
-            return Ok(Tried::Put(self.not_made(left_out.refused(refused))));
+        let among_all = |place| left_out.place_of(place);
+        if let Some(place) = self.of_another(&making.sender, &draft) {
+            let point = draft.placed(place, among_all);
+            return Ok(Tried::Put(self.not_made(Refused::OtherWriter { point })));
         }
-        let foreign = by.foreign + draft.foreign;
+        let foreign = by.foreign + draft.foreign();
         let said = |journalled: Journalled, draft: &Draft<'_>| {
             journalled.without(foreign, left_out.off(), &draft.turned)
         };
@@ -171,17 +172,17 @@ impl Slot {
                         return Ok(Tried::Beyond(series, frontier));
                     }
                 }
-                Tried::Put(self.not_made(left_out.refused(draft.refused(refused))))
+                Tried::Put(self.not_made(draft.refused(refused, among_all)))
             }
         })
     }
 
     /// The place of a point that adds nothing, and whose series is another sender's: it is no repeat.
-    fn of_another(&self, sender: &str, draft: &Draft<'_>) -> Option<u64> {
+    fn of_another(&self, sender: &str, draft: &Draft<'_>) -> Option<u32> {
         let is_of_another = |series| self.outbox.owner(series).is_some_and(|owner| owner != sender);
         let mut late = draft.late.iter();
         let found = late.find(|(_, series)| is_of_another(series));
-        found.map(|(place, _)| u64::from(*place))
+        found.map(|(place, _)| *place)
     }
 
     /// None where the library finds another number of them foreign.

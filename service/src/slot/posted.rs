@@ -76,7 +76,7 @@ impl LeftOut {
     }
 
     /// Where among all is a point that has this place among those that are left.
-    fn place_of(&self, point: u64) -> u64 {
+    pub fn place_of(&self, point: u64) -> u64 {
         let passed = |point, out: &u64| point + u64::from(*out <= point);
         self.places.iter().fold(point, passed)
     }

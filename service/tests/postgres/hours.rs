@@ -110,6 +110,14 @@ async fn a_span_counts_in_the_hour_of_its_last_nanosecond() {
         );
         assert_eq!(server.ask(&query), found, "{view}");
     }
+    // At the end of 2016 a second was inserted, which times since 1970 don't count.
+    const LEAP: u64 = 1_483_228_800_000_000_000;
+    for (number, (start, end)) in (20..).zip([(LEAP - 9, LEAP), (LEAP, LEAP + 9)]) {
+        taken(&*sink, number, sum("leap", start, end, 1)).await;
+    }
+    let leap = "select to_char(hour at time zone 'UTC', 'YYYY-MM-DD HH24:MI') from totxegun.by_hour
+        where name = 'leap' order by 1";
+    assert_eq!(server.ask(leap), "2016-12-31 23:00\n2017-01-01 00:00");
     let buckets = "select \"from\", up_to, count from totxegun.buckets order by up_to";
     taken(&*sink, 9, crate::server::histogram("h", 1, 2, Some(3), [7, 0, 2])).await;
     assert_eq!(server.ask(buckets), "|-5|7\n-5|10|0\n10||2");

@@ -1,8 +1,10 @@
 //! The program itself: who has a series, kills, how many series fit, what an operator is told.
 
 mod acts;
+mod amend;
 mod another;
 mod held;
+mod instance;
 mod letters;
 mod lines;
 mod log;

@@ -1,10 +1,11 @@
-//! Series that leave an outbox, and series that another slot had.
+//! Series that leave an outbox, those that another slot had, and those whose ends are put back.
 
 use super::changes::Change;
-use super::state::Known;
+use super::state::{Known, State};
 use super::{Outbox, Series};
 use crate::files::{lock, Fault};
 use crate::otlp::series::SeriesKey;
+use std::collections::HashSet;
 
 impl Outbox {
     /// Leaves out the series whose owners post to another slot: how many.
@@ -18,13 +19,39 @@ impl Outbox {
         if series.is_empty() {
             return Ok(());
         }
+        self.renew(|state| state.adopt(series))
+    }
+
+    /// These end here from now on, where they ended later. Durable when this returns, and all or none of them.
+    pub fn put_back(&self, series: &[SeriesKey], to: u64) -> Result<(), Fault> {
+        self.renew(|state| state.put_back(series, to))
+    }
+
+    /// A new segment's snapshot has what is changed.
+    fn renew(&self, change: impl FnOnce(&mut State)) -> Result<(), Fault> {
         let mut writer = lock(&self.writer);
         writer.begin(&self.disk)?;
-        lock(&self.state).adopt(series);
-        // Its snapshot has them.
+        change(&mut lock(&self.state));
         self.begin_segment(&mut writer)?;
         writer.failed = false;
         Ok(())
+    }
+
+    /// How many series end after this time, and the last of them.
+    pub fn ahead_of(&self, time: u64) -> (usize, Option<SeriesKey>) {
+        let state = lock(&self.state);
+        let ahead = || {
+            let all = state.series.iter();
+            all.filter(|(_, known)| known.series.frontier > time)
+        };
+        let last = ahead().max_by_key(|(_, known)| known.series.frontier);
+        (ahead().count(), last.map(|(key, _)| key.clone()))
+    }
+
+    /// Leaves these out.
+    pub fn leave_these(&self, series: &[SeriesKey]) -> Result<(), Fault> {
+        let series: HashSet<&SeriesKey> = series.iter().collect();
+        self.leave_out(|key, _| series.contains(key)).map(drop)
     }
 
     pub(super) fn leave_out(

@@ -35,10 +35,12 @@ impl Age {
 }
 
 impl Known {
-    /// One whose owner is unknown stays: the journal may still have its owner's posts.
+    /// One whose owner is unknown stays: the journal may still have its owner's posts. So does one that ends ahead of the clock:
+    /// else no run that begins before that would count.
     pub fn may_be_forgotten(&self, age: Age) -> bool {
         self.series.owner.is_some()
             && self.series.seen < age.before
+            && self.series.frontier / 1_000_000_000 < age.before
             && self.heard.is_none_or(|heard| heard.elapsed() >= age.age)
     }
 }
@@ -200,6 +202,20 @@ impl State {
         let forgotten = self.series.remove(key).map_or(0, |known| known.series.frontier);
         let since = self.since.get_or_insert_default();
         since.forgotten = since.forgotten.max(forgotten);
+    }
+
+    /// A snapshot has to follow: no record says this. What a run has come to stays, so its next point adds what is more.
+    pub fn put_back(&mut self, series: &[SeriesKey], to: u64) {
+        for key in series {
+            let Some(Known { series, .. }) = self.series.get_mut(key) else {
+                continue;
+            };
+            series.frontier = series.frontier.min(to);
+            if let Some(run) = &mut series.run {
+                let run = Arc::make_mut(run);
+                run.time = run.time.min(to);
+            }
+        }
     }
 
     /// A snapshot has to follow: no record names these.

@@ -14,12 +14,12 @@ pub const BEGIN: u64 = 4_000_000_000_000_000_000;
 /// A cumulative point of a series: its name says its kind.
 #[derive(Clone, Debug)]
 pub struct Point {
-    name: String,
-    start: u64,
-    time: u64,
+    pub name: String,
+    pub start: u64,
+    pub time: u64,
     /// A histogram's, of one bound: below it, and all.
-    value: i64,
-    all: i64,
+    pub value: i64,
+    pub all: i64,
 }
 
 impl Point {

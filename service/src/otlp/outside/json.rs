@@ -6,7 +6,7 @@ use crate::otlp::json::{write_text, Document, Value};
 /// A member by the name that it has in JSON, and by that of the `.proto` files.
 type Names = [&'static str; 2];
 
-const RESOURCES: Names = ["resourceMetrics", "resource_metrics"];
+pub const RESOURCES: Names = ["resourceMetrics", "resource_metrics"];
 const SCOPES: Names = ["scopeMetrics", "scope_metrics"];
 const METRICS: Names = ["metrics", "metrics"];
 const POINTS: Names = ["dataPoints", "data_points"];
@@ -46,7 +46,7 @@ fn list<'d>(
 }
 
 /// An object with what `each` makes of its members.
-fn members<'d>(object: Value<'d>, mut each: impl FnMut(&str, Value<'d>) -> Option<String>) -> String {
+pub fn members<'d>(object: Value<'d>, mut each: impl FnMut(&str, Value<'d>) -> Option<String>) -> String {
     let mut out = String::from("{");
     for (name, value) in object.members().into_iter().flatten() {
         if let Some(text) = each(&name, value) {

@@ -73,7 +73,7 @@ fn data_with(data: &[u8], is_chosen: &mut impl FnMut() -> bool) -> Option<Vec<u8
 }
 
 /// The fields of a message, each with its bytes.
-fn fields(message: &[u8]) -> Option<Vec<(u32, Payload<'_>, &[u8])>> {
+pub fn fields(message: &[u8]) -> Option<Vec<(u32, Payload<'_>, &[u8])>> {
     let mut fields = Fields::of(message);
     let mut all = Vec::new();
     loop {
@@ -86,7 +86,7 @@ fn fields(message: &[u8]) -> Option<Vec<(u32, Payload<'_>, &[u8])>> {
     }
 }
 
-fn put(out: &mut Vec<u8>, number: u32, bytes: &[u8]) {
+pub fn put(out: &mut Vec<u8>, number: u32, bytes: &[u8]) {
     prost::encoding::encode_key(number, prost::encoding::WireType::LengthDelimited, out);
     prost::encoding::encode_varint(bytes.len() as u64, out);
     out.extend_from_slice(bytes);

@@ -6,7 +6,7 @@ const SPAN: &str = r#""startTimeUnixNano":"1","timeUnixNano":"2""#;
 
 fn said(metrics: &str, foreign: u64) -> String {
     let body = request(metrics);
-    Causes::of(&prepared(Encoding::Json, body).unwrap(), foreign).to_string()
+    Causes::of(&prepared(Encoding::Json, body).unwrap(), Profile::Deltas, foreign).to_string()
 }
 
 #[test]
@@ -57,7 +57,32 @@ fn causes_add_up_to_what_was_not_taken() {
     let gauges = r#"{"gauge":{"dataPoints":[{},{}]}}"#;
     assert_eq!(said(gauges, 5), "3 points of another form, 2 gauges");
     assert_eq!(said(gauges, 1), "1 point of another form");
-    assert_eq!(Causes::of(b"no JSON", 2).to_string(), "2 points of another form");
+    assert_eq!(
+        Causes::of(b"no JSON", Profile::Deltas, 2).to_string(),
+        "2 points of another form"
+    );
+}
+
+/// Where deltas are made of cumulative points, these are no cause by themselves, unless the book was given none of them.
+#[test]
+fn a_cumulative_point_that_is_not_taken_has_its_own_cause() {
+    let counter = |value: &str| {
+        format!(
+            r#"{{"sum":{{"aggregationTemporality":2,"isMonotonic":true,"dataPoints":[{{{SPAN},{value}}}]}}}}"#
+        )
+    };
+    let both = request(&format!(
+        r#"{},{}"#,
+        counter(r#""asDouble":1.5"#),
+        counter(r#""asInt":"1""#)
+    ));
+    let said = |profile, foreign| {
+        let body = prepared(Encoding::Json, both.clone()).unwrap();
+        Causes::of(&body, profile, foreign).to_string()
+    };
+    assert_eq!(said(Profile::AlsoCumulative, 1), "1 double");
+    assert_eq!(said(Profile::AlsoCumulative, 2), "2 cumulative sums");
+    assert_eq!(said(Profile::Deltas, 2), "2 cumulative sums");
 }
 
 #[test]

@@ -67,6 +67,18 @@ fn hours_of(text: &str) -> Option<(i64, i64)> {
     }
 }
 
+/// A time of UTC, `2026-11-05T13:30:15`, in seconds since 1970; what is left out at its end is zero.
+pub fn seconds_of(text: &str) -> Option<u64> {
+    let text = text.strip_suffix('Z').unwrap_or(text);
+    let (date, time) = text.split_once(['T', ' ']).unwrap_or((text, "00"));
+    let mut parts = time.split(':');
+    let (hour, _) = hours_of(&format!("{date}T{}", parts.next()?))?;
+    let mut next = || parts.next().map_or(Some(0), |part| number(part, 2, 0..=59));
+    let (minutes, seconds) = (next()?, next()?);
+    let is_whole = parts.next().is_none();
+    is_whole.then_some((hour * 3600 + minutes * 60 + seconds).unsigned_abs())
+}
+
 impl fmt::Display for Period {
     fn fmt(&self, formatter: &mut fmt::Formatter<'_>) -> fmt::Result {
         formatter.write_str(&self.text)
@@ -110,6 +122,31 @@ mod tests {
                 (shown, from, hours)
             );
             assert_eq!(shown.parse(), Ok(period));
+        }
+    }
+
+    #[test]
+    fn times_are_read() {
+        let hour = 498_301 * 3600;
+        for (text, seconds) in [
+            ("2026-11-05T13:30:15", hour + 1815),
+            ("2026-11-05 13:30:15Z", hour + 1815),
+            ("2026-11-05T13:59", hour + 3540),
+            ("2026-11-05T13", hour),
+            ("2026-11-05", hour - 13 * 3600),
+        ] {
+            assert_eq!(seconds_of(text), Some(seconds), "{text}");
+        }
+        for text in [
+            "",
+            "2026-11",
+            "2026-11-05T",
+            "2026-11-05T13:60",
+            "2026-11-05T13:30:15.5",
+            "2026-11-05T13:30:15:00",
+            "now",
+        ] {
+            assert_eq!(seconds_of(text), None, "{text}");
         }
     }
 

@@ -3,9 +3,8 @@
 use super::address::Server;
 use super::fault::PostgresFault;
 use super::{schema, session};
-use crate::otlp::series::{Kind as Identified, NotForwarded, SeriesKey};
-use crate::sinks::attributes::object;
-use crate::sinks::sqlite::totals::{Histogram, Kind, SeriesTotal};
+use crate::otlp::series::{NotForwarded, SeriesKey};
+use crate::sinks::sqlite::totals::SeriesTotal;
 use crate::sinks::sqlite::Exact;
 use std::time::Duration;
 use tokio::time::timeout;
@@ -89,32 +88,7 @@ fn total(row: &Row) -> Result<SeriesTotal, Odd> {
 
 /// A series as its identity says, without what came of it.
 pub(super) fn parts_of(identity: &str) -> Result<SeriesTotal, Odd> {
-    let parts = SeriesKey(identity.into()).parts()?;
-    let (kind, bounds) = match parts.kind {
-        Identified::Sum => (Kind::Sum, None),
-        Identified::Monotonic => (Kind::Monotonic, None),
-        Identified::Histogram { bounds } => (Kind::Histogram, Some(bounds)),
-    };
-    Ok(SeriesTotal {
-        name: parts.name,
-        unit: parts.unit,
-        kind,
-        attributes: object(&parts.attributes)?,
-        resource: object(&parts.resource)?,
-        scope_name: parts.scope_name,
-        scope_version: parts.scope_version,
-        scope_attributes: object(&parts.scope_attributes)?,
-        points: 0,
-        start_ns: 0,
-        end_ns: 0,
-        total: Exact::default(),
-        histogram: bounds.map(|bounds| Histogram {
-            count: Exact::default(),
-            points_without_sum: 0,
-            bounds,
-            buckets: Vec::new(),
-        }),
-    })
+    Ok(SeriesTotal::of_none(&SeriesKey(identity.into()))?)
 }
 
 pub(super) fn number<T: std::str::FromStr>(row: &Row, place: usize, column: &'static str) -> Result<T, Odd> {

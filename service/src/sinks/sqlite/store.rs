@@ -14,7 +14,7 @@ use crate::sinks::Forwarded;
 use rusqlite::{params, Connection, OpenFlags, Transaction, TransactionBehavior};
 use std::collections::HashMap;
 use std::fs::OpenOptions;
-use std::os::unix::fs::{MetadataExt, OpenOptionsExt};
+use std::os::unix::fs::{MetadataExt, OpenOptionsExt, PermissionsExt};
 use std::path::{Path, PathBuf};
 use std::time::Duration;
 
@@ -165,11 +165,22 @@ impl Store {
     }
 }
 
-/// Makes an empty file, of its owner alone, where there is none: SQLite's own would be as open as the umask leaves it.
-/// SQLite gives its log the rights of the file. What goes wrong here SQLite meets too, and says better.
+/// Makes an empty file where there is none: SQLite's own would be as open as the umask leaves it. It is its owner's alone, but
+/// in a folder that hands its group on the group may read it. SQLite gives its log the rights of the file.
 fn make_private(path: &Path) {
     let mut options = OpenOptions::new();
-    let _ = options.write(true).create_new(true).mode(0o600).open(path);
+    let made = options.write(true).create_new(true).mode(0o600).open(path);
+    // What goes wrong here SQLite meets too, and says better.
+    if let (Ok(file), true) = (made, is_of_a_group(path)) {
+        let _ = file.set_permissions(PermissionsExt::from_mode(0o640));
+    }
+}
+
+/// Whether files in its folder are of the folder's group (setgid), which may look into it.
+fn is_of_a_group(path: &Path) -> bool {
+    const HANDS_ON_AND_LETS_IN: u32 = 0o2050;
+    let folder = path.parent().and_then(|folder| folder.metadata().ok());
+    folder.is_some_and(|folder| folder.permissions().mode() & HANDS_ON_AND_LETS_IN == HANDS_ON_AND_LETS_IN)
 }
 
 /// Copies the log into the file, and syncs it. What an earlier run wrote and did not sync, or could not sync, may be

@@ -3,6 +3,8 @@
 use super::fault::SqliteFault;
 use super::schema::{self, STEPS};
 use super::whole::{Exact, Whole};
+use crate::otlp::series::{Kind as Identified, NotForwarded, SeriesKey};
+use crate::sinks::attributes::object;
 use rusqlite::{Connection, ErrorCode, OpenFlags, Row};
 use serde::Serialize;
 use serde_json::{Map, Value};
@@ -85,6 +87,36 @@ pub struct Histogram {
 }
 
 impl SeriesTotal {
+    /// A series as its identity says, without what came of it.
+    pub fn of_none(key: &SeriesKey) -> Result<SeriesTotal, NotForwarded> {
+        let parts = key.parts()?;
+        let (kind, bounds) = match parts.kind {
+            Identified::Sum => (Kind::Sum, None),
+            Identified::Monotonic => (Kind::Monotonic, None),
+            Identified::Histogram { bounds } => (Kind::Histogram, Some(bounds)),
+        };
+        Ok(SeriesTotal {
+            name: parts.name,
+            unit: parts.unit,
+            kind,
+            attributes: object(&parts.attributes)?,
+            resource: object(&parts.resource)?,
+            scope_name: parts.scope_name,
+            scope_version: parts.scope_version,
+            scope_attributes: object(&parts.scope_attributes)?,
+            points: 0,
+            start_ns: 0,
+            end_ns: 0,
+            total: Exact::default(),
+            histogram: bounds.map(|bounds| Histogram {
+                count: Exact::default(),
+                points_without_sum: 0,
+                bounds,
+                buckets: Vec::new(),
+            }),
+        })
+    }
+
     /// Whether both are of one series, whatever came of it meanwhile.
     pub fn is_of_series(&self, other: &SeriesTotal) -> bool {
         let texts =
@@ -100,7 +132,8 @@ impl SeriesTotal {
 }
 
 impl Filter {
-    fn takes(&self, row: &SeriesTotal) -> bool {
+    /// Of series of its name.
+    pub fn takes(&self, row: &SeriesTotal) -> bool {
         self.attributes.iter().all(|(key, value)| {
             let found = [&row.attributes, &row.resource]
                 .into_iter()

@@ -16,7 +16,7 @@ impl Model {
     fn change(&mut self, outbox: &Outbox, numbers: &mut Numbers) {
         let key = format!("key {}", numbers.below(30));
         let sender = format!("s{}", numbers.below(4));
-        match numbers.below(8) {
+        match numbers.below(9) {
             0..=2 => self.commit(outbox, numbers),
             3 | 4 => {
                 if let Some((number, _)) = self.waiting.pop_front() {
@@ -38,6 +38,13 @@ impl Model {
             6 => {
                 outbox.lift(&sender).unwrap();
                 self.quarantined.remove(&sender);
+            }
+            7 => {
+                let to = numbers.below(self.journal + 1);
+                outbox.put_back(&[key_of(&key)], to).unwrap();
+                if let Some(known) = self.series.get_mut(&key) {
+                    known.0 = known.0.min(to);
+                }
             }
             _ => {
                 let keep = HashSet::from([key_of(&key)]);

@@ -8,6 +8,7 @@ enum Step {
     Commit(Vec<Vec<u8>>),
     Own,
     Hold(bool),
+    PutBack(u64),
     Acknowledge,
 }
 
@@ -24,6 +25,7 @@ fn steps(chance: &mut Numbers) -> Vec<Step> {
         0..=3 => Step::Commit((0..chance.below(4)).map(|_| request(chance)).collect()),
         4 => Step::Own,
         5 => Step::Hold(chance.below(2) == 0),
+        6 => Step::PutBack(chance.below(6)),
         _ => Step::Acknowledge,
     };
     (0..12).map(|_| step(chance)).collect()
@@ -42,6 +44,10 @@ fn make(outbox: &Outbox, step: &Step) -> Result<bool, Fault> {
         )?,
         Step::Hold(true) => outbox.quarantine("me")?,
         Step::Hold(false) => outbox.lift("me")?,
+        Step::PutBack(to) => {
+            let series: Vec<_> = outbox.series().into_keys().collect();
+            outbox.put_back(&series, *to)?
+        }
         Step::Acknowledge => {
             if let Some(first) = outbox.waiting().2 {
                 outbox.acknowledge(first.number)?;
@@ -49,7 +55,7 @@ fn make(outbox: &Outbox, step: &Step) -> Result<bool, Fault> {
             return Ok(false);
         }
     }
-    Ok(matches!(step, Step::Commit(_)))
+    Ok(matches!(step, Step::Commit(_) | Step::PutBack(_)))
 }
 
 /// What it says, but times.

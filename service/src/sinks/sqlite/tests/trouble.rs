@@ -271,3 +271,20 @@ fn a_file_that_is_made_is_its_owners_alone() {
         .mode();
     assert_eq!(mode & 0o777, 0o640);
 }
+
+/// As where an operator has made one for who reads it.
+#[test]
+fn a_file_in_a_folder_that_hands_its_group_on_is_for_the_group_to_read() {
+    let trial = Trial::new();
+    for (mode, wanted) in [(0o2750, 0o640), (0o2700, 0o600), (0o750, 0o600)] {
+        let folder = trial.folder.path().join(format!("{mode:o}"));
+        std::fs::create_dir(&folder).expect("a folder");
+        std::fs::set_permissions(&folder, std::fs::Permissions::from_mode(mode)).expect("its rights");
+        let mut writer = writer(&folder.join("totals.db"));
+        assert_eq!(writer.take(&forwarded(1, sum("a", 10, 20, 1))), Fate::Taken);
+        for name in ["totals.db", "totals.db-wal", "totals.db-shm"] {
+            let found = std::fs::metadata(folder.join(name)).expect(name);
+            assert_eq!(found.permissions().mode() & 0o777, wanted, "{name} in {mode:o}");
+        }
+    }
+}

@@ -1,0 +1,170 @@
+#!/usr/bin/env python3
+"""The service's clock is set ahead by an hour, back by an hour, and right again, while senders with right clocks post.
+
+    tests/clock_jumps.py TOTXEGUN [SECONDS]
+
+It needs gcc: a preloaded library (set_clock.c) adds to the time of day. Each of five times of SECONDS (2) the service is killed once,
+and goes on. By a clock that is ahead all points are taken; by one that is behind they are left out, and their senders are told
+so. While it is ahead the present hour is closed, which has ended by it: what comes for it later counts in a later hour.
+
+At the end the SQLite file has, by sender, what was said to be taken, and by hour what the senders count themselves: of the closed
+hour what it had, and the rest as late. Each line is one check; the last line counts those that passed and failed, and the
+status is 0 where none failed.
+"""
+import contextlib
+import os
+import sqlite3
+import struct
+import subprocess
+import sys
+import tempfile
+import threading
+import time
+
+from checks import Checks
+from service import JSON, OUT_OF_ORDER, Sender, Service, in_json, wait_until
+
+HERE = os.path.dirname(os.path.abspath(__file__))
+HOUR = 3600 * 10**9
+SENDERS = 3
+TIMES = (0, HOUR, 0, -HOUR, 0)
+
+
+class Clock:
+    """That of the service: so many nanoseconds ahead."""
+
+    def __init__(self, folder):
+        self.library, self.path = f"{folder}/set_clock.so", f"{folder}/ahead"
+        command = ["gcc", "-O1", "-Wall", "-Wextra", "-Werror", "-shared", "-fPIC", f"{HERE}/set_clock.c", "-o", self.library]
+        subprocess.run(command, check=True)
+        self.set(0)
+
+    def set(self, ahead):
+        """In place, at once."""
+        with open(self.path, "r+b" if os.path.exists(self.path) else "wb", buffering=0) as file:
+            file.write(struct.pack("<q", ahead))
+
+    def environment(self):
+        return {"LD_PRELOAD": self.library, "SET_CLOCK": self.path}
+
+
+class PresentSender(Sender):
+    """Posts a point a time, which ends now; by hour, what of it was said to be taken, and how many were said to be ahead."""
+
+    def __init__(self, service, number):
+        super().__init__(service, number)
+        self.time = time.time_ns()
+        self.hours, self.ahead = {}, 0
+
+    def post_one(self):
+        start, self.time = self.time, time.time_ns()
+        value = self.chance.randrange(1, 1000)
+        headers = {"Content-Type": JSON, "x-sender": self.name}
+        body = in_json([(self.name, start, self.time, value)])
+        status, text = self.try_once(body, headers)
+        while status in (None, 503):
+            time.sleep(0.02)
+            status, text = self.try_once(body, headers)
+            if status == 400 and OUT_OF_ORDER in text:
+                status, text = 200, b"{}"
+        self.note_answer(status, text, value)
+
+    def note_answer(self, status, text, value):
+        self.posts += 1
+        if status == 200 and b"ahead of time: its clock is " in text:
+            self.ahead += 1
+        elif (status, text) == (200, b"{}"):
+            hour = (self.time - 1) // HOUR
+            self.hours[hour] = self.hours.get(hour, 0) + value
+        else:
+            self.surprises.append((status, text))
+
+    def run(self, ends):
+        while not ends.is_set():
+            self.post_one()
+            time.sleep(0.005)
+
+
+def go_on(service, clock, senders, seconds):
+    """So long, over a kill."""
+    time.sleep(seconds / 2)
+    service.kill()
+    service.start(clock.environment())
+    posts = [sender.posts for sender in senders]
+    is_ready = service.wait_ready()
+    # Each is answered again, before the clock is another: else nobody knew which clock a repeat was seen by.
+    return is_ready and wait_until(lambda: all(sender.posts > before + 2 for sender, before in zip(senders, posts))) and (
+        time.sleep(seconds / 2) or True)
+
+
+def close(service, hour):
+    """Closes an hour while posts go on: what the sink has not got yet comes late. What is told of it."""
+    service.order("/flush")
+    wait_until(service.is_drained)
+    status, text = service.asked("POST", f"/close/{hour}?anyway")
+    return status == 200, text
+
+
+def shown(hour):
+    return time.strftime("%Y-%m-%dT%H", time.gmtime(hour * 3600))
+
+
+def main(program, seconds=2.0):
+    checks = Checks()
+    with tempfile.TemporaryDirectory(prefix="clock-") as folder:
+        clock, path = Clock(folder), f"{folder}/sink.db"
+        service = Service(program, f"{folder}/data", f"sqlite:{path}", "--flush-every", "100ms")
+        service.start(clock.environment())
+        service.wait_ready()
+
+        def ask(query, *words):
+            with contextlib.closing(sqlite3.connect(f"file:{path}?mode=ro", uri=True)) as database:
+                return database.execute(query, words).fetchall()
+
+        senders, ends = [PresentSender(service, number) for number in range(SENDERS)], threading.Event()
+        threads = [threading.Thread(target=sender.run, args=(ends,)) for sender in senders]
+        for thread in threads:
+            thread.start()
+        closed = before = None
+        try:
+            for ahead in TIMES:
+                clock.set(ahead)
+                taken = [sum(sender.hours.values()) for sender in senders]
+                went_on = go_on(service, clock, senders, seconds)
+                checks.true(f"it goes on with a clock that is {ahead // HOUR} hours ahead", went_on, service.last_lines())
+                more = [sum(sender.hours.values()) > was for sender, was in zip(senders, taken)]
+                checks.same("points are taken, unless it is behind", [ahead >= 0] * SENDERS, more)
+                if ahead > 0 and closed is None:
+                    closed = time.time_ns() // HOUR
+                    checks.true("the present hour is closed by it", *close(service, shown(closed)))
+                    before = ask("select total(total) from by_hour where hour = ?", shown(closed).replace("T", " ") + ":00")
+        finally:
+            ends.set()
+            for thread in threads:
+                thread.join()
+        service.order("/flush")
+        checks.true("the sink gets all", wait_until(service.is_drained), service.last_lines())
+        look(checks, ask, senders, closed, before)
+        checks.same("nothing is that must not be", [], service.faults())
+        checks.same("no request is put aside", [], os.listdir(f"{folder}/data/dead"))
+        checks.same("SIGTERM ends it", 0, service.end()[0])
+    return checks.end()
+
+
+def look(checks, ask, senders, closed, before):
+    checks.same("no answer is another", [], [sender.surprises[:1] for sender in senders if sender.surprises])
+    ahead = [sender.ahead for sender in senders]
+    checks.true(f"points were left out: {ahead}", all(ahead), ahead)
+    wanted = {sender.name: sum(sender.hours.values()) for sender in senders}
+    checks.same("each sender's total", wanted, dict(ask("select name, total from totals")))
+    name = shown(closed).replace("T", " ") + ":00"
+    checks.same("the closed hour stays", before, ask("select total(total) from by_hour where hour = ?", name))
+    late = "select coalesce(sum(total), 0) from late where belongs_to = ?"
+    in_hour = sum(sender.hours.get(closed, 0) for sender in senders)
+    checks.same("and the rest of it came late", in_hour - int(before[0][0]), ask(late, name)[0][0])
+
+
+if __name__ == "__main__":
+    if len(sys.argv) < 2:
+        sys.exit(f"usage: {sys.argv[0]} TOTXEGUN [SECONDS]")
+    sys.exit(main(os.path.abspath(sys.argv[1]), *map(float, sys.argv[2:3])))

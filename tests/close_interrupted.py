@@ -1,0 +1,167 @@
+#!/usr/bin/env python3
+"""A period that is closed, corrected and opened again, interrupted at each call on the files of the SQLite sink.
+
+    tests/close_interrupted.py TOTXEGUN [EVERY [WAY ..]]
+
+It needs gcc. A preloaded library (interrupt_files.c) counts the calls that write, sync, cut or delete files in the sink's folder. For
+each of them, or each EVERY-th, a run is made that is interrupted there, in each of these ways or in those that are named:
+before, middle, behind: the process is killed there, of what is written half is there, or all; ENOSPC, EIO: the call fails.
+Then the service is started without the library, and the run goes on: each order is given again until it is done.
+
+A run closes an hour that the sink has something of, posts more of it, corrects it and opens it again. Behind each of these the sink
+has the hour as it was closed, what came late once, and one correction; at the end nothing is closed.
+
+A line for each run that failed; the last line counts those that passed and failed, and the status is 0 where none failed.
+"""
+import concurrent.futures
+import contextlib
+import os
+import shutil
+import sqlite3
+import sys
+import tempfile
+import time
+
+from service import JSON, Service, ask, in_json, wait_until
+from service_interrupted import Failed, build
+
+WAYS = ("before", "middle", "behind", "ENOSPC", "EIO")
+SECONDS = 60
+HOUR = 3600 * 10**9
+# 2026-11-05 13:00, of which the sink has 5 before it is closed, and 7 late.
+FIRST = 498_301 * HOUR
+NAME, SHOWN = "2026-11-05T13", "2026-11-05 13:00"
+
+
+def post(service, start, value):
+    body = in_json([("orders", start, start + 10, value)])
+    return ask(service.listen, "POST", "/v1/metrics", body, {"Content-Type": JSON, "x-sender": "A"})
+
+
+class Interrupted(Service):
+    """A service that is started anew where it has ended, without the library."""
+
+    def until(self, what, is_done):
+        """Asks until it is done."""
+        until = time.monotonic() + SECONDS
+        while True:
+            if not self.is_running():
+                self.start()
+                self.wait_ready()
+            answer = what()
+            if is_done(*answer):
+                return
+            if time.monotonic() > until:
+                raise Failed(f"the last answer is {answer}; {self.last_lines(5)}")
+            time.sleep(0.02)
+
+    def order_done(self, path):
+        self.until(lambda: self.asked("POST", path, 10), lambda status, _: status == 200)
+
+
+class Runs:
+    def __init__(self, program, folder):
+        self.program, self.folder, self.library = program, folder, build(folder)
+        self.passed = self.failed = self.interrupted = 0
+        self.base = f"{folder}/base"
+        os.makedirs(f"{self.base}/sink")
+        self.fill()
+
+    def service(self, folder):
+        return Interrupted(self.program, f"{folder}/data", f"sqlite:{folder}/sink/sink.db", "--flush-every", "1h", "--operate",
+                           f"unix:{folder}/operate")
+
+    def fill(self):
+        """What each run begins with."""
+        service = self.service(self.base)
+        service.start()
+        service.wait_ready()
+        status, text = post(service, FIRST + 1, 5)
+        if status != 200 or service.order("/flush") != 200 or not wait_until(service.is_drained):
+            raise Failed(f"the first post: {status} {text}")
+        service.end()
+
+    def one(self, at, way):
+        """A run: its calls, and what is wrong."""
+        folder = tempfile.mkdtemp(dir=self.folder)
+        for name in ("data", "sink"):
+            shutil.copytree(f"{self.base}/{name}", f"{folder}/{name}", ignore=lambda *_: ["lock"])
+        service, log, fault = self.service(folder), f"{folder}/calls", None
+        how = way if way in ("middle", "behind", "ENOSPC", "EIO") else "before"
+        orders = {"INTERRUPT_AT": str(at), "INTERRUPT_HOW": how} if at else {}
+        try:
+            service.start({"LD_PRELOAD": self.library, "INTERRUPT_FOLDER": f"{folder}/sink", "INTERRUPT_LOG": log, **orders})
+            service.wait_ready()
+            self.make(service, folder)
+        except Failed as failed:
+            fault = str(failed)
+        except Exception as error:  # A test that breaks is a failure with its place.
+            fault = f"{type(error).__name__} {error}"
+        finally:
+            service.kill()
+        calls = []
+        with contextlib.suppress(FileNotFoundError), open(log, encoding="utf-8") as file:
+            calls = file.read().splitlines()
+        shutil.rmtree(folder, ignore_errors=True)
+        return calls, fault
+
+    def make(self, service, folder):
+        """The run. Raises Failed."""
+        service.order_done(f"/close/{NAME}?anyway")
+        self.look(folder, 1, (), 0)
+        # Also a repeat, whose first answer was lost.
+        service.until(lambda: post(service, FIRST + 100, 7), lambda status, text: status == 200 or b"out of order" in text)
+        service.order_done("/flush")
+        service.until(lambda: (service.is_drained(), None), lambda is_drained, _: is_drained)
+        self.look(folder, 1, (7,), 0)
+        service.order_done(f"/correct/1/{NAME}/-2?reason=twice")
+        self.look(folder, 1, (7,), -2)
+        service.order_done(f"/open/{NAME}")
+        self.look(folder, 0, (7,), -2)
+        if service.faults() or os.listdir(f"{folder}/data/dead"):
+            raise Failed(f"{service.faults()} {os.listdir(f'{folder}/data/dead')}")
+
+    @staticmethod
+    def look(folder, closed, late, corrected):
+        with contextlib.closing(sqlite3.connect(f"file:{folder}/sink/sink.db?mode=ro", uri=True)) as database:
+            found = [database.execute(query).fetchall() for query in (
+                "select count(*) from closed",
+                f"select coalesce(sum(total), 0) from by_hour where hour = '{SHOWN}'",
+                f"select total from late where belongs_to = '{SHOWN}' and total <> 0",
+                "select coalesce(sum(corrections), 0), sum(billed) from totals",
+                "select total from totals")]
+        total = 5 + sum(late)
+        wanted = [[(closed,)], [(5,)], [(one,) for one in late], [(corrected, total + corrected)], [(total,)]]
+        if found != wanted:
+            raise Failed(f"the sink has {found} in the place of {wanted}")
+
+    def count(self, at, way):
+        calls, fault = self.one(at, way)
+        self.interrupted += bool(calls)
+        if fault is None:
+            self.passed += 1
+        else:
+            self.failed += 1
+            print(f"failed: {way} call {at} {', '.join(calls)}: {fault}", flush=True)
+
+
+def main(program, every=1, ways=WAYS):
+    with tempfile.TemporaryDirectory(prefix="closed-") as folder:
+        runs = Runs(program, folder)
+        calls, fault = runs.one(0, "before")
+        print(f"note: {len(calls)} calls in a run without interruption", flush=True)
+        if fault:
+            print(f"failed: without interruption: {fault}", flush=True)
+            runs.failed += 1
+        places = [(at, way) for at in range(1, len(calls) + 1, every) for way in ways]
+        with concurrent.futures.ThreadPoolExecutor(os.cpu_count()) as pool:
+            list(pool.map(lambda place: runs.count(*place), places))
+    print(f"note: {runs.interrupted} runs were interrupted")
+    print(f"{runs.passed} passed, {runs.failed} failed", flush=True)
+    return 0 if runs.failed == 0 and runs.interrupted else 1
+
+
+if __name__ == "__main__":
+    if len(sys.argv) < 2:
+        sys.exit(f"usage: {sys.argv[0]} TOTXEGUN [EVERY [WAY ..]]")
+    sys.exit(main(os.path.abspath(sys.argv[1]), *map(int, sys.argv[2:3]), sys.argv[3:] or WAYS))
