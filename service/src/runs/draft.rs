@@ -130,12 +130,17 @@ impl Draft<'_> {
 
     /// The book has refused this point, since the series ends there in it: it has delta points too. The series, where the
     /// point was made here.
-    pub fn note_frontier(&mut self, at: u64, frontier: u64) -> Option<SeriesKey> {
-        let found = self.made.binary_search_by_key(&at, |made| made.0.into()).ok()?;
+    pub fn note_frontier(&mut self, at: u32, frontier: u64) -> Option<SeriesKey> {
+        let found = self.made.binary_search_by_key(&at, |made| made.0).ok()?;
         let place = self.made[found].1;
         let series = &mut self.runs.series[place as usize];
         series.frontier = frontier;
         Some(series.key.clone())
+    }
+
+    /// The places of the points that were made here.
+    pub fn made(&self) -> Vec<u32> {
+        self.made.iter().map(|made| made.0).collect()
     }
 
     /// A refusal that names a point, by its place in the post.

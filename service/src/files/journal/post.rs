@@ -131,7 +131,8 @@ impl Points {
         self.runs.iter().filter_map(|run| Some((run, self.point(run.0)?)))
     }
 
-    fn point(&self, place: u32) -> Option<&[u64]> {
+    /// The words of the point at a place.
+    pub fn point(&self, place: u32) -> Option<&[u64]> {
         let place = place as usize;
         let end = *self.ends.get(place)?;
         let begin = place.checked_sub(1).map_or(0, |before| self.ends[before]);
