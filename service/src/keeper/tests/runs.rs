@@ -265,6 +265,60 @@ async fn runs_over_kills_and_quarantines_come_to_the_sum_of_their_last_values() 
     }
 }
 
+/// Of the cumulative points some are lost, and some come again.
+#[tokio::test(flavor = "multi_thread")]
+async fn the_same_counts_in_delta_and_cumulative_come_to_the_same() {
+    let (place, options) = (tempfile::tempdir().unwrap(), Options::default());
+    let mut run = Run::begin_runs(&place.path().join("data0"), options).await;
+    let (mut chance, mut start, mut now, mut kills) = (Numbers(7), BEGIN, BEGIN, 0);
+    let mut come_to = [(0, 0); 3];
+    for step in 0..150 {
+        let before = now;
+        now += 1 + chance.below(20);
+        let (mut deltas, mut all) = (Vec::new(), Vec::new());
+        for (kind, sums) in ["m", "u", "h"].into_iter().zip(&mut come_to) {
+            let value = chance.below(9) as i64 - if kind == "u" { 4 } else { 0 };
+            let more = value + chance.below(5) as i64;
+            *sums = (sums.0 + value, sums.1 + more);
+            let point = |name: &str, start, value, all| Point {
+                name: format!("{kind}-{name}"),
+                start,
+                time: now,
+                value,
+                all,
+            };
+            deltas.push(point("delta", before, value, more));
+            all.push(point("cumulative", start, sums.0, sums.1));
+        }
+        let taken = run.slot.post("A".into(), text(&deltas, 1).into()).await;
+        assert_eq!(taken, Outcome::taken(0));
+        let times = if step == 149 { 1 } else { chance.below(3) };
+        for _ in 0..times {
+            assert_eq!(run.cumulative("A", &all).await, Outcome::taken(0));
+        }
+        // Before a run ends its last point has come.
+        if chance.below(15) == 0 && times > 0 {
+            (start, come_to) = (now, [(0, 0); 3]);
+        }
+        match chance.below(10) {
+            0 => drop(run.flush().await),
+            1 => {
+                run = killed(run, place.path(), kills, options).await;
+                kills += 1;
+            }
+            _ => {}
+        }
+    }
+    run.flush().await;
+    let sums = run.forwarded().await;
+    for kind in ["m", "u", "h"] {
+        let [delta, cumulative] = ["delta", "cumulative"].map(|name| sums[&format!("{kind}-{name}")]);
+        assert_eq!(delta, cumulative, "{kind}");
+    }
+    assert!(kills > 3, "{kills} kills");
+    run.end().await;
+}
+
 fn point(name: &str, start: u64, time: u64, value: i64) -> Point {
     Point {
         name: name.into(),
