@@ -1,7 +1,7 @@
 //! Options that say how requests are read, for what takes posts and for what explains them.
 
 use super::values::{time_or_off, MayBeOff};
-use crate::otlp::{Choice, Clock, Cumulative, Reading, Whole};
+use crate::otlp::{Bounds, Choice, Clock, Cumulative, Reading, Whole};
 use anyhow::anyhow;
 use clap::builder::NonEmptyStringValueParser;
 use clap::Args;
@@ -39,6 +39,14 @@ pub(super) struct OfReading {
         value_enum
     )]
     cumulative: Cumulative,
+    /// Takes exponential histograms in buckets of these bounds, in their own unit: 1,2,4,8. Points with values in a bucket that has a bound within are not taken
+    #[arg(
+        long,
+        env = "TOTXEGUN_EXPONENTIAL",
+        value_name = "BOUNDS",
+        allow_hyphen_values = true
+    )]
+    exponential: Option<Bounds>,
 }
 
 impl OfReading {
@@ -56,6 +64,7 @@ impl OfReading {
             whole,
             sender_from: self.sender_from,
             cumulative: self.cumulative,
+            exponential: self.exponential,
         };
         let profile = reading.profile();
         Ok(Reading {

@@ -288,7 +288,10 @@ fn prepare(
             (Request::Numbered(points), rounded)
         }
         None => {
-            let room = || hold.set(2 * grows * length).map_err(Refusal::from);
+            let room = |more: usize| {
+                let both = 2 * grows * length + WHILE_READ_JSON * more;
+                hold.set(both).map_err(Refusal::from)
+            };
             let Prepared {
                 body,
                 rounded,

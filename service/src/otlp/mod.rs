@@ -3,7 +3,7 @@
 //! `prepare` writes a request of either encoding as the book reads it: `from_protobuf` and `from_json` go
 //! by the tables of `schema`, over the readers `wire` and `json`; `usual` sees at once most JSON that goes on as it came;
 //! `numbered` reads nearly all protobuf without that, by the numbers of series that are known;
-//! `whole` takes fractions as whole numbers of a finer unit. `series` reads bodies as the book does, and what it forwards.
+//! `whole` takes fractions as whole numbers of a finer unit, `exponential` exponential histograms in given buckets. `series` reads bodies as the book does, and what it forwards.
 //! `outside` is what of a request is handed on to another receiver, `answers` what senders are answered, `clock` which points
 //! end too far from the service's clock.
 
@@ -11,6 +11,7 @@ mod answers;
 mod causes;
 mod clock;
 mod explain;
+mod exponential;
 mod from_json;
 mod from_protobuf;
 mod json;
@@ -30,6 +31,7 @@ pub(crate) use answers::partial_success;
 pub use causes::{Cause, Causes};
 pub use clock::{Clock, Off, OffClock, Window};
 pub use explain::{explained, foreign_points, point_at, Explained};
+pub use exponential::Bounds;
 pub(crate) use messages::ExportMetricsServiceResponse;
 pub use numbered::{Learnt, NotNamed, Numbered, Series};
 pub use outside::{Original, Outside};
@@ -82,6 +84,8 @@ pub struct Reading {
     pub sender_from: Option<String>,
     /// What becomes of cumulative points.
     pub cumulative: Cumulative,
+    /// The buckets in which exponential histograms are taken; none where they are not.
+    pub exponential: Option<Bounds>,
 }
 
 /// What becomes of cumulative points.
@@ -126,34 +130,44 @@ impl Prepared {
 
 /// Puts a request into the book's form. Nothing of a request is lost in silence: it is read whole or refused whole.
 pub fn prepare(encoding: Encoding, body: Bytes, reading: &Reading) -> Result<Prepared, Refused> {
-    prepare_with(encoding, body, reading, || Ok(()))
+    prepare_with(encoding, body, reading, |_| Ok(()))
 }
 
-/// The same; before a request is written once more, in finer units, `room` is asked.
+/// The same; before a request is written once more, in finer units or in other buckets, `room` is asked, also for so many
+/// bytes that it may have more then.
 pub fn prepare_with<E: From<Refused>>(
     encoding: Encoding,
     body: Bytes,
     reading: &Reading,
-    room: impl FnOnce() -> Result<(), E>,
+    mut room: impl FnMut(usize) -> Result<(), E>,
 ) -> Result<Prepared, E> {
-    let written = match form(encoding, &body, reading)? {
+    let mut written = match form(encoding, &body, reading)? {
         Form::Written(written) => written,
         Form::AsItCame { is_cumulative } => return Ok(Prepared::as_it_is(body, is_cumulative)),
     };
-    let is_cumulative = written.is_cumulative;
-    let (text, rounded) = match written.is_measured {
+    let unfit = match &reading.exponential {
+        Some(bounds) if written.is_exponential => {
+            let more = exponential::most_more(&written.text, bounds).map_err(Refused::from)?;
+            room(more)?;
+            let view = exponential::viewed(&written.text, bounds).map_err(Refused::from)?;
+            written.text = view.text.into_bytes();
+            view.unfit
+        }
+        _ => None,
+    };
+    let (text, mut rounded) = match written.is_measured {
         true => {
-            room()?;
+            room(written.text.len())?;
             let rewritten = whole::rewritten(&written.text, &reading.whole).map_err(Refused::from)?;
             (rewritten.0.into_bytes(), rewritten.1)
         }
         false => (written.text, Rounded::default()),
     };
-    let body = Bytes::from(text);
+    rounded.unfit = unfit.or(rounded.unfit);
     Ok(Prepared {
-        body,
+        body: Bytes::from(text),
         rounded,
-        is_cumulative,
+        is_cumulative: written.is_cumulative,
     })
 }
 
