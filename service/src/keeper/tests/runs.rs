@@ -437,6 +437,27 @@ async fn what_is_refused_has_its_name() {
     run.end().await;
 }
 
+/// Of many series that have delta points in no flush each point is refused by its name, and the others of the post are taken.
+#[tokio::test(flavor = "multi_thread")]
+async fn a_post_learns_at_once_where_all_of_its_series_end() {
+    let place = tempfile::tempdir().unwrap();
+    let run = Run::begin_runs(&place.path().join("data"), Options::default()).await;
+    let points = |names: std::ops::Range<u64>, start, time| -> Vec<Point> {
+        names.map(|name| point(&format!("m{name}"), start, time, 1)).collect()
+    };
+    let deltas = text(&points(0..600, BEGIN, BEGIN + 20), 1);
+    assert_eq!(run.slot.post("A".into(), deltas.into()).await, Outcome::taken(0));
+    let said = rejected(&run.cumulative("A", &points(0..700, BEGIN + 10, BEGIN + 30)).await);
+    assert_eq!(
+        said,
+        (600, "600 cumulative points of series with delta points".into())
+    );
+    run.flush().await;
+    let sums = run.forwarded().await;
+    assert!(sums.len() == 700 && sums.values().all(|sum| sum.0 == 1), "{sums:?}");
+    run.end().await;
+}
+
 /// Delta points that begin where a run has come to are taken, and then the run's are not: no span counts twice.
 #[tokio::test(flavor = "multi_thread")]
 async fn delta_and_cumulative_points_of_a_series_never_count_one_span_twice() {
