@@ -101,6 +101,16 @@ impl Points {
         })
     }
 
+    /// None yet, and room for so many, also where each is made of a cumulative one.
+    pub fn with_room(words: usize, points: usize) -> Points {
+        Points {
+            words: Vec::with_capacity(words),
+            ends: Vec::with_capacity(points),
+            runs: Vec::with_capacity(points),
+            packed: OnceLock::new(),
+        }
+    }
+
     /// Puts a point behind the others; `says` is a sum's value, or a histogram's count, whether it has a sum, the sum, and
     /// its buckets.
     pub fn push(&mut self, number: u64, start: u64, end: u64, says: impl IntoIterator<Item = u64>) {

@@ -443,7 +443,9 @@ async fn a_post_learns_at_once_where_all_of_its_series_end() {
     let place = tempfile::tempdir().unwrap();
     let run = Run::begin_runs(&place.path().join("data"), Options::default()).await;
     let points = |names: std::ops::Range<u64>, start, time| -> Vec<Point> {
-        names.map(|name| point(&format!("m{name}"), start, time, 1)).collect()
+        names
+            .map(|name| point(&format!("m{name}"), start, time, 1))
+            .collect()
     };
     let deltas = text(&points(0..600, BEGIN, BEGIN + 20), 1);
     assert_eq!(run.slot.post("A".into(), deltas.into()).await, Outcome::taken(0));
@@ -454,7 +456,10 @@ async fn a_post_learns_at_once_where_all_of_its_series_end() {
     );
     run.flush().await;
     let sums = run.forwarded().await;
-    assert!(sums.len() == 700 && sums.values().all(|sum| sum.0 == 1), "{sums:?}");
+    assert!(
+        sums.len() == 700 && sums.values().all(|sum| sum.0 == 1),
+        "{sums:?}"
+    );
     run.end().await;
 }
 
