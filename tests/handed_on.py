@@ -7,9 +7,9 @@ it, and what is not added up is handed on to another receiver.
 First the units: sums and histograms of doubles, in both encodings, over kills and flushes. The sink has what this program
 added up by its own exact numbers, each metric in the one unit that it was first taken in, also where whole numbers came
 first, and where an earlier run was told `--whole off`. Then exponential histograms of drawn values, delta and cumulative, at
-several scales: the sink has each value in that bucket of `--exponential` in which it is. Then `--pass`: a receiver gets the gauges of each post as they came,
-byte for byte and each once, by way of a second service too; no answer rejects them, no metric calls them foreign, and
-neither a receiver that stalls nor one that is gone holds up a post.
+several scales: the sink has each value in that bucket of `--exponential` in which it is. Then `--pass`: a receiver gets the
+gauges of each post as they came, byte for byte and each once, by way of a second service too; no answer rejects them, no
+metric calls them foreign, and neither a receiver that stalls nor one that is gone holds up a post.
 
 Each line is one check; the last one counts those that passed and failed, and the status is 1 where one failed.
 """
