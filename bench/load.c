@@ -3,7 +3,8 @@
  *     load PORT CLIENTS REQUESTS POINTS SERIES KIND ENCODING CONNECTIONS FROM [PERIOD]
  *
  * CLIENTS threads, each a sender of its own, post so many requests together, of so many points each, as fast as they are
- * answered; or each once in PERIOD microseconds, and what is late counts as waiting for its answer. The SERIES are shared out among the senders; KIND is sum or histogram (11 buckets); ENCODING is json,
+ * answered; or each once in PERIOD microseconds, and what is late counts as waiting for its answer. The SERIES are shared out among the senders; KIND is sum or histogram (11 buckets), with
+ * deltas unless cumulative- is before it; ENCODING is json,
  * protobuf or gzip, which is packed protobuf; CONNECTIONS is each, one for each request, or kept, and each-tls or kept-tls over
  * TLS, by whatever certificate: a connection that is made anew shakes hands wholly. A sender's points go
  * round its series and on in time, so a second run begins at the point FROM of each sender, where the first one ended.
@@ -46,7 +47,7 @@ struct client {
     double *took;
 };
 
-static int port, is_histogram, is_protobuf, is_packed, is_kept, is_grpc;
+static int port, is_histogram, is_cumulative, is_protobuf, is_packed, is_kept, is_grpc;
 static SSL_CTX *tls;
 static long clients, points, series, from;
 static double period;
@@ -69,13 +70,16 @@ static void *room(size_t length) {
     return made;
 }
 
-/* What a sender's point of this number is: of which of all series, when it begins, and its value. */
-struct place { long route; unsigned long long start, value; };
+/* What a sender's point of this number is: of which of all series, its span, its value, and of a histogram how many times the
+ * counts of a delta. */
+struct place { long route; unsigned long long start, end, value, times; };
 
 static struct place place_of(int sender, long number) {
     long own = (series + clients - 1 - sender) / clients, turn = number / own, route = number % own * clients + sender;
-    unsigned long long start = FIRST_TIME + route * 1000003ull % SECOND + turn * SECOND;
-    return (struct place){ route, start, (route * 31 + turn * 7919) % 1000 };
+    unsigned long long start = FIRST_TIME + route * 1000003ull % SECOND, end = start + (turn + 1) * SECOND;
+    unsigned long long value = (route * 31 + turn * 7919) % 1000;
+    if (is_cumulative) return (struct place){ route, start, end, turn * 1000 + value, (turn + 1) * (1 + route * 31 % 997) };
+    return (struct place){ route, end - SECOND, end, value, 1 };
 }
 
 /* JSON */
@@ -86,11 +90,12 @@ static int put_point(char *to, int sender, long number) {
         "{\"attributes\":[{\"key\":\"http.request.method\",\"value\":{\"stringValue\":\"GET\"}},"
         "{\"key\":\"http.response.status_code\",\"value\":{\"intValue\":\"200\"}},"
         "{\"key\":\"http.route\",\"value\":{\"stringValue\":\"/api/v1/customers/%ld/orders\"}}],"
-        "\"startTimeUnixNano\":\"%llu\",\"timeUnixNano\":\"%llu\",", at.route, at.start, at.start + SECOND);
-    return length + sprintf(to + length, is_histogram
-        ? "\"count\":\"66\",\"sum\":5120,\"bucketCounts\":[\"1\",\"2\",\"3\",\"4\",\"5\",\"6\",\"7\",\"8\",\"9\",\"10\",\"11\"],"
-          "\"explicitBounds\":[0,5,10,25,50,75,100,250,500,1000]}"
-        : "\"asInt\":\"%llu\"}", at.value);
+        "\"startTimeUnixNano\":\"%llu\",\"timeUnixNano\":\"%llu\",", at.route, at.start, at.end);
+    if (!is_histogram) return length + sprintf(to + length, "\"asInt\":\"%llu\"}", at.value);
+    length += sprintf(to + length, "\"count\":\"%llu\",\"sum\":%llu,\"bucketCounts\":[", 66 * at.times, 5120 * at.times);
+    for (int bucket = 0; bucket < BUCKETS; bucket++)
+        length += sprintf(to + length, "%s\"%llu\"", bucket ? "," : "", (bucket + 1) * at.times);
+    return length + sprintf(to + length, "],\"explicitBounds\":[0,5,10,25,50,75,100,250,500,1000]}");
 }
 
 static size_t put_json(char *body, int sender, long first) {
@@ -101,9 +106,9 @@ static size_t put_json(char *body, int sender, long first) {
         "{\"key\":\"host.name\",\"value\":{\"stringValue\":\"host-%d.example.org\"}}]},"
         "\"scopeMetrics\":[{\"scope\":{\"name\":\"io.opentelemetry.http\",\"version\":\"2.9.0\"},\"metrics\":[", sender, sender);
     at += sprintf(body + at, is_histogram
-        ? "{\"name\":\"http.server.request.duration\",\"unit\":\"ms\",\"histogram\":{\"aggregationTemporality\":1,\"dataPoints\":["
-        : "{\"name\":\"http.server.request.count\",\"unit\":\"{request}\",\"sum\":{\"aggregationTemporality\":1,"
-          "\"isMonotonic\":true,\"dataPoints\":[");
+        ? "{\"name\":\"http.server.request.duration\",\"unit\":\"ms\",\"histogram\":{\"aggregationTemporality\":%d,\"dataPoints\":["
+        : "{\"name\":\"http.server.request.count\",\"unit\":\"{request}\",\"sum\":{\"aggregationTemporality\":%d,"
+          "\"isMonotonic\":true,\"dataPoints\":[", 1 + is_cumulative);
     for (long point = 0; point < points; point++) {
         if (point > 0) body[at++] = ',';
         at += put_point(body + at, sender, first + point);
@@ -153,16 +158,16 @@ static size_t put_attribute(char *to, int field, const char *key, const char *te
 
 static size_t put_protobuf_point(char *to, int sender, long number) {
     struct place place = place_of(sender, number);
-    unsigned long long end = place.start + SECOND, count = 66;
+    unsigned long long end = place.end, count = 66 * place.times;
     char point[POINT_ROOM], route[64];
     size_t at = put_fixed(point, 2, &place.start);
     at += put_fixed(point + at, 3, &end);
     sprintf(route, "/api/v1/customers/%ld/orders", place.route);
     int field = is_histogram ? 9 : 7;
     if (is_histogram) {
-        double sum = 5120, bounds[] = { 0, 5, 10, 25, 50, 75, 100, 250, 500, 1000 };
+        double sum = 5120 * place.times, bounds[] = { 0, 5, 10, 25, 50, 75, 100, 250, 500, 1000 };
         unsigned long long buckets[BUCKETS];
-        for (int bucket = 0; bucket < BUCKETS; bucket++) buckets[bucket] = bucket + 1;
+        for (int bucket = 0; bucket < BUCKETS; bucket++) buckets[bucket] = (bucket + 1) * place.times;
         at += put_fixed(point + at, 4, &count);
         at += put_fixed(point + at, 5, &sum);
         at += put_bytes(point + at, 6, (void *)buckets, sizeof buckets);
@@ -207,7 +212,7 @@ static size_t put_protobuf(char *body, int sender, long first) {
     of_scope += put_text(scope + of_scope, 2, "2.9.0");
     size_t at = 0;
     for (long point = 0; point < points; point++) at += put_protobuf_point(body + at, sender, first + point);
-    at += put_number(body + at, 2, 1);
+    at += put_number(body + at, 2, 1 + is_cumulative);
     if (!is_histogram) at += put_number(body + at, 3, 1);
     at = wrapped(body, at, is_histogram ? 9 : 7);
     size_t of_name = put_text(name, 1, is_histogram ? "http.server.request.duration" : "http.server.request.count");
@@ -451,7 +456,8 @@ int main(int count, char **words) {
     long requests = clients > 0 ? atol(words[3]) / clients : 0;
     points = atol(words[4]);
     series = atol(words[5]);
-    is_histogram = !strcmp(words[6], "histogram");
+    is_histogram = strstr(words[6], "histogram") != NULL;
+    is_cumulative = !strncmp(words[6], "cumulative-", 11);
     is_packed = !strcmp(words[7], "gzip");
     is_grpc = !strcmp(words[7], "grpc");
     is_protobuf = is_packed || is_grpc || !strcmp(words[7], "protobuf");

@@ -6,7 +6,8 @@
                      [--set NAME=VALUE]*
 
 The programs are bin/totxegun and bin/gateway, as `make build` makes them, where none is named. Rows: json-1, json-20,
-protobuf-103, gzip-103, grpc-1, grpc-103, by the encoding and the points of a post, over 800 series. Parties: gateway, which is
+protobuf-103, gzip-103, grpc-1, grpc-103, by the encoding and the points of a post, over 800 series, and cumulative-103, which is
+protobuf. Parties: gateway, which is
 the bare one, process and disk, which are the service with this durability and a SQLite file as its sink; more options of it
 are in WORDS, and --set sets more of its environment than the shipped unit does, such as LD_PRELOAD. process-tls and disk-tls are the
 same over TLS 1.3, on connections that shake hands wholly, and their ratios are to those without. FOLDER has totxegun and
@@ -33,9 +34,11 @@ from running import bare, options, processes, serving
 
 from loopback import free_port
 
+# A row of the service alone.
+CUMULATIVE = "cumulative-103"
 # Each row with what is posted, and how many posts a second are looked for where it is not known yet.
 ROWS = {"json-1": ("json", 1, 4000), "json-20": ("json", 20, 1000), "protobuf-103": ("protobuf", 103, 300), "gzip-103": ("gzip", 103, 300),
-        "grpc-1": ("grpc", 1, 4000), "grpc-103": ("grpc", 103, 300)}
+        "grpc-1": ("grpc", 1, 4000), "grpc-103": ("grpc", 103, 300), CUMULATIVE: ("protobuf", 103, 300)}
 SERVICE = ["process", "disk"]
 PARTIES = ["gateway", *SERVICE]
 EARLIER = "earlier-"
@@ -91,7 +94,8 @@ def run(party, arguments, row, clients, requests, period):
                 connections += OVER_TLS
             one = stack.enter_context(serving(arguments, *words, is_earlier=party.startswith(EARLIER)))
             port, pids = grpc if encoding == "grpc" else one.listen, processes(one)
-        posts = Posts("sum", points, arguments.series, encoding, connections)
+        kind = "cumulative-sum" if row == CUMULATIVE else "sum"
+        posts = Posts(kind, points, arguments.series, encoding, connections)
         return measured(port, pids, clients, posts, requests, period)
 
 
@@ -140,7 +144,7 @@ def main():
     parser = options(__doc__.split("\n", maxsplit=1)[0])
     parser.add_argument("--senders", type=numbers, default=[8, 64])
     parser.add_argument("--series", type=int, default=800)
-    parser.add_argument("--rows", type=lambda text: text.split(","), default=list(ROWS))
+    parser.add_argument("--rows", type=lambda text: text.split(","), default=[row for row in ROWS if row != CUMULATIVE])
     parser.add_argument("--parties", type=lambda text: text.split(","), default=PARTIES)
     parser.add_argument("--connections", choices=("kept", "each"), default="kept")
     parser.add_argument("--runs", type=int, default=5)

@@ -17,8 +17,10 @@ from loopback import free_port
 # PostgreSQL does not run as root.
 NOBODY = 65534
 SECONDS = 60
+RULES = f"{os.path.dirname(os.path.dirname(os.path.abspath(__file__)))}/operate/alerts.yml"
 SCRAPES = """\
-global: {{scrape_interval: 1s, scrape_timeout: 1s}}
+global: {{scrape_interval: 1s, scrape_timeout: 1s, evaluation_interval: 1s}}
+rule_files: ["{rules}"]
 scrape_configs:
 - job_name: totxegun
   static_configs: [{{targets: ["127.0.0.1:{operate}"]}}]
@@ -102,13 +104,13 @@ class Database:
 
 
 class Prometheus:
-    """It scrapes both pages of the operator's address each second."""
+    """It scrapes both pages of the operator's address each second, and has the alerts that are shipped."""
 
     def __init__(self, folder, operate):
         self.port = free_port()
         os.makedirs(folder)
         with open(f"{folder}/prometheus.yml", "w", encoding="utf-8") as file:
-            file.write(SCRAPES.format(operate=operate))
+            file.write(SCRAPES.format(operate=operate, rules=RULES))
         words = [f"--config.file={folder}/prometheus.yml", f"--storage.tsdb.path={folder}/data",
                  f"--web.listen-address=127.0.0.1:{self.port}"]
         with open(f"{folder}/log", "wb") as log:
@@ -124,6 +126,11 @@ class Prometheus:
         found = self.found(query)
         return found and [(one["metric"], one["values"]) for one in found]
 
+    def alerts(self, state):
+        """The names of the alerts that were in this state at any time."""
+        of_state = f'count by (alertname) (count_over_time(ALERTS{{alertstate="{state}"}}[1h]))'
+        return sorted(labels["alertname"] for labels, _ in self.ask(of_state) or [])
+
     def found(self, query):
         path = urllib.parse.urlencode({"query": query})
         try:
@@ -137,29 +144,31 @@ class Prometheus:
 
 
 class Shop:
-    """A program that is measured by OpenTelemetry's SDK, and counts by itself."""
+    """A program that is measured by OpenTelemetry's SDK, and counts by itself. It is told where to post, and nothing else."""
 
     def __init__(self, program, folder, listen, name, encoding, seconds, seed):
         self.name, self.encoding = name, encoding
         self.own = f"{folder}/{name}.json"
-        # How many posts were answered, how many attempts were not, how many were known, and what was ordered.
+        # How many posts were answered, how many attempts were not, how many posts were given up, and what was ordered.
         self.said = [0, 0, 0, 0]
-        words = ["-url", f"http://127.0.0.1:{listen}/v1/metrics", "-sender", name, "-encoding", encoding, "-out", self.own,
-                 "-seconds", str(seconds), "-seed", str(seed)]
+        words = ["-instance", name, "-encoding", encoding, "-out", self.own, "-seconds", str(seconds), "-seed", str(seed)]
+        environment = {**os.environ, "OTEL_EXPORTER_OTLP_ENDPOINT": f"http://127.0.0.1:{listen}"}
         with open(f"{folder}/{name}.log", "wb") as log:
-            self.process = subprocess.Popen([program, *words], stdin=subprocess.DEVNULL, stdout=subprocess.PIPE, stderr=log)
+            self.process = subprocess.Popen([program, *words], stdin=subprocess.DEVNULL, stdout=subprocess.PIPE, stderr=log,
+                                            env=environment)
         threading.Thread(target=self.listen, daemon=True).start()
 
     def listen(self):
         for line in self.process.stdout:
             self.said = [int(word) for word in line.split()]
 
-    def totals(self):
-        """Its own counts, once it has ended."""
+    def told(self):
+        """Its own counts, once it has ended, and the last value of its gauge."""
         if self.process.wait(SECONDS) != 0:
             raise RuntimeError(f"{self.name} has ended with status {self.process.returncode}: {self.own[:-5]}.log")
         with open(self.own, encoding="utf-8") as file:
-            return [{**one, "program": self.name} for one in json.load(file)]
+            told = json.load(file)
+        return [{**one, "program": self.name} for one in told["totals"]], told["gauge"]
 
     def close(self):
         end(self.process, signal.SIGKILL)

@@ -8,6 +8,7 @@ import time
 
 import scraped
 from parts import SECONDS, Database, Prometheus, Shop
+from receiver import Receiver
 from service import Service, wait_until
 
 SHOPS = (("shop-1", "protobuf"), ("shop-2", "json"))
@@ -38,7 +39,9 @@ class Play:
         self.prometheus = None
         self.sender = sender
         self.database = Database()
-        self.service = Service(totxegun, f"{folder}/data", self.database.address, "--flush-every", "1s")
+        self.receiver = Receiver()
+        self.service = Service(totxegun, f"{folder}/data", self.database.address, "--flush-every", "1s",
+                               "--pass", f"http://127.0.0.1:{self.receiver.port}")
 
     def begin(self):
         self.database.start()
@@ -114,13 +117,19 @@ class Play:
 
     def rows(self):
         """Each series: program, name, what the program, the database and Prometheus have, and how far these differ."""
-        counted = {key(one): values(one) for shop in self.shops for one in shop.totals()}
+        counted = {key(one): values(one) for shop in self.shops for one in shop.told()[0]}
         found = {key(one): values(one) for one in self.database.totals()}
         wait_until(lambda: scraped.last(self.prometheus, found) == found, 20)
         shown = scraped.last(self.prometheus, found)
         all_keys = sorted(counted.keys() | found.keys())
         return [(*one, counted.get(one), found.get(one), shown.get(one),
                  differ(counted.get(one), found.get(one)) + differ(found.get(one), shown.get(one))) for one in all_keys]
+
+    def gauges(self):
+        """Of each program the last value of its gauge, and what the other receiver has."""
+        told = [(shop.name, shop.told()[1]) for shop in self.shops]
+        wait_until(lambda: all(self.receiver.value(name) == value for name, value in told), 10)
+        return [(name, value, self.receiver.value(name)) for name, value in told]
 
     def write_samples(self, path):
         told = {"seed": self.seed, "seconds": self.seconds, "programs": [f"{name}, {encoding}" for name, encoding in SHOPS],
@@ -135,6 +144,7 @@ class Play:
             self.prometheus.close()
         self.service.end()
         self.database.close()
+        self.receiver.close()
 
 
 def key(one):

@@ -4,10 +4,11 @@
     demo/run.py [SEED] [SECONDS]
 
 It needs what `tools/needs demo` installs, builds what is missing, and then runs for SECONDS (60): two programs that are
-measured by OpenTelemetry's SDK, one posting in protobuf and one in JSON; totxegun; PostgreSQL in a folder of its own;
-Prometheus. It kills totxegun and PostgreSQL, by the chances of SEED (1). At the end it prints what
-the programs have counted by themselves beside what PostgreSQL and Prometheus have, by series, and draws a picture of the
-run. The status is 0 where nothing differs. All files are in out/demo.
+measured by OpenTelemetry's SDK as it is by default, one posting in protobuf and one in JSON; totxegun; PostgreSQL in a folder
+of its own; Prometheus with the alerts of operate/; and a receiver of the gauges. It kills totxegun and PostgreSQL, by the
+chances of SEED (1). At the end it prints what the programs have counted by themselves beside what PostgreSQL and Prometheus
+have, by series, and draws a picture of the run. The status is 0 where nothing differs and no alert fired. All files are in
+out/demo.
 """
 import os
 import signal
@@ -51,24 +52,29 @@ def shown(values):
 
 
 def report(play, rows):
-    """Prints the table and what it is of; returns by how much it differs."""
+    """Prints the table and what it is of; returns by how much it differs, and what else is wrong."""
     heads = ("program", "series", "counted", "in PostgreSQL", "in Prometheus", "difference")
-    lines = [heads] + [(program, f"{name} {' '.join(value for _, value in attributes)}", *map(shown, values), f"{apart:,}")
+    lines = [heads] + [(program, " ".join([name, *(value for _, value in attributes)]), *map(shown, values), f"{apart:,}")
                        for program, name, attributes, *values, apart in rows]
     widths = [max(len(line[place]) for line in lines) for place in range(len(heads))]
     for line in lines:
         cells = [cell.ljust(width) if place < 2 else cell.rjust(width) for place, (cell, width) in enumerate(zip(line, widths))]
         print("  ".join(cells).rstrip())
     difference = sum(row[-1] for row in rows)
-    posts, repeats, known = (sum(shop.said[place] for shop in play.shops) for place in range(3))
-    print(f"\n{posts:,} posts in {play.took:.0f} s; {repeats:,} attempts were made again, {known:,} posts had been taken although "
-          "their answer was lost")
+    posts, repeats, dropped = (sum(shop.said[place] for shop in play.shops) for place in range(3))
+    print(f"\n{posts:,} posts in {play.took:.0f} s; {repeats:,} attempts had no answer, {dropped:,} posts were given up: the next "
+          "one had what they said")
     count, wrong = torn(play.prometheus, play.database)
     print(f"{count} scrapes of /totals, of which {len(wrong)} are no state of the database")
+    lost = [f"{name} {own}, there {there}" for name, own, there in play.gauges() if own != there]
+    print(f"{play.receiver.points:,} points of gauges are at the other receiver; their last values "
+          + ("; ".join(["differ", *lost]) if lost else "are the programs'"))
+    fired = play.prometheus.alerts("firing")
+    print(f"alerts that fired: {', '.join(fired) or 'none'}")
     killed = [victim for _, victim in play.kills]
     print("kills: " + ", ".join(f"{killed.count(victim)} of {what}" for victim, what in SHOWN.items()))
     print(f"difference: {difference:,}, of {len(rows)} series; seed {play.seed}")
-    return difference + len(wrong)
+    return difference + len(wrong) + len(lost) + len(fired)
 
 
 def run(seed, seconds):

@@ -2,8 +2,10 @@
 import json
 
 # What Prometheus calls the programs' metrics, and what it calls the parts of a histogram.
-NAMES = {"shop.orders": "shop_orders_total", "shop.order.value": "shop_order_value", "shop.sent": "shop_sent_bytes_total"}
-HISTOGRAM = "shop.order.value"
+NAMES = {"shop.orders": "shop_orders_total", "shop.order.value": "shop_order_value", "shop.sent": "shop_sent_bytes_total",
+         "shop.request.duration": "shop_request_duration_microseconds", "shop.carts": "shop_carts",
+         "shop.visits": "shop_visits_total", "shop.stock": "shop_stock"}
+HISTOGRAMS = ("shop.order.value", "shop.request.duration")
 # Each point of each request, in the order in which they were taken: a request is one transaction.
 POINTS = """
 select coalesce(json_agg(json_build_array(span.xmin::text::bigint, name, resource->>'service.instance.id', attributes,
@@ -24,7 +26,7 @@ def last(prometheus, like):
     found = {}
     for program, name, attributes in like:
         of = lambda end, where=(program, attributes), name=name: samples.get((NAMES[name] + end, *where), {})
-        if name == HISTOGRAM:
+        if name in HISTOGRAMS:
             below = [count for _, count in sorted(of("_bucket").items())]
             buckets = tuple(more - less for less, more in zip([0, *below], below))
             found[program, name, attributes] = only(of("_sum")), only(of("_count")), buckets
@@ -46,7 +48,7 @@ def states(database):
             found.append(totals)
             totals = dict(totals)
         where = program, tuple(sorted(attributes.items()))
-        parts = {"_sum": total, "_count": count} if name == HISTOGRAM else {"": total}
+        parts = {"_sum": total, "_count": count} if name in HISTOGRAMS else {"": total}
         for end, value in parts.items():
             key = (NAMES[name] + end, *where)
             totals[key] = totals.get(key, 0) + int(value)

@@ -3,8 +3,9 @@
 
     tests/demo.py TOTXEGUN [SECONDS] [SEED]
 
-At the end the programs' own counts, the database's and Prometheus' are the same, by series and bucket, and the picture of
-the run is drawn. What is missing is said, and left out with status 77.
+The programs have each kind of instrument, and nothing is set but where they post: so their points are cumulative. At the end
+their own counts, the database's and Prometheus' are the same, by series and bucket; their gauges are at the other receiver; no
+alert of operate/ has fired; and the picture of the run is drawn. What is missing is said, and left out with status 77.
 
 Each line is one check; the last line counts those that passed and failed, and the status is 0 where none failed.
 """
@@ -27,6 +28,10 @@ from scraped import torn  # noqa: E402
 from service import ask  # noqa: E402
 
 SECONDS = 25
+SERIES = 30
+BASE_UNIT = b'use base unit "seconds" instead of "microseconds"'
+# A kill may show in these alone, where it lasts.
+OF_KILLS = {"TotxegunDown", "TotxegunPostsTurnedAway"}
 GO_PACKAGES = {"golang-opentelemetry-otel-dev": "go.opentelemetry.io/otel/sdk/metric",
                "golang-google-protobuf-dev": "google.golang.org/protobuf/encoding/protowire"}
 
@@ -45,20 +50,34 @@ def look(checks, play, folder):
     checks.true("something was killed", killed, play.kills)
     print(f"note: {[shop.said for shop in play.shops]}, killed {', '.join(sorted(killed))} of {', '.join(VICTIMS)}", flush=True)
     differ = [row for row in rows if row[-1]]
-    checks.same("the programs, PostgreSQL and Prometheus have the same series, 18 of them", 18, len(rows))
+    checks.same(f"the programs, PostgreSQL and Prometheus have the same series, {SERIES} of them", SERIES, len(rows))
     checks.same("they have the same in each series", [], differ[:3])
+    look_at_others(checks, play)
     count, wrong = torn(play.prometheus, play.database)
     checks.true("Prometheus scraped the totals", count >= 5, count)
     checks.same("each scrape is a state of the database", [], wrong[:1])
     for path in ("/metrics", "/totals"):
         status, page = ask(play.service.operate, "GET", path)
         told = subprocess.run(["promtool", "check", "metrics"], input=page, capture_output=True, check=False)
-        checks.same(f"promtool says nothing of {path}", (200, 0, b"", b""), (status, told.returncode, told.stdout, told.stderr))
+        lines = [line for line in (told.stdout + told.stderr).splitlines() if not line.endswith(BASE_UNIT)]
+        checks.same(f"promtool says nothing of {path} but to count in base units", (200, []), (status, lines))
     checks.same("the service found nothing that must not be", [], play.service.faults())
     play.write_samples(f"{folder}/samples.json")
     draw(f"{folder}/samples.json", f"{folder}/picture.svg")
     drawn = xml.dom.minidom.parse(f"{folder}/picture.svg").getElementsByTagName("path")
     checks.true("the picture is drawn", len(drawn) >= 5, len(drawn))
+
+
+def look_at_others(checks, play):
+    gauges = play.gauges()
+    checks.same("the last values of the gauges are at the other receiver", [own for _, own, _ in gauges], [there for *_, there in gauges])
+    checks.true("it has most of them", play.receiver.points > sum(shop.said[0] for shop in play.shops) // 2, play.receiver.points)
+    checks.same("it has nothing else", [], play.receiver.others[:3])
+    checks.same("no alert fired", [], play.prometheus.alerts("firing"))
+    checks.same("none but those of kills is about to", [], sorted({*play.prometheus.alerts("pending")} - OF_KILLS))
+    page = play.service.asked("GET", "/metrics")[1].decode()
+    foreign = [line for line in page.splitlines() if line.startswith("totxegun_foreign_points_total{") and not line.endswith(" 0")]
+    checks.same("no point was left out", [], foreign)
 
 
 def main(program, seconds=SECONDS, seed=1):

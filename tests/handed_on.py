@@ -6,12 +6,15 @@ it, and what is not added up is handed on to another receiver.
 
 First the units: sums and histograms of doubles, in both encodings, over kills and flushes. The sink has what this program
 added up by its own exact numbers, each metric in the one unit that it was first taken in, also where whole numbers came
-first, and where an earlier run was told `--whole off`. Then `--pass`: a receiver gets the gauges of each post as they came,
-byte for byte and each once, by way of a second service too; no answer rejects them, no metric calls them foreign, and
-neither a receiver that stalls nor one that is gone holds up a post.
+first, and where an earlier run was told `--whole off`. Then exponential histograms of drawn values, delta and cumulative, at
+several scales: the sink has each value in that bucket of `--exponential` in which it is. Then `--pass`: a receiver gets the
+gauges of each post as they came, byte for byte and each once, by way of a second service too; no answer rejects them, no
+metric calls them foreign, and neither a receiver that stalls nor one that is gone holds up a post.
 
 Each line is one check; the last one counts those that passed and failed, and the status is 1 where one failed.
 """
+import bisect
+import collections
 import contextlib
 import decimal
 import http.server
@@ -27,7 +30,7 @@ import time
 
 from checks import Checks
 from loopback import free_port
-from service import JSON, PROTOBUF, Service, ask, field, fixed, wait_until
+from service import JSON, PROTOBUF, Service, ask, field, fixed, varint, wait_until
 
 DELTA, CUMULATIVE = 1, 2
 BOUNDS = [0.005, 0.25, 5]
@@ -189,6 +192,105 @@ def kept_units(checks, totxegun, folder):
         service.kill()
 
 
+# --------------------------------------------------------------------------------------------------------------------
+# Exponential histograms: values are whole microseconds, and sent in seconds
+
+# In seconds. Each is a power of four, and so an edge also where the base is that.
+EXPONENTIAL = [0.25, 1, 4, 16, 1024]
+COARSEST = -1
+
+
+def index_of(value, scale):
+    """The bucket of a value over zero: over base^index, up to base^(index + 1). Both sides are raised, so that all is whole."""
+    if scale < 0:
+        return index_of(value, 0) >> -scale
+    value, unit = value ** 2**scale, (10**6) ** 2**scale
+    index = value.bit_length() - unit.bit_length() - 2
+    while value * 2 ** max(0, -index - 1) > unit * 2 ** max(0, index + 1):
+        index += 1
+    return index
+
+
+def buckets_of(values, scale):
+    """Where the buckets begin, and their counts."""
+    counts = collections.Counter(index_of(value, scale) for value in values if value)
+    first = min(counts, default=0)
+    return first, [counts[index] for index in range(first, max(counts, default=first - 1) + 1)]
+
+
+def exponential_in_json(name, values, scale, start, end, temporality):
+    first, counts = buckets_of(values, scale)
+    point = {"startTimeUnixNano": str(start), "timeUnixNano": str(end), "count": str(len(values)), "sum": sum(values) / 1e6,
+             "scale": scale, "zeroCount": str(values.count(0)), "positive": {"offset": first, "bucketCounts": list(map(str, counts))}}
+    data = {"aggregationTemporality": temporality, "dataPoints": [point]}
+    return {"name": name, "unit": "s", "exponentialHistogram": data}
+
+
+def signed(number):
+    return number * 2 if number >= 0 else -number * 2 - 1
+
+
+def exponential_in_protobuf(name, values, scale, start, end, temporality):
+    first, counts = buckets_of(values, scale)
+    point = fixed(2, "<Q", start) + fixed(3, "<Q", end) + fixed(4, "<Q", len(values)) + fixed(5, "<d", sum(values) / 1e6)
+    point += field(6, signed(scale)) + fixed(7, "<Q", values.count(0))
+    point += field(8, field(1, signed(first)) + field(2, b"".join(map(varint, counts))))
+    return field(1, name.encode()) + field(3, b"s") + field(10, field(1, point) + field(2, temporality))
+
+
+def post_exponential(service, encoding, *points):
+    if encoding == JSON:
+        body = {"resourceMetrics": [{"scopeMetrics": [{"metrics": [exponential_in_json(*one) for one in points]}]}]}
+        body = json.dumps(body).encode()
+    else:
+        body = field(1, field(2, b"".join(field(2, exponential_in_protobuf(*one)) for one in points)))
+    return ask(service.listen, "POST", "/v1/metrics", body, {"Content-Type": encoding})
+
+
+def drawn_values(chance):
+    """Some of them are on bounds, or beside."""
+    drawn = [int(chance.lognormvariate(0, 3) * 1e6) for _ in range(chance.randrange(9))]
+    return [*drawn, chance.choice([0, 10**6 // 4, 10**6, 10**6 + 1, 4 * 10**6, 4 * 10**6 - 1])]
+
+
+def exponential(checks, totxegun, chance, folder):
+    sink, begin = f"{folder}/exponential.db", 1000
+    service = Service(totxegun, f"{folder}/exponential", f"sqlite:{sink}", "--flush-every", "1h", "--first", "count",
+                      "--exponential", ",".join(map(str, EXPONENTIAL)))
+    try:
+        service.start()
+        checks.true("the service is ready", service.wait_ready(), service.last_lines())
+        all_, wrong, last = [], [], begin
+        for number in range(POSTS):
+            drawn, now = drawn_values(chance), last + 10
+            all_ += drawn
+            scales = [chance.randrange(COARSEST, 5) for _ in range(2)]
+            answer = post_exponential(service, JSON if number % 2 else PROTOBUF, ("delta", drawn, scales[0], last, now, DELTA),
+                                      ("cumulative", all_, scales[1], begin, now, CUMULATIVE))
+            wrong += [answer] if answer not in ((200, b""), (200, b"{}")) else []
+            last = now
+            if number % 10 == 4:
+                again(checks, service)
+            if number % 20 == 9:
+                service.order("/flush")
+        checks.same("exponential histograms are taken", [], wrong[:2])
+        for encoding in (JSON, PROTOBUF):
+            status, answer = post_exponential(service, encoding, ("delta", [2 * 10**6], COARSEST - 1, last, last + 10, DELTA))
+            named = b"of the exponential histogram `delta` the bucket 0 of scale -2 has the bound 4 within" in answer
+            checks.true("one that has a bound within is foreign by name", status == 200 and named, answer)
+        flushed(checks, service, "exponential histograms")
+        counts = [0] * (len(EXPONENTIAL) + 1)
+        for value in all_:
+            counts[bisect.bisect_left(EXPONENTIAL, value / 1e6)] += 1
+        with contextlib.closing(sqlite3.connect(sink)) as database:
+            rows = database.execute("select name, unit, total, buckets from totals order by name").fetchall()
+        found = [(name, unit, int(total), [int(count) for count in json.loads(buckets)]) for name, unit, total, buckets in rows]
+        checks.same("each value is in its bucket", [(name, "us", sum(all_), counts) for name in ("cumulative", "delta")], found)
+        checks.same("the service found nothing that must not be", [], service.faults())
+    finally:
+        service.kill()
+
+
 class Receiver:
     """Takes what comes, or stalls."""
 
@@ -306,6 +408,7 @@ def main(totxegun, seed="1"):
     with tempfile.TemporaryDirectory(prefix="handed-on-") as folder:
         units(checks, totxegun, chance, folder)
         kept_units(checks, totxegun, folder)
+        exponential(checks, totxegun, chance, folder)
         hands_on(checks, totxegun, chance, folder)
     return checks.end()
 

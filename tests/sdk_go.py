@@ -8,13 +8,16 @@ call gRPC by its own client for Go. Half of them have whole numbers and the defa
 in seconds, as the conventions have them, which the service takes in microseconds; these name no sender, and the service finds
 it in their resource. Half of each are cumulative, as the SDK is by default, and half delta. Each has counters that are asked,
 up and down too, and a gauge, which goes to another receiver, as does a counter of doubles in euros. A batch is sent again as
-the specification says. Each program ends, and begins anew; meanwhile the service is killed for so many seconds (8). At the end
-the sink has, by program, series and bucket, what the programs counted, and no point was rejected.
+the specification says. Each program ends or is killed, and begins anew; meanwhile the service is killed for so many seconds (8),
+and the database where it is PostgreSQL. At the end the sink has, by program, series and bucket, what the programs counted, of
+one that was killed what it was answered, or that with the batch that was under way; and no point was rejected. All of it goes
+into a SQLite file first, and then into PostgreSQL, where that is there.
 
 The exporter is in tests/sdk_go: Debian's package of the SDK has none. It needs golang-go, golang-opentelemetry-otel-dev,
 golang-google-grpc-dev and python3-protobuf; where one is missing a line says so, and the status is 77. Each other line is
 one check; the last one counts those that passed and failed, and the status is 1 where one failed.
 """
+import contextlib
 import glob
 import json
 import os
@@ -32,6 +35,10 @@ from loopback import free_port
 from service import Service, wait_until
 
 HERE = os.path.dirname(os.path.abspath(__file__))
+sys.path.append(os.path.join(os.path.dirname(HERE), "demo"))
+
+from parts import Database, initdb  # noqa: E402
+
 CACHE = os.path.join(os.path.dirname(HERE), "out", "go")
 GOPATH = "/usr/share/gocode"
 PACKAGES = {"golang-opentelemetry-otel-dev": "go.opentelemetry.io/otel/sdk/metric",
@@ -42,8 +49,12 @@ DELTA, CUMULATIVE = 1, 2
 PROGRAMS = [(encoding, packed, in_seconds, temporality)
             for encoding, packed in (("json", False), ("protobuf", True), ("grpc", False)) for in_seconds in (False, True)
             for temporality in (DELTA, CUMULATIVE)]
-# How often each begins.
-ROUNDS = 2
+# What becomes of each program, round by round.
+ENDS, IS_KILLED = "ends", "is killed"
+ROUNDS = (ENDS, IS_KILLED, ENDS)
+TOTALS = """
+select coalesce(json_agg(json_build_array(name, unit, attributes, total, buckets)), '[]') from totxegun.totals
+where resource->>'service.instance.id' = '{}'"""
 # What a sender may be answered while the service is killed.
 EXPECTED = ("200", "503", "no answer", "no whole answer", "OK", "Unavailable", "Unavailable with RetryInfo", "Canceled",
             "DeadlineExceeded")
@@ -71,19 +82,68 @@ def start(program, folder, service, grpc, number, round_, seconds):
     words = [program, "-encoding", encoding, "-url", f"http://127.0.0.1:{service.listen}/v1/metrics",
              "-grpc", f"127.0.0.1:{grpc}", "-instance", f"i-{number}", "-seconds", str(seconds),
              "-descriptors", f"{folder}/descriptors", "-out", f"{folder}/{number}-{round_}.json",
-             "-temporality", str(temporality)]
+             "-temporality", str(temporality), "-tally", f"{folder}/{number}-{round_}.tally"]
     words += ["-gzip"] if packed else []
     words += ["-in-seconds"] if in_seconds else ["-sender", f"shop-{number}"]
     with open(f"{folder}/{number}.log", "ab") as log:
         return subprocess.Popen(words, stdin=subprocess.DEVNULL, stdout=log, stderr=log)
 
 
-def trouble(service, seconds):
+class File:
+    """A SQLite file as the sink."""
+
+    name = "SQLite"
+
+    def __init__(self, folder):
+        self.path = f"{folder}/sink.db"
+        self.address = f"sqlite:{self.path}"
+
+    def rows(self, instance):
+        """Of a program each series: name, unit, attributes, total and buckets."""
+        query = "select name, unit, attributes, total, buckets from totals where resource like ?"
+        with contextlib.closing(sqlite3.connect(f"file:{self.path}?mode=ro", uri=True)) as database:
+            rows = database.execute(query, (f'%"{instance}"%',)).fetchall()
+        return [(name, unit, json.loads(attributes), total, counts and json.loads(counts))
+                for name, unit, attributes, total, counts in rows]
+
+    def kill(self):
+        """It has no process."""
+
+    def close(self):
+        """As above."""
+
+
+class Postgres:
+    """A PostgreSQL of its own."""
+
+    name = "PostgreSQL"
+
+    def __init__(self, _):
+        self.database = Database()
+        self.address = self.database.address
+        self.database.start()
+        self.database.wait_ready()
+
+    def rows(self, instance):
+        return json.loads(self.database.ask(TOTALS.format(instance)))
+
+    def kill(self):
+        self.database.crash()
+        time.sleep(0.1)
+        self.database.start()
+
+    def close(self):
+        self.database.close()
+
+
+def trouble(service, sink, seconds):
     """Kills, of which every other one is soon after a start."""
     until, kills = time.monotonic() + seconds, 0
     while time.monotonic() < until:
         time.sleep(0.1 if kills % 2 else 0.7)
         service.kill()
+        if kills % 3 == 1:
+            sink.kill()
         time.sleep(0.2)
         service.start()
         kills += 1
@@ -91,57 +151,66 @@ def trouble(service, seconds):
     return kills
 
 
+def add(all_, told):
+    for key, count in told["totals"].items():
+        all_["totals"][key] = all_["totals"].get(key, 0) + count
+    for key, counts in told["buckets"].items():
+        before = all_["buckets"].get(key, [0] * len(counts))
+        all_["buckets"][key] = [one + other for one, other in zip(before, counts)]
+
+
 def told_of(folder, number):
-    """What a program counted, and was answered, in all rounds."""
-    all_ = {"totals": {}, "buckets": {}, "answers": {}, "rejected": 0, "gave_up": 0}
-    for round_ in range(ROUNDS):
-        with open(f"{folder}/{number}-{round_}.json", encoding="utf-8") as file:
+    """What a program counted in all rounds, in each way that may be; and what it was answered."""
+    ways = [{"totals": {}, "buckets": {}} for _ in range(2)]
+    answers = {"answers": {}, "rejected": 0, "gave_up": 0}
+    for round_, end in enumerate(ROUNDS):
+        with open(f"{folder}/{number}-{round_}.{'json' if end == ENDS else 'tally'}", encoding="utf-8") as file:
             told = json.load(file)
-        for name in ("totals", "answers"):
-            for key, count in told[name].items():
-                all_[name][key] = all_[name].get(key, 0) + count
-        for key, counts in told["buckets"].items():
-            before = all_["buckets"].get(key, [0] * len(counts))
-            all_["buckets"][key] = [one + other for one, other in zip(before, counts)]
-        for name in ("rejected", "gave_up"):
-            all_[name] += told[name]
-    return all_
+        for way, of_way in zip(ways, ("Answered", "Sending")):
+            add(way, told if end == ENDS else told[of_way])
+        if end == ENDS:
+            for key, count in told["answers"].items():
+                answers["answers"][key] = answers["answers"].get(key, 0) + count
+            for name in ("rejected", "gave_up"):
+                answers[name] += told[name]
+    return ways, answers
 
 
 def found_of(sink, number):
-    """What the sink has of a program: totals and buckets, by name and route."""
-    database = sqlite3.connect(f"file:{sink}?mode=ro", uri=True)
-    rows = database.execute("select name, unit, attributes, total, buckets from totals where resource like ?",
-                            (f'%"i-{number}"%',)).fetchall()
-    database.close()
-    totals, buckets, units = {}, {}, set()
-    for name, unit, attributes, total, counts in rows:
-        key = f"{name} {json.loads(attributes)['http.route']}"
-        totals[key] = int(total)
+    """What the sink has of a program: totals and buckets, by name and route; and the units."""
+    found, units = {"totals": {}, "buckets": {}}, set()
+    for name, unit, attributes, total, counts in sink.rows(f"i-{number}"):
+        key = f"{name} {attributes['http.route']}"
+        found["totals"][key] = int(total)
         units.add((name, unit))
         if counts is not None:
-            buckets[key] = [int(count) for count in json.loads(counts)]
-    return totals, buckets, units
+            found["buckets"][key] = [int(count) for count in counts]
+    return found, units
 
 
-def compare(checks, what, sink, number, told):
-    totals, buckets, units = found_of(sink, number)
-    checks.true(f"{what}: there are totals", len(told["totals"]) > 10, told)
-    wrong = [f"{key}: counted {told['totals'].get(key)}, in the sink {totals.get(key)}"
-             for key in sorted(told["totals"].keys() | totals.keys()) if told["totals"].get(key) != totals.get(key)]
-    checks.same(f"{what}: the sink has its totals", [], wrong[:3])
-    checks.same(f"{what}: the sink has its buckets", told["buckets"], buckets)
+def difference(told, found):
+    """The first series that differ."""
+    told, found = ({(part, key): value for part, values in of.items() for key, value in values.items()} for of in (told, found))
+    wrong = [key for key in sorted(told.keys() | found.keys()) if told.get(key) != found.get(key)]
+    return [f"{key}: counted {told.get(key)}, in the sink {found.get(key)}" for key in wrong[:3]]
+
+
+def compare(checks, what, sink, number, folder):
+    (ways, answers), (found, units) = told_of(folder, number), found_of(sink, number)
+    checks.true(f"{what}: there are totals", len(found["totals"]) > 10, found["totals"])
+    wrong = [difference(way, found) for way in ways]
+    checks.true(f"{what}: the sink has its totals and buckets", [] in wrong, wrong)
     _, _, in_seconds, temporality = PROGRAMS[number]
     if in_seconds:
         wanted = {("http.server.request.duration", "us"), ("worker.busy", "us"), ("worker.ticks", "s")}
         checks.same(f"{what}: doubles are in the finer unit", wanted, {one for one in units if one[1]})
-    checks.same(f"{what}: nothing was rejected", 0, told["rejected"])
+    checks.same(f"{what}: nothing was rejected", 0, answers["rejected"])
     # A repeat of what is cumulative is no fault.
     may_be_late = temporality == DELTA
-    surprises = [answer for answer in told["answers"]
+    surprises = [answer for answer in answers["answers"]
                  if answer not in EXPECTED and not (may_be_late and "out of order" in answer)]
-    checks.same(f"{what}: no answer surprises", ([], 0), (surprises, told["gave_up"]))
-    print(f"note: {what}: {told['answers']}", flush=True)
+    checks.same(f"{what}: no answer surprises", ([], 0), (surprises, answers["gave_up"]))
+    print(f"note: {what}: {answers['answers']}", flush=True)
 
 
 def look_at_others(checks, receiver):
@@ -155,31 +224,36 @@ def look_at_others(checks, receiver):
     checks.same("it has nothing that is counted here", [], counted[:1])
 
 
-def run(checks, totxegun, seconds, folder):
-    program, fault = build(folder)
-    checks.same("the program is built", "", fault)
-    if fault:
-        return
-    sink, grpc, receiver = f"{folder}/sink.db", free_port(), Receiver()
-    service = Service(totxegun, f"{folder}/data", f"sqlite:{sink}", "--flush-every", "1s", "--listen-grpc",
+def rounds(checks, program, folder, service, grpc, sink, seconds):
+    """Has all programs work, and be killed or end; how often the service was killed."""
+    kills = 0
+    for round_, end in enumerate(ROUNDS):
+        programs = [start(program, folder, service, grpc, number, round_, seconds / len(ROUNDS) if end == ENDS else 600)
+                    for number in range(len(PROGRAMS))]
+        kills += trouble(service, sink, seconds / len(ROUNDS))
+        if end == IS_KILLED:
+            for one in programs:
+                one.kill()
+        statuses = [one.wait(120) for one in programs]
+        checks.same(f"each program {end}", {0 if end == ENDS else -9}, set(statuses))
+    return kills
+
+
+def run(checks, totxegun, seconds, folder, program, sink):
+    grpc, receiver = free_port(), Receiver()
+    service = Service(totxegun, f"{folder}/data", sink.address, "--flush-every", "1s", "--listen-grpc",
                       f"127.0.0.1:{grpc}", "--sender-from", "service.instance.id", "--log-foreign", "2",
                       "--pass", f"http://127.0.0.1:{receiver.port}")
     try:
         service.start()
         checks.true("the service is ready", service.wait_ready(), service.last_lines())
-        kills = 0
-        for round_ in range(ROUNDS):
-            programs = [start(program, folder, service, grpc, number, round_, seconds / ROUNDS)
-                        for number in range(len(PROGRAMS))]
-            kills += trouble(service, seconds / ROUNDS)
-            statuses = [one.wait(120) for one in programs]
-            checks.same("the programs end", [0] * len(PROGRAMS), statuses)
+        kills = rounds(checks, program, folder, service, grpc, sink, seconds)
         service.order("/flush")
-        checks.true(f"all is delivered after {kills} kills", wait_until(service.is_drained), service.last_lines())
+        checks.true(f"{sink.name}: all is delivered after {kills} kills", wait_until(service.is_drained), service.last_lines())
         for number, (encoding, packed, in_seconds, temporality) in enumerate(PROGRAMS):
-            what = f"{encoding}{', gzip' if packed else ''}, {'seconds' if in_seconds else 'whole numbers'}"
+            what = f"{sink.name}, {encoding}{', gzip' if packed else ''}, {'seconds' if in_seconds else 'whole numbers'}"
             what += f", {'delta' if temporality == DELTA else 'cumulative'}"
-            compare(checks, what, sink, number, told_of(folder, number))
+            compare(checks, what, sink, number, folder)
         # They are counted since the last start.
         rounded = service.status()["rounded"]
         checks.true("sums of doubles were rounded by next to nothing",
@@ -194,13 +268,21 @@ def run(checks, totxegun, seconds, folder):
     finally:
         service.kill()
         receiver.close()
+        sink.close()
 
 
 def main(totxegun, seconds=SECONDS):
     checks = Checks()
     if checks.has("the SDK for Go", *missing()):
         with tempfile.TemporaryDirectory(prefix="sdk-") as folder:
-            run(checks, totxegun, float(seconds), folder)
+            program, fault = build(folder)
+            checks.same("the program is built", "", fault)
+            for kind in [File, Postgres] if initdb() else [File]:
+                place = f"{folder}/{kind.name}"
+                os.makedirs(place)
+                shutil.copy(f"{folder}/descriptors", place)
+                if not fault:
+                    run(checks, totxegun, float(seconds), place, program, kind(place))
     return checks.end()
 
 

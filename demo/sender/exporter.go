@@ -1,12 +1,13 @@
-// The exporter: what the SDK has collected, as one request of OTLP/HTTP, posted until it is answered. Debian has the SDK
-// without one, so this is written by OpenTelemetry's specification: delta temporality, and a request is sent again, as it
-// was and before any later one, where the specification says so.
+// The exporter: what the SDK has collected, as one request of OTLP/HTTP. Debian has the SDK without one, so this is written by
+// OpenTelemetry's specification: the temporality is its default, cumulative, and a request is sent again where it says so. After
+// some attempts it is dropped: the next one has what it said.
 package main
 
 import (
 	"bytes"
 	"fmt"
 	"io"
+	"math"
 	"net/http"
 	"strings"
 	"time"
@@ -19,20 +20,22 @@ import (
 )
 
 const (
-	firstWait = 50 * time.Millisecond
-	lastWait  = 800 * time.Millisecond
+	firstWait    = 50 * time.Millisecond
+	lastWait     = 800 * time.Millisecond
+	mostAttempts = 4
+	forEver      = math.MaxInt
 )
 
 type exporter struct {
-	url, sender, kind string
-	encode            func(*request) ([]byte, error)
-	client            http.Client
-	// Answered posts, attempts that were not, and posts that were taken although their answer was lost.
-	posts, repeats, known int
+	url, kind string
+	encode    func(*request) ([]byte, error)
+	client    http.Client
+	// Answered posts, attempts that were not, and posts that were given up.
+	posts, repeats, dropped int
 }
 
-func newExporter(url, sender, encoding string) *exporter {
-	e := &exporter{url: url, sender: sender, kind: "application/json", encode: inJSON}
+func newExporter(url, encoding string) *exporter {
+	e := &exporter{url: url, kind: "application/json", encode: inJSON}
 	if encoding == "protobuf" {
 		e.kind, e.encode = "application/x-protobuf", inProtobuf
 	}
@@ -41,10 +44,10 @@ func newExporter(url, sender, encoding string) *exporter {
 }
 
 func (e *exporter) TemporalityFor(*sdkapi.Descriptor, aggregation.Kind) aggregation.Temporality {
-	return aggregation.DeltaTemporality
+	return aggregation.CumulativeTemporality
 }
 
-func (e *exporter) post(of *resource.Resource, reader export.InstrumentationLibraryReader) error {
+func (e *exporter) post(of *resource.Resource, reader export.InstrumentationLibraryReader, most int) error {
 	r := &request{resource: of.Attributes()}
 	err := reader.ForEach(func(library instrumentation.Library, records export.Reader) error {
 		r.scope, r.version = library.Name, library.Version
@@ -57,13 +60,13 @@ func (e *exporter) post(of *resource.Resource, reader export.InstrumentationLibr
 	if err != nil {
 		return err
 	}
-	return e.deliver(body)
+	return e.deliver(body, most)
 }
 
-// Returns once the batch is answered for good. The SDK goes on adding up meanwhile.
-func (e *exporter) deliver(body []byte) error {
+// Returns once the batch is answered for good, or given up. The SDK goes on adding up meanwhile.
+func (e *exporter) deliver(body []byte, most int) error {
 	wait := firstWait
-	for attempt := 0; ; attempt++ {
+	for attempt := 0; attempt < most; attempt++ {
 		status, text, err := e.attempt(body)
 		switch {
 		case err != nil || status == 429 || (status >= 502 && status <= 504):
@@ -75,25 +78,16 @@ func (e *exporter) deliver(body []byte) error {
 		case status == 200 && !strings.Contains(text, "rejectedDataPoints") && (e.kind == "application/json" || text == ""):
 			e.posts++
 			return nil
-		case status == 400 && attempt > 0 && strings.Contains(text, "out of order"):
-			// It was taken, and the answer was lost. An SDK drops the batch here, and it is counted all the same.
-			e.posts++
-			e.known++
-			return nil
 		default:
 			return fmt.Errorf("a post was answered %d %q", status, text)
 		}
 	}
+	e.dropped++
+	return nil
 }
 
 func (e *exporter) attempt(body []byte) (int, string, error) {
-	request, err := http.NewRequest("POST", e.url, bytes.NewReader(body))
-	if err != nil {
-		return 0, "", err
-	}
-	request.Header.Set("Content-Type", e.kind)
-	request.Header.Set("x-sender", e.sender)
-	answer, err := e.client.Do(request)
+	answer, err := e.client.Post(e.url, e.kind, bytes.NewReader(body))
 	if err != nil {
 		return 0, "", err
 	}

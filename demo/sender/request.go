@@ -8,12 +8,13 @@ import (
 	"time"
 
 	"go.opentelemetry.io/otel/attribute"
+	"go.opentelemetry.io/otel/metric/sdkapi"
 	export "go.opentelemetry.io/otel/sdk/export/metric"
 	"go.opentelemetry.io/otel/sdk/export/metric/aggregation"
 	"google.golang.org/protobuf/encoding/protowire"
 )
 
-const delta = 1
+const cumulative = 2
 
 type request struct {
 	resource       []attribute.KeyValue
@@ -21,37 +22,49 @@ type request struct {
 	metrics        []metricOf
 }
 
-// A metric with one point: a monotonic sum, or a histogram where it has buckets.
+// A metric with one point: a sum, a gauge, or a histogram where it has buckets.
 type metricOf struct {
-	name, unit string
-	attributes []attribute.KeyValue
-	start, end time.Time
-	sum        int64
-	count      uint64
-	buckets    []uint64
-	bounds     []float64
+	name, unit           string
+	isGauge, isMonotonic bool
+	attributes           []attribute.KeyValue
+	start, end           time.Time
+	value                int64
+	sum                  float64
+	count                uint64
+	buckets              []uint64
+	bounds               []float64
 }
 
 func (r *request) add(record export.Record) error {
-	of, at := record.Descriptor(), record.Aggregation()
+	of := record.Descriptor()
 	m := metricOf{name: of.Name(), unit: string(of.Unit()), attributes: record.Labels().ToSlice(),
-		start: record.StartTime(), end: record.EndTime()}
-	sum, err := at.(aggregation.Sum).Sum()
-	if err != nil {
+		start: record.StartTime(), end: record.EndTime(), isMonotonic: of.InstrumentKind().Monotonic()}
+	if err := m.read(record.Aggregation(), of); err != nil {
 		return err
 	}
-	m.sum = sum.CoerceToInt64(of.NumberKind())
-	if h, ok := at.(aggregation.Histogram); ok {
-		buckets, err := h.Histogram()
+	r.metrics = append(r.metrics, m)
+	return nil
+}
+
+func (m *metricOf) read(from aggregation.Aggregation, of *sdkapi.Descriptor) (err error) {
+	switch a := from.(type) {
+	case aggregation.Histogram:
+		buckets, err := a.Histogram()
 		if err != nil {
 			return err
 		}
-		if m.count, err = h.Count(); err != nil {
-			return err
-		}
-		m.buckets, m.bounds = buckets.Counts, buckets.Boundaries
+		sum, _ := a.Sum() // where there are buckets there are both
+		m.count, _ = a.Count()
+		m.sum, m.buckets, m.bounds = sum.CoerceToFloat64(of.NumberKind()), buckets.Counts, buckets.Boundaries
+	case aggregation.LastValue:
+		value, _, err := a.LastValue()
+		m.isGauge, m.value = true, value.AsInt64()
+		return err
+	case aggregation.Sum:
+		value, err := a.Sum()
+		m.value = value.AsInt64()
+		return err
 	}
-	r.metrics = append(r.metrics, m)
 	return nil
 }
 
@@ -62,25 +75,32 @@ func inJSON(r *request) ([]byte, error) {
 	for _, m := range r.metrics {
 		point := object{"attributes": listInJSON(m.attributes), "startTimeUnixNano": strconv.FormatInt(m.start.UnixNano(), 10),
 			"timeUnixNano": strconv.FormatInt(m.end.UnixNano(), 10)}
-		data := object{"aggregationTemporality": delta, "dataPoints": []object{point}}
-		kind := "sum"
-		if m.buckets == nil {
-			point["asInt"] = strconv.FormatInt(m.sum, 10)
-			data["isMonotonic"] = true
-		} else {
-			kind = "histogram"
-			point["count"], point["sum"] = strconv.FormatUint(m.count, 10), m.sum
-			counts := []string{}
-			for _, count := range m.buckets {
-				counts = append(counts, strconv.FormatUint(count, 10))
-			}
-			point["bucketCounts"], point["explicitBounds"] = counts, m.bounds
-		}
+		kind, data := m.dataInJSON(point)
 		metrics = append(metrics, object{"name": m.name, "unit": m.unit, kind: data})
 	}
 	scope := object{"scope": object{"name": r.scope, "version": r.version}, "metrics": metrics}
 	resource := object{"resource": object{"attributes": listInJSON(r.resource)}, "scopeMetrics": []object{scope}}
 	return json.Marshal(object{"resourceMetrics": []object{resource}})
+}
+
+func (m *metricOf) dataInJSON(point object) (string, object) {
+	data := object{"dataPoints": []object{point}}
+	if m.buckets == nil {
+		point["asInt"] = strconv.FormatInt(m.value, 10)
+		if m.isGauge {
+			return "gauge", data
+		}
+		data["aggregationTemporality"], data["isMonotonic"] = cumulative, m.isMonotonic
+		return "sum", data
+	}
+	counts := []string{}
+	for _, count := range m.buckets {
+		counts = append(counts, strconv.FormatUint(count, 10))
+	}
+	point["count"], point["sum"] = strconv.FormatUint(m.count, 10), m.sum
+	point["bucketCounts"], point["explicitBounds"] = counts, m.bounds
+	data["aggregationTemporality"] = cumulative
+	return "histogram", data
 }
 
 func listInJSON(list []attribute.KeyValue) []object {
@@ -96,16 +116,25 @@ func inProtobuf(r *request) ([]byte, error) {
 	scope := part(nil, 1, part(text(nil, 1, r.scope), 2, []byte(r.version)))
 	for _, m := range r.metrics {
 		metric := text(text(nil, 1, m.name), 3, m.unit)
-		if m.buckets == nil {
-			point := fixed(m.span(list(nil, 7, m.attributes)), 6, uint64(m.sum))
-			metric = part(metric, 7, number(number(part(nil, 1, point), 2, delta), 3, 1))
-		} else {
-			metric = part(metric, 9, number(part(nil, 1, m.histogram()), 2, delta))
-		}
-		scope = part(scope, 2, metric)
+		scope = part(scope, 2, m.dataInProtobuf(metric))
 	}
 	resource := part(nil, 1, list(nil, 1, r.resource))
 	return part(nil, 1, part(resource, 2, scope)), nil
+}
+
+func (m *metricOf) dataInProtobuf(metric []byte) []byte {
+	if m.buckets != nil {
+		return part(metric, 9, number(part(nil, 1, m.histogram()), 2, cumulative))
+	}
+	point := part(nil, 1, fixed(m.span(list(nil, 7, m.attributes)), 6, uint64(m.value)))
+	if m.isGauge {
+		return part(metric, 5, point)
+	}
+	sum := number(point, 2, cumulative)
+	if m.isMonotonic {
+		sum = number(sum, 3, 1)
+	}
+	return part(metric, 7, sum)
 }
 
 func (m *metricOf) span(to []byte) []byte {
@@ -114,7 +143,7 @@ func (m *metricOf) span(to []byte) []byte {
 
 func (m *metricOf) histogram() []byte {
 	point := fixed(m.span(list(nil, 9, m.attributes)), 4, m.count)
-	point = fixed(point, 5, math.Float64bits(float64(m.sum)))
+	point = fixed(point, 5, math.Float64bits(m.sum))
 	var counts, limits []byte
 	for _, count := range m.buckets {
 		counts = protowire.AppendFixed64(counts, count)

@@ -91,6 +91,7 @@ fn help_names_each_command_and_option() {
         "whole",
         "pass",
         "cumulative",
+        "exponential",
         "first",
         "reset",
         "most-series",

@@ -44,6 +44,7 @@ type exporter struct {
 	answers              map[string]int
 	rejected             int64
 	gaveUp               int
+	tally                *tally
 }
 
 // open reads OTLP's messages, by which the library writes and reads both encodings.
@@ -124,8 +125,14 @@ func (e *exporter) Export(_ context.Context, res *resource.Resource, reader expo
 	if err != nil || len(scopes) == 0 {
 		return err
 	}
-	return e.send(object{"resourceMetrics": list{object{
-		"resource": object{"attributes": attributes(res.Attributes())}, "scopeMetrics": scopes}}})
+	if err := e.tally.begins(scopes, e.temporality); err != nil {
+		return err
+	}
+	if err := e.send(object{"resourceMetrics": list{object{
+		"resource": object{"attributes": attributes(res.Attributes())}, "scopeMetrics": scopes}}}); err != nil {
+		return err
+	}
+	return e.tally.isAnswered()
 }
 
 // point is one record: the field of its metric's data, what its points share, and the point.

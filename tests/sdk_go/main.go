@@ -72,11 +72,13 @@ func main() {
 	inSeconds := flag.Bool("in-seconds", false, "durations in seconds, and counters of doubles")
 	seconds := flag.Float64("seconds", 5, "how long")
 	descriptors := flag.String("descriptors", "", "OTLP's messages, as a FileDescriptorSet")
+	tally := flag.String("tally", "", "file for what was sent and answered so far")
 	out := flag.String("out", "", "file for the truth and the answers")
 	flag.Parse()
 	if err := e.open(*descriptors); err != nil {
 		log.Fatal(err)
 	}
+	e.tally = newTally(*tally)
 	otel.SetErrorHandler(otel.ErrorHandlerFunc(func(err error) { log.Print("otel: ", err) }))
 	res, err := resource.New(context.Background(), resource.WithTelemetrySDK(), resource.WithAttributes(
 		attribute.String("service.name", "shop"), attribute.String("service.instance.id", *instance),

@@ -288,6 +288,7 @@ mod tests {
             ("serve --data d --drop-attribute a,,b", "--drop-attribute"),
             ("serve --data d --whole s=h", "--whole"),
             ("serve --data d --whole s=0:us", "--whole"),
+            ("serve --data d --exponential 2,1", "--exponential"),
             ("serve --datum d", "--datum"),
             ("quarantine", "<NAME>"),
             ("quarantine a/b", "<NAME>"),

@@ -1,7 +1,7 @@
 //! Options that say how requests are read, for what takes posts and for what explains them.
 
 use super::values::{time_or_off, MayBeOff};
-use crate::otlp::{Choice, Clock, Cumulative, Reading, Whole, INSTANCE};
+use crate::otlp::{Bounds, Choice, Clock, Cumulative, Reading, Whole, INSTANCE};
 use anyhow::{anyhow, bail};
 use clap::builder::NonEmptyStringValueParser;
 use clap::Args;
@@ -42,6 +42,14 @@ pub(super) struct OfReading {
     /// Gives a resource that has no service.instance.id its sender's name as one, so that two processes that don't name themselves have series of their own
     #[arg(long, env = "TOTXEGUN_INSTANCE_FROM_SENDER")]
     instance_from_sender: bool,
+    /// Takes exponential histograms in buckets of these bounds, in their own unit: 1,2,4,8. Points with values in a bucket that has a bound within are not taken
+    #[arg(
+        long,
+        env = "TOTXEGUN_EXPONENTIAL",
+        value_name = "BOUNDS",
+        allow_hyphen_values = true
+    )]
+    exponential: Option<Bounds>,
 }
 
 impl OfReading {
@@ -63,6 +71,7 @@ impl OfReading {
             sender_from: self.sender_from,
             cumulative: self.cumulative,
             instance_from_sender: self.instance_from_sender,
+            exponential: self.exponential,
         };
         let profile = reading.profile();
         Ok(Reading {

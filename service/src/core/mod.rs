@@ -1,10 +1,12 @@
 //! The book: proved, linked in, and asked by calls. `book` is the wrapper over its library, the only file that calls what
 //! is not Rust, `refusal` what it says no by, `memory` what it may have, `names` has numbers for series, `rounds` when rounds are
-//! closed, `read` a post that was read, `stretch` which points are of one hour, `earlier` what is taken where a later one begins.
+//! closed, `read` a post that was read, `stretch` which points are of one hour, `earlier` what is taken where a later one begins,
+//! `beyond` where the series of a refused post end.
 //!
 //! A post is read by a reader, which needs no lock. All else is asked of the one `Book` under the lock of `Core`: so
 //! there is one order of all that changes it, and what is put into the journal under that lock has the same.
 
+mod beyond;
 #[allow(unsafe_code)]
 mod book;
 mod earlier;

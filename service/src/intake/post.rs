@@ -229,7 +229,10 @@ impl<'r> Reader<'r> {
     }
 
     fn written(&mut self, taker: &impl Taker, body: Bytes) -> Result<(Request, Rounded), Refusal> {
-        let room = || self.hold.set(self.most).map_err(Refusal::from);
+        let room = |more: usize| {
+            let both = self.most + WHILE_READ_JSON * more;
+            self.hold.set(both).map_err(Refusal::from)
+        };
         let Prepared {
             body,
             rounded,

@@ -1,7 +1,7 @@
 //! What a keeper does over files: in which order, while a disk is slow, over restarts, and where series are forgotten.
 
-mod cumulative;
 mod amend;
+mod cumulative;
 mod forget;
 mod moved;
 mod runs;

@@ -176,6 +176,7 @@ impl Cause {
             }
             What::BytesValue | What::MapValue | What::ListInList | What::LongList => Cause::Attribute,
             What::SeveralValues | What::WrongValue => Cause::Attribute,
+            What::NoView => Cause::ExponentialHistogram,
             What::NoStart | What::EmptySpan => Cause::Span,
             What::NotRecorded | What::NoNumber => Cause::NoValue,
             _ => Cause::Other,
@@ -254,7 +255,10 @@ impl Cause {
     /// What is to be done so that such points are taken, or are no more sent.
     pub fn to_do(self) -> &'static str {
         match self {
-            Cause::Gauge | Cause::Summary | Cause::ExponentialHistogram => {
+            Cause::ExponentialHistogram => {
+                "serve with --exponential and bounds that are edges of their buckets, as powers of two are; or send them elsewhere"
+            }
+            Cause::Gauge | Cause::Summary => {
                 "these are not added up: send them elsewhere, or name them by --expect-foreign"
             }
             Cause::CumulativeSum | Cause::CumulativeHistogram => "set the sender's temporality preference to delta",

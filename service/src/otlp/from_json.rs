@@ -7,7 +7,7 @@
 use super::json::{Document, Value};
 use super::number::{book_whole, is_plain, mapped_double, mapped_whole, whole_double, MAX_WHOLE_DOUBLE};
 use super::output::{Output, Written, CUMULATIVE, SHORT_LIST};
-use super::schema::{Kind, Message, KEY_VALUE, METRIC, REQUEST};
+use super::schema::{exponential_histogram, Kind, Message, KEY_VALUE, METRIC, REQUEST};
 use super::whole::changes;
 use super::{Reading, Refused};
 
@@ -138,10 +138,15 @@ impl Walk<'_, '_> {
 
     fn member(&mut self, of: &'static Message, name: &str, kind: Kind, value: Value<'_>) -> Result<(), Stop> {
         match kind {
-            Kind::Message(inner) => match value.members() {
-                Some(_) => self.message(inner, value),
-                None => Err(refused(of, format_args!("{name} is no object"))),
-            },
+            Kind::Message(inner) => self.container(of, name, inner, value),
+            Kind::Exponential => {
+                let inner = match &mut self.out {
+                    Some(out) => exponential_histogram(out.exponential()),
+                    None if self.reading.exponential.is_some() => return Err(Stop::Changed),
+                    None => exponential_histogram(self.reading),
+                };
+                self.container(of, name, inner, value)
+            }
             Kind::Messages(inner) => {
                 let sound = value
                     .elements()
@@ -155,6 +160,19 @@ impl Walk<'_, '_> {
             Kind::Parts(inner) => self.parts(inner, kind, value),
             Kind::ResourceAttributes => self.parts(&KEY_VALUE, kind, value),
             _ => self.leaf(kind, value),
+        }
+    }
+
+    fn container(
+        &mut self,
+        of: &'static Message,
+        name: &str,
+        inner: &'static Message,
+        value: Value<'_>,
+    ) -> Result<(), Stop> {
+        match value.members() {
+            Some(_) => self.message(inner, value),
+            None => Err(refused(of, format_args!("{name} is no object"))),
         }
     }
 
@@ -225,7 +243,7 @@ impl Walk<'_, '_> {
             ),
             Kind::Temporality => self.temporality(value)?,
             Kind::Whole(_) => self.whole(value)?,
-            Kind::Wholes => self.list(value, Self::whole)?,
+            Kind::Wholes | Kind::Numbers => self.list(value, Self::whole)?,
             Kind::Double => self.double(value)?,
             Kind::Doubles => self.list(value, Self::double)?,
             Kind::Fraction => self.fraction(value),

@@ -4,14 +4,16 @@
 //! its table. So the memory is that of the JSON, however many small messages the bytes are. `plain` writes at once what
 //! has the form that nearly all points and attributes have.
 
+mod lists;
 mod plain;
 mod time;
 
 use super::json::is_text;
 use super::output::{Output, Written};
-use super::schema::{Field, Kind, Message, Wire, EXEMPLAR, KEY_VALUE, REQUEST};
-use super::wire::{Fields, Malformed, Payload};
+use super::schema::{exponential_histogram, Field, Kind, Message, Wire, EXEMPLAR, KEY_VALUE, REQUEST};
+use super::wire::{numbers, Fields, Malformed, Payload};
 use super::{Reading, Refused};
+use lists::signed;
 use std::ops::Range;
 use time::Time;
 
@@ -124,7 +126,7 @@ fn bits_of(payload: Payload<'_>) -> u64 {
 
 fn is_payload_of(kind: Kind, payload: Payload<'_>) -> bool {
     match kind {
-        Kind::Bool | Kind::Temporality | Kind::Whole(Wire::Int64 | Wire::Uint32) => {
+        Kind::Bool | Kind::Temporality | Kind::Whole(Wire::Int64 | Wire::Uint32 | Wire::Sint32) => {
             matches!(payload, Payload::Varint(_))
         }
         Kind::Double | Kind::Fraction | Kind::Whole(Wire::Fixed64 | Wire::Sfixed64) => {
@@ -133,6 +135,10 @@ fn is_payload_of(kind: Kind, payload: Payload<'_>) -> bool {
         Kind::Wholes | Kind::Doubles => match payload {
             Payload::Bytes(packed) => packed.len() % 8 == 0,
             payload => matches!(payload, Payload::Fixed64(_)),
+        },
+        Kind::Numbers => match payload {
+            Payload::Bytes(packed) => numbers(packed).all(|number| number.is_ok()),
+            payload => matches!(payload, Payload::Varint(_)),
         },
         _ => matches!(payload, Payload::Bytes(_)),
     }
@@ -266,11 +272,17 @@ impl<'a, 'r> Writer<'a, 'r> {
             Kind::Temporality => self.out.temporality((found.bits() as i32).into()),
             Kind::Whole(Wire::Fixed64) => self.out.whole_number(found.bits()),
             Kind::Whole(Wire::Uint32) => self.out.whole_number(found.bits() as u32),
+            Kind::Whole(Wire::Sint32) => self.out.whole_number(signed(found.bits())),
             Kind::Whole(Wire::Int64 | Wire::Sfixed64) => self.out.whole_number(found.bits() as i64),
             Kind::Double | Kind::Fraction => self.out.double(f64::from_bits(found.bits())),
             Kind::Wholes => self.list(found, number, |out, bits| out.whole_number(bits)),
+            Kind::Numbers => self.numbers(found, number),
             Kind::Doubles => self.list(found, number, |out, bits| out.double(f64::from_bits(bits))),
             Kind::Bytes => self.out.push("\"\""),
+            Kind::Exponential => {
+                let inner = exponential_histogram(self.out.exponential());
+                self.single(inner, number, found, depth + 1)?;
+            }
             Kind::Foreign(inner) => {
                 let from = self.out.text.len();
                 self.single(inner, number, found, depth + 1)?;
@@ -314,27 +326,6 @@ impl<'a, 'r> Writer<'a, 'r> {
         let written = writer.message(of, &whole, depth);
         (self.out, self.may_copy) = (writer.out, writer.may_copy);
         written
-    }
-
-    /// A list of 8 bytes each, packed or not.
-    fn list(&mut self, found: Found<'a>, number: u8, each: impl Fn(&mut Output<'_>, u64)) {
-        self.out.text.push(b'[');
-        let inside = self.out.text.len();
-        for payload in found.all(number) {
-            let one;
-            let all = match payload {
-                Payload::Bytes(packed) => packed.as_chunks().0,
-                other => {
-                    one = [bits_of(other).to_le_bytes()];
-                    &one
-                }
-            };
-            for bits in all {
-                self.out.separate(inside);
-                each(&mut self.out, u64::from_le_bytes(*bits));
-            }
-        }
-        self.out.text.push(b']');
     }
 
     fn messages(

@@ -3,8 +3,9 @@
 //! `prepare` writes a request of either encoding as the book reads it: `from_protobuf` and `from_json` go
 //! by the tables of `schema`, over the readers `wire` and `json`; `usual` sees at once most JSON that goes on as it came;
 //! `numbered` reads nearly all protobuf without that, by the numbers of series that are known;
-//! `whole` takes fractions as whole numbers of a finer unit. `series` reads bodies as the book does, and what it forwards.
-//! `sender` finds a request's sender in it, `instance` puts a sender's name into its resources.
+//! `whole` takes fractions as whole numbers of a finer unit, `exponential` exponential histograms in given buckets. `series`
+//! reads bodies as the book does, and what it forwards. `sender` finds a request's sender in it, `instance` puts a sender's name
+//! into its resources.
 //! `outside` is what of a request is handed on to another receiver, `answers` what senders are answered, `clock` which points
 //! end too far from the service's clock. `resources` says which slot a resource has and takes requests apart, `together` is one
 //! answer of several.
@@ -13,6 +14,7 @@ mod answers;
 mod causes;
 mod clock;
 mod explain;
+mod exponential;
 mod from_json;
 mod from_protobuf;
 mod instance;
@@ -35,6 +37,7 @@ pub(crate) use answers::partial_success;
 pub use causes::{Cause, Causes};
 pub use clock::{Clock, Off, OffClock, Window};
 pub use explain::{explained, foreign_points, point_at, Explained};
+pub use exponential::Bounds;
 pub use instance::{with_instance, INSTANCE};
 pub(crate) use messages::ExportMetricsServiceResponse;
 pub use numbered::{Learnt, NotNamed, Numbered, Series};
@@ -92,6 +95,8 @@ pub struct Reading {
     pub cumulative: Cumulative,
     /// A resource without a `service.instance.id` gets its sender's name as one.
     pub instance_from_sender: bool,
+    /// The buckets in which exponential histograms are taken; none where they are not.
+    pub exponential: Option<Bounds>,
 }
 
 /// What becomes of cumulative points.
@@ -136,34 +141,44 @@ impl Prepared {
 
 /// Puts a request into the book's form. Nothing of a request is lost in silence: it is read whole or refused whole.
 pub fn prepare(encoding: Encoding, body: Bytes, reading: &Reading) -> Result<Prepared, Refused> {
-    prepare_with(encoding, body, reading, || Ok(()))
+    prepare_with(encoding, body, reading, |_| Ok(()))
 }
 
-/// The same; before a request is written once more, in finer units, `room` is asked.
+/// The same; before a request is written once more, in finer units or in other buckets, `room` is asked, also for so many
+/// bytes that it may have more then.
 pub fn prepare_with<E: From<Refused>>(
     encoding: Encoding,
     body: Bytes,
     reading: &Reading,
-    room: impl FnOnce() -> Result<(), E>,
+    mut room: impl FnMut(usize) -> Result<(), E>,
 ) -> Result<Prepared, E> {
-    let written = match form(encoding, &body, reading)? {
+    let mut written = match form(encoding, &body, reading)? {
         Form::Written(written) => written,
         Form::AsItCame { is_cumulative } => return Ok(Prepared::as_it_is(body, is_cumulative)),
     };
-    let is_cumulative = written.is_cumulative;
-    let (text, rounded) = match written.is_measured {
+    let unfit = match &reading.exponential {
+        Some(bounds) if written.is_exponential => {
+            let more = exponential::most_more(&written.text, bounds).map_err(Refused::from)?;
+            room(more)?;
+            let view = exponential::viewed(&written.text, bounds).map_err(Refused::from)?;
+            written.text = view.text.into_bytes();
+            view.unfit
+        }
+        _ => None,
+    };
+    let (text, mut rounded) = match written.is_measured {
         true => {
-            room()?;
+            room(written.text.len())?;
             let rewritten = whole::rewritten(&written.text, &reading.whole).map_err(Refused::from)?;
             (rewritten.0.into_bytes(), rewritten.1)
         }
         false => (written.text, Rounded::default()),
     };
-    let body = Bytes::from(text);
+    rounded.unfit = unfit.or(rounded.unfit);
     Ok(Prepared {
-        body,
+        body: Bytes::from(text),
         rounded,
-        is_cumulative,
+        is_cumulative: written.is_cumulative,
     })
 }
 

@@ -21,6 +21,7 @@ pub struct Output<'r> {
     reading: &'r Reading,
     is_measured: bool,
     is_cumulative: bool,
+    is_exponential: bool,
 }
 
 /// A whole request.
@@ -30,6 +31,8 @@ pub struct Written {
     pub is_measured: bool,
     /// Whether a metric is cumulative.
     pub is_cumulative: bool,
+    /// Whether it has an exponential histogram of which a view is wanted.
+    pub is_exponential: bool,
 }
 
 impl<'r> Output<'r> {
@@ -39,6 +42,7 @@ impl<'r> Output<'r> {
             reading,
             is_measured: reading.whole.has_no_unit(),
             is_cumulative: false,
+            is_exponential: false,
         }
     }
 
@@ -53,6 +57,7 @@ impl<'r> Output<'r> {
             text: self.text,
             is_measured: self.is_measured,
             is_cumulative: self.is_cumulative,
+            is_exponential: self.is_exponential,
         }
     }
 
@@ -108,6 +113,12 @@ impl<'r> Output<'r> {
             false => put_inside(&mut self.text, std::str::from_utf8(text).ok()?.as_bytes()),
         }
         Some(())
+    }
+
+    /// An exponential histogram comes: it is read so.
+    pub fn exponential(&mut self) -> &'r Reading {
+        self.is_exponential = self.reading.exponential.is_some();
+        self.reading
     }
 
     pub fn temporality(&mut self, number: i128) {

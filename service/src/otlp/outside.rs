@@ -37,6 +37,8 @@ const KINDS: [Kind; 5] = [
     Kind::new("histogram", "histogram", 9),
 ];
 const OF_NO_SERIES: usize = 3;
+/// Of these some may be taken: `--exponential`.
+const EXPONENTIAL: usize = 1;
 
 struct Kind {
     name: &'static str,
@@ -68,7 +70,7 @@ impl Original {
     ) -> (Option<Outside>, Causes) {
         // As a rule all of them are of kinds that are of no series.
         if self.encoding == Encoding::Protobuf {
-            let (body, points) = self.with(|kind| kind < OF_NO_SERIES);
+            let (body, points) = self.with(|kind| kind < OF_NO_SERIES && kind != EXPONENTIAL);
             if points == foreign {
                 return (self.made(body, points), Causes::default());
             }

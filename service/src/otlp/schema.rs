@@ -5,6 +5,12 @@
 //! here, or are only looked through. Fields of older versions that carried points or their identity are here
 //! to be refused.
 
+#[macro_use]
+mod table;
+mod exponential;
+
+pub use exponential::exponential_histogram;
+
 pub struct Message {
     pub name: &'static str,
     pub fields: &'static [Field],
@@ -63,6 +69,8 @@ pub enum Kind {
     Whole(Wire),
     /// Packed, each of 8 bytes.
     Wholes,
+    /// The same, each as short as it may be.
+    Numbers,
     /// A double that may be a whole number.
     Double,
     Doubles,
@@ -73,6 +81,8 @@ pub enum Kind {
     Foreign(&'static Message),
     /// Is only looked through for what is malformed, in protobuf.
     Exemplars,
+    /// A container, which says more where it is taken.
+    Exponential,
 }
 
 /// How a whole number is written in protobuf.
@@ -80,24 +90,9 @@ pub enum Kind {
 pub enum Wire {
     Int64,
     Uint32,
+    Sint32,
     Fixed64,
     Sfixed64,
-}
-
-macro_rules! field {
-    ($name:literal, $proto_name:literal, $number:literal, $kind:expr $(,)?) => {
-        Field {
-            name: $name,
-            written: concat!("\"", $name, "\":"),
-            initial: $name.as_bytes()[0],
-            proto_name: $proto_name,
-            number: {
-                assert!($number < 16);
-                $number
-            },
-            kind: $kind,
-        }
-    };
 }
 
 const fn refused(names: &'static [&'static str], number: u32, why: &'static str) -> RefusedField {
@@ -206,7 +201,7 @@ pub static METRIC: Message = Message {
             "exponentialHistogram",
             "exponential_histogram",
             10,
-            Kind::Message(&OTHER_DATA),
+            Kind::Exponential,
         ),
         field!("summary", "summary", 11, Kind::Message(&OTHER_DATA)),
     ],

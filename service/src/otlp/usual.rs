@@ -6,7 +6,9 @@
 mod points;
 
 use super::json::{digits_length, is_text, plain_length};
-use super::schema::{Field, Kind, Message, HISTOGRAM_POINT, KEY_VALUE, METRIC, NUMBER_POINT, REQUEST};
+use super::schema::{
+    exponential_histogram, Field, Kind, Message, HISTOGRAM_POINT, KEY_VALUE, METRIC, NUMBER_POINT, REQUEST,
+};
 use super::Reading;
 
 /// More than a request has, but for values in values.
@@ -247,7 +249,9 @@ impl<'a> Look<'a> {
             Kind::Bool => self.truth(),
             Kind::Temporality => self.temporality(),
             Kind::Whole(_) => self.whole(),
-            Kind::Wholes => self.wholes(),
+            Kind::Wholes | Kind::Numbers => self.wholes(),
+            Kind::Exponential if self.reading.exponential.is_some() => None, // it is written anew
+            Kind::Exponential => self.message(exponential_histogram(self.reading), depth),
             Kind::Double => self.number(DIGITS_OF_DOUBLE),
             Kind::Doubles => self.bounds(),
             Kind::Fraction => {

@@ -28,6 +28,18 @@ pub enum Payload<'a> {
     Group,
 }
 
+/// Numbers of any length, packed.
+pub fn numbers(packed: &[u8]) -> impl Iterator<Item = Result<u64, Malformed>> + '_ {
+    let mut fields = Fields::of(packed);
+    std::iter::from_fn(move || {
+        let number = (!fields.rest.is_empty()).then(|| fields.varint())?;
+        if number.is_err() {
+            fields.rest = &[];
+        }
+        Some(number)
+    })
+}
+
 #[derive(Clone, Copy)]
 pub struct Fields<'a> {
     rest: &'a [u8],

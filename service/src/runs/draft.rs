@@ -18,7 +18,12 @@ pub struct Draft<'r> {
     pub noted: Vec<Noted>,
     /// Points that add nothing, since they are no later than their runs: each by its place in the post, and its series.
     pub late: Vec<(u32, SeriesKey)>,
-    before: Vec<(u32, Option<Arc<Run>>)>,
+    /// Of the series of each point that was made, in their order, how many words its run had; none where there was none.
+    before: Vec<(u32, Option<usize>)>,
+    /// The start, the time and the words of these.
+    was: Vec<u64>,
+    /// Of a point under way: so that its words find their room again.
+    run: Run,
     /// How many series were known.
     first_new: usize,
     is_kept: bool,
@@ -55,22 +60,25 @@ impl Runs {
     /// What the points of a post come to. `frontier` is where a series ends that has no run.
     pub fn draft(&self, posted: Posted<'_>, frontier: impl Fn(&SeriesKey) -> u64) -> Draft<'_> {
         let runs = self.lock();
+        let (points, cumulative) = (posted.points, posted.cumulative.len());
         let mut draft = Draft {
             of: self,
             first_new: runs.series.len(),
             is_kept: false,
             runs,
-            points: Points::default(),
+            points: Points::with_room(points.words().len(), points.count()),
             unsound: Vec::new(),
             turned: Turned::default(),
             noted: Vec::new(),
             late: Vec::new(),
-            before: Vec::new(),
-            made: Vec::new(),
-            places: Vec::new(),
+            before: Vec::with_capacity(cumulative),
+            was: Vec::new(),
+            run: Run::default(),
+            made: Vec::with_capacity(cumulative),
+            places: Vec::with_capacity(points.count()),
         };
         let mut cumulative = posted.cumulative.iter().copied().peekable();
-        for (place, point) in (0..).zip(posted.points.each()) {
+        for (place, point) in (0..).zip(points.each()) {
             match cumulative.next_if_eq(&place) {
                 None => draft.points.push_words(point[0], &point[1..]),
                 Some(_) => draft.add(self.options(), posted.names, (place, point), &frontier),
@@ -89,7 +97,20 @@ impl Draft<'_> {
         (place, point): (u32, &[u64]),
         frontier: impl Fn(&SeriesKey) -> u64,
     ) {
-        let Some(found) = self.runs.find(names, point[0], frontier) else {
+        let mut run = std::mem::take(&mut self.run);
+        run.put(point);
+        self.add_run(options, names, (place, point[0], &run), frontier);
+        self.run = run;
+    }
+
+    fn add_run(
+        &mut self,
+        options: Options,
+        names: &Names,
+        (place, number, run): (u32, u64, &Run),
+        frontier: impl Fn(&SeriesKey) -> u64,
+    ) {
+        let Some(found) = self.runs.find(names, number, frontier) else {
             self.unsound.push(place);
             return;
         };
@@ -97,22 +118,20 @@ impl Draft<'_> {
             Found::At(place) => &self.runs.series[*place as usize],
             Found::New(series) => series,
         };
-        let run = Run::of(point);
         if !run.is_sound(series.kind) {
             self.unsound.push(place);
             return;
         }
-        match series.entry(options, self.runs.since, &run) {
+        match series.entry(options, self.runs.since, run) {
             Ok(None) => self.late.push((place, series.key.clone())),
-            Ok(Some(entry)) => self.take(found, point[0], entry),
+            Ok(Some(entry)) => self.take(found, number, entry, run),
             Err(refused) => self.turned.add(refused, &series.key),
         }
     }
 
-    fn take(&mut self, found: Found, number: u64, entry: Entry) {
+    fn take(&mut self, found: Found, number: u64, entry: Entry, run: &Run) {
         let place = self.runs.place(found, number);
         let series = &self.runs.series[place as usize];
-        let (known, kind) = (series.run.clone(), series.kind);
         if let Entry::Noted(run) = &entry {
             let series = series.key.clone();
             self.noted.push(Noted {
@@ -120,22 +139,30 @@ impl Draft<'_> {
                 run: run.clone(),
             });
         }
-        let after = entry.after(kind, known.as_deref()).map(Arc::new);
-        let at = self.points.count() as u32;
+        if let Some(run) = &series.run {
+            self.was.extend([run.start, run.time]);
+            self.was.extend_from_slice(&run.words);
+        }
+        let words = series.run.as_ref().map(|run| run.words.len());
+        self.before.push((place, words));
+        self.runs.come_to(place, run, &entry);
+        self.made.push((self.points.count() as u32, place));
         entry.put(&mut self.points, number);
-        self.made.push((at, place));
-        self.before.push((place, known));
-        self.runs.set(place, after);
     }
 
     /// The book has refused this point, since the series ends there in it: it has delta points too. The series, where the
     /// point was made here.
-    pub fn note_frontier(&mut self, at: u64, frontier: u64) -> Option<SeriesKey> {
-        let found = self.made.binary_search_by_key(&at, |made| made.0.into()).ok()?;
+    pub fn note_frontier(&mut self, at: u32, frontier: u64) -> Option<SeriesKey> {
+        let found = self.made.binary_search_by_key(&at, |made| made.0).ok()?;
         let place = self.made[found].1;
         let series = &mut self.runs.series[place as usize];
         series.frontier = frontier;
         Some(series.key.clone())
+    }
+
+    /// The places of the points that were made here.
+    pub fn made(&self) -> Vec<u32> {
+        self.made.iter().map(|made| made.0).collect()
     }
 
     /// How many points are not sound.
@@ -177,8 +204,15 @@ impl Drop for Draft<'_> {
         if self.is_kept {
             return;
         }
-        for (place, run) in std::mem::take(&mut self.before).into_iter().rev() {
-            self.runs.series[place as usize].run = run;
+        for (place, words) in std::mem::take(&mut self.before).into_iter().rev() {
+            let run = &mut self.runs.series[place as usize].run;
+            match (words, run) {
+                (Some(words), Some(run)) => {
+                    let was = self.was.split_off(self.was.len() - words - 2);
+                    Arc::make_mut(run).set(was[0], was[1], &was[2..]);
+                }
+                (_, run) => *run = None,
+            }
         }
         let first_new = self.first_new;
         self.runs.truncate(first_new);
@@ -197,13 +231,15 @@ impl Turned {
 }
 
 impl Run {
-    /// A cumulative point, by its words.
-    fn of(point: &[u64]) -> Run {
-        Run {
-            start: point[1],
-            time: point[2],
-            words: point[3..].to_vec(),
-        }
+    /// Makes it a cumulative point, by its words.
+    fn put(&mut self, point: &[u64]) {
+        self.set(point[1], point[2], &point[3..]);
+    }
+
+    fn set(&mut self, start: u64, time: u64, words: &[u64]) {
+        (self.start, self.time) = (start, time);
+        self.words.clear();
+        self.words.extend_from_slice(words);
     }
 
     /// Whether the book could take such a point, of whatever span.

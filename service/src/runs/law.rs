@@ -6,7 +6,7 @@
 use serde::{Deserialize, Serialize};
 
 /// The last point that was taken of a series.
-#[derive(Clone, Debug, PartialEq, Eq, Serialize, Deserialize)]
+#[derive(Clone, Debug, Default, PartialEq, Eq, Serialize, Deserialize)]
 pub struct Run {
     /// Of the run; 0 where it is not known.
     pub start: u64,
@@ -240,6 +240,16 @@ impl Entry {
                 time: added.time,
                 words: sum(kind, &known.words, &added.words),
             }),
+        }
+    }
+
+    /// The same, in the place of a run, of the point that it was made of: without adding up what comes to that again.
+    pub fn put_after(&self, kind: Kind, point: &Run, run: &mut Run) {
+        (run.start, run.time) = (point.start, point.time);
+        run.words.clone_from(&point.words);
+        if let (Kind::Histogram, Entry::More(added), [_, has, sum, ..]) = (kind, self, &mut run.words[..]) {
+            *has = added.words[1];
+            *sum *= *has;
         }
     }
 

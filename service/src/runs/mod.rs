@@ -118,8 +118,20 @@ impl State {
     }
 
     fn set(&mut self, place: u32, run: Option<Arc<Run>>) {
+        self.series[place as usize].run = run;
+        self.note_change(place);
+    }
+
+    /// Has a series' run come to a point. Who has the run as it was keeps it so.
+    fn come_to(&mut self, place: u32, point: &Run, entry: &Entry) {
         let series = &mut self.series[place as usize];
-        series.run = run;
+        let run = series.run.get_or_insert_with(Arc::default);
+        entry.put_after(series.kind, point, Arc::make_mut(run));
+        self.note_change(place);
+    }
+
+    fn note_change(&mut self, place: u32) {
+        let series = &mut self.series[place as usize];
         if !series.is_changed {
             series.is_changed = true;
             self.changed.push(place);

@@ -214,8 +214,10 @@ fn what_was_added_is_the_sum_of_the_last_values_of_the_runs() {
                     Entry::More(added) | Entry::Counted { added, .. } => i128::from(added.words[0] as i64),
                     Entry::Noted(_) => 0,
                 };
+                let mut put = kept.clone().unwrap_or_default();
+                entry.put_after(kind, &point, &mut put);
                 kept = entry.after(kind, kept.as_ref());
-                assert_eq!(kept.as_ref(), Some(&point));
+                assert_eq!((kept.as_ref(), &put), (Some(&point), &point));
             }
             assert_eq!(added, plain.runs.iter().sum(), "{sent:?}");
         }
@@ -290,7 +292,10 @@ fn entries_behind_any_commit_come_to_what_was_kept() {
                 &point,
             );
             let Ok(Some(entry)) = found else { continue };
+            let mut put = before.clone().unwrap_or_default();
+            entry.put_after(Kind::Histogram, &point, &mut put);
             kept.push(entry.after(Kind::Histogram, before.as_ref()));
+            assert_eq!(kept.last().unwrap().as_ref(), Some(&put));
             entries.push(entry);
         }
         for commit in 0..kept.len() {

@@ -15,13 +15,16 @@ use crate::work::blocking;
 use std::collections::HashMap;
 use std::sync::Arc;
 
+/// So many points the book is asked about by themselves while its lock is held.
+const TRIED_AT_ONCE: usize = 256;
+
 /// What came of a try.
 enum Tried {
     Put(Put),
     /// The library finds a point foreign that was not known to be.
     Otherwise,
-    /// A series ends later in the book than its run.
-    Beyond(SeriesKey, u64),
+    /// Series that end later in the book than their runs.
+    Beyond(Vec<(SeriesKey, u64)>),
     /// What is in flight has to land first.
     InFlight,
 }
@@ -95,7 +98,7 @@ impl Slot {
             match self.try_made(making)? {
                 Tried::Put(put) => return Ok(Some(put)),
                 Tried::InFlight => return Ok(None),
-                Tried::Beyond(series, frontier) => drop(making.frontiers.insert(series, frontier)),
+                Tried::Beyond(series) => making.frontiers.extend(series),
                 Tried::Otherwise if making.is_of_text => return Ok(Some(self.not_made(Refused::NotOne))),
                 Tried::Otherwise => match self.of_text(&making.by) {
                     Ok(mut of_text) => {
@@ -168,13 +171,34 @@ impl Slot {
             Err(Refused::InFlight) => Tried::InFlight,
             Err(refused) => {
                 if let Refused::OutOfOrder { point, frontier } = refused {
-                    if let Some(series) = draft.note_frontier(point, frontier) {
-                        return Ok(Tried::Beyond(series, frontier));
+                    let beyond = self.beyond(&mut read, &mut draft, (point as u32, frontier));
+                    if !beyond.is_empty() {
+                        return Ok(Tried::Beyond(beyond));
                     }
                 }
                 Tried::Put(self.not_made(draft.refused(refused, among_all)))
             }
         })
+    }
+
+    /// Where all series of a draft end that end later in the book than was known, since the book said so of the first one; none
+    /// where that is no point of the draft. They are asked for at once: else a post is tried as often as it has such series.
+    fn beyond(&self, read: &mut Posted, draft: &mut Draft<'_>, first: (u32, u64)) -> Vec<(SeriesKey, u64)> {
+        let Some(series) = draft.note_frontier(first.0, first.1) else {
+            return Vec::new();
+        };
+        let mut beyond = vec![(series, first.1)];
+        let left: Vec<u32> = draft
+            .made()
+            .into_iter()
+            .filter(|place| *place > first.0)
+            .collect();
+        for places in left.chunks(TRIED_AT_ONCE) {
+            let found = self.core.lock().beyond(&mut read.read, places);
+            let noted = |(place, frontier)| Some((draft.note_frontier(place, frontier)?, frontier));
+            beyond.extend(found.into_iter().filter_map(noted));
+        }
+        beyond
     }
 
     /// The place of a point that adds nothing, and whose series is another sender's: it is no repeat.

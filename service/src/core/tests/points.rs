@@ -60,6 +60,37 @@ fn points_by_number_are_those_of_their_requests() {
     }
 }
 
+/// Of the refused post the book itself says it of the first point alone.
+#[test]
+fn where_series_end_is_said_of_all_points_that_are_out_of_order() {
+    let core = Core::new(1).unwrap();
+    let by = named(&names("s", 4));
+    assert_eq!(put(&core, &by, "A", of([0, 2], 10, 5)), Ok(0));
+    let mut read = core
+        .read_points("A".into(), of(0..4, 15, 6), by.clone(), 0)
+        .unwrap();
+    let late = Refused::OutOfOrder {
+        point: 0,
+        frontier: 20,
+    };
+    assert_eq!(core.lock().admit(&mut read), Err(late));
+    assert_eq!(
+        core.lock().beyond(&mut read, &[0, 1, 2, 3, 4]),
+        [(0, 20), (2, 20)]
+    );
+    assert_eq!(core.lock().series(), 2, "nothing of it is kept");
+    assert_eq!(put(&core, &by, "B", of([1, 3], 20, 1)), Ok(0));
+    assert_eq!(put(&core, &by, "A", of([0, 2], 20, 1)), Ok(0));
+    // Many of them are more than a round has room for.
+    let mut read = core
+        .read_points("A".into(), of([0, 2], 15, 6), by.clone(), 0)
+        .unwrap();
+    for _ in 0..20_000 {
+        assert_eq!(core.lock().beyond(&mut read, &[1]), [(1, 30)]);
+    }
+    assert_eq!(taken(&core)["s0"], (6, 30));
+}
+
 #[test]
 fn only_a_request_of_one_point_names_a_series() {
     let names = Names::new().unwrap();

@@ -101,6 +101,16 @@ impl Points {
         })
     }
 
+    /// None yet, and room for so many, also where each is made of a cumulative one.
+    pub fn with_room(words: usize, points: usize) -> Points {
+        Points {
+            words: Vec::with_capacity(words),
+            ends: Vec::with_capacity(points),
+            runs: Vec::with_capacity(points),
+            packed: OnceLock::new(),
+        }
+    }
+
     /// Puts a point behind the others; `says` is a sum's value, or a histogram's count, whether it has a sum, the sum, and
     /// its buckets.
     pub fn push(&mut self, number: u64, start: u64, end: u64, says: impl IntoIterator<Item = u64>) {
@@ -131,7 +141,8 @@ impl Points {
         self.runs.iter().filter_map(|run| Some((run, self.point(run.0)?)))
     }
 
-    fn point(&self, place: u32) -> Option<&[u64]> {
+    /// The words of the point at a place.
+    pub fn point(&self, place: u32) -> Option<&[u64]> {
         let place = place as usize;
         let end = *self.ends.get(place)?;
         let begin = place.checked_sub(1).map_or(0, |before| self.ends[before]);

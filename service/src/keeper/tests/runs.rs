@@ -1,7 +1,7 @@
 //! Cumulative points over checkpoints, kills, quarantines and what is forgotten: what reaches the outbox is what a plain count
 //! of the same posts says.
 
-use super::cumulative::{copy, killed, point, rejected, text, Plain, Program, BEGIN};
+use super::cumulative::{copy, killed, point, rejected, text, Plain, Point, Program, BEGIN};
 use super::*;
 use crate::files::numbers::Numbers;
 use crate::otlp::Outcome;
@@ -78,6 +78,60 @@ async fn runs_over_kills_and_quarantines_come_to_the_sum_of_their_last_values() 
         }
         run.end().await;
     }
+}
+
+/// Of the cumulative points some are lost, and some come again.
+#[tokio::test(flavor = "multi_thread")]
+async fn the_same_counts_in_delta_and_cumulative_come_to_the_same() {
+    let (place, options) = (tempfile::tempdir().unwrap(), Options::default());
+    let mut run = Run::begin_runs(&place.path().join("data0"), options).await;
+    let (mut chance, mut start, mut now, mut kills) = (Numbers(7), BEGIN, BEGIN, 0);
+    let mut come_to = [(0, 0); 3];
+    for step in 0..150 {
+        let before = now;
+        now += 1 + chance.below(20);
+        let (mut deltas, mut all) = (Vec::new(), Vec::new());
+        for (kind, sums) in ["m", "u", "h"].into_iter().zip(&mut come_to) {
+            let value = chance.below(9) as i64 - if kind == "u" { 4 } else { 0 };
+            let more = value + chance.below(5) as i64;
+            *sums = (sums.0 + value, sums.1 + more);
+            let point = |name: &str, start, value, all| Point {
+                name: format!("{kind}-{name}"),
+                start,
+                time: now,
+                value,
+                all,
+            };
+            deltas.push(point("delta", before, value, more));
+            all.push(point("cumulative", start, sums.0, sums.1));
+        }
+        let taken = run.slot.post("A".into(), text(&deltas, 1).into()).await;
+        assert_eq!(taken, Outcome::taken(0));
+        let times = if step == 149 { 1 } else { chance.below(3) };
+        for _ in 0..times {
+            assert_eq!(run.cumulative("A", &all).await, Outcome::taken(0));
+        }
+        // Before a run ends its last point has come.
+        if chance.below(15) == 0 && times > 0 {
+            (start, come_to) = (now, [(0, 0); 3]);
+        }
+        match chance.below(10) {
+            0 => drop(run.flush().await),
+            1 => {
+                run = killed(run, place.path(), kills, options).await;
+                kills += 1;
+            }
+            _ => {}
+        }
+    }
+    run.flush().await;
+    let sums = run.forwarded().await;
+    for kind in ["m", "u", "h"] {
+        let [delta, cumulative] = ["delta", "cumulative"].map(|name| sums[&format!("{kind}-{name}")]);
+        assert_eq!(delta, cumulative, "{kind}");
+    }
+    assert!(kills > 3, "{kills} kills");
+    run.end().await;
 }
 
 /// A run that goes on after its series was forgotten is none that began anew.
@@ -162,6 +216,32 @@ async fn what_is_refused_has_its_name() {
     );
     let sums = run.forwarded().await;
     assert_eq!((sums["m"].0, sums["m2"].0), (2, 3));
+    run.end().await;
+}
+
+/// Of many series that have delta points in no flush each point is refused by its name, and the others of the post are taken.
+#[tokio::test(flavor = "multi_thread")]
+async fn a_post_learns_at_once_where_all_of_its_series_end() {
+    let place = tempfile::tempdir().unwrap();
+    let run = Run::begin_runs(&place.path().join("data"), Options::default()).await;
+    let points = |names: std::ops::Range<u64>, start, time| -> Vec<Point> {
+        names
+            .map(|name| point(&format!("m{name}"), start, time, 1))
+            .collect()
+    };
+    let deltas = text(&points(0..600, BEGIN, BEGIN + 20), 1);
+    assert_eq!(run.slot.post("A".into(), deltas.into()).await, Outcome::taken(0));
+    let said = rejected(&run.cumulative("A", &points(0..700, BEGIN + 10, BEGIN + 30)).await);
+    assert_eq!(
+        said,
+        (600, "600 cumulative points of series with delta points".into())
+    );
+    run.flush().await;
+    let sums = run.forwarded().await;
+    assert!(
+        sums.len() == 700 && sums.values().all(|sum| sum.0 == 1),
+        "{sums:?}"
+    );
     run.end().await;
 }
 

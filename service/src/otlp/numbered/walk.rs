@@ -13,9 +13,10 @@ use crate::otlp::{Reading, Rounded};
 use std::sync::Arc;
 
 /// The fields of a metric that have points.
-const DATA: [u32; 5] = [5, SUM, HISTOGRAM, 10, 11];
+const DATA: [u32; 5] = [5, SUM, HISTOGRAM, EXPONENTIAL, 11];
 const SUM: u32 = 7;
 const HISTOGRAM: u32 = 9;
+const EXPONENTIAL: u32 = 10;
 /// The field of points in each of them.
 const POINTS: u8 = 1;
 
@@ -193,6 +194,9 @@ impl<'b, F: Find> Walk<'b, F> {
                 Some(Ok(_)) => {} // it is looked at where the metric is not known yet
                 Some(Err(_)) => return Err(Stop::Slow),
             }
+        }
+        if number == EXPONENTIAL && self.reading.exponential.is_some() {
+            return Err(Stop::Slow);
         }
         let mut behind = Fields::of(data);
         let points = run(&mut behind, POINTS);

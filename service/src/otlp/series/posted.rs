@@ -4,6 +4,7 @@ use super::identity::{text, write_attributes};
 use super::point::{histogram_point, sum_kind, sum_point, Put, Temporality};
 use super::why::{What, Why};
 use super::{Posted, SeriesKey};
+use crate::otlp::exponential::why_not;
 use crate::otlp::json::{write_text, Document, Elements, Value};
 use std::collections::HashMap;
 use std::sync::Arc;
@@ -248,6 +249,10 @@ impl<'d, F: FnMut(Seen<'_, 'd>)> Walk<F> {
             self.put.words.clear();
             let found =
                 known.and_then(|temporality| point(&mut self.put, value, temporality).map(|()| temporality));
+            let found = found.map_err(|why| match why_not(value) {
+                Some(not) if part.kind == "histogram" => Why::new(What::NoView, "view", Some(not)),
+                _ => why,
+            });
             self.show(metric, part.kind, value, found);
         }
         Some(())

@@ -50,6 +50,8 @@ pub enum What {
     NotAscending,
     NotFitting,
     NotAdding,
+    /// Of an exponential histogram.
+    NoView,
 }
 
 impl<'d> Why<'d> {
@@ -101,6 +103,7 @@ impl fmt::Display for Why<'_> {
             What::ManyBounds => write!(out, "{field} are more than 255"),
             What::NotAscending => write!(out, "{field} do not ascend at {value}"),
             What::NotFitting => out.write_str("bucketCounts are not one more than explicitBounds"),
+            What::NoView => write!(out, "it is an exponential histogram: {value}"),
             What::NotAdding => out.write_str("bucketCounts do not add up to the count"),
         }
     }
