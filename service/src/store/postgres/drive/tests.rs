@@ -94,7 +94,7 @@ impl Trial {
                 if repeated {
                     first
                 } else {
-                    (place * 7919 >> 3) as u8 ^ first
+                    ((place * 7919) >> 3) as u8 ^ first
                 }
             })
             .collect();

@@ -89,3 +89,50 @@ impl Turns {
         first.map_or(Duration::ZERO, |first| first.elapsed())
     }
 }
+
+#[cfg(test)]
+mod tests {
+    use super::*;
+    use std::sync::atomic::{AtomicU32, Ordering::SeqCst};
+    use std::sync::{mpsc, Arc};
+    use std::thread;
+
+    /// What it did may have come too late for that one.
+    #[test]
+    fn who_comes_while_a_turn_is_under_way_waits_for_the_next_and_shares_it() {
+        let (turns, count) = (Arc::<Turns>::default(), Arc::<AtomicU32>::default());
+        let (go, goes) = mpsc::channel::<()>();
+        let goes = Arc::new(Mutex::new(goes));
+        let come = || {
+            let (turns, count, goes) = (turns.clone(), count.clone(), goes.clone());
+            thread::spawn(move || {
+                turns.ended(|| {
+                    count.fetch_add(1, SeqCst);
+                    goes.lock().unwrap().recv().map_err(|_| Lost)
+                })
+            })
+        };
+        let until = |waiting: usize| {
+            while turns.state().waiting.len() < waiting || count.load(SeqCst) == 0 {
+                thread::sleep(Duration::from_millis(1));
+            }
+        };
+        let first = come();
+        until(1);
+        let others = [come(), come()];
+        until(3);
+        assert!(turns.longest() > Duration::ZERO);
+        go.send(()).unwrap();
+        first.join().unwrap().unwrap();
+        assert!(others.iter().all(|other| !other.is_finished()), "they wait for a turn of their own");
+        go.send(()).unwrap();
+        for other in others {
+            other.join().unwrap().unwrap();
+        }
+        assert_eq!((count.load(SeqCst), turns.longest()), (2, Duration::ZERO));
+        drop(go);
+        assert!(come().join().unwrap().is_err() && come().join().unwrap().is_err());
+        assert_eq!(count.load(SeqCst), 3, "nobody writes behind a loss");
+        assert!(turns.check().is_err());
+    }
+}
