@@ -213,7 +213,8 @@ def cargo_steps():
 
 def service_steps(before):
     """The steps that run the service, after the one that builds it."""
-    steps = [step_of("service_model.py", "", 60, False, []), step_of("runs_model.py", "", 60, False, [])]
+    steps = [step_of("service_model.py", "", 60, False, []), step_of("runs_model.py", "", 60, False, []),
+             step_of("cluster_model.py", "", 30, False, [])]
     for script, words, seconds in SERVICE_STEPS:
         step = step_of(script, " ".join([SERVICE_MADE, *words]), seconds, False, before, "service_")
         step.after = ["service_is_built"]

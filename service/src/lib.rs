@@ -21,6 +21,7 @@
     )
 )]
 
+pub mod cluster;
 pub mod command;
 pub mod core;
 pub mod files;

@@ -1,0 +1,385 @@
+//! Which slots this instance takes, hands over, or has lost: by what its beats have read, and by nothing else. No clock is
+//! looked at, so a store that stands still for a minute moves no slot.
+//!
+//! What is decided here is never a matter of safety: a slot's term in the store is, and two that decide for the same slot find
+//! that one of them was first.
+
+mod others;
+
+use super::places::place;
+use super::terms::{Row, Seen, Stay};
+use others::Others;
+use std::collections::{BTreeMap, BTreeSet};
+
+/// So many own beats are committed while another's stands still, until that one counts as gone.
+pub const GONE: u32 = 6;
+/// So many own beats another instance is the place of a slot, until it is handed over.
+pub const SETTLED: u32 = 20;
+/// A slot that has this instance's name, and is not open here, is an earlier process': a namesake that lives would beat within.
+const RESTARTED: u32 = 3;
+/// So many own beats later a slot that could not be opened is tried again.
+const AGAIN: u32 = 20;
+/// Slots that are taken or opened side by side: each replays its journal.
+const AT_ONCE: usize = 4;
+
+/// What is to be done.
+#[derive(Clone, Copy, Debug, PartialEq, Eq)]
+pub enum Step {
+    /// Take it where its term is still this, and open it.
+    Take { slot: u16, seen: u64 },
+    /// Another is its place: bring it to rest, and say that nobody has it.
+    HandOver { slot: u16, term: u64 },
+    /// It has this instance's name, is not open, and has its place elsewhere.
+    Release { slot: u16, term: u64 },
+    /// Another has it.
+    Drop { slot: u16, term: u64 },
+}
+
+/// Who serves a slot.
+#[derive(Clone, Debug, PartialEq, Eq)]
+pub enum Whose {
+    Here { term: u64 },
+    There { name: String, address: String, term: u64 },
+    /// Nobody does now, or it isn't known where.
+    Nobody,
+}
+
+#[derive(Clone, Copy, Debug, PartialEq, Eq)]
+enum Phase {
+    Taking,
+    Opening,
+    Serving,
+    Closing,
+}
+
+struct Mine {
+    /// The one that was seen, while it is being taken.
+    term: u64,
+    phase: Phase,
+    /// So many own beats has its place been elsewhere.
+    elsewhere: u32,
+}
+
+/// A slot that was handed over, until another has it.
+struct Handed {
+    slot: u16,
+    term: u64,
+    beats: u32,
+    is_released: bool,
+}
+
+pub struct Owners {
+    me: String,
+    stay: Stay,
+    others: Others,
+    /// Those that may have slots, and where each slot belongs.
+    living: BTreeSet<String>,
+    places: BTreeMap<u16, Option<String>>,
+    rows: Vec<Row>,
+    mine: BTreeMap<u16, Mine>,
+    /// Slots that have this instance's name and are not open here: by which term, and how many beats they are left alone.
+    left_alone: BTreeMap<u16, (u64, u32)>,
+    handed: Option<Handed>,
+    beat: Option<u64>,
+    /// Own beats that got no answer since the last one that did: they may be done as well.
+    unanswered: u64,
+    /// So many beats to go until another of this name counts as gone.
+    namesake: u32,
+}
+
+impl Owners {
+    pub fn new(me: &str) -> Owners {
+        Owners {
+            me: me.into(),
+            stay: Stay::Here,
+            others: Others::of(me),
+            living: BTreeSet::new(),
+            places: BTreeMap::new(),
+            rows: Vec::new(),
+            mine: BTreeMap::new(),
+            left_alone: BTreeMap::new(),
+            handed: None,
+            beat: None,
+            unanswered: 0,
+            namesake: 0,
+        }
+    }
+
+    /// From now on each slot has its place elsewhere.
+    pub fn leave(&mut self) {
+        self.stay = Stay::Leaves;
+    }
+
+    pub fn stay(&self) -> Stay {
+        self.stay
+    }
+
+    /// Whether this instance has nothing more to do for any slot.
+    pub fn is_rid_of_all(&self) -> bool {
+        self.mine.is_empty() && self.rows.iter().all(|row| row.owner != self.me)
+    }
+
+    /// Another process beats under this instance's name.
+    pub fn has_namesake(&self) -> bool {
+        self.namesake > 0
+    }
+
+    /// Slots that are open here, or being opened or closed.
+    pub fn owned(&self) -> usize {
+        self.mine.values().filter(|mine| mine.phase != Phase::Taking).count()
+    }
+
+    /// Instances whose beats go on, this one among them.
+    pub fn instances(&self) -> usize {
+        1 + self.others.living()
+    }
+
+    /// By slot, of all that the store has.
+    pub fn whose(&self) -> BTreeMap<u16, Whose> {
+        self.rows.iter().map(|row| (row.slot, self.whose_is(row))).collect()
+    }
+
+    fn whose_is(&self, row: &Row) -> Whose {
+        match (self.mine.get(&row.slot), self.others.address(&row.owner)) {
+            (Some(mine), _) if mine.phase == Phase::Serving && mine.term >= row.term => {
+                Whose::Here { term: mine.term }
+            }
+            (_, Some(address)) => Whose::There {
+                name: row.owner.clone(),
+                address: address.into(),
+                term: row.term,
+            },
+            _ => Whose::Nobody,
+        }
+    }
+
+    // ----------------------------------------------------------------------------------------------------------------
+    // Beats
+
+    /// An own beat got no answer.
+    pub fn unanswered(&mut self) {
+        self.unanswered += 1;
+    }
+
+    /// What was read without a beat. Nothing is decided by it.
+    pub fn look(&mut self, rows: Vec<Row>) {
+        self.rows = rows;
+    }
+
+    /// An own beat is committed, and this was read behind it: what is to be done now.
+    pub fn beat(&mut self, seen: Seen) -> Vec<Step> {
+        self.note_namesake(&seen);
+        self.others.note(&seen);
+        self.rows = seen.slots;
+        self.note_living();
+        let mut steps = self.drop_lost();
+        self.note_places();
+        self.note_handed();
+        steps.extend(self.hand_over());
+        steps.extend(self.take());
+        steps
+    }
+
+    /// An own beat adds one. Where more was added than was asked for, another adds to it.
+    fn note_namesake(&mut self, seen: &Seen) {
+        let Some(own) = seen.instances.iter().find(|one| one.name == self.me) else {
+            return;
+        };
+        let most = self.beat.map(|before| before + 1 + self.unanswered);
+        let is_more = most.is_some_and(|most| own.beat > most);
+        self.namesake = if is_more { GONE } else { self.namesake.saturating_sub(1) };
+        self.beat = Some(own.beat);
+        self.unanswered = 0;
+    }
+
+    /// Where each slot belongs: found anew where an instance has come or gone.
+    fn note_living(&mut self) {
+        let mut living: BTreeSet<String> = self.others.staying().map(String::from).collect();
+        if self.stay == Stay::Here {
+            living.insert(self.me.clone());
+        }
+        if living == self.living && self.places.len() == self.rows.len() {
+            return;
+        }
+        let place_of = |row: &Row| {
+            let place = place(row.slot, living.iter().map(String::as_str));
+            (row.slot, place.map(String::from))
+        };
+        self.places = self.rows.iter().map(place_of).collect();
+        self.living = living;
+    }
+
+    fn is_place(&self, slot: u16) -> bool {
+        self.places.get(&slot).is_some_and(|place| place.as_ref() == Some(&self.me))
+    }
+
+    fn drop_lost(&mut self) -> Vec<Step> {
+        let is_lost = |row: &&Row| {
+            let mine = self.mine.get(&row.slot);
+            // What is being opened or closed finds that by itself.
+            mine.is_some_and(|mine| mine.phase == Phase::Serving && mine.term < row.term)
+        };
+        let lost: Vec<u16> = self.rows.iter().filter(is_lost).map(|row| row.slot).collect();
+        let steps = lost.into_iter().filter_map(|slot| {
+            let term = self.mine.remove(&slot)?.term;
+            Some(Step::Drop { slot, term })
+        });
+        steps.collect()
+    }
+
+    fn note_places(&mut self) {
+        for (slot, mine) in &mut self.mine {
+            let is_here = self.places.get(slot).is_some_and(|place| place.as_ref() == Some(&self.me));
+            mine.elsewhere = if is_here { 0 } else { mine.elsewhere.saturating_add(1) };
+        }
+    }
+
+    /// What was handed over is another's, or nobody takes it.
+    fn note_handed(&mut self) {
+        let Some(handed) = &mut self.handed else { return };
+        handed.beats += 1;
+        let is_taken = |row: &Row| row.slot == handed.slot && row.term > handed.term;
+        let waits_no_more = handed.beats > SETTLED || self.stay == Stay::Leaves;
+        if handed.is_released && (waits_no_more || self.rows.iter().any(is_taken)) {
+            self.handed = None;
+        }
+    }
+
+    /// One slot, where none is on its way.
+    fn hand_over(&mut self) -> Option<Step> {
+        if self.handed.is_some() {
+            return None;
+        }
+        let patience = if self.stay == Stay::Leaves { 1 } else { SETTLED };
+        let is_due = |mine: &Mine| mine.phase == Phase::Serving && mine.elsewhere >= patience;
+        let (slot, mine) = self.mine.iter_mut().find(|(_, mine)| is_due(mine))?;
+        mine.phase = Phase::Closing;
+        self.handed = Some(Handed {
+            slot: *slot,
+            term: mine.term,
+            beats: 0,
+            is_released: false,
+        });
+        Some(Step::HandOver {
+            slot: *slot,
+            term: mine.term,
+        })
+    }
+
+    // ----------------------------------------------------------------------------------------------------------------
+    // Taking
+
+    fn take(&mut self) -> Vec<Step> {
+        let rows = std::mem::take(&mut self.rows);
+        self.left_alone.retain(|slot, _| rows.iter().any(|row| row.slot == *slot && row.owner == self.me));
+        let mut steps = Vec::new();
+        for row in &rows {
+            if !self.mine.contains_key(&row.slot) {
+                steps.extend(self.step_for(row));
+            }
+        }
+        self.rows = rows;
+        steps
+    }
+
+    /// What is to be done for a slot that is not open here.
+    fn step_for(&mut self, row: &Row) -> Option<Step> {
+        let is_free = match row.owner.as_str() {
+            "" => true,
+            owner if owner == self.me => self.is_left_alone_enough(row),
+            owner => self.others.is_gone(owner),
+        };
+        if !is_free || self.namesake > 0 {
+            return None;
+        }
+        let slot = row.slot;
+        if !self.is_place(slot) {
+            let is_mine = row.owner == self.me;
+            return is_mine.then_some(Step::Release { slot, term: row.term });
+        }
+        let begun = self.mine.values().filter(|mine| matches!(mine.phase, Phase::Taking | Phase::Opening));
+        if begun.count() >= AT_ONCE {
+            return None;
+        }
+        self.mine.insert(
+            slot,
+            Mine {
+                term: row.term,
+                phase: Phase::Taking,
+                elsewhere: 0,
+            },
+        );
+        Some(Step::Take { slot, seen: row.term })
+    }
+
+    /// A slot of this name that is not open here: an earlier process', or one whose taking got no answer, or that failed.
+    fn is_left_alone_enough(&mut self, row: &Row) -> bool {
+        let (term, beats) = self.left_alone.entry(row.slot).or_insert((row.term, RESTARTED));
+        if *term != row.term {
+            (*term, *beats) = (row.term, RESTARTED);
+        }
+        *beats = beats.saturating_sub(1);
+        *beats == 0 || self.stay == Stay::Leaves
+    }
+
+    // ----------------------------------------------------------------------------------------------------------------
+    // What came of it
+
+    /// A slot was taken under a term; none where another was first, or it isn't known.
+    pub fn taken(&mut self, slot: u16, term: Option<u64>) {
+        match (term, self.mine.get_mut(&slot)) {
+            (Some(term), Some(mine)) if mine.phase == Phase::Taking => {
+                (mine.term, mine.phase) = (term, Phase::Opening);
+            }
+            _ => {
+                self.mine.remove(&slot);
+            }
+        }
+    }
+
+    /// It is served. False where it was lost meanwhile.
+    pub fn opened(&mut self, slot: u16, term: u64) -> bool {
+        match self.mine.get_mut(&slot) {
+            Some(mine) if mine.term == term && mine.phase == Phase::Opening => {
+                mine.phase = Phase::Serving;
+                true
+            }
+            _ => false,
+        }
+    }
+
+    /// It could not be opened: it is tried again later.
+    pub fn failed(&mut self, slot: u16, term: u64) {
+        self.ended(slot, term);
+        self.left_alone.insert(slot, (term, AGAIN));
+    }
+
+    /// Another has it: seen by what writes to it. False where it was no more open here under that term.
+    pub fn lost(&mut self, slot: u16, term: u64) -> bool {
+        self.ended(slot, term)
+    }
+
+    /// It was handed over, or it isn't known whether the store has that. Who leaves hands over the next one at once.
+    pub fn released(&mut self, slot: u16, term: u64) -> Option<Step> {
+        self.ended(slot, term);
+        if let Some(handed) = self.handed.as_mut().filter(|handed| handed.slot == slot) {
+            handed.is_released = true;
+        }
+        if self.stay == Stay::Here {
+            return None;
+        }
+        self.note_handed();
+        self.hand_over()
+    }
+
+    fn ended(&mut self, slot: u16, term: u64) -> bool {
+        let is_it = self.mine.get(&slot).is_some_and(|mine| mine.term == term);
+        if is_it {
+            self.mine.remove(&slot);
+        }
+        is_it
+    }
+}
+
+#[cfg(test)]
+mod tests;

@@ -1,0 +1,76 @@
+//! The other instances: whose beats go on, counted in own beats.
+
+use super::GONE;
+use crate::cluster::terms::Seen;
+use std::collections::BTreeMap;
+
+struct Other {
+    beat: Option<u64>,
+    /// So many own beats has its own stood still.
+    still: u32,
+    /// The last one that it had: it has none while it leaves, and still has slots.
+    address: String,
+    leaves: bool,
+}
+
+pub(super) struct Others {
+    me: String,
+    by_name: BTreeMap<String, Other>,
+}
+
+impl Others {
+    pub fn of(me: &str) -> Others {
+        Others {
+            me: me.into(),
+            by_name: BTreeMap::new(),
+        }
+    }
+
+    /// What was read behind an own beat.
+    pub fn note(&mut self, seen: &Seen) {
+        let mut there: BTreeMap<&str, (Option<u64>, &str)> = BTreeMap::new();
+        // An owner without a row beats no more, whoever took that away.
+        let owners = seen.slots.iter().map(|row| row.owner.as_str());
+        there.extend(owners.filter(|owner| !owner.is_empty()).map(|owner| (owner, (None, ""))));
+        let instances = seen.instances.iter();
+        there.extend(instances.map(|one| (one.name.as_str(), (Some(one.beat), one.address.as_str()))));
+        there.remove(self.me.as_str());
+        self.by_name.retain(|name, _| there.contains_key(name.as_str()));
+        for (name, (beat, address)) in there {
+            let other = self.by_name.entry(name.into()).or_insert(Other {
+                beat: None,
+                still: 0,
+                address: String::new(),
+                leaves: false,
+            });
+            let stands = other.beat == beat;
+            other.still = if stands { other.still.saturating_add(1) } else { 0 };
+            (other.beat, other.leaves) = (beat, address.is_empty());
+            if !other.leaves {
+                other.address = address.into();
+            }
+        }
+    }
+
+    pub fn is_gone(&self, name: &str) -> bool {
+        self.by_name.get(name).is_some_and(|other| other.still >= GONE)
+    }
+
+    /// How many beat.
+    pub fn living(&self) -> usize {
+        self.by_name.values().filter(|other| other.still < GONE).count()
+    }
+
+    /// Those that may have slots.
+    pub fn staying(&self) -> impl Iterator<Item = &str> {
+        let stays = |other: &Other| other.still < GONE && !other.leaves;
+        let others = self.by_name.iter().filter(move |(_, other)| stays(other));
+        others.map(|(name, _)| name.as_str())
+    }
+
+    /// Where one is reached, if that is known.
+    pub fn address(&self, name: &str) -> Option<&str> {
+        let address = &self.by_name.get(name)?.address;
+        (!address.is_empty()).then_some(address)
+    }
+}
