@@ -38,8 +38,14 @@ pub enum Step {
 /// Who serves a slot.
 #[derive(Clone, Debug, PartialEq, Eq)]
 pub enum Whose {
-    Here { term: u64 },
-    There { name: String, address: String, term: u64 },
+    Here {
+        term: u64,
+    },
+    There {
+        name: String,
+        address: String,
+        term: u64,
+    },
     /// Nobody does now, or it isn't known where.
     Nobody,
 }
@@ -126,7 +132,10 @@ impl Owners {
 
     /// Slots that are open here, or being opened or closed.
     pub fn owned(&self) -> usize {
-        self.mine.values().filter(|mine| mine.phase != Phase::Taking).count()
+        self.mine
+            .values()
+            .filter(|mine| mine.phase != Phase::Taking)
+            .count()
     }
 
     /// Instances whose beats go on, this one among them.
@@ -136,7 +145,10 @@ impl Owners {
 
     /// By slot, of all that the store has.
     pub fn whose(&self) -> BTreeMap<u16, Whose> {
-        self.rows.iter().map(|row| (row.slot, self.whose_is(row))).collect()
+        self.rows
+            .iter()
+            .map(|row| (row.slot, self.whose_is(row)))
+            .collect()
     }
 
     fn whose_is(&self, row: &Row) -> Whose {
@@ -187,7 +199,11 @@ impl Owners {
         };
         let most = self.beat.map(|before| before + 1 + self.unanswered);
         let is_more = most.is_some_and(|most| own.beat > most);
-        self.namesake = if is_more { GONE } else { self.namesake.saturating_sub(1) };
+        self.namesake = if is_more {
+            GONE
+        } else {
+            self.namesake.saturating_sub(1)
+        };
         self.beat = Some(own.beat);
         self.unanswered = 0;
     }
@@ -210,7 +226,9 @@ impl Owners {
     }
 
     fn is_place(&self, slot: u16) -> bool {
-        self.places.get(&slot).is_some_and(|place| place.as_ref() == Some(&self.me))
+        self.places
+            .get(&slot)
+            .is_some_and(|place| place.as_ref() == Some(&self.me))
     }
 
     fn drop_lost(&mut self) -> Vec<Step> {
@@ -229,8 +247,15 @@ impl Owners {
 
     fn note_places(&mut self) {
         for (slot, mine) in &mut self.mine {
-            let is_here = self.places.get(slot).is_some_and(|place| place.as_ref() == Some(&self.me));
-            mine.elsewhere = if is_here { 0 } else { mine.elsewhere.saturating_add(1) };
+            let is_here = self
+                .places
+                .get(slot)
+                .is_some_and(|place| place.as_ref() == Some(&self.me));
+            mine.elsewhere = if is_here {
+                0
+            } else {
+                mine.elsewhere.saturating_add(1)
+            };
         }
     }
 
@@ -271,7 +296,8 @@ impl Owners {
 
     fn take(&mut self) -> Vec<Step> {
         let rows = std::mem::take(&mut self.rows);
-        self.left_alone.retain(|slot, _| rows.iter().any(|row| row.slot == *slot && row.owner == self.me));
+        self.left_alone
+            .retain(|slot, _| rows.iter().any(|row| row.slot == *slot && row.owner == self.me));
         let mut steps = Vec::new();
         for row in &rows {
             if !self.mine.contains_key(&row.slot) {
@@ -297,7 +323,10 @@ impl Owners {
             let is_mine = row.owner == self.me;
             return is_mine.then_some(Step::Release { slot, term: row.term });
         }
-        let begun = self.mine.values().filter(|mine| matches!(mine.phase, Phase::Taking | Phase::Opening));
+        let begun = self
+            .mine
+            .values()
+            .filter(|mine| matches!(mine.phase, Phase::Taking | Phase::Opening));
         if begun.count() >= AT_ONCE {
             return None;
         }

@@ -18,7 +18,9 @@ mod tests {
     use super::*;
 
     fn places<'a>(names: &[&'a str]) -> Vec<&'a str> {
-        (0..256).map(|slot| place(slot, names.iter().copied()).unwrap()).collect()
+        (0..256)
+            .map(|slot| place(slot, names.iter().copied()).unwrap())
+            .collect()
     }
 
     #[test]

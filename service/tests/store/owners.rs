@@ -36,7 +36,7 @@ fn an_owner_that_is_stopped_in_any_step_writes_no_more_once_another_has_the_slot
         let first = Work::take(&through, slot, round);
         let said = Arc::new(Mutex::new(first.synced.clone()));
         proxy.stop_after(round % 13);
-        let works = works(first, 50, said.clone());
+        let works = works(first, 9, said.clone());
         wait_until("it is stopped", || proxy.holds());
         let said_before = said.lock().unwrap().clone();
         let mut second = Work::take(&direct, slot, round + 1000);

@@ -31,7 +31,11 @@ impl Others {
         let mut there: BTreeMap<&str, (Option<u64>, &str)> = BTreeMap::new();
         // An owner without a row beats no more, whoever took that away.
         let owners = seen.slots.iter().map(|row| row.owner.as_str());
-        there.extend(owners.filter(|owner| !owner.is_empty()).map(|owner| (owner, (None, ""))));
+        there.extend(
+            owners
+                .filter(|owner| !owner.is_empty())
+                .map(|owner| (owner, (None, ""))),
+        );
         let instances = seen.instances.iter();
         there.extend(instances.map(|one| (one.name.as_str(), (Some(one.beat), one.address.as_str()))));
         there.remove(self.me.as_str());

@@ -10,7 +10,10 @@ struct Random(u64);
 
 impl Random {
     fn below(&mut self, most: u64) -> u64 {
-        self.0 = self.0.wrapping_mul(6364136223846793005).wrapping_add(1442695040888963407);
+        self.0 = self
+            .0
+            .wrapping_mul(6364136223846793005)
+            .wrapping_add(1442695040888963407);
         (self.0 >> 33) % most
     }
 
@@ -33,7 +36,11 @@ impl Store {
         *row = (row.0 + 1, Some(stay));
         let instances = self.instances.iter().map(|(name, (beat, stay))| Instance {
             name: name.clone(),
-            address: if *stay == Some(Stay::Here) { format!("{name}:1") } else { String::new() },
+            address: if *stay == Some(Stay::Here) {
+                format!("{name}:1")
+            } else {
+                String::new()
+            },
             beat: *beat,
         });
         Seen {
@@ -178,7 +185,10 @@ impl World {
             }
             Step::HandOver { slot, term } => {
                 self.hand_overs += 1;
-                let others = one.under_way.iter().filter(|step| matches!(step, Step::HandOver { .. }));
+                let others = one
+                    .under_way
+                    .iter()
+                    .filter(|step| matches!(step, Step::HandOver { .. }));
                 assert_eq!(others.count(), 0, "two slots are handed over at once");
                 if !is_lost {
                     self.store.release(slot, term);
@@ -196,7 +206,11 @@ impl World {
         for (place, node) in self.nodes.iter().enumerate() {
             for (slot, whose) in node.owners.whose() {
                 if let Whose::Here { term } = whose {
-                    assert_eq!(self.store.terms.get(&(slot, term)), Some(&place), "slot {slot}, term {term}");
+                    assert_eq!(
+                        self.store.terms.get(&(slot, term)),
+                        Some(&place),
+                        "slot {slot}, term {term}"
+                    );
                 }
             }
         }
@@ -213,7 +227,10 @@ impl World {
             let served = |node: &Node| match &node.owners.whose()[&row.slot] {
                 Whose::Here { term } => node.name == row.owner && *term == row.term,
                 Whose::There { name, address, term } => {
-                    *name == row.owner && *address == format!("{name}:1") && *term == row.term && *name != node.name
+                    *name == row.owner
+                        && *address == format!("{name}:1")
+                        && *term == row.term
+                        && *name != node.name
                 }
                 Whose::Nobody => false,
             };
@@ -268,7 +285,11 @@ fn over_random_schedules_two_never_own_a_slot_and_each_has_its_place_in_the_end(
         assert!(world.is_settled(), "seed {seed}: {:?}", world.store.rows);
         let before = (world.takes, world.hand_overs);
         world.rounds(100);
-        assert_eq!((world.takes, world.hand_overs), before, "seed {seed}: slots move without a reason");
+        assert_eq!(
+            (world.takes, world.hand_overs),
+            before,
+            "seed {seed}: slots move without a reason"
+        );
     }
 }
 
@@ -297,7 +318,10 @@ fn who_is_gone_loses_its_slots_after_six_beats_and_gets_them_back_one_by_one() {
     assert!(world.is_settled() && of_a > 0);
     world.nodes[0].stands_for = 30;
     world.rounds(GONE as usize - 1);
-    assert_eq!(world.store.rows.iter().filter(|row| row.owner == "a").count(), of_a);
+    assert_eq!(
+        world.store.rows.iter().filter(|row| row.owner == "a").count(),
+        of_a
+    );
     world.rounds(8);
     assert!(world.store.rows.iter().all(|row| row.owner == "b"));
     let before = world.hand_overs;

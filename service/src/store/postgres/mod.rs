@@ -10,6 +10,7 @@ mod counts;
 mod doubt;
 mod drive;
 mod fault;
+mod member;
 mod schema;
 mod session;
 mod shared;
@@ -21,9 +22,10 @@ pub use counts::Counts;
 pub use doubt::Doubt;
 pub use drive::PostgresDrive;
 pub use fault::StoreFault;
+pub use member::Member;
 pub use schema::{Cluster, MOST_SLOTS};
-pub use terms::{Instance, Owned};
 
+use crate::cluster::terms::{Instance, Row};
 use crate::files::drive::Lost;
 use drive::Writer;
 use shared::Shared;
@@ -44,8 +46,10 @@ pub struct PostgresStore {
 struct Database {
     /// For bytes, which may be long.
     reader: Arc<Shared>,
-    /// For the rows of instances and slots.
-    clerk: Arc<Shared>,
+    /// For slots that are taken or given away, which may wait for who has the row.
+    taker: Arc<Shared>,
+    /// For beats, and for what is seen behind them: nothing else keeps them waiting.
+    beater: Arc<Shared>,
 }
 
 /// Ends without waiting, from wherever it is dropped.
@@ -131,9 +135,11 @@ impl PostgresStore {
             Ok(cluster)
         };
         let cluster = runtime.wait(checking).unwrap_or_else(|| Err(ended()))?;
+        let shared = |server: &Server| Arc::new(Shared::new(server.clone()));
         let database = |server: &Server| Database {
-            reader: Arc::new(Shared::new(server.clone())),
-            clerk: Arc::new(Shared::new(server.clone())),
+            reader: shared(server),
+            taker: shared(server),
+            beater: shared(server),
         };
         Ok(PostgresStore {
             cluster,
@@ -154,7 +160,7 @@ impl PostgresStore {
     /// The files of a slot that was taken under this term; none where another has it since. It asks until it knows.
     pub fn drive(&self, slot: u16, term: u64) -> Result<Arc<PostgresDrive>, Lost> {
         let database = self.database(slot);
-        let server = database.clerk.server.clone();
+        let server = database.taker.server.clone();
         let mut writer = Writer::new(server, slot.into(), term as i64, self.counts.clone());
         let opening = async move {
             let found = writer.open().await?;
@@ -167,29 +173,33 @@ impl PostgresStore {
 
     /// Instances are in the first database.
     fn first(&self) -> Arc<Shared> {
-        self.databases[0].clerk.clone()
+        self.databases[0].beater.clone()
+    }
+
+    fn beaters(&self) -> Vec<Arc<Shared>> {
+        self.databases.iter().map(|one| one.beater.clone()).collect()
     }
 
     /// Adds one to this instance's beat, which is committed when this is `Ok`.
     pub async fn beat(&self, name: &str, address: &str) -> Result<(), Doubt> {
-        let (clerk, name, address) = (self.first(), name.to_string(), address.to_string());
-        let beating = async move { clerk.beat(&name, &address, env!("CARGO_PKG_VERSION")).await };
+        let (beater, name, address) = (self.first(), name.to_string(), address.to_string());
+        let beating = async move { beater.beat(&name, &address, env!("CARGO_PKG_VERSION")).await };
         self.runtime.run(beating).await
     }
 
     pub async fn instances(&self) -> Result<Vec<Instance>, Doubt> {
-        let clerk = self.first();
-        self.runtime.run(async move { clerk.instances().await }).await
+        let beater = self.first();
+        self.runtime.run(async move { beater.instances().await }).await
     }
 
-    pub async fn slots(&self) -> Result<Vec<Owned>, Doubt> {
-        let clerks: Vec<Arc<Shared>> = self.databases.iter().map(|one| one.clerk.clone()).collect();
+    pub async fn slots(&self) -> Result<Vec<Row>, Doubt> {
+        let beaters = self.beaters();
         let reading = async move {
             let mut slots = Vec::new();
-            for clerk in clerks {
-                slots.extend(clerk.slots().await?);
+            for beater in beaters {
+                slots.extend(beater.slots().await?);
             }
-            slots.sort_by_key(|owned| owned.slot);
+            slots.sort_by_key(|row| row.slot);
             Ok(slots)
         };
         self.runtime.run(reading).await
@@ -197,32 +207,32 @@ impl PostgresStore {
 
     /// Writes the term behind the one that was seen: the new one, or none where another was first.
     pub async fn take(&self, slot: u16, seen: u64, owner: &str) -> Result<Option<u64>, Doubt> {
-        let (clerk, owner) = (self.database(slot).clerk.clone(), owner.to_string());
+        let (taker, owner) = (self.database(slot).taker.clone(), owner.to_string());
         self.runtime
-            .run(async move { clerk.take(slot, seen, &owner).await })
+            .run(async move { taker.take(slot, seen, &owner).await })
             .await
     }
 
     /// Says that nobody has the slot, where it has this term. The one who had it writes no more.
     pub async fn release(&self, slot: u16, term: u64) -> Result<(), Doubt> {
-        let clerk = self.database(slot).clerk.clone();
+        let taker = self.database(slot).taker.clone();
         self.runtime
-            .run(async move { clerk.release(slot, term).await })
+            .run(async move { taker.release(slot, term).await })
             .await
     }
 
     pub async fn leave(&self, name: &str) -> Result<(), Doubt> {
-        let (clerk, name) = (self.first(), name.to_string());
-        self.runtime.run(async move { clerk.leave(&name).await }).await
+        let (beater, name) = (self.first(), name.to_string());
+        self.runtime.run(async move { beater.leave(&name).await }).await
     }
 
     /// On how many servers what is committed is now, at least; none where this role may not look.
     pub async fn copies(&self) -> Result<Option<u64>, Doubt> {
-        let clerks: Vec<Arc<Shared>> = self.databases.iter().map(|one| one.clerk.clone()).collect();
+        let beaters = self.beaters();
         let counting = async move {
             let mut least = None;
-            for clerk in clerks {
-                let Some(copies) = clerk.copies().await? else {
+            for beater in beaters {
+                let Some(copies) = beater.copies().await? else {
                     return Ok(None);
                 };
                 least = Some(least.map_or(copies, |least: u64| least.min(copies)));

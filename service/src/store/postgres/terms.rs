@@ -4,38 +4,19 @@ use super::copies;
 use super::doubt::Doubt;
 use super::session::{within, Session, SILENT};
 use super::shared::Shared;
+use crate::cluster::terms::{Instance, Row};
 use std::sync::Arc;
 use tokio_postgres::types::ToSql;
-use tokio_postgres::Row;
+use tokio_postgres::Row as Found;
 
 const BEAT: &str = "insert into totxegun_store.instance as i (name, address, version, beat) values ($1, $2, $3, 1)
     on conflict (name) do update set beat = i.beat + 1, address = excluded.address, version = excluded.version";
-const INSTANCES: &str = "select name, address, version, beat from totxegun_store.instance";
+const INSTANCES: &str = "select name, address, beat from totxegun_store.instance";
 const SLOTS: &str = "select slot, term, owner from totxegun_store.slot";
 const TAKE: &str =
     "update totxegun_store.slot set term = term + 1, link = 0, owner = $3 where slot = $1 and term = $2";
 const RELEASE: &str = "update totxegun_store.slot set owner = '' where slot = $1 and term = $2";
 const LEAVE: &str = "delete from totxegun_store.instance where name = $1";
-
-/// An instance, as the store has it.
-#[derive(Clone, Debug, PartialEq, Eq)]
-pub struct Instance {
-    pub name: String,
-    /// Where others forward posts to.
-    pub address: String,
-    /// Of its program.
-    pub version: String,
-    pub beat: u64,
-}
-
-/// Who has a slot.
-#[derive(Clone, Debug, PartialEq, Eq)]
-pub struct Owned {
-    pub slot: u16,
-    pub term: u64,
-    /// Empty where nobody has it.
-    pub owner: String,
-}
 
 impl Shared {
     /// A write that is done without a doubt, or an error: then it may be done, or be done later.
@@ -45,10 +26,10 @@ impl Shared {
         self.heard(&session, written).await
     }
 
-    async fn read<T>(&self, text: &str, each: impl Fn(&Row) -> T) -> Result<Vec<T>, Doubt> {
+    async fn read<T>(&self, text: &str, each: impl Fn(&Found) -> T) -> Result<Vec<T>, Doubt> {
         let session = self.session().await?;
         let rows = within(SILENT, session.client.query(text, &[])).await;
-        let rows: Result<Vec<Row>, Doubt> = self.heard(&session, rows).await;
+        let rows: Result<Vec<Found>, Doubt> = self.heard(&session, rows).await;
         Ok(rows?.iter().map(each).collect())
     }
 
@@ -69,17 +50,16 @@ impl Shared {
     }
 
     pub(super) async fn instances(&self) -> Result<Vec<Instance>, Doubt> {
-        let instance = |row: &Row| Instance {
+        let instance = |row: &Found| Instance {
             name: row.get(0),
             address: row.get(1),
-            version: row.get(2),
-            beat: row.get::<_, i64>(3) as u64,
+            beat: row.get::<_, i64>(2) as u64,
         };
         self.read(INSTANCES, instance).await
     }
 
-    pub(super) async fn slots(&self) -> Result<Vec<Owned>, Doubt> {
-        let owned = |row: &Row| Owned {
+    pub(super) async fn slots(&self) -> Result<Vec<Row>, Doubt> {
+        let owned = |row: &Found| Row {
             slot: row.get::<_, i32>(0) as u16,
             term: row.get::<_, i64>(1) as u64,
             owner: row.get(2),
