@@ -1,7 +1,7 @@
 //! Servers that are killed, promoted, alone or in each other's way, while an owner works.
 
 use super::server::{wait_until, Server};
-use super::work::{take, wait, Work};
+use super::work::{contents, take, wait, Work};
 use super::{make, open, rounds};
 use nix::sys::signal::Signal;
 use std::sync::atomic::{AtomicBool, AtomicU64, Ordering::SeqCst};
@@ -209,6 +209,29 @@ fn what_a_server_shows_after_a_restart_is_not_believed_without_its_standby() {
         assert!(first.is_found(&found), "round {round}");
     }
     println!("{} takers waited for the standby", rounds(2));
+}
+
+/// It takes writes, and ends none: whoever is there is left for the one that was promoted, and not read any more.
+#[test]
+fn a_primary_on_the_wrong_side_answers_nobody_and_is_left() {
+    let Some(mut pair) = Pair::start() else { return };
+    let store = pair.store();
+    let mut work = Work::take(&store, 0, 5);
+    (0..3).for_each(|_| assert!(work.round()));
+    assert!(contents(&*work.drive) == work.now);
+    pair.standby().promote();
+    let third = pair.standby().standby();
+    let begun = Instant::now();
+    assert!(work.round());
+    println!("it was left after {:.0} s", begun.elapsed().as_secs_f64());
+    (0..20).for_each(|_| assert!(work.round()));
+    assert!(
+        contents(&*work.drive) == work.now,
+        "it was read where it was left behind"
+    );
+    pair.primary().kill();
+    assert!(take(&store, 0).1 == work.synced);
+    drop(third);
 }
 
 #[test]

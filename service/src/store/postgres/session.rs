@@ -1,12 +1,15 @@
 //! A connection with its statements, to the server that writes.
 
 use super::doubt::Doubt;
+use super::shared::Stored;
 use crate::postgres::{self, Connected, Driver, Server};
 use std::future::Future;
+use std::sync::atomic::{AtomicUsize, Ordering::Relaxed};
 use std::time::Duration;
 use tokio::sync::Mutex;
 use tokio::time::timeout;
-use tokio_postgres::{Client, Config, Error, Statement};
+use tokio_postgres::types::ToSql;
+use tokio_postgres::{Client, Config, Error, Row, Statement};
 
 /// How long a host may take to be connected to, and to prepare the statements.
 const CONNECT: Duration = Duration::from_secs(5);
@@ -73,7 +76,7 @@ pub(super) struct Session {
     pub client: Client,
     pub put: Statement,
     pub append: Statement,
-    pub pieces: Statement,
+    pieces: Statement,
     driver: Driver,
     /// One write at a time: whose warning it is must be known.
     writing: Mutex<()>,
@@ -99,6 +102,19 @@ impl Session {
         })
     }
 
+    /// Those of these pieces that are there.
+    pub async fn pieces(&self, slot: i32, file: u64, numbers: &[u64]) -> Result<Vec<Stored>, Doubt> {
+        let numbers: Vec<i64> = numbers.iter().map(|number| *number as i64).collect();
+        let wanted: [&(dyn ToSql + Sync); 3] = [&slot, &(file as i64), &numbers];
+        let rows = within(SILENT, self.client.query(&self.pieces, &wanted)).await?;
+        let stored = |row: Row| Stored {
+            number: row.get::<_, i64>(0) as u64,
+            length: row.get::<_, i32>(1) as usize,
+            bytes: row.get(2),
+        };
+        Ok(rows.into_iter().map(stored).collect())
+    }
+
     /// What a write answered, where no doubt came with it.
     pub async fn written<T>(&self, write: impl Future<Output = Result<T, Error>>) -> Result<T, Doubt> {
         let _one = self.writing.lock().await;
@@ -121,10 +137,16 @@ pub(super) async fn within<T>(
     }
 }
 
-/// A connection with our settings to the first host that writes.
+/// Each time another host is asked first: one that takes writes, and never ends them, is not come to for ever.
+static FIRST: AtomicUsize = AtomicUsize::new(0);
+
+/// A connection with our settings to a host that writes.
 pub(super) async fn connect(server: &Server) -> Result<(Client, Driver), Doubt> {
     let mut told = Vec::new();
-    for host in server.each_host() {
+    let mut hosts = server.each_host();
+    let first = FIRST.fetch_add(1, Relaxed) % hosts.len().max(1);
+    hosts.rotate_left(first);
+    for host in hosts {
         match connect_to(server, &host).await {
             Ok(connected) => return Ok(connected),
             Err(doubt) => told.push(doubt.to_string()),

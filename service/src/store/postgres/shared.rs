@@ -1,13 +1,12 @@
 //! A connection to a database that all slots share.
 
 use super::doubt::{Backoff, Doubt, Next};
-use super::session::{within, Session, SILENT};
+use super::session::Session;
 use crate::log::Seldom;
 use crate::postgres::Server;
 use std::sync::Arc;
 use std::time::Duration;
 use tokio::sync::Mutex;
-use tokio_postgres::types::ToSql;
 
 static NOT_READ: Seldom = Seldom::every(Duration::from_secs(10));
 
@@ -17,8 +16,13 @@ pub(super) struct Shared {
     session: Mutex<Option<Arc<Session>>>,
 }
 
-/// Number, length and bytes as they are in the store.
-pub(super) type Found = (u64, usize, Vec<u8>);
+/// A piece as it is in the store.
+pub(super) struct Stored {
+    pub number: u64,
+    /// Before it was packed.
+    pub length: usize,
+    pub bytes: Vec<u8>,
+}
 
 impl Shared {
     pub fn new(server: Server) -> Shared {
@@ -48,10 +52,10 @@ impl Shared {
     }
 
     /// Those of these pieces that are there. It asks until there is an answer.
-    pub async fn pieces(&self, slot: u16, file: u64, numbers: Vec<u64>) -> Vec<Found> {
+    pub async fn pieces(&self, slot: u16, file: u64, numbers: &[u64]) -> Vec<Stored> {
         let mut backoff = Backoff::default();
         loop {
-            match self.try_pieces(slot, file, &numbers).await {
+            match self.try_pieces(slot, file, numbers).await {
                 Ok(found) => return found,
                 Err(doubt) if NOT_READ.is_due() => {
                     let reason = doubt.to_string();
@@ -67,22 +71,12 @@ impl Shared {
         }
     }
 
-    async fn try_pieces(&self, slot: u16, file: u64, numbers: &[u64]) -> Result<Vec<Found>, Doubt> {
+    async fn try_pieces(&self, slot: u16, file: u64, numbers: &[u64]) -> Result<Vec<Stored>, Doubt> {
         let session = self.session().await?;
-        let (slot, file) = (i32::from(slot), file as i64);
-        let numbers: Vec<i64> = numbers.iter().map(|number| *number as i64).collect();
-        let wanted: [&(dyn ToSql + Sync); 3] = [&slot, &file, &numbers];
-        let rows = match within(SILENT, session.client.query(&session.pieces, &wanted)).await {
-            Ok(rows) => rows,
-            Err(doubt) => {
-                self.note(&session, &doubt).await;
-                return Err(doubt);
-            }
-        };
-        let found = |row: tokio_postgres::Row| {
-            let number = row.get::<_, i64>(0) as u64;
-            (number, row.get::<_, i32>(1) as usize, row.get(2))
-        };
-        Ok(rows.into_iter().map(found).collect())
+        let found = session.pieces(slot.into(), file, numbers).await;
+        if let Err(doubt) = &found {
+            self.note(&session, doubt).await;
+        }
+        found
     }
 }

@@ -220,7 +220,7 @@ impl Files {
             let here = self.held.get(&piece).map(|held| held.bytes.clone());
             match here.or_else(|| fetched(piece)) {
                 None if piece == 0 => into.fill(0),
-                None => return Ok(Read::Needs(self.from(extents, at + done as u64))),
+                None => return Ok(Read::Needs(self.needed(extents, at + done as u64, fetched))),
                 Some(found) => {
                     let found = found.get(from..from + length);
                     into.copy_from_slice(found.ok_or(ErrorKind::InvalidData)?);
@@ -231,10 +231,11 @@ impl Files {
         Ok(Read::Done(done))
     }
 
-    /// The pieces of the store that are read next.
-    fn from(&self, extents: &Extents, at: u64) -> Vec<u64> {
+    /// What is read next of the store, and is not here.
+    fn needed(&self, extents: &Extents, at: u64, fetched: impl Fn(u64) -> Option<Bytes>) -> Vec<u64> {
+        let is_here = |piece: &u64| self.held.contains_key(piece) || fetched(*piece).is_some();
         let parts = extents.parts(at, AHEAD).map(|part| part.piece);
-        let needed = parts.filter(|piece| *piece > 0 && !self.held.contains_key(piece));
+        let needed = parts.filter(|piece| *piece > 0 && !is_here(piece));
         needed.collect::<BTreeSet<u64>>().into_iter().collect()
     }
 

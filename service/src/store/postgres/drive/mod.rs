@@ -16,7 +16,7 @@ mod writer;
 pub(super) use files::Files;
 pub(super) use writer::Writer;
 
-use super::shared::Shared;
+use super::shared::{Shared, Stored};
 use crate::files::drive::{lost, Drive, Lost};
 use crate::switch::Switch;
 use cache::Cache;
@@ -114,19 +114,39 @@ impl PostgresDrive {
         Ok(())
     }
 
-    /// Waits for the server where it is not there: for as long as the slot is this owner's.
-    fn fetch(&self, file: u64, numbers: Vec<u64>) -> io::Result<HashMap<u64, Bytes>> {
-        let (reader, slot) = (self.reader.clone(), self.slot);
-        let wanted = numbers.clone();
-        let rows = self.wait(async move { Ok(reader.pieces(slot, file, wanted).await) });
-        let rows = rows.map_err(|Lost| lost())?;
+    /// Waits for the server where it is not there: for as long as the slot is this owner's. Those that are not found are
+    /// asked of the server that takes the writes: the other may have been left behind.
+    fn fetch(&self, file: u64, wanted: Vec<u64>) -> io::Result<HashMap<u64, Bytes>> {
+        let (reader, writer, slot) = (self.reader.clone(), self.writer.clone(), self.slot);
+        let rows = self.wait(async move {
+            let rows = reader.pieces(slot, file, &wanted).await;
+            match rows.len() < wanted.len() {
+                true => writer.lock().await.pieces(file, &wanted).await,
+                false => Ok(rows),
+            }
+        });
         let mut found = HashMap::new();
-        for (number, length, bytes) in rows {
+        for Stored {
+            number,
+            length,
+            bytes,
+        } in rows.map_err(|Lost| lost())?
+        {
             let bytes: Bytes = packed::unpacked(&bytes, length)?.into();
             lock(&self.cache).put(number, bytes.clone());
             found.insert(number, bytes);
         }
         Ok(found)
+    }
+
+    /// What is there no more ends the slot, and not all that this process has.
+    fn vanished(&self, file: u64, pieces: &[u64]) -> io::Error {
+        let (slot, first) = (self.slot, pieces.first().copied().unwrap_or_default());
+        tracing::error!(
+            "slot {slot}: the store has lost piece {first} of file {file}, so the slot is not served"
+        );
+        self.lose();
+        lost()
     }
 }
 
@@ -165,7 +185,7 @@ impl Drive for PostgresDrive {
             let read = lock(&self.files).read(file, bytes, at, known)?;
             match read {
                 Read::Done(length) => return Ok(length),
-                Read::Needs(numbers) if numbers == asked => return Err(self.gone(file, &numbers)),
+                Read::Needs(numbers) if numbers == asked => return Err(self.vanished(file, &numbers)),
                 Read::Needs(numbers) => {
                     asked.clone_from(&numbers);
                     fetched.extend(self.fetch(file, numbers)?);
@@ -201,13 +221,5 @@ impl Drive for PostgresDrive {
 
     fn under_way(&self) -> Duration {
         self.turns.longest()
-    }
-}
-
-impl PostgresDrive {
-    fn gone(&self, file: u64, pieces: &[u64]) -> io::Error {
-        let first = pieces.first().copied().unwrap_or_default();
-        let what = format!("slot {}: the store lacks piece {first} of file {file}", self.slot);
-        io::Error::new(io::ErrorKind::InvalidData, what)
     }
 }

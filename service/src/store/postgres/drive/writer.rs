@@ -1,6 +1,6 @@
 //! Brings batches to the store, one behind the other, until each is known to be there.
 
-use super::files::{Files, Known};
+use super::files::{Batch, Files, Known};
 use super::packed::{Columns, Packed};
 use crate::files::drive::Lost;
 use crate::log::Seldom;
@@ -8,6 +8,7 @@ use crate::postgres::Server;
 use crate::store::postgres::counts::Counts;
 use crate::store::postgres::doubt::{Backoff, Doubt, Next};
 use crate::store::postgres::session::{within, Session, SILENT};
+use crate::store::postgres::shared::Stored;
 use std::sync::Arc;
 use std::time::Duration;
 use tokio_postgres::types::ToSql;
@@ -79,6 +80,20 @@ impl Writer {
                 Err(doubt) => self.tell(&doubt),
             }
             backoff.wait().await;
+        }
+    }
+
+    /// Those of these pieces that are there, on the server that takes the writes: none is behind a write that it has.
+    pub async fn pieces(&mut self, file: u64, numbers: &[u64]) -> Result<Vec<Stored>, Lost> {
+        let nothing = Packed::of(&Batch::default());
+        loop {
+            self.commit(&nothing).await?;
+            let Some(session) = &self.session else { continue };
+            match session.pieces(self.slot, file, numbers).await {
+                Ok(found) => return Ok(found),
+                Err(doubt) => self.tell(&doubt),
+            }
+            self.session = None;
         }
     }
 
