@@ -2,11 +2,14 @@
 
 #[cfg(test)]
 pub(crate) mod memory;
+mod slot;
 
 use std::ffi::OsString;
 use std::io;
 use std::path::Path;
 use std::time::Duration;
+
+pub use slot::open;
 
 /// The files of one slot, which one owner has, under a term. What is done is done in order; `sync` makes all of it durable
 /// that was done before the call, at once, and nothing that comes later is durable before it. So nothing is ever torn, and
@@ -51,3 +54,6 @@ pub fn lost() -> io::Error {
 pub fn is_lost(error: &io::Error) -> bool {
     error.get_ref().is_some_and(|inner| inner.is::<Lost>())
 }
+
+#[cfg(test)]
+mod tests;

@@ -105,7 +105,9 @@ impl From<Trouble> for Ended {
         match trouble {
             Trouble::File(fault) => Ended::Disk(fault),
             Trouble::NoMemory => Ended::NoMemory(trouble.to_string()),
-            Trouble::Broken(_) | Trouble::NotFilled(_) => Ended::Other(anyhow!("{trouble}")),
+            Trouble::Broken(_) | Trouble::NotFilled(_) | Trouble::Lost(_) => {
+                Ended::Other(anyhow!("{trouble}"))
+            }
         }
     }
 }

@@ -70,7 +70,7 @@ impl Parts {
                 settings.most_series
             )
         })?;
-        let slot = Slot::by_clock(0, folder, journal, outbox, metrics.clone(), core, settings.clock);
+        let slot = Slot::by_clock(0, journal, outbox, metrics.clone(), core, settings.clock);
         slot.runs.set(settings.runs);
         let (keeper, orders) = Keeper::new(slot.clone(), settings.keeping());
         let budget = Budget::new(settings.most_bytes);

@@ -36,13 +36,21 @@ pub(super) struct Running {
 }
 
 impl Running {
-    /// Returns once a part has ended that nobody told to end.
+    /// Returns once a part has ended that nobody told to end. One whose slot is lost has ended alone: all else goes on.
     pub async fn ended(&mut self) -> Ended {
-        tokio::select! {
-            Some(end) = self.keeper.join_next() => cause("the keeper", end),
-            Some(end) = self.deliveries.join_next() => cause("a delivery", end),
-            end = &mut self.intake => cause("the intake", end.map(Ok::<(), Fault>)),
-            end = &mut self.operate => cause("the operator's address", end.map(Ok::<(), Fault>)),
+        loop {
+            return tokio::select! {
+                Some(end) = self.keeper.join_next() => match is_of_slot(&end) {
+                    true => continue,
+                    false => cause("the keeper", end),
+                },
+                Some(end) = self.deliveries.join_next() => match is_of_slot(&end) {
+                    true => continue,
+                    false => cause("a delivery", end),
+                },
+                end = &mut self.intake => cause("the intake", end.map(Ok::<(), Fault>)),
+                end = &mut self.operate => cause("the operator's address", end.map(Ok::<(), Fault>)),
+            };
         }
     }
 
@@ -72,18 +80,40 @@ impl Running {
 }
 
 /// Waits so long for parts that were told to end: a fault of one of them.
-async fn last<E: Into<Ended> + 'static>(
+async fn last<E: Into<Ended> + OfSlot + 'static>(
     parts: &mut JoinSet<Result<(), E>>,
     part: &str,
     until: Instant,
 ) -> Result<(), Ended> {
     let mut ended = Ok(());
     while let Ok(Some(end)) = tokio::time::timeout_at(until, parts.join_next()).await {
-        if !matches!(end, Ok(Ok(()))) {
+        if !matches!(end, Ok(Ok(()))) && !is_of_slot(&end) {
             ended = ended.and(Err(cause(part, end)));
         }
     }
     ended
+}
+
+/// What may end a slot and nothing else.
+trait OfSlot {
+    fn is_of_slot(&self) -> bool;
+}
+
+impl OfSlot for Trouble {
+    fn is_of_slot(&self) -> bool {
+        matches!(self, Trouble::Lost(_))
+    }
+}
+
+impl OfSlot for Fault {
+    fn is_of_slot(&self) -> bool {
+        matches!(self, Fault::Lost(_))
+    }
+}
+
+/// Whether a part ended since its slot is another instance's.
+fn is_of_slot<E: OfSlot>(end: &Result<Result<(), E>, JoinError>) -> bool {
+    matches!(end, Ok(Err(why)) if why.is_of_slot())
 }
 
 impl Drop for Running {
@@ -127,7 +157,7 @@ mod tests {
         let folder = Folder::open(place, Durability::Process).unwrap();
         let (journal, outbox) = folder.slot(0).unwrap();
         let (metrics, core) = (Metrics::new().unwrap(), Core::new(1).unwrap());
-        let slot = Slot::new(0, folder.into(), journal, outbox.into(), metrics.into(), core);
+        let slot = Slot::new(0, journal, outbox.into(), metrics.into(), core);
         let mut keeper = JoinSet::new();
         keeper.spawn(async move {
             stopped.wait_true().await;

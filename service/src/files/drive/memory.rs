@@ -89,6 +89,16 @@ impl Store {
     pub fn names(&self) -> Vec<PathBuf> {
         lock(&self.0).files.keys().cloned().collect()
     }
+
+    /// Changes what the next owner has of a file; it has none that is empty then.
+    pub fn change(&self, name: &Path, change: impl FnOnce(&mut Vec<u8>)) {
+        let mut kept = lock(&self.0);
+        let bytes = Arc::make_mut(kept.files.get_mut(name).unwrap());
+        change(bytes);
+        if bytes.is_empty() {
+            kept.files.remove(name);
+        }
+    }
 }
 
 impl View {
