@@ -1,8 +1,8 @@
 //! Where senders post: OTLP/HTTP in protobuf or JSON, packed or not, on kept connections, and nothing else.
 //!
 //! `front` serves the connections on `threads` of their own, `wire` reads them, `head` and `body` say what came, `answer`
-//! is what goes back. A request is refused here before the book is asked, or read whole, put into the book's form by `otlp`, and
-//! given to the slot. Whoever can post can't operate: every path but `/v1/metrics` is 404.
+//! is what goes back. A request is refused here before a book is asked, or read whole, put into the book's form by `otlp`, and
+//! given to its slot, or in parts to several (`post`). Whoever can post can't operate: every path but `/v1/metrics` is 404.
 
 mod answer;
 mod body;
@@ -11,6 +11,7 @@ pub mod front;
 pub(crate) mod head;
 mod listen;
 mod pace;
+mod post;
 pub(crate) mod refusal;
 pub(crate) mod sender;
 mod threads;
@@ -27,16 +28,19 @@ pub(crate) use weight::Hold;
 
 use crate::core;
 use crate::metrics::Metrics;
-use crate::otlp::{self, Cumulative, Encoding, Original, Outcome, Prepared, Reading, Rounded};
-use crate::slot::{ByNumber, Request, Slot};
+use crate::otlp::{self, together, OfPart, Original, Outcome, Reading};
+use crate::slot::{ByNumber, Request, Slot, Slots};
+use crate::work::blocking;
 use bytes::Bytes;
 use head::{Head, Packing};
+use post::{Asked, AskedPart, Post};
 use refusal::Refusal;
 use std::future::Future;
 use std::sync::Arc;
 use std::time::Duration;
 use tokio::io::{AsyncRead, AsyncWrite};
 use tokio::sync::Semaphore;
+use tokio::task::JoinSet;
 use wire::Wire;
 
 /// How long a body may take after its head.
@@ -52,12 +56,7 @@ const UNPACKED: usize = 8;
 /// How many long bodies are read at a time.
 const READERS: usize = 2;
 
-/// What a byte of a body may become in memory while it is read: in JSON itself, what names its parts, and what is
-/// written anew; in protobuf up to nine bytes of JSON, twice that while they grow, and what names their parts.
-const WHILE_READ_JSON: usize = 8;
-const WHILE_READ_PROTOBUF: usize = 24;
-
-/// What takes posts. Each is whole even where the caller goes away.
+/// What takes a slot's posts. Each is whole even where the caller goes away.
 pub trait Taker: Send + Sync + 'static {
     /// The points of a request in protobuf by number; none where it is to be written in the book's form.
     fn numbered(&self, _body: &Bytes, _reading: &Arc<Reading>) -> Option<ByNumber> {
@@ -80,16 +79,24 @@ pub trait Taker: Send + Sync + 'static {
     /// The same as `post`, with the request as it came where that is wanted.
     fn post_with(
         self: &Arc<Self>,
-        sender: String,
+        sender: &str,
         request: Request,
         _original: Option<Original>,
     ) -> impl Future<Output = Outcome> + Send {
-        self.post(sender, request)
+        self.post(sender.into(), request)
     }
-
-    /// Hears of what was answered without asking it.
-    fn turned_away(&self, _sender: &str, _outcome: &Outcome) {}
 }
+
+/// Who hears of answers, also of those that no slot was asked for.
+pub trait Hears: Send + Sync + 'static {
+    fn answered(&self, _sender: &str, _outcome: &Outcome) {}
+
+    /// A part of a request was refused that is answered as taken.
+    fn part_refused(&self, _sender: &str, _outcome: &Outcome) {}
+}
+
+/// Nobody.
+impl Hears for () {}
 
 impl Taker for Slot {
     fn numbered(&self, body: &Bytes, reading: &Arc<Reading>) -> Option<ByNumber> {
@@ -106,9 +113,10 @@ impl Taker for Slot {
     }
 }
 
-/// What reads requests and gives posts to the slot.
+/// What reads requests and gives posts to slots.
 pub struct Intake<T> {
-    taker: Arc<T>,
+    slots: Arc<Slots<T>>,
+    hears: Arc<dyn Hears>,
     reading: Arc<Reading>,
     budget: Arc<Budget>,
     metrics: Arc<Metrics>,
@@ -116,25 +124,32 @@ pub struct Intake<T> {
     patience: Duration,
 }
 
-/// A request that was read whole.
-struct Post {
-    sender: String,
-    request: Request,
-    original: Option<Original>,
-    rounded: Rounded,
-    /// Of memory, until the post is answered.
-    hold: Hold,
-}
-
 impl<T: Taker> Intake<T> {
+    /// With one slot.
     pub fn new(taker: Arc<T>, reading: Reading, budget: Arc<Budget>, metrics: Arc<Metrics>) -> Intake<T> {
-        let (reading, readers) = (Arc::new(reading), Semaphore::new(READERS));
+        Intake::of(
+            Slots::one(taker),
+            Arc::new(()),
+            Arc::new(reading),
+            budget,
+            metrics,
+        )
+    }
+
+    pub fn of(
+        slots: Arc<Slots<T>>,
+        hears: Arc<dyn Hears>,
+        reading: Arc<Reading>,
+        budget: Arc<Budget>,
+        metrics: Arc<Metrics>,
+    ) -> Intake<T> {
         Intake {
-            taker,
+            slots,
+            hears,
             reading,
             budget,
             metrics,
-            readers,
+            readers: Semaphore::new(READERS),
             patience: PATIENCE,
         }
     }
@@ -171,10 +186,10 @@ impl<T: Taker> Intake<T> {
         outcome
     }
 
-    /// What is answered without asking the taker.
+    /// What is answered without asking a slot.
     pub(crate) fn refused(&self, sender: &str, refusal: &Refusal) -> Outcome {
         let outcome = Outcome::from(refusal);
-        self.taker.turned_away(sender, &outcome);
+        self.hears.answered(sender, &outcome);
         outcome
     }
 
@@ -187,7 +202,7 @@ impl<T: Taker> Intake<T> {
         &self,
         head: Head,
         wire: &mut Wire<S>,
-    ) -> Result<Post, Refusal> {
+    ) -> Result<Post<T>, Refusal> {
         let mut hold = self.budget.hold();
         let packed = match body::received(wire, &mut hold) {
             Some(received) => received?,
@@ -198,15 +213,22 @@ impl<T: Taker> Intake<T> {
         self.prepared(head, packed, hold).await
     }
 
-    async fn prepared(&self, mut head: Head, mut body: Bytes, mut hold: Hold) -> Result<Post, Refusal> {
-        let is_short = is_short(&mut head, &mut body, &mut hold)?;
-        let (taker, reading, metrics) = (self.taker.clone(), self.reading.clone(), self.metrics.clone());
-        let prepare = move || prepare(head, body, hold, &*taker, &reading, &metrics);
-        if is_short {
-            return prepare();
+    async fn prepared(&self, mut head: Head, mut body: Bytes, mut hold: Hold) -> Result<Post<T>, Refusal> {
+        if is_short(&mut head, &mut body, &mut hold)? {
+            return post::prepare(head, body, hold, &self.slots, &self.reading, &self.metrics);
         }
+        let (slots, reading, metrics) = (self.slots.clone(), self.reading.clone(), self.metrics.clone());
+        self.read_beside(move || post::prepare(head, body, hold, &slots, &reading, &metrics))
+            .await
+    }
+
+    /// Reads what is long on a thread beside the runtime's.
+    async fn read_beside<R: Send + 'static>(
+        &self,
+        read: impl FnOnce() -> Result<R, Refusal> + Send + 'static,
+    ) -> Result<R, Refusal> {
         let _turn = self.readers.acquire().await; // it is never closed
-        tokio::task::spawn_blocking(prepare).await.unwrap_or_else(|_| {
+        tokio::task::spawn_blocking(read).await.unwrap_or_else(|_| {
             Err(Refusal::Unreadable("the request could not be read".into())) // it panicked: nothing was taken
         })
     }
@@ -231,16 +253,93 @@ impl<T: Taker> Intake<T> {
     }
 
     /// The memory is held until the post is answered: a connection looks for its sender only then.
-    async fn take(&self, post: Post) -> Outcome {
-        let outcome = self
-            .taker
-            .post_with(post.sender, post.request, post.original)
-            .await;
-        drop(post.hold);
-        if let Outcome::Taken { .. } = outcome {
-            self.metrics.rounded(&post.rounded);
+    async fn take(&self, post: Post<T>) -> Outcome {
+        let Post { sender, asked, hold } = post;
+        let outcome = match asked {
+            Asked::Whole(ask) => ask.answered(&sender, &self.slots, &self.metrics).await,
+            Asked::Parts(parts) => self.take_parts(&sender, parts).await,
+        };
+        drop(hold);
+        self.hears.answered(&sender, &outcome);
+        outcome
+    }
+
+    /// All slots are asked at once: each waits for a disk, or for another instance.
+    async fn take_parts(&self, sender: &str, parts: Vec<AskedPart<T>>) -> Outcome {
+        let (mut asking, mut of_parts) = (JoinSet::new(), Vec::new());
+        for (place, AskedPart { part, resources, ask }) in parts.into_iter().enumerate() {
+            let outcome = match ask {
+                Err(refusal) => Outcome::from(&refusal),
+                Ok(ask) => {
+                    let (slots, metrics) = (self.slots.clone(), self.metrics.clone());
+                    let sender = sender.to_string();
+                    asking.spawn(async move { (place, ask.answered(&sender, &slots, &metrics).await) });
+                    unknown()
+                }
+            };
+            of_parts.push(OfPart {
+                outcome,
+                part,
+                resources,
+            });
         }
-        outcome.with(&post.rounded)
+        while let Some(answered) = asking.join_next().await {
+            // One that panicked stays unknown.
+            if let Ok((place, outcome)) = answered {
+                of_parts[place].outcome = outcome;
+            }
+        }
+        self.together(sender, of_parts).await
+    }
+
+    async fn together(&self, sender: &str, parts: Vec<OfPart>) -> Outcome {
+        let length: usize = parts.iter().map(|part| part.part.body.len()).sum();
+        let (parts, outcome) = match length {
+            0..=SHORT => {
+                let outcome = together(&parts, &self.reading);
+                (parts, outcome)
+            }
+            _ => {
+                let reading = self.reading.clone();
+                let _turn = self.readers.acquire().await; // it is never closed
+                blocking(move || {
+                    let outcome = together(&parts, &reading);
+                    (parts, outcome)
+                })
+                .await
+            }
+        };
+        if let Outcome::Taken { .. } = outcome {
+            let refused = parts.iter().filter(|part| part.outcome.refusal().is_some());
+            refused.for_each(|part| self.hears.part_refused(sender, &part.outcome));
+        }
+        outcome
+    }
+
+    /// Takes what another instance got of a request; none where the slot is not here. That one counts the post.
+    pub async fn forwarded(&self, slot: u16, sender: &str, part: Original) -> Option<Outcome> {
+        let taker = self.slots.here(slot)?;
+        let mut hold = self.budget.hold();
+        let read = match part.body.len() {
+            0..=SHORT => post::forwarded(part, taker, &mut hold, &self.reading).map(|ask| (ask, hold)),
+            _ => {
+                let reading = self.reading.clone();
+                let read = move || post::forwarded(part, taker, &mut hold, &reading).map(|ask| (ask, hold));
+                self.read_beside(read).await
+            }
+        };
+        Some(match read {
+            Err(refusal) => Outcome::from(&refusal),
+            Ok((ask, _hold)) => ask.answered(sender, &self.slots, &self.metrics).await,
+        })
+    }
+}
+
+/// Of a part that nobody has answered: it may have been taken.
+fn unknown() -> Outcome {
+    Outcome::Refused {
+        status: 503,
+        message: "no answer".into(),
     }
 }
 
@@ -255,67 +354,11 @@ fn is_short(head: &mut Head, body: &mut Bytes, hold: &mut Hold) -> Result<bool, 
     Ok(head.packing == Packing::Plain && body.len() <= SHORT)
 }
 
-/// Unpacks a body and puts it into the form in which it is taken. The budget has room for both forms while both are there.
-fn prepare(
-    head: Head,
-    packed: Bytes,
-    mut hold: Hold,
-    taker: &impl Taker,
-    reading: &Arc<Reading>,
-    metrics: &Metrics,
-) -> Result<Post, Refusal> {
-    let plain = body::unpack(packed, head.packing, MOST, &mut hold)?;
-    metrics.post_bytes.inc_by(plain.len() as u64);
-    let grows = match head.encoding {
-        Encoding::Json => WHILE_READ_JSON,
-        Encoding::Protobuf => WHILE_READ_PROTOBUF,
-    };
-    let length = plain.len();
-    hold.set(grows * length)?;
-    let sender = otlp::sender(head.sender, head.encoding, &plain, reading)?;
-    let encoding = head.encoding;
-    let original = taker.wants_originals().then(|| Original {
-        encoding,
-        body: plain.clone(),
-    });
-    let numbered = match head.encoding {
-        Encoding::Json => None,
-        Encoding::Protobuf => taker.numbered(&plain, reading),
-    };
-    let (request, rounded) = match numbered {
-        Some(mut points) => {
-            let rounded = std::mem::take(&mut points.rounded);
-            (Request::Numbered(points), rounded)
-        }
-        None => {
-            let room = || hold.set(2 * grows * length).map_err(Refusal::from);
-            let Prepared {
-                body,
-                rounded,
-                is_cumulative,
-            } = otlp::prepare_with(head.encoding, plain, reading, room)?;
-            let numbered = match is_cumulative && reading.cumulative == Cumulative::On {
-                true => taker.numbered_text(&body).map_err(|_| Refusal::NoMemory)?,
-                false => None,
-            };
-            (numbered.map_or(Request::Text(body), Request::Numbered), rounded)
-        }
-    };
-    let came = original.as_ref().map_or(0, |original| original.body.len());
-    hold.set(request.bytes() + rounded.bytes() + came)?;
-    Ok(Post {
-        sender,
-        request,
-        original,
-        rounded,
-        hold,
-    })
-}
-
 #[cfg(test)]
 mod tests {
     use super::body::tests::gzip;
     use super::*;
+    use crate::otlp::Encoding;
 
     /// How a body goes on, and whether it is read in place.
     fn seen(packing: Packing, body: Bytes) -> (Packing, usize, bool) {

@@ -31,6 +31,12 @@ pub fn metrics() -> Result<Metrics> {
     Ok(Metrics {
         taken_posts: posts.with_label_values(&["200", ""]),
         posts,
+        refused_parts: maker.counters(
+            "refused_parts_total",
+            "Of posts that were taken, parts for other slots that were refused, by the reason",
+            &["reason"],
+            &[],
+        )?,
         post_bytes: maker.counter("post_bytes_total", "Bytes of posts, unpacked")?,
         foreign_points: maker.counters(
             "foreign_points_total",

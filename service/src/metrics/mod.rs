@@ -26,6 +26,8 @@ pub struct Metrics {
     pub registry: Registry,
     /// By `status` and, of a refusal, `reason`.
     pub posts: IntCounterVec,
+    /// Of posts that were answered as taken the parts that were refused, by `reason`.
+    pub refused_parts: IntCounterVec,
     pub post_bytes: IntCounter,
     /// Points outside the profile, by `sender` and `cause`. Counted by `foreign`, which bounds the senders.
     pub foreign_points: IntCounterVec,

@@ -6,7 +6,7 @@ use crate::otlp::Outcome;
 const UNREADABLE: &str = "unreadable";
 
 /// What an answer's text begins with, and what is to be done.
-const REASONS: [(&str, &str); 32] = [
+const REASONS: [(&str, &str); 33] = [
     (
         "out of order",
         "right for a repeat: it was taken before. If each post of a sender gets it, its clock was set back",
@@ -72,6 +72,10 @@ const REASONS: [(&str, &str); 32] = [
     ("too many bytes in flight", "raise --most-bytes, if this stays"),
     ("recovering", "a start is putting in what the journal has: wait"),
     ("stopping", "the service ends"),
+    (
+        "no instance has the slot",
+        "wait: another instance takes it over; if this stays, look at the log of each instance",
+    ),
     ("no room for the journal", "make room on the disk"),
     (
         "the disk does not answer",
@@ -133,7 +137,7 @@ mod tests {
     use super::*;
     use crate::core::Refused;
     use crate::intake::refusal::Refusal;
-    use crate::slot::{MOVED, NO_ANSWER, NO_ROOM, NO_STORE};
+    use crate::slot::{MOVED, NO_ANSWER, NO_OWNER, NO_ROOM, NO_STORE};
 
     fn said(message: impl ToString) -> Option<&'static str> {
         of(&Outcome::Refused {
@@ -171,7 +175,7 @@ mod tests {
             Refusal::TooLong,
             Refusal::TooManyBytes,
         ];
-        let of_slot = [NO_ANSWER, NO_STORE, NO_ROOM, MOVED, "recovering", "stopping"];
+        let of_slot = [NO_ANSWER, NO_STORE, NO_OWNER, NO_ROOM, MOVED, "recovering", "stopping"];
         let texts = of_book.iter().map(ToString::to_string);
         let texts = texts.chain(of_intake.iter().map(ToString::to_string));
         let texts: Vec<String> = texts.chain(of_slot.map(String::from)).collect();

@@ -5,7 +5,7 @@
 //! letter is thrown away only once the sink has it. A service that ends in between sends it again under the same key.
 
 use super::{message, reply, Desk, JSON};
-use crate::files::dead::sent_as;
+use crate::files::dead::{sent_as, Letter};
 use crate::files::{Dead, Fault};
 use crate::sinks::{of_part, Fate, Forwarded};
 use crate::work::blocking;
@@ -26,27 +26,44 @@ pub struct Resent {
 }
 
 impl Desk {
-    /// Thousands of letters take seconds, and so long nothing else would go on that this thread has to do.
-    pub(super) async fn of_dead<T: Send + 'static>(
+    /// Asks for what the letter of this key is among; none where its slot is not here. Thousands of letters take seconds, and
+    /// so long nothing else would go on that this thread has to do.
+    async fn of_dead<T: Send + 'static>(
         &self,
-        call: impl FnOnce(&Dead) -> T + Send + 'static,
-    ) -> T {
-        let dead = self.dead.clone();
-        blocking(move || call(&dead)).await
+        key: &str,
+        call: impl FnOnce(&Dead, &str) -> Result<T, Fault> + Send + 'static,
+    ) -> Result<Option<T>, Fault> {
+        let Some(dead) = self.units.dead_of(key) else {
+            return Ok(None);
+        };
+        let key = key.to_string();
+        blocking(move || call(&dead, &key).map(Some)).await
+    }
+
+    /// The oldest first.
+    pub(super) async fn all_letters(&self) -> Result<Vec<Letter>, Fault> {
+        let units = self.units.all();
+        blocking(move || {
+            let lists = units.iter().map(|unit| unit.dead.list());
+            let mut letters = lists.collect::<Result<Vec<_>, _>>()?.concat();
+            letters.sort_by_key(|letter| letter.since); // each list is in order, and letters of one time stay in theirs
+            Ok(letters)
+        })
+        .await
     }
 
     async fn body_of(&self, key: &str) -> Result<Option<Vec<u8>>, Fault> {
-        let key = key.to_string();
-        self.of_dead(move |dead| dead.body(&key)).await
+        let body = self.of_dead(key, |dead, key| dead.body(key)).await?;
+        Ok(body.flatten())
     }
 
     async fn throw_away(&self, key: &str) -> Result<bool, Fault> {
-        let key = key.to_string();
-        self.of_dead(move |dead| dead.drop_letter(&key)).await
+        let is_gone = self.of_dead(key, |dead, key| dead.drop_letter(key)).await?;
+        Ok(is_gone.unwrap_or(false))
     }
 
     pub(super) async fn letters(&self) -> Response<Body> {
-        match self.of_dead(Dead::list).await {
+        match self.all_letters().await {
             Ok(letters) => reply(200, JSON, serde_json::json!(letters).to_string()),
             Err(fault) => faulty(&fault),
         }
@@ -110,7 +127,7 @@ impl Desk {
 
     /// What stands under no key of a request is of one that the sink has taken, and says why.
     async fn of_part(&self, key: &str) -> Response<Body> {
-        let letters = match self.of_dead(Dead::list).await {
+        let letters = match self.all_letters().await {
             Ok(letters) => letters,
             Err(fault) => return faulty(&fault),
         };
@@ -124,12 +141,12 @@ impl Desk {
 
     /// What the sink has a part of is kept under another key: it must not be sent again.
     async fn keep_part(&self, key: &str, left: Vec<u8>, reason: String) -> Response<Body> {
-        let (whole, why) = (key.to_string(), reason.clone());
-        let keep = move |dead: &Dead| {
+        let why = reason.clone();
+        let keep = move |dead: &Dead, whole: &str| {
             dead.keep(&format!("{whole}-partial"), &why, &left)?;
-            dead.drop_letter(&whole)
+            dead.drop_letter(whole)
         };
-        if let Err(fault) = self.of_dead(keep).await {
+        if let Err(fault) = self.of_dead(key, keep).await {
             return faulty(&fault);
         }
         let resent = Resent {

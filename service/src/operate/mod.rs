@@ -12,6 +12,7 @@ mod periods;
 mod status;
 mod tcp;
 mod totals;
+mod units;
 mod user;
 mod web;
 
@@ -24,36 +25,32 @@ pub use status::{
 };
 pub use tcp::AtTcp;
 pub use totals::Totals;
+pub use units::{Left, Unit, Units};
 
-use crate::files::{Dead, Outbox};
 use crate::intake::connections::Handler;
 use crate::intake::user::User;
 use crate::intake::Budget;
-use crate::keeper::{Order, Orders};
+use crate::keeper::Order;
 use crate::metrics::Metrics;
 use crate::otlp::{Encoding, Outcome};
 use crate::remarks::Heard;
-use crate::sinks::{Delivery, Sink};
-use crate::slot::Slot;
+use crate::shares::Shares;
+use crate::sinks::Sink;
 use hyper::header::{HeaderValue, ALLOW, CONTENT_TYPE};
 use hyper::{Body, Method, Request, Response, StatusCode};
 use pages::Page;
 use serde_json::json;
-use std::sync::{Arc, Mutex};
+use std::sync::Arc;
 use std::time::Instant;
 
 const JSON: &str = "application/json";
 const TEXT: &str = "text/plain; charset=utf-8";
 const PROMETHEUS: &str = "text/plain; version=0.0.4";
 
-/// All that an operator may ask.
+/// All that an operator may ask. `units` are the slots that are here.
 pub struct Desk {
-    pub slot: Arc<Slot>,
-    pub orders: Orders,
-    pub left: Left,
-    /// Of slots that an earlier totxegun had: what the sink has not taken.
-    pub former: Vec<Left>,
-    pub dead: Arc<Dead>,
+    pub units: Arc<Units>,
+    pub shares: Arc<Shares>,
     pub acts: Arc<Acts>,
     pub sink: Arc<dyn Sink>,
     /// Where the sink can be asked for them.
@@ -74,13 +71,6 @@ pub struct Desk {
     /// So many fit.
     pub most_series: usize,
     pub begun: Instant,
-}
-
-/// What a slot has for the sink.
-pub struct Left {
-    pub number: u16,
-    pub outbox: Arc<Outbox>,
-    pub delivery: Arc<Mutex<Delivery>>,
 }
 
 /// A route of the operator's address.

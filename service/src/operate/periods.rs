@@ -1,9 +1,10 @@
 //! Periods of the sink are closed and opened, and what it counted is corrected.
 
-use super::{message, reply, Actor, Desk, JSON};
+use super::{message, reply, Actor, Desk, Left, Unit, JSON};
 use crate::sinks::periods::{Correction, Deed, Told};
 use hyper::{Body, Response};
 use serde_json::json;
+use std::sync::Arc;
 
 /// Closes a period although something waits that may belong to it.
 pub const ANYWAY: &str = "anyway";
@@ -44,14 +45,17 @@ impl Desk {
 
     /// What was taken of senders and goes to the sink, but is not there yet.
     fn not_in_the_sink(&self) -> Option<String> {
-        let waiting: u64 = std::iter::once(&self.left)
-            .chain(&self.former)
-            .map(|left| left.outbox.waiting().0)
-            .sum();
-        let (_, posted) = self.slot.journal_size();
-        match (waiting, posted) {
-            (0, None) => None,
-            (0, Some(_)) => Some("there are posts that are not flushed".into()),
+        if let Some(slot) = self.units.missing() {
+            return Some(format!("slot {slot} is not here, and may have some"));
+        }
+        let units = self.units.all();
+        let waits = |left: &Left| left.outbox.waiting().0;
+        let of_unit = |unit: &Arc<Unit>| waits(&unit.left) + unit.former.iter().map(waits).sum::<u64>();
+        let waiting: u64 = units.iter().map(of_unit).sum();
+        let has_posts = units.iter().any(|unit| unit.slot.journal_size().1.is_some());
+        match (waiting, has_posts) {
+            (0, false) => None,
+            (0, true) => Some("there are posts that are not flushed".into()),
             (1, _) => Some("1 request waits for the sink".into()),
             (more, _) => Some(format!("{more} requests wait for the sink")),
         }
@@ -59,7 +63,7 @@ impl Desk {
 
     /// What stays out of the sink until an operator acts.
     fn kept_back(&self) -> String {
-        let (dead, held) = (self.dead.count(), self.slot.held().posts);
+        let (dead, held) = (self.units.dead(), self.units.held().posts);
         let mut text = String::new();
         for (count, what) in [
             (dead, "requests in dead/"),

@@ -1,6 +1,6 @@
 //! What the service says of itself: in JSON for `totxegun status`, in gauges for Prometheus.
 
-use super::{Desk, Left};
+use super::{Desk, Left, Unit};
 use crate::files::Held;
 use crate::metrics::RoundedSeries;
 use crate::shares::Used;
@@ -139,13 +139,13 @@ impl Desk {
             listen: self.listen.clone(),
             data: self.data.clone(),
             sink: self.sink.name(),
-            dead: self.dead.count(),
+            dead: self.units.dead(),
             books: self.books_status(),
             slots,
-            senders: self.slot.shares.nearest(),
+            senders: self.shares.nearest(),
             rounded: self.rounded_status(),
             cumulative: CumulativeStatus {
-                series: self.slot.runs.count(),
+                series: self.cumulative_series(),
                 noted: self.metrics.noted_runs.get(),
             },
         }
@@ -154,7 +154,7 @@ impl Desk {
     fn books_status(&self) -> BooksStatus {
         let (memory_bytes, most_memory_bytes) = crate::core::memory_used();
         BooksStatus {
-            count: self.slot.core().books() as u64,
+            count: self.units.sum(|unit| unit.slot.core().books() as u64),
             most_series: self.most_series as u64,
             memory_bytes,
             most_memory_bytes,
@@ -180,16 +180,15 @@ impl Desk {
         .collect()
     }
 
-    /// The slot, and former ones, as long as they have something.
+    fn cumulative_series(&self) -> usize {
+        self.units.sum(|unit| unit.slot.runs.count() as u64) as usize
+    }
+
+    /// The slots, and former ones, as long as they have something.
     fn slot_statuses(&self) -> Vec<SlotStatus> {
-        let (journal, since) = self.slot.journal_size();
-        let at_work = std::iter::once(SlotStatus {
-            unavailable: self.unavailable().map(String::from),
-            journal: Stock::new(journal, since),
-            held: self.slot.held(),
-            ..SlotStatus::of(&self.left)
-        });
-        let former = self.former.iter().map(SlotStatus::of);
+        let units = self.units.all();
+        let at_work = units.iter().map(|unit| SlotStatus::at_work(unit));
+        let former = units.iter().flat_map(|unit| &unit.former).map(SlotStatus::of);
         at_work.chain(former.filter(|slot| slot.waiting > 0)).collect()
     }
 
@@ -209,7 +208,7 @@ impl Desk {
         levels.outbox_requests.set(sum(|slot| slot.waiting));
         levels.outbox_bytes.set(sum(|slot| slot.outbox.bytes));
         levels.outbox_age_seconds.set(oldest(|slot| &slot.outbox));
-        levels.dead_requests.set(self.dead.count() as i64);
+        levels.dead_requests.set(self.units.dead() as i64);
         let quarantined = sum(|slot| slot.quarantined.len() as u64);
         levels.quarantined_senders.set(quarantined);
         levels.held_posts.set(sum(|slot| slot.held.posts));
@@ -217,9 +216,9 @@ impl Desk {
         let is_stuck = slots.iter().any(|slot| slot.stuck.is_some());
         levels.delivery_stuck.set(i64::from(is_stuck));
         self.read_disk();
-        self.metrics.shares(&self.slot.shares.nearest());
+        self.metrics.shares(&self.shares.nearest());
         levels.series.set(sum(|slot| slot.series as u64));
-        levels.cumulative_series.set(self.slot.runs.count() as i64);
+        levels.cumulative_series.set(self.cumulative_series() as i64);
         let (used, most) = crate::core::memory_used();
         levels.book_memory_bytes.set(used as i64);
         levels.book_memory_most_bytes.set(most as i64);
@@ -227,9 +226,9 @@ impl Desk {
 
     fn read_disk(&self) {
         let levels = &self.metrics.levels;
-        levels.disk_call_seconds.set(self.slot.disk_call().as_secs_f64());
+        levels.disk_call_seconds.set(self.units.disk_call().as_secs_f64());
         // A disk that stalls may not say either how much it has.
-        let free = self.slot.disk_answers().then(|| free_bytes(&self.data));
+        let free = self.units.disk_answers().then(|| free_bytes(&self.data));
         if let Some(free) = free.flatten() {
             levels.disk_free_bytes.set(free as i64);
         }
@@ -237,6 +236,16 @@ impl Desk {
 }
 
 impl SlotStatus {
+    fn at_work(unit: &Unit) -> SlotStatus {
+        let (journal, since) = unit.slot.journal_size();
+        SlotStatus {
+            unavailable: unit.slot.unavailable().map(String::from),
+            journal: Stock::new(journal, since),
+            held: unit.slot.held(),
+            ..SlotStatus::of(&unit.left)
+        }
+    }
+
     /// Without a journal.
     fn of(left: &Left) -> SlotStatus {
         let outbox = &left.outbox;

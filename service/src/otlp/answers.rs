@@ -9,13 +9,21 @@ use prost::Message;
 /// What is said of points that the book did not take.
 pub(super) const OUTSIDE: &str = "points outside the profile";
 
+const READ_ON: &str = ": see docs/OPERATING.md, \"Senders\"";
+
 /// The same, by cause, and where its sender's owner reads on.
 pub(super) fn outside(causes: &Causes, off: OffClock) -> String {
     let clock = match off.points() {
         0 => String::new(),
         _ => format!(": {off}"),
     };
-    format!("{OUTSIDE}: {causes}{clock}: see docs/OPERATING.md, \"Senders\"")
+    format!("{OUTSIDE}: {causes}{clock}{READ_ON}")
+}
+
+/// The causes that such a text names; none of any other.
+pub(super) fn causes(text: &str) -> Option<Causes> {
+    let inside = text.strip_prefix(OUTSIDE)?.strip_prefix(": ")?;
+    Causes::read(inside.strip_suffix(READ_ON)?)
 }
 
 /// What a receiver's answer in JSON says beside its success, by either name of a field; null is nothing.

@@ -108,6 +108,18 @@ impl Causes {
         causes
     }
 
+    /// As they are shown.
+    pub(super) fn read(text: &str) -> Option<Causes> {
+        let mut causes = Causes::default();
+        for part in text.split(", ") {
+            let (points, noun) = part.split_once(' ')?;
+            let mut all = <Cause as clap::ValueEnum>::value_variants().iter();
+            let cause = all.find(|cause| cause.nouns().contains(&noun))?;
+            causes.add(*cause, points.parse().ok()?);
+        }
+        Some(causes)
+    }
+
     /// How many points these are.
     pub fn count(&self) -> u64 {
         self.0.values().sum()

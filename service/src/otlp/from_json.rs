@@ -325,6 +325,11 @@ impl Walk<'_, '_> {
     }
 }
 
+/// Whether a member of a name that no field has is passed over.
+pub fn says_nothing(of: &'static Message, name: &str, member: Value<'_>) -> bool {
+    not_lost(of, name, member).is_ok()
+}
+
 /// Refuses what a member of an unknown name has to say about points. Other unknown names are passed over.
 fn not_lost(of: &'static Message, name: &str, member: Value<'_>) -> Result<(), Stop> {
     let is_empty = match member.elements() {

@@ -5,7 +5,8 @@
 //! `numbered` reads nearly all protobuf without that, by the numbers of series that are known;
 //! `whole` takes fractions as whole numbers of a finer unit. `series` reads bodies as the book does, and what it forwards.
 //! `outside` is what of a request is handed on to another receiver, `answers` what senders are answered, `clock` which points
-//! end too far from the service's clock.
+//! end too far from the service's clock. `resources` says which slot a resource has and takes requests apart, `together` is one
+//! answer of several.
 
 mod answers;
 mod causes;
@@ -19,9 +20,11 @@ mod number;
 mod numbered;
 mod output;
 mod outside;
+mod resources;
 mod schema;
 mod sender;
 pub mod series;
+mod together;
 mod usual;
 mod whole;
 mod wire;
@@ -33,8 +36,10 @@ pub use explain::{explained, foreign_points, point_at, Explained};
 pub(crate) use messages::ExportMetricsServiceResponse;
 pub use numbered::{Learnt, NotNamed, Numbered, Series};
 pub use outside::{Original, Outside};
+pub use resources::{slot_of, slot_of_series, Part, Resources, Split};
 pub use sender::{legal, sender, NO_NAME};
 pub use series::Profile;
+pub use together::{together, OfPart};
 pub use whole::{Choice, Rounded, Rounding, Rule, Whole};
 
 use bytes::Bytes;

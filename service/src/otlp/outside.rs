@@ -89,6 +89,20 @@ impl Original {
         }
     }
 
+    /// How many points it has, whatever they are, as far as it can be read.
+    pub fn points(&self) -> u64 {
+        let mut points = 0;
+        let mut none = |_| {
+            points += 1;
+            false
+        };
+        let _nothing = match self.encoding {
+            Encoding::Protobuf => protobuf::with(&self.body, &mut none),
+            Encoding::Json => json::with(&self.body, &mut none),
+        };
+        points
+    }
+
     fn with(&self, mut choose: impl FnMut(usize) -> bool) -> (Option<Vec<u8>>, u64) {
         let mut points = 0;
         let mut counted = |kind| {

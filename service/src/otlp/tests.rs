@@ -16,8 +16,9 @@ mod random;
 mod refused;
 mod speed;
 
+pub(super) use mapping::Spelling;
 pub(super) use posts::posts;
-pub(super) use random::requests;
+pub(super) use random::{requests, Random};
 
 fn prepared(encoding: Encoding, body: impl Into<Bytes>) -> Result<Bytes, String> {
     prepare(encoding, body.into(), &Reading::default())

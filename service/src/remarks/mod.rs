@@ -1,9 +1,9 @@
 //! What is told of posts that were not taken, or not wholly: in their answers, in the log, and to operators.
 //!
-//! It stands before what takes posts, and changes nothing of them but the text of their answers. Of a post with points
-//! that were not taken it reads the body once more, for the answer; `heard` is who has posted. For the log it reads
-//! one post at a time and beside the runtime's threads; one that comes meanwhile is passed over, since its sender
-//! comes again.
+//! It stands before what takes a slot's posts, and changes nothing of them but the text of their answers. Of a post with
+//! points that were not taken it reads the body once more, for the answer. What was told is of all slots: `heard` is who has
+//! posted. For the log one post is read at a time and beside the runtime's threads; one that comes meanwhile is passed over,
+//! since its sender comes again.
 
 mod heard;
 
@@ -11,9 +11,9 @@ pub use heard::{Heard, OfReason, OfSender};
 
 use crate::core;
 use crate::files::Outbox;
-use crate::intake::Taker;
+use crate::intake::{Hears, Taker};
 use crate::log::{all_shown, cut, shown};
-use crate::metrics::Metrics;
+use crate::metrics::{reason_of, Metrics};
 use crate::otlp::series::SeriesKey;
 use crate::otlp::{foreign_points, point_at, Cause, Causes, Explained, Original, Outcome, Profile, Reading};
 use crate::pass::Pass;
@@ -21,7 +21,6 @@ use crate::slot::{ByNumber, Request, Source};
 use crate::work::blocking;
 use bytes::Bytes;
 use std::collections::{HashMap, HashSet};
-use std::future::Future;
 use std::sync::atomic::{AtomicBool, Ordering::Relaxed};
 use std::sync::{Arc, Mutex, PoisonError};
 use tokio::sync::Semaphore;
@@ -47,9 +46,15 @@ const ANSWER_SHOWN: usize = 600;
 /// How many posts of a sender are read for reasons that are new.
 const MOST_READ: usize = 100;
 
+/// Of one slot's posts.
 pub struct Remarks<T> {
     taker: Arc<T>,
     owners: Box<dyn Owners>,
+    teller: Arc<Teller>,
+}
+
+/// What tells of all slots' posts.
+pub struct Teller {
     telling: Telling,
     metrics: Arc<Metrics>,
     heard: Arc<Heard>,
@@ -106,18 +111,36 @@ enum Remark {
 }
 
 impl<T: Taker> Remarks<T> {
+    pub fn new(taker: Arc<T>, owners: impl Owners, teller: Arc<Teller>) -> Arc<Remarks<T>> {
+        Arc::new(Remarks {
+            taker,
+            owners: Box::new(owners),
+            teller,
+        })
+    }
+
+    fn tell(&self, remark: Remark, sender: &str, source: Source) {
+        let Some(body) = source.text() else { return };
+        match remark {
+            Remark::Foreign => self.teller.tell_reasons(sender, &body),
+            Remark::OtherWriter(place) => {
+                if let Some((_, series)) = point_at(&body, self.teller.telling.profile, place) {
+                    self.teller.tell_owner(sender, series, &*self.owners);
+                }
+            }
+        }
+    }
+}
+
+impl Teller {
     /// `heard` is noted of each post. To `pass` points are handed on that are outside the profile.
     pub fn new(
-        taker: Arc<T>,
-        owners: impl Owners,
         telling: Telling,
         metrics: Arc<Metrics>,
         heard: Arc<Heard>,
         pass: Option<Arc<Pass>>,
-    ) -> Arc<Remarks<T>> {
-        Arc::new(Remarks {
-            taker,
-            owners: Box::new(owners),
+    ) -> Arc<Teller> {
+        Arc::new(Teller {
             telling,
             metrics,
             heard,
@@ -271,18 +294,6 @@ impl<T: Taker> Remarks<T> {
         }
     }
 
-    fn tell(&self, remark: Remark, sender: &str, source: Source) {
-        let Some(body) = source.text() else { return };
-        match remark {
-            Remark::Foreign => self.tell_reasons(sender, &body),
-            Remark::OtherWriter(place) => {
-                if let Some((_, series)) = point_at(&body, self.telling.profile, place) {
-                    self.tell_owner(sender, series);
-                }
-            }
-        }
-    }
-
     /// Nobody who posts waits while a body is read: one at a time is.
     fn tell_reasons(&self, sender: &str, body: &Bytes) {
         let known = |told: &Told| told.foreign.get(sender).map(|of| of.reasons.clone());
@@ -304,14 +315,14 @@ impl<T: Taker> Remarks<T> {
         of.reasons = reasons;
     }
 
-    fn tell_owner(&self, sender: &str, series: SeriesKey) {
+    fn tell_owner(&self, sender: &str, series: SeriesKey, owners: &dyn Owners) {
         {
             let told = self.told();
             if told.series.contains(&series) || told.series.len() >= REMEMBERED {
                 return;
             }
         }
-        let Some(owner) = self.owners.owner(&series) else {
+        let Some(owner) = owners.owner(&series) else {
             return;
         };
         let line = other_writer(sender, &owner, &series);
@@ -360,42 +371,49 @@ impl<T: Taker> Taker for Remarks<T> {
         self.taker.numbered_text(text)
     }
 
-    fn post(self: &Arc<Self>, sender: String, request: Request) -> impl Future<Output = Outcome> + Send {
-        self.post_with(sender, request, None)
+    async fn post(self: &Arc<Self>, sender: String, request: Request) -> Outcome {
+        self.post_with(&sender, request, None).await
     }
 
     fn wants_originals(&self) -> bool {
-        self.pass.is_some()
+        self.teller.pass.is_some()
     }
 
-    fn post_with(
+    async fn post_with(
         self: &Arc<Self>,
-        sender: String,
+        sender: &str,
         request: Request,
         original: Option<Original>,
-    ) -> impl Future<Output = Outcome> + Send {
-        let remarks = self.clone();
-        async move {
-            let source = request.source();
-            let outcome = remarks.taker.post(sender.clone(), request).await;
-            remarks.note_clock(&sender, &outcome);
-            let remark = remarks.remark(&sender, &outcome);
-            let outcome = remarks.in_words(&sender, &source, original, outcome).await;
-            let remark = remark.filter(|_| outcome != Outcome::taken(0));
-            remarks.note(&sender, &outcome);
-            if let Some(remark) = remark {
-                if !remarks.is_reading.swap(true, Relaxed) {
-                    tokio::task::spawn_blocking(move || {
-                        remarks.tell(remark, &sender, source);
-                        remarks.is_reading.store(false, Relaxed);
-                    });
-                }
+    ) -> Outcome {
+        let teller = &self.teller;
+        let source = request.source();
+        let outcome = self.taker.post(sender.into(), request).await;
+        teller.note_clock(sender, &outcome);
+        let remark = teller.remark(sender, &outcome);
+        let outcome = teller.in_words(sender, &source, original, outcome).await;
+        let remark = remark.filter(|_| outcome != Outcome::taken(0));
+        if let Some(remark) = remark {
+            if !teller.is_reading.swap(true, Relaxed) {
+                let (remarks, sender) = (self.clone(), sender.to_string());
+                tokio::task::spawn_blocking(move || {
+                    remarks.tell(remark, &sender, source);
+                    remarks.teller.is_reading.store(false, Relaxed);
+                });
             }
-            outcome
         }
+        outcome
+    }
+}
+
+impl Hears for Teller {
+    fn answered(&self, sender: &str, outcome: &Outcome) {
+        self.note(sender, outcome);
     }
 
-    fn turned_away(&self, sender: &str, outcome: &Outcome) {
+    fn part_refused(&self, sender: &str, outcome: &Outcome) {
+        if let Some(reason) = reason_of(outcome) {
+            self.metrics.refused_parts.with_label_values(&[reason]).inc();
+        }
         self.note(sender, outcome);
     }
 }

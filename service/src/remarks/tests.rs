@@ -3,6 +3,7 @@
 use super::*;
 use crate::otlp::{Clock, OffClock};
 use crate::runs::{Refused, Turned};
+use std::future::Future;
 use std::time::Duration;
 
 /// Answers as it was told.
@@ -25,14 +26,8 @@ impl Owners for Owned {
 
 fn remarks(outcome: Outcome, owner: Option<&'static str>, telling: Telling) -> Arc<Remarks<Answering>> {
     let metrics = Arc::new(Metrics::new().unwrap());
-    Remarks::new(
-        Arc::new(Answering(outcome)),
-        Owned(owner),
-        telling,
-        metrics,
-        Arc::default(),
-        None,
-    )
+    let teller = Teller::new(telling, metrics, Arc::default(), None);
+    Remarks::new(Arc::new(Answering(outcome)), Owned(owner), teller)
 }
 
 fn body(metrics: &str) -> Bytes {
@@ -56,11 +51,11 @@ async fn told(
             remarks.post("a".into(), body.clone().into()).await.status(),
             outcome.status()
         );
-        while remarks.is_reading.load(Relaxed) {
+        while remarks.teller.is_reading.load(Relaxed) {
             tokio::time::sleep(Duration::from_millis(1)).await;
         }
     }
-    let told = remarks.told();
+    let told = remarks.teller.told();
     let of = told.foreign.get("a");
     let mut reasons: Vec<String> = of.into_iter().flat_map(|of| of.reasons.clone()).collect();
     reasons.sort();
@@ -180,7 +175,7 @@ async fn a_sender_is_told_what_is_not_taken() {
         answered(&all, &metrics).await,
         "points outside the profile: 3 gauges, 2 UpDownCounters, 1 cumulative sum: see docs/OPERATING.md, \"Senders\""
     );
-    let page = String::from_utf8(all.metrics.page()).unwrap();
+    let page = String::from_utf8(all.teller.metrics.page()).unwrap();
     for line in [
         "totxegun_foreign_points_total{cause=\"up-down-counter\",sender=\"a\"} 2",
         "totxegun_foreign_points_total{cause=\"cumulative-sum\",sender=\"a\"} 1",
@@ -226,8 +221,8 @@ async fn a_sender_whose_clock_is_off_is_told_by_how_much() {
         "{answer}"
     );
     answered(&remarks, GAUGES).await;
-    assert_eq!(remarks.told().clocks.len(), 1, "it is in the log once");
-    let page = String::from_utf8(remarks.metrics.page()).unwrap();
+    assert_eq!(remarks.teller.told().clocks.len(), 1, "it is in the log once");
+    let page = String::from_utf8(remarks.teller.metrics.page()).unwrap();
     let line = "totxegun_foreign_points_total{cause=\"clock-ahead\",sender=\"a\"} 2";
     assert!(page.lines().any(|found| found == line), "{page}");
 }
@@ -270,10 +265,10 @@ async fn refusals_are_noted() {
     };
     let expected = remarks(Outcome::taken(3), None, telling);
     answered(&expected, GAUGES).await;
-    while expected.is_reading.load(Relaxed) {
+    while expected.teller.is_reading.load(Relaxed) {
         tokio::time::sleep(Duration::from_millis(1)).await;
     }
-    assert!(expected.told().foreign["a"].reasons.is_empty());
+    assert!(expected.teller.told().foreign["a"].reasons.is_empty());
     let late = Outcome::Refused {
         status: 400,
         message: "out of order: point 0, frontier 5".into(),
@@ -282,10 +277,10 @@ async fn refusals_are_noted() {
         status: 503,
         message: "too many bytes in flight".into(),
     };
-    let refused = remarks(late, None, Telling::default());
-    answered(&refused, GAUGES).await;
-    answered(&refused, GAUGES).await;
-    refused.turned_away("b", &busy);
+    let refused = remarks(late.clone(), None, Telling::default()).teller.clone();
+    refused.answered("a", &late);
+    refused.part_refused("a", &late);
+    refused.answered("b", &busy);
     assert_eq!(refused.told().refusals, 1, "503 is not the sender's");
     let of_a = &refused
         .heard

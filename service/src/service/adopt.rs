@@ -6,7 +6,7 @@
 //! slot 0's. So a kill leaves the old number or the new one, and never a mix. Requests that wait stay where they are,
 //! and are delivered under their keys.
 
-use super::running::LAST_CHANGES;
+use super::unit::LAST_CHANGES;
 use super::Ended;
 use crate::core::Core;
 use crate::files::{Fault, Folder, Outbox};

@@ -10,6 +10,8 @@ mod running;
 mod senders;
 mod sink;
 mod supervisor;
+mod unit;
+mod units;
 
 pub(crate) use adopt::slot_of;
 pub use operators::Operate;
@@ -19,13 +21,13 @@ use crate::files::{Durability, Fault, Folder, FolderFault};
 use crate::identity::Door;
 use crate::keeper::{Settings as Keeping, Trouble};
 use crate::metrics::Metrics;
+use crate::operate::Units;
 use crate::otlp::{Clock, Reading};
 use crate::pass::Pass;
 use crate::remarks::Telling;
 use crate::runs;
 use crate::shares::Share;
 use crate::sinks::{Address, Keep};
-use crate::slot::Slot;
 use anyhow::{anyhow, Context};
 use operators::Readers;
 use parts::Parts;
@@ -127,10 +129,10 @@ pub async fn run(settings: Settings) -> Result<(), Ended> {
     let supervisor = Supervisor::from_environment();
     let senders = Senders::bind(&settings).await?;
     let readers = Readers::bind(&settings).await?;
-    let slot = Arc::new(OnceLock::<Arc<Slot>>::new());
-    let begun = slot.clone();
+    let units = Arc::new(OnceLock::<Arc<Units>>::new());
+    let begun = units.clone();
     // Before the files are opened: that may take longer than a supervisor waits.
-    let is_ready = move || begun.get().is_some_and(|slot| slot.is_ready());
+    let is_ready = move || begun.get().is_some_and(|units| units.are_ready());
     let watched = tokio::spawn(supervisor.clone().watch(is_ready));
     let folder = Arc::new(Folder::open(&settings.data, settings.durability)?);
     let operators = readers.and_socket(&settings.operate).await?;
@@ -149,7 +151,7 @@ pub async fn run(settings: Settings) -> Result<(), Ended> {
         operators.shown()
     );
     let mut running = parts.start(&settings, senders, operators);
-    slot.get_or_init(|| running.slot.clone());
+    units.get_or_init(|| running.at_work.units().clone());
     let ended = tokio::select! {
         cause = running.ended() => Err(cause),
         name = signals.received() => {

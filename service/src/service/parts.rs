@@ -4,23 +4,21 @@ use super::adopt::leave_others;
 use super::operators::Operators;
 use super::running::Running;
 use super::senders::Senders;
+use super::unit::{Files, Opened};
+use super::units::{taker, AtWork};
 use super::{Ended, Settings};
-use crate::core::Core;
-use crate::files::{Dead, Folder, Outbox};
+use crate::files::{Folder, Outbox};
 use crate::intake::connections::Limits;
 use crate::intake::{Budget, Intake, Threads};
-use crate::keeper::{Keeper, Orders};
-use crate::metrics::Metrics;
-use crate::operate::{Acts, Desk, Left, Pulse, Totals};
-use crate::remarks::{Heard, Remarks};
+use crate::operate::{self, Acts, Desk, Pulse, Totals};
+use crate::remarks::{Heard, Teller};
 use crate::shares::Rules;
-use crate::sinks::{self, Delivery, Sink};
-use crate::slot::Slot;
+use crate::sinks::Sink;
+use crate::slot::{Shared, Slots};
 use anyhow::Context;
-use std::sync::{Arc, Mutex};
+use std::sync::Arc;
 use std::time::{Duration, Instant};
 use tokio::sync::watch;
-use tokio::task::JoinSet;
 
 /// How long a head may take, and how long a connection is kept between requests.
 const HEAD: Duration = Duration::from_secs(60);
@@ -31,15 +29,11 @@ const OPERATORS: usize = 64;
 
 /// All parts, open and not running yet.
 pub(super) struct Parts {
-    slot: Arc<Slot>,
-    keeper: Keeper,
-    orders: Orders,
-    /// Of slots that an earlier totxegun had: what the sink has not taken.
-    former: Vec<(u16, Arc<Outbox>)>,
-    dead: Arc<Dead>,
+    /// The folder's.
+    opened: Opened,
+    shared: Shared,
     acts: Arc<Acts>,
     pub sink: Arc<dyn Sink>,
-    metrics: Arc<Metrics>,
     budget: Arc<Budget>,
     threads: Arc<Threads>,
 }
@@ -47,11 +41,9 @@ pub(super) struct Parts {
 impl Parts {
     /// Opens the files in place: nothing else runs yet. The folder has one slot.
     pub fn open(folder: Arc<Folder>, settings: &Settings) -> Result<Parts, Ended> {
-        let metrics = settings.metrics.clone();
         let (journal, outbox) = folder.slot(0)?;
         let former = former_slots(&folder)?;
         let dead = Arc::new(folder.dead()?);
-        settings.reading.whole.know(&outbox, &journal)?;
         let outbox = Arc::new(outbox);
         let mut outboxes = vec![outbox.clone()];
         outboxes.extend(former.iter().map(|(_, outbox)| outbox.clone()));
@@ -64,66 +56,46 @@ impl Parts {
             outboxes,
             acts.clone(),
         )?;
-        let core = Core::apart(settings.most_series, settings.across).with_context(|| {
-            format!(
-                "a book for --most-series {} can't be made: give a greater --book-memory, or a smaller --most-series",
-                settings.most_series
-            )
-        })?;
-        let slot = Slot::by_clock(0, journal, outbox, metrics.clone(), core, settings.clock);
-        slot.runs.set(settings.runs);
-        let (keeper, orders) = Keeper::new(slot.clone(), settings.keeping());
-        let budget = Budget::new(settings.most_bytes);
-        let threads = Threads::new(settings.threads).context("no threads could be started")?;
-        Ok(Parts {
-            slot,
-            keeper,
-            orders,
-            former,
+        let shared = Shared::new(settings.metrics.clone(), settings.clock);
+        let files = Files {
+            number: 0,
+            journal,
+            outbox,
             dead,
+            former,
+        };
+        Ok(Parts {
+            opened: Opened::new(files, settings, &shared)?,
+            shared,
             acts,
             sink,
-            metrics,
-            budget,
-            threads: Arc::new(threads),
+            budget: Budget::new(settings.most_bytes),
+            threads: Arc::new(Threads::new(settings.threads).context("no threads could be started")?),
         })
     }
 
     pub fn start(self, settings: &Settings, senders: Senders, operators: Operators) -> Running {
         let (stop_intake, intake_stopped) = watch::channel(false);
-        let (stop_keeper, keeper_stopped) = watch::channel(false);
-        let (stop_deliveries, deliveries_stopped) = watch::channel(false);
-        let mut deliveries = JoinSet::new();
-        let mut deliver = |number: u16, outbox: Arc<Outbox>| {
-            let delivery = Arc::new(Mutex::new(Delivery::default()));
-            deliveries.spawn(sinks::deliver(
-                number,
-                outbox.clone(),
-                self.dead.clone(),
-                self.sink.clone(),
-                self.metrics.clone(),
-                delivery.clone(),
-                deliveries_stopped.clone(),
-            ));
-            Left {
-                number,
-                outbox,
-                delivery,
-            }
-        };
-        let slot = self.slot;
-        slot.shares.begin(Rules {
+        let (stop_operate, operate_stopped) = watch::channel(false);
+        let units = operate::Units::of(1);
+        let (at_work, ends) = AtWork::new(units.clone());
+        let (metrics, heard) = (settings.metrics.clone(), Arc::<Heard>::default());
+        let teller = Teller::new(
+            settings.telling.clone(),
+            metrics.clone(),
+            heard.clone(),
+            settings.pass.clone(),
+        );
+        let slots = Slots::one(taker(&self.opened.slot, &teller));
+        at_work.start(self.opened.start(&self.sink));
+        // Of series that are there already.
+        self.shared.shares.begin(Rules {
             most_series: settings.most_series as u64,
             of_each: settings.of_each,
             tokens: settings.door.tokens(),
             profile: settings.reading.profile(),
-            owned: Box::new(slot.outbox.clone()),
+            owned: Box::new(units.clone()),
         });
-        let left = deliver(slot.number(), slot.outbox.clone());
-        let former = self.former.into_iter();
-        let former = former.map(|(number, outbox)| deliver(number, outbox)).collect();
-        let mut keeper = JoinSet::new();
-        keeper.spawn(self.keeper.run(keeper_stopped.clone()));
         let limits = Limits {
             connections: settings.most_connections,
             head: HEAD,
@@ -133,35 +105,20 @@ impl Parts {
             connections: OPERATORS,
             ..limits.clone()
         };
-        let heard = Arc::<Heard>::default();
         if let Some(pass) = &settings.pass {
             tracing::info!("points outside the profile are passed on to {}", pass.url());
             tokio::spawn(pass.clone().run());
         }
-        let intake = Intake::new(
-            Remarks::new(
-                slot.clone(),
-                slot.outbox.clone(),
-                settings.telling.clone(),
-                self.metrics.clone(),
-                heard.clone(),
-                settings.pass.clone(),
-            ),
-            settings.reading.clone(),
-            self.budget.clone(),
-            self.metrics.clone(),
-        );
+        let reading = Arc::new(settings.reading.clone());
+        let intake = Intake::of(slots, teller, reading, self.budget.clone(), metrics.clone());
         let desk = Desk {
-            slot: slot.clone(),
-            orders: self.orders,
-            left,
-            former,
-            dead: self.dead,
+            units,
+            shares: self.shared.shares,
             acts: self.acts,
             sink: self.sink,
             totals: Totals::of(&settings.sink),
-            pulse: Pulse::begin(self.metrics.clone()),
-            metrics: self.metrics,
+            pulse: Pulse::begin(metrics.clone()),
+            metrics,
             budget: self.budget,
             heard,
             listen: senders.shown(),
@@ -173,13 +130,11 @@ impl Parts {
         };
         Running {
             intake: tokio::spawn(senders.serve(limits, intake, self.threads.clone(), intake_stopped)),
-            keeper,
-            deliveries,
-            operate: tokio::spawn(operators.serve(of_operators, Arc::new(desk), keeper_stopped)),
+            operate: tokio::spawn(operators.serve(of_operators, Arc::new(desk), operate_stopped)),
             stop_intake,
-            stop_keeper,
-            stop_deliveries,
-            slot,
+            stop_operate,
+            at_work,
+            ends,
             _threads: self.threads,
         }
     }

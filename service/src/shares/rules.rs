@@ -1,6 +1,5 @@
 //! How much each sender may have.
 
-use crate::files::Outbox;
 use crate::identity::Tokens;
 use crate::otlp::series::{posted_with, Profile, SeriesKey};
 use crate::renewed::Renewed;
@@ -37,20 +36,6 @@ pub trait Owned: Send + Sync + 'static {
     fn by_owner(&self) -> HashMap<String, u64>;
 
     fn has(&self, series: &SeriesKey) -> bool;
-}
-
-impl Owned for Arc<Outbox> {
-    fn seen(&self) -> (u64, usize) {
-        (self.journal(), self.series_count())
-    }
-
-    fn by_owner(&self) -> HashMap<String, u64> {
-        self.series_by_owner()
-    }
-
-    fn has(&self, series: &SeriesKey) -> bool {
-        self.owner(series).is_some()
-    }
 }
 
 pub struct Rules {

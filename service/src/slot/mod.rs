@@ -1,7 +1,7 @@
 //! The book with its journal and outbox, and the way of a post through them.
 //!
 //! `request` is that way, `posted` reads a request, `cumulative` what is done ahead of it with cumulative points, `numbers` which series have numbers, `verdict` what is said of a post and when, `phase` whether
-//! posts are taken, `disk` whether the disk answers.
+//! posts are taken, `disk` whether the disk answers. `slots` is where posts of each slot go.
 
 mod cumulative;
 mod disk;
@@ -9,10 +9,12 @@ mod numbers;
 mod phase;
 mod posted;
 mod request;
+mod slots;
 mod verdict;
 
 pub use numbers::{ByNumber, Request, Source};
 pub(crate) use phase::Phase;
+pub use slots::{Elsewhere, Place, Slots, Way, NO_OWNER};
 
 use crate::core::{Core, Refused};
 use crate::files::{Held, Journal, Outbox, Room};
@@ -47,7 +49,7 @@ pub struct Slot {
     pub(crate) metrics: Arc<Metrics>,
     pub(crate) core: Arc<Core>,
     phases: Phases,
-    readers: Semaphore,
+    readers: Arc<Semaphore>,
     numbers: Arc<numbers::Numbers>,
     clock: Clock,
     pub(crate) runs: Runs,
@@ -62,6 +64,28 @@ pub struct Slot {
     pub(crate) landed: Notify,
     told: disk::Told,
     pub(crate) shares: Arc<Shares>,
+}
+
+/// What all slots of a process share.
+pub struct Shared {
+    pub metrics: Arc<Metrics>,
+    /// How far from it points may end.
+    pub clock: Clock,
+    pub shares: Arc<Shares>,
+    readers: Arc<Semaphore>,
+    numbers: Arc<numbers::Numbers>,
+}
+
+impl Shared {
+    pub fn new(metrics: Arc<Metrics>, clock: Clock) -> Shared {
+        Shared {
+            metrics,
+            clock,
+            shares: Arc::default(),
+            readers: Arc::new(Semaphore::new(READERS)),
+            numbers: Arc::default(),
+        }
+    }
 }
 
 impl Slot {
@@ -84,24 +108,35 @@ impl Slot {
         core: Arc<Core>,
         clock: Clock,
     ) -> Arc<Slot> {
+        Slot::of(number, journal, outbox, core, &Shared::new(metrics, clock))
+    }
+
+    /// One of several.
+    pub fn of(
+        number: u16,
+        journal: Journal,
+        outbox: Arc<Outbox>,
+        core: Arc<Core>,
+        shared: &Shared,
+    ) -> Arc<Slot> {
         Arc::new(Slot {
             number,
             room: journal.room().clone(),
             journal: Arc::new(journal),
             outbox,
-            metrics,
+            metrics: shared.metrics.clone(),
             core,
             phases: Phases::new(),
-            readers: Semaphore::new(READERS),
-            numbers: Arc::default(),
-            clock,
+            readers: shared.readers.clone(),
+            numbers: shared.numbers.clone(),
+            clock: shared.clock,
             runs: Runs::default(),
             ungrouped: AtomicU64::new(0),
             crowded: Notify::new(),
             hurried: Notify::new(),
             landed: Notify::new(),
             told: disk::Told::default(),
-            shares: Arc::default(),
+            shares: shared.shares.clone(),
         })
     }
 

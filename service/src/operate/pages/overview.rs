@@ -6,9 +6,8 @@ use super::pulse::{Rates, KEPT};
 use super::{frame, Desk, Place};
 use crate::command::values::{bytes_shown, seconds_shown};
 use crate::files::dead::Letter;
-use crate::files::Dead;
 use crate::metrics::to_do;
-use crate::operate::status::Status;
+use crate::operate::status::{SlotStatus, Status, Stock};
 use crate::otlp::{Cause, NO_NAME};
 use crate::remarks::{OfReason, OfSender};
 use std::time::{SystemTime, UNIX_EPOCH};
@@ -53,10 +52,10 @@ impl Desk {
 
     /// None where there are many, or the disk is not to be asked.
     pub(super) async fn few_letters(&self) -> Vec<Letter> {
-        if self.dead.count() > LETTERS || !self.slot.disk_answers() {
+        if self.units.dead() > LETTERS || !self.units.disk_answers() {
             return Vec::new();
         }
-        self.of_dead(Dead::list).await.unwrap_or_default()
+        self.all_letters().await.unwrap_or_default()
     }
 }
 
@@ -133,33 +132,27 @@ impl Seen<'_> {
     }
 
     fn waiting(&self) -> Vec<Vec<Cell>> {
+        let slots = &self.status.slots;
         let row = |what: &str, many: u64, bytes: u64, age: Option<u64>| {
             let age = age.map_or_else(String::new, seconds_shown);
             [what.to_string(), grouped(many), bytes_shown(bytes), age]
                 .map(Cell::Text)
                 .into()
         };
-        let mut rows = Vec::new();
-        for slot in &self.status.slots {
-            let (journal, outbox, held) = (&slot.journal, &slot.outbox, slot.held);
-            if slot.slot == self.desk.slot.number() {
-                let posts = self.desk.slot.ungrouped();
-                rows.push(row(
-                    "posts, for a flush",
-                    posts,
-                    journal.bytes,
-                    journal.age_seconds,
-                ));
-            }
-            rows.push(row(
-                "requests, for the sink",
-                slot.waiting,
-                outbox.bytes,
-                outbox.age_seconds,
-            ));
-            if held.posts > 0 {
-                rows.push(row("posts of quarantined senders", held.posts, held.bytes, None));
-            }
+        let stock = |what, many, of: fn(&SlotStatus) -> &Stock| {
+            let ages = slots.iter().filter_map(|slot| of(slot).age_seconds);
+            let bytes = slots.iter().map(|slot| of(slot).bytes).sum();
+            row(what, many, bytes, ages.max())
+        };
+        let posts = self.desk.units.sum(|unit| unit.slot.ungrouped());
+        let requests = slots.iter().map(|slot| slot.waiting).sum();
+        let held = self.desk.units.held();
+        let mut rows = vec![
+            stock("posts, for a flush", posts, |slot| &slot.journal),
+            stock("requests, for the sink", requests, |slot| &slot.outbox),
+        ];
+        if held.posts > 0 {
+            rows.push(row("posts of quarantined senders", held.posts, held.bytes, None));
         }
         rows
     }

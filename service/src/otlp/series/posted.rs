@@ -71,6 +71,32 @@ impl Posted {
     }
 }
 
+/// The first resource of a body as the keys of its series have it; none where no series may have it.
+pub fn first_resource(document: &Document<'_>) -> Option<String> {
+    let [resources] = document.root().named(["resourceMetrics"])?;
+    let [resource] = objects(resources)?.next()?.named(["resource"])?;
+    let [attributes] = members(resource, ["attributes"])?;
+    let mut text = String::new();
+    write_attributes(&mut text, "resource attribute", attributes).ok()?;
+    Some(text)
+}
+
+/// Of each resource of a body how many points of the profile it has; none where the book refuses the body whole.
+pub fn points_by_resource(document: &Document<'_>, profile: Profile) -> Option<Vec<u64>> {
+    let [resources] = document.root().named(["resourceMetrics"])?;
+    let points = objects(resources)?.map(|resource| {
+        let mut points = 0;
+        let mut walk = Walk {
+            each: |seen: Seen<'_, '_>| points += u64::from(seen.found.is_ok()),
+            profile,
+            put: Put::default(),
+        };
+        walk.resource(resource)?;
+        Some(points)
+    });
+    points.collect()
+}
+
 /// Shows each point of a body, in order; `None` where the book refuses the body whole.
 pub fn visit<'d>(document: &'d Document<'_>, each: impl FnMut(Seen<'_, 'd>)) -> Option<()> {
     visit_with(document, Profile::Deltas, each)

@@ -1,0 +1,234 @@
+//! A request that was read whole: what each slot is asked to take of it.
+
+use super::head::Head;
+use super::refusal::Refusal;
+use super::{body, Hold, Taker, MOST};
+use crate::metrics::Metrics;
+use crate::otlp::{self, Cumulative, Encoding, Original, Outcome, Part, Prepared, Reading, Rounded, Split};
+use crate::slot::{Request, Slots, Way};
+use bytes::Bytes;
+use std::sync::Arc;
+
+/// What a byte of a body may become in memory while it is read: in JSON itself, what names its parts, and what is
+/// written anew; in protobuf up to nine bytes of JSON, twice that while they grow, and what names their parts.
+const WHILE_READ_JSON: usize = 8;
+const WHILE_READ_PROTOBUF: usize = 24;
+
+pub(super) struct Post<T> {
+    pub sender: String,
+    pub asked: Asked<T>,
+    /// Of memory, until the post is answered.
+    pub hold: Hold,
+}
+
+/// It is moved as often as it is boxed otherwise.
+#[allow(clippy::large_enum_variant)]
+pub(super) enum Asked<T> {
+    /// One slot for all of it.
+    Whole(Ask<T>),
+    Parts(Vec<AskedPart<T>>),
+}
+
+/// Of a request the resources of one slot.
+pub(super) struct AskedPart<T> {
+    pub part: Original,
+    /// Their places in the request, ascending.
+    pub resources: Vec<u32>,
+    /// None can be asked where it can't be read.
+    pub ask: Result<Ask<T>, Refusal>,
+}
+
+/// What a slot is asked.
+#[allow(clippy::large_enum_variant)]
+pub(super) enum Ask<T> {
+    Here {
+        taker: Arc<T>,
+        request: Request,
+        original: Option<Original>,
+        rounded: Rounded,
+    },
+    /// Its owner reads the part.
+    Away { slot: u16, part: Original },
+}
+
+impl<T: Taker> Ask<T> {
+    pub async fn answered(self, sender: &str, slots: &Slots<T>, metrics: &Metrics) -> Outcome {
+        match self {
+            Ask::Here {
+                taker,
+                request,
+                original,
+                rounded,
+            } => {
+                let outcome = taker.post_with(sender, request, original).await;
+                if let Outcome::Taken { .. } = outcome {
+                    metrics.rounded(&rounded);
+                }
+                outcome.with(&rounded)
+            }
+            Ask::Away { slot, part } => slots.elsewhere(slot, sender, part).await,
+        }
+    }
+
+    /// Of memory.
+    fn bytes(&self) -> usize {
+        match self {
+            Ask::Here {
+                request,
+                original,
+                rounded,
+                ..
+            } => {
+                let came = original.as_ref().map_or(0, |original| original.body.len());
+                request.bytes() + rounded.bytes() + came
+            }
+            Ask::Away { part, .. } => part.body.len(),
+        }
+    }
+}
+
+/// Unpacks a body and puts it into the form in which it is taken.
+pub(super) fn prepare<T: Taker>(
+    head: Head,
+    packed: Bytes,
+    mut hold: Hold,
+    slots: &Slots<T>,
+    reading: &Arc<Reading>,
+    metrics: &Metrics,
+) -> Result<Post<T>, Refusal> {
+    let body = body::unpack(packed, head.packing, MOST, &mut hold)?;
+    metrics.post_bytes.inc_by(body.len() as u64);
+    let encoding = head.encoding;
+    let mut reader = Reader::new(encoding, body.len(), reading, &mut hold)?;
+    let sender = otlp::sender(head.sender, encoding, &body, reading)?;
+    let asked = match slots.way(encoding, &body) {
+        Way::Here(taker) => Asked::Whole(reader.here(taker, body)?),
+        Way::Split(Split::Whole(slot)) => {
+            let part = Original { encoding, body };
+            Asked::Whole(Ask::Away { slot, part })
+        }
+        Way::Split(Split::Parts(parts)) => {
+            let parts = parts.into_iter().map(|part| reader.part(part, slots));
+            Asked::Parts(parts.collect::<Result<_, _>>()?)
+        }
+    };
+    hold.set(match &asked {
+        Asked::Whole(ask) => ask.bytes(),
+        Asked::Parts(parts) => parts.iter().map(AskedPart::bytes).sum(),
+    })?;
+    Ok(Post { sender, asked, hold })
+}
+
+/// The same of a part that another instance got for a slot that is here.
+pub(super) fn forwarded<T: Taker>(
+    part: Original,
+    taker: Arc<T>,
+    hold: &mut Hold,
+    reading: &Arc<Reading>,
+) -> Result<Ask<T>, Refusal> {
+    let mut reader = Reader::new(part.encoding, part.body.len(), reading, hold)?;
+    let ask = reader.here(taker, part.body)?;
+    hold.set(ask.bytes())?;
+    Ok(ask)
+}
+
+impl<T: Taker> AskedPart<T> {
+    fn bytes(&self) -> usize {
+        let asked = self.ask.as_ref().map_or(0, Ask::bytes);
+        self.part.body.len() + asked
+    }
+}
+
+/// Reads one body. The budget has room for both forms while both are there.
+struct Reader<'r> {
+    encoding: Encoding,
+    reading: &'r Arc<Reading>,
+    hold: &'r mut Hold,
+    /// What it may take of memory.
+    most: usize,
+}
+
+impl<'r> Reader<'r> {
+    fn new(
+        encoding: Encoding,
+        length: usize,
+        reading: &'r Arc<Reading>,
+        hold: &'r mut Hold,
+    ) -> Result<Reader<'r>, Refusal> {
+        let grows = match encoding {
+            Encoding::Json => WHILE_READ_JSON,
+            Encoding::Protobuf => WHILE_READ_PROTOBUF,
+        };
+        hold.set(grows * length)?;
+        Ok(Reader {
+            encoding,
+            reading,
+            hold,
+            most: 2 * grows * length,
+        })
+    }
+
+    /// What can't be read is refused by its slot; what there is no memory for is refused with all of its request.
+    fn part<T: Taker>(&mut self, part: Part, slots: &Slots<T>) -> Result<AskedPart<T>, Refusal> {
+        let Part {
+            slot,
+            body,
+            resources,
+        } = part;
+        let encoding = self.encoding;
+        let part = Original { encoding, body };
+        let ask = match slots.here(slot) {
+            Some(taker) => match self.here(taker, part.body.clone()) {
+                Err(Refusal::Unreadable(why)) => Err(Refusal::Unreadable(why)),
+                read => Ok(read?),
+            },
+            None => Ok(Ask::Away {
+                slot,
+                part: part.clone(),
+            }),
+        };
+        Ok(AskedPart { part, resources, ask })
+    }
+
+    fn here<T: Taker>(&mut self, taker: Arc<T>, body: Bytes) -> Result<Ask<T>, Refusal> {
+        let encoding = self.encoding;
+        let original = taker.wants_originals().then(|| Original {
+            encoding,
+            body: body.clone(),
+        });
+        let numbered = match encoding {
+            Encoding::Json => None,
+            Encoding::Protobuf => taker.numbered(&body, self.reading),
+        };
+        let (request, rounded) = match numbered {
+            Some(mut points) => {
+                let rounded = std::mem::take(&mut points.rounded);
+                (Request::Numbered(points), rounded)
+            }
+            None => self.written(&*taker, body)?,
+        };
+        Ok(Ask::Here {
+            taker,
+            request,
+            original,
+            rounded,
+        })
+    }
+
+    fn written(&mut self, taker: &impl Taker, body: Bytes) -> Result<(Request, Rounded), Refusal> {
+        let room = || self.hold.set(self.most).map_err(Refusal::from);
+        let Prepared {
+            body,
+            rounded,
+            is_cumulative,
+        } = otlp::prepare_with(self.encoding, body, self.reading, room)?;
+        let numbered = match is_cumulative && self.reading.cumulative == Cumulative::On {
+            true => taker.numbered_text(&body).map_err(|_| Refusal::NoMemory)?,
+            false => None,
+        };
+        Ok((numbered.map_or(Request::Text(body), Request::Numbered), rounded))
+    }
+}
+
+#[cfg(test)]
+mod tests;

@@ -1,0 +1,254 @@
+//! What each slot is asked, and one answer of several.
+
+use super::*;
+use crate::intake::head::Packing;
+use crate::intake::{Budget, Intake};
+use crate::otlp::{slot_of, Resources};
+use crate::slot::{Elsewhere, Place, NO_OWNER};
+use std::future::Future;
+use std::pin::Pin;
+use std::sync::Mutex;
+
+const SLOTS: u16 = 3;
+
+/// Keeps what it is asked, and answers as it was told; where it was told nothing it fails.
+struct Kept {
+    posts: Mutex<Vec<(String, Bytes)>>,
+    outcome: Option<Outcome>,
+}
+
+impl Taker for Kept {
+    fn post(self: &Arc<Self>, sender: String, request: Request) -> impl Future<Output = Outcome> + Send {
+        let body = request.source().text().unwrap();
+        self.posts.lock().unwrap().push((sender, body));
+        let outcome = self.outcome.clone();
+        async move { outcome.expect("it was told to fail") }
+    }
+}
+
+/// Other instances.
+struct Others {
+    posts: Mutex<Vec<(u16, String, Bytes)>>,
+    outcome: Outcome,
+}
+
+impl Elsewhere for Others {
+    fn post<'a>(
+        &'a self,
+        slot: u16,
+        sender: &'a str,
+        part: Original,
+    ) -> Pin<Box<dyn Future<Output = Outcome> + Send + 'a>> {
+        self.posts.lock().unwrap().push((slot, sender.into(), part.body));
+        Box::pin(std::future::ready(self.outcome.clone()))
+    }
+}
+
+struct Served {
+    kept: Arc<Kept>,
+    others: Arc<Others>,
+    slots: Arc<Slots<Kept>>,
+    intake: Intake<Kept>,
+    budget: Arc<Budget>,
+}
+
+/// Slot 1 is here, and the others are elsewhere.
+fn served(here: Option<Outcome>, elsewhere: Outcome) -> Served {
+    let kept = Arc::new(Kept {
+        posts: Mutex::default(),
+        outcome: here,
+    });
+    let others = Arc::new(Others {
+        posts: Mutex::default(),
+        outcome: elsewhere,
+    });
+    let reading = Arc::<Reading>::default();
+    let slots = Slots::several(Resources::new(SLOTS, reading.clone()), Some(others.clone()));
+    slots.set(0, Place::At("other:1".into()));
+    slots.set(1, Place::Here(kept.clone()));
+    let (budget, metrics) = (Budget::new(64 << 20), Arc::new(Metrics::new().unwrap()));
+    let intake = Intake::of(slots.clone(), Arc::new(()), reading, budget.clone(), metrics);
+    Served {
+        kept,
+        others,
+        slots,
+        intake,
+        budget,
+    }
+}
+
+impl Served {
+    async fn post(&self, encoding: Encoding, body: Bytes) -> Outcome {
+        let head = Head {
+            sender: "A".into(),
+            encoding,
+            packing: Packing::Plain,
+        };
+        let said = self.intake.put(head, body, self.budget.hold()).await;
+        assert_eq!(self.budget.used(), 0);
+        said
+    }
+
+    fn kept(&self) -> Vec<(String, Bytes)> {
+        std::mem::take(&mut *self.kept.posts.lock().unwrap())
+    }
+
+    fn others(&self) -> Vec<(u16, String, Bytes)> {
+        std::mem::take(&mut *self.others.posts.lock().unwrap())
+    }
+}
+
+fn attributes(name: &str) -> String {
+    format!(r#"[{{"key":"id","value":{{"stringValue":"{name}"}}}}]"#)
+}
+
+/// The element of a resource that has a slot, with so many points.
+fn element(slot: u16, points: usize) -> String {
+    let name = (0..).map(|number| number.to_string());
+    let name = name
+        .clone()
+        .find(|name| slot_of(&attributes(name), SLOTS) == slot)
+        .unwrap();
+    let point = r#"{"asInt":"1","startTimeUnixNano":"1","timeUnixNano":"2"}"#;
+    format!(
+        r#"{{"resource":{{"attributes":{}}},"scopeMetrics":[{{"scope":{{"name":"","version":"","attributes":[]}},"metrics":[{{"name":"m","unit":"","sum":{{"aggregationTemporality":1,"isMonotonic":false,"dataPoints":[{}]}}}}]}}]}}"#,
+        attributes(&name),
+        vec![point; points].join(",")
+    )
+}
+
+fn request(elements: &[String]) -> Bytes {
+    format!(r#"{{"resourceMetrics":[{}]}}"#, elements.join(",")).into()
+}
+
+/// The same request in protobuf.
+fn in_protobuf(body: &Bytes) -> Bytes {
+    let body = String::from_utf8(body.to_vec()).unwrap();
+    // As the book forwards it: each point has attributes.
+    let body = body.replace(r#"{"asInt""#, r#"{"attributes":[],"asInt""#);
+    otlp::protobuf_of_forwarded(body.as_bytes()).unwrap().into()
+}
+
+fn late(point: u64) -> Outcome {
+    Outcome::Refused {
+        status: 400,
+        message: format!("out of order: point {point}, frontier 5"),
+    }
+}
+
+#[tokio::test]
+async fn each_slot_is_asked_for_its_resources() {
+    let elements = [element(1, 2), element(2, 3), element(1, 1), element(0, 4)];
+    let served = served(Some(Outcome::taken(0)), late(1));
+    let body = request(&elements);
+    for (encoding, body) in [
+        (Encoding::Json, body.clone()),
+        (Encoding::Protobuf, in_protobuf(&body)),
+    ] {
+        let said = served.post(encoding, body).await;
+        let Outcome::Taken {
+            rejected, message, ..
+        } = &said
+        else {
+            panic!("{said:?}");
+        };
+        // Of slot 2 the request's point 3; of slot 0 its point 7.
+        let why = "3 points are refused: out of order: point 3, frontier 5; 4 points are refused: out of order: point 7, frontier 5";
+        assert_eq!((*rejected, message.as_deref()), (7, Some(why)));
+        let text = String::from_utf8(said.body(Encoding::Json)).unwrap();
+        assert!(text.contains(r#""rejectedDataPoints":"7""#), "{text}");
+        let binary = said.body(Encoding::Protobuf);
+        assert!(binary.windows(why.len()).any(|part| part == why.as_bytes()) && binary.contains(&7));
+        let kept = served.kept();
+        let of_slot = crate::otlp::series::posted(&kept[0].1).unwrap();
+        assert_eq!(
+            (kept.len(), kept[0].0.as_str(), of_slot.series.len()),
+            (1, "A", 1)
+        );
+        let mut others = served.others();
+        others.sort();
+        let slots: Vec<_> = others
+            .iter()
+            .map(|(slot, sender, _)| (*slot, sender.as_str()))
+            .collect();
+        assert_eq!(slots, [(0, "A"), (2, "A")]);
+        let points = others
+            .into_iter()
+            .map(|(_, _, body)| Original { encoding, body }.points());
+        assert_eq!(points.collect::<Vec<_>>(), [4, 3]);
+    }
+}
+
+#[tokio::test]
+async fn a_request_of_one_slot_goes_as_it_came() {
+    let served = served(Some(late(7)), late(9));
+    let here = request(&[element(1, 2), element(1, 1)]);
+    assert_eq!(served.post(Encoding::Json, here.clone()).await, late(7));
+    assert_eq!(served.kept(), [("A".to_string(), here)]);
+    let there = request(&[element(2, 2), element(2, 1)]);
+    assert_eq!(served.post(Encoding::Json, there.clone()).await, late(9));
+    assert_eq!(served.others(), [(2, "A".to_string(), there)]);
+    let unreadable = Bytes::from_static(b"{\"resourceMetrics\":");
+    assert_eq!(served.post(Encoding::Json, unreadable.clone()).await, late(9));
+    assert_eq!(served.others(), [(0, "A".to_string(), unreadable)]);
+    served.slots.set(2, Place::Here(served.kept.clone()));
+    let both = request(&[element(2, 1), element(1, 1)]);
+    assert_eq!(served.post(Encoding::Json, both).await, late(7));
+    assert_eq!(served.kept().len(), 2);
+}
+
+/// Its points are not taken, and those of the others are.
+#[tokio::test]
+async fn what_can_t_be_read_is_refused_with_its_part() {
+    let served = served(Some(Outcome::taken(0)), late(0));
+    served.slots.set(0, Place::Here(served.kept.clone()));
+    let wrong =
+        r#"{"resource":{"labels":[5]},"scopeMetrics":[{"metrics":[{"gauge":{"dataPoints":[{},{}]}}]}]}"#;
+    let body = request(&[wrong.into(), element(1, 2)]);
+    let said = served.post(Encoding::Json, body).await;
+    let text = String::from_utf8(said.body(Encoding::Json)).unwrap();
+    let why = "2 points are refused: not JSON of OTLP: Resource: labels is of an old version";
+    assert!(said.status() == 200 && text.contains(why), "{text}");
+    assert_eq!(served.kept().len(), 1);
+    let alone = served.post(Encoding::Json, request(&[wrong.into()])).await;
+    assert_eq!(alone.status(), 400);
+}
+
+/// Its post may have been taken.
+#[tokio::test]
+async fn a_slot_that_fails_makes_all_of_it_to_be_sent_again() {
+    let served = served(None, Outcome::taken(0));
+    let said = served
+        .post(Encoding::Json, request(&[element(1, 1), element(2, 1)]))
+        .await;
+    assert_eq!(said.status(), 503);
+    let lone = Slots::<Kept>::several(Resources::new(SLOTS, Arc::default()), None);
+    let part = Original {
+        encoding: Encoding::Json,
+        body: request(&[element(1, 1)]),
+    };
+    let nobody = lone.elsewhere(1, "A", part).await;
+    assert_eq!((nobody.status(), nobody.refusal()), (503, Some(NO_OWNER)));
+}
+
+#[tokio::test]
+async fn a_part_that_another_instance_got_is_taken_where_its_slot_is() {
+    let served = served(Some(Outcome::taken(0)), late(0));
+    let body = request(&[element(1, 2)]);
+    let part = |body: &Bytes| Original {
+        encoding: Encoding::Json,
+        body: body.clone(),
+    };
+    assert_eq!(
+        served.intake.forwarded(1, "B", part(&body)).await,
+        Some(Outcome::taken(0))
+    );
+    assert_eq!(served.kept(), [("B".to_string(), body.clone())]);
+    assert_eq!(served.intake.forwarded(2, "B", part(&body)).await, None);
+    let wrong = served
+        .intake
+        .forwarded(1, "B", part(&Bytes::from_static(b"{")))
+        .await;
+    assert_eq!(wrong.map(|said| said.status()), Some(400));
+    assert_eq!((served.kept().len(), served.budget.used()), (0, 0));
+}

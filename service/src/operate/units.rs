@@ -1,0 +1,145 @@
+//! The slots that are at work here, for who operates them.
+
+use crate::files::{Dead, Held, Outbox};
+use crate::keeper::Orders;
+use crate::otlp::series::SeriesKey;
+use crate::shares::Owned;
+use crate::sinks::Delivery;
+use crate::slot::Slot;
+use std::collections::hash_map::DefaultHasher;
+use std::collections::{BTreeMap, HashMap};
+use std::hash::{Hash, Hasher};
+use std::sync::{Arc, Mutex, PoisonError, RwLock};
+use std::time::Duration;
+
+/// A slot with what belongs to it.
+pub struct Unit {
+    pub slot: Arc<Slot>,
+    pub orders: Orders,
+    pub left: Left,
+    /// Of slots that an earlier totxegun had: what the sink has not taken.
+    pub former: Vec<Left>,
+    pub dead: Arc<Dead>,
+}
+
+/// What a slot has for the sink.
+pub struct Left {
+    pub number: u16,
+    pub outbox: Arc<Outbox>,
+    pub delivery: Arc<Mutex<Delivery>>,
+}
+
+/// Those that are here now, of so many. They come and go.
+pub struct Units {
+    slots: u16,
+    here: RwLock<BTreeMap<u16, Arc<Unit>>>,
+}
+
+impl Units {
+    pub fn of(slots: u16) -> Arc<Units> {
+        Arc::new(Units {
+            slots,
+            here: RwLock::default(),
+        })
+    }
+
+    pub fn put(&self, unit: Arc<Unit>) {
+        let mut here = self.here.write().unwrap_or_else(PoisonError::into_inner); // a map is sound at any time
+        here.insert(unit.slot.number(), unit);
+    }
+
+    /// What it was, until nobody has it any more.
+    pub fn remove(&self, slot: u16) -> Option<Arc<Unit>> {
+        let mut here = self.here.write().unwrap_or_else(PoisonError::into_inner);
+        here.remove(&slot)
+    }
+
+    /// By their numbers, ascending.
+    pub fn all(&self) -> Vec<Arc<Unit>> {
+        let here = self.here.read().unwrap_or_else(PoisonError::into_inner);
+        here.values().cloned().collect()
+    }
+
+    /// The first slot that is not here.
+    pub fn missing(&self) -> Option<u16> {
+        let here = self.here.read().unwrap_or_else(PoisonError::into_inner);
+        (0..self.slots).find(|slot| !here.contains_key(slot))
+    }
+
+    /// Why posts of a slot that is here are answered 503.
+    pub fn unavailable(&self) -> Option<&'static str> {
+        self.all().iter().find_map(|unit| unit.slot.unavailable())
+    }
+
+    /// Whether each book has all posts that were accepted.
+    pub fn are_ready(&self) -> bool {
+        self.all().iter().all(|unit| unit.slot.is_ready())
+    }
+
+    pub fn sum(&self, of: impl Fn(&Unit) -> u64) -> u64 {
+        self.all().iter().map(|unit| of(unit)).sum()
+    }
+
+    /// The dead letters that the one of this key is among: those of its slot.
+    pub fn dead_of(&self, key: &str) -> Option<Arc<Dead>> {
+        let here = self.here.read().unwrap_or_else(PoisonError::into_inner);
+        let unit = match self.slots {
+            1 => here.values().next(), // also of slots that there were
+            _ => here.get(&key.split_once('-')?.0.parse().ok()?),
+        };
+        unit.map(|unit| unit.dead.clone())
+    }
+
+    /// How many requests the sink refused for good.
+    pub fn dead(&self) -> u64 {
+        self.sum(|unit| unit.dead.count())
+    }
+
+    pub fn held(&self) -> Held {
+        let mut held = Held::default();
+        for unit in self.all() {
+            let of = unit.slot.held();
+            held.posts += of.posts;
+            held.bytes += of.bytes;
+        }
+        held
+    }
+
+    /// Of the disk's calls the one that began first.
+    pub fn disk_call(&self) -> Duration {
+        let calls = self.all().into_iter().map(|unit| unit.slot.disk_call());
+        calls.max().unwrap_or_default()
+    }
+
+    pub fn disk_answers(&self) -> bool {
+        self.all().iter().all(|unit| unit.slot.disk_answers())
+    }
+}
+
+/// Whose the series of the slots here are.
+impl Owned for Arc<Units> {
+    fn seen(&self) -> (u64, usize) {
+        let (mut state, mut series) = (DefaultHasher::new(), 0);
+        for unit in self.all() {
+            let (outbox, slot) = (&unit.slot.outbox, unit.slot.number());
+            (slot, outbox.journal(), outbox.series_count()).hash(&mut state);
+            series += outbox.series_count();
+        }
+        (state.finish(), series)
+    }
+
+    fn by_owner(&self) -> HashMap<String, u64> {
+        let mut all = HashMap::new();
+        for unit in self.all() {
+            for (owner, series) in unit.slot.outbox.series_by_owner() {
+                *all.entry(owner).or_default() += series;
+            }
+        }
+        all
+    }
+
+    fn has(&self, series: &SeriesKey) -> bool {
+        let units = self.all();
+        units.iter().any(|unit| unit.slot.outbox.owner(series).is_some())
+    }
+}

@@ -1,0 +1,189 @@
+use super::*;
+use crate::core::Refused;
+use crate::otlp::{Encoding, Off, OffClock};
+use bytes::Bytes;
+use std::time::Duration;
+
+fn refused(refused: Refused) -> Outcome {
+    refused.into()
+}
+
+fn later(seconds: u64) -> Outcome {
+    Outcome::Later {
+        seconds,
+        message: format!("over its share: again in {seconds} s"),
+    }
+}
+
+/// A resource with so many points, of which the first is no point of the profile.
+fn resource(points: usize) -> String {
+    let point = r#"{"asInt":"1","startTimeUnixNano":"1","timeUnixNano":"2"}"#;
+    let all: Vec<&str> = std::iter::once(r#"{"asDouble":0.5}"#)
+        .chain(std::iter::repeat(point))
+        .take(points)
+        .collect();
+    format!(
+        r#"{{"scopeMetrics":[{{"metrics":[{{"sum":{{"aggregationTemporality":1,"dataPoints":[{}]}}}}]}}]}}"#,
+        all.join(",")
+    )
+}
+
+fn part(outcome: Outcome, resources: &[(u32, usize)]) -> OfPart {
+    let elements: Vec<String> = resources.iter().map(|(_, points)| resource(*points)).collect();
+    OfPart {
+        outcome,
+        part: Original {
+            encoding: Encoding::Json,
+            body: Bytes::from(format!(r#"{{"resourceMetrics":[{}]}}"#, elements.join(","))),
+        },
+        resources: resources.iter().map(|(place, _)| *place).collect(),
+    }
+}
+
+fn said(parts: &[OfPart]) -> (u16, u64, String) {
+    match together(parts, &Reading::default()) {
+        Outcome::Taken {
+            rejected, message, ..
+        } => (200, rejected, message.unwrap_or_default()),
+        other => (other.status(), 0, other.refusal().unwrap_or_default().to_string()),
+    }
+}
+
+#[test]
+fn all_that_is_taken_is_taken() {
+    let both = [
+        part(Outcome::taken(0), &[(0, 2)]),
+        part(Outcome::taken(0), &[(1, 3)]),
+    ];
+    assert_eq!(together(&both, &Reading::default()), Outcome::taken(0));
+}
+
+/// Else a sender would drop what was not taken.
+#[test]
+fn what_may_be_taken_later_makes_all_of_it_to_be_sent_again() {
+    let busy = refused(Refused::Full);
+    let late = refused(Refused::OutOfOrder {
+        point: 0,
+        frontier: 5,
+    });
+    for others in [
+        Outcome::taken(0),
+        Outcome::taken(2),
+        late,
+        refused(Refused::Quarantined),
+    ] {
+        for (again, wanted) in [(busy.clone(), 503), (later(7), 429)] {
+            let parts = [part(others.clone(), &[(0, 2)]), part(again.clone(), &[(1, 2)])];
+            assert_eq!(together(&parts, &Reading::default()), again);
+            assert_eq!(said(&parts).0, wanted);
+        }
+    }
+    let all = [later(3), busy.clone(), later(9)].map(|outcome| part(outcome, &[(0, 2)]));
+    assert_eq!(together(&all, &Reading::default()), busy);
+    let both = [later(3), later(9)].map(|outcome| part(outcome, &[(0, 2)]));
+    assert_eq!(together(&both, &Reading::default()), later(9));
+}
+
+/// Else a sender whose answer was lost would take its repeat for lost.
+#[test]
+fn what_is_taken_in_part_is_taken() {
+    let late = refused(Refused::OutOfOrder {
+        point: 1,
+        frontier: 5,
+    });
+    let parts = [part(late, &[(0, 3), (2, 4)]), part(Outcome::taken(0), &[(1, 2)])];
+    let wanted = "7 points are refused: out of order: point 1, frontier 5";
+    assert_eq!(said(&parts), (200, 7, wanted.into()));
+    let quarantined = refused(Refused::Quarantined);
+    let one = [part(Outcome::taken(0), &[(0, 2)]), part(quarantined, &[(1, 1)])];
+    assert_eq!(said(&one), (200, 1, "1 point is refused: quarantined".into()));
+}
+
+#[test]
+fn reasons_are_named_together() {
+    let causes = |text: &str| Causes::read(text).unwrap();
+    let taken = |text: &str| Outcome::taken(causes(text).count()).with_causes(&causes(text));
+    let mut off = OffClock::default();
+    off.count(Off::Ahead(Duration::from_secs(7)));
+    let ahead = Outcome::taken_but(0, off).with_causes(&Causes::of_clocks(off));
+    let quarantined = || refused(Refused::Quarantined);
+    let parts = [
+        part(taken("1 gauge, 2 doubles"), &[(0, 9)]),
+        part(quarantined(), &[(1, 2)]),
+        part(ahead, &[(2, 9)]),
+        part(taken("3 gauges"), &[(3, 9)]),
+        part(quarantined(), &[(4, 3)]),
+    ];
+    let wanted = "points outside the profile: 4 gauges, 2 doubles: see docs/OPERATING.md, \"Senders\"; \
+                  points outside the profile: 1 point ahead of time: its clock is 7s ahead: see docs/OPERATING.md, \
+                  \"Senders\"; 5 points are refused: quarantined";
+    assert_eq!(said(&parts), (200, 12, wanted.into()));
+    let many: Vec<OfPart> = (0..30)
+        .map(|place| {
+            let refusal = Outcome::Refused {
+                status: 400,
+                message: format!("reason {place}"),
+            };
+            part(
+                if place == 0 { Outcome::taken(0) } else { refusal },
+                &[(place, 1)],
+            )
+        })
+        .collect();
+    let (_, points, text) = said(&many);
+    assert!(
+        points == 29 && text.ends_with("reason 5; and 24 more reasons"),
+        "{text}"
+    );
+}
+
+/// By its place among the points of the profile, as where one slot has all.
+#[test]
+fn a_refusal_names_the_point_s_place_in_the_request() {
+    let sizes = [4, 1, 3, 6]; // of these 3, 0, 2 and 5 are of the profile
+    let at = |resource: u32| (resource, sizes[resource as usize]);
+    let late = |point| refused(Refused::OutOfOrder { point, frontier: 5 });
+    for (point, place) in [(0, 3), (1, 4), (2, 5), (6, 9)] {
+        let parts = [
+            part(late(point), &[at(1), at(2), at(3)]),
+            part(refused(Refused::Quarantined), &[at(0)]),
+        ];
+        let wanted = format!("out of order: point {place}, frontier 5");
+        assert_eq!(said(&parts), (400, 0, wanted));
+    }
+    let other = Outcome::Refused {
+        status: 400,
+        message: refused(Refused::OtherWriter { point: 1 })
+            .refusal()
+            .unwrap()
+            .to_string()
+            + ": `m` {} is another's",
+    };
+    let parts = [
+        part(other.clone(), &[at(3)]),
+        part(late(0), &[at(0), at(1), at(2)]),
+    ];
+    assert_eq!(
+        said(&parts),
+        (400, 0, "other writer: point 6: `m` {} is another's".into())
+    );
+    let beyond = [part(late(9), &[at(0)]), part(other, &[at(1)])];
+    assert_eq!(
+        said(&beyond).2,
+        "out of order: point 9, frontier 5",
+        "it is left as it is"
+    );
+}
+
+#[test]
+fn causes_are_read_as_they_are_shown() {
+    let all: Vec<_> = <crate::otlp::Cause as clap::ValueEnum>::value_variants().to_vec();
+    let once = Causes::of_points(all.iter().copied());
+    let twice = once.clone().and(&once);
+    for causes in [once, twice] {
+        assert_eq!(Causes::read(&causes.to_string()), Some(causes));
+    }
+    for other in ["", "3", "3 pears", "x gauges", "3 gauges,2 doubles"] {
+        assert_eq!(Causes::read(other), None, "{other}");
+    }
+}

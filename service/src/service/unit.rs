@@ -1,0 +1,216 @@
+//! A slot at work: its book with journal and outbox, its keeper, its delivery. They begin and end together, while the process
+//! goes on.
+
+use super::{Ended, Settings};
+use crate::core::Core;
+use crate::files::{Dead, Fault, Journal, Outbox};
+use crate::keeper::{Keeper, Orders, Trouble};
+use crate::operate::{self, Left};
+use crate::sinks::{self, Delivery, Sink};
+use crate::slot::{Shared, Slot};
+use anyhow::{anyhow, Context};
+use std::sync::{Arc, Mutex};
+use std::time::Duration;
+use tokio::sync::watch;
+use tokio::task::{JoinError, JoinSet};
+use tokio::time::Instant;
+
+/// How long the last checkpoint is waited for. The journal has what was taken, so what takes longer is left to who has the
+/// slot next.
+const LAST_CHECKPOINT: Duration = Duration::from_secs(5);
+/// How long what is changing a file is waited for: a fault there is told by the exit status.
+pub(super) const LAST_CHANGES: Duration = Duration::from_secs(2);
+
+/// Where a slot is kept.
+pub(super) struct Files {
+    pub number: u16,
+    pub journal: Journal,
+    pub outbox: Arc<Outbox>,
+    pub dead: Arc<Dead>,
+    /// Of slots that an earlier totxegun had: what the sink has not taken.
+    pub former: Vec<(u16, Arc<Outbox>)>,
+}
+
+/// A slot that is open, and not at work yet.
+pub(super) struct Opened {
+    pub slot: Arc<Slot>,
+    keeper: Keeper,
+    orders: Orders,
+    dead: Arc<Dead>,
+    former: Vec<(u16, Arc<Outbox>)>,
+}
+
+/// A slot at work. All of it ends where this is dropped.
+pub(super) struct Unit {
+    pub of_desk: Arc<operate::Unit>,
+    /// One.
+    keeper: JoinSet<Result<(), Trouble>>,
+    /// Its own, and those of former slots.
+    deliveries: JoinSet<Result<(), Fault>>,
+    stop_keeper: watch::Sender<bool>,
+    stop_deliveries: watch::Sender<bool>,
+}
+
+impl Opened {
+    pub fn new(files: Files, settings: &Settings, shared: &Shared) -> Result<Opened, Ended> {
+        settings.reading.whole.know(&files.outbox, &files.journal)?;
+        let core = Core::apart(settings.most_series, settings.across).with_context(|| {
+            format!(
+                "a book for --most-series {} can't be made: give a greater --book-memory, or a smaller --most-series",
+                settings.most_series
+            )
+        })?;
+        let Files {
+            number,
+            journal,
+            outbox,
+            dead,
+            former,
+        } = files;
+        let slot = Slot::of(number, journal, outbox, core, shared);
+        slot.runs.set(settings.runs);
+        let (keeper, orders) = Keeper::new(slot.clone(), settings.keeping());
+        Ok(Opened {
+            slot,
+            keeper,
+            orders,
+            dead,
+            former,
+        })
+    }
+
+    pub fn start(self, sink: &Arc<dyn Sink>) -> Unit {
+        let (stop_keeper, keeper_stopped) = watch::channel(false);
+        let (stop_deliveries, deliveries_stopped) = watch::channel(false);
+        let (slot, dead, mut deliveries) = (self.slot, self.dead, JoinSet::new());
+        let mut deliver = |number: u16, outbox: Arc<Outbox>| {
+            let delivery = Arc::new(Mutex::new(Delivery::default()));
+            deliveries.spawn(sinks::deliver(
+                number,
+                outbox.clone(),
+                dead.clone(),
+                sink.clone(),
+                slot.metrics.clone(),
+                delivery.clone(),
+                deliveries_stopped.clone(),
+            ));
+            Left {
+                number,
+                outbox,
+                delivery,
+            }
+        };
+        let left = deliver(slot.number(), slot.outbox.clone());
+        let former = self.former.into_iter();
+        let former = former.map(|(number, outbox)| deliver(number, outbox)).collect();
+        let mut keeper = JoinSet::new();
+        keeper.spawn(self.keeper.run(keeper_stopped));
+        let orders = self.orders;
+        Unit {
+            of_desk: Arc::new(operate::Unit {
+                slot,
+                orders,
+                left,
+                former,
+                dead,
+            }),
+            keeper,
+            deliveries,
+            stop_keeper,
+            stop_deliveries,
+        }
+    }
+}
+
+/// Why a slot has ended that nobody told to end.
+pub(super) enum End {
+    /// It is another instance's: all else goes on.
+    Lost,
+    /// And the process with it.
+    Process(Ended),
+}
+
+impl Unit {
+    /// Returns once a part has ended that nobody told to end.
+    pub async fn ended(&mut self) -> End {
+        tokio::select! {
+            Some(end) = self.keeper.join_next() => End::of("the keeper", end),
+            Some(end) = self.deliveries.join_next() => End::of("a delivery", end),
+        }
+    }
+
+    /// Takes no posts any more: what was taken goes into the outbox. False where that took too long.
+    pub async fn stop(mut self) -> Result<bool, Ended> {
+        self.stop_keeper.send_replace(true);
+        let in_time = last(&mut self.keeper, "the keeper", Instant::now() + LAST_CHECKPOINT).await;
+        // What is sent meanwhile is sent again by who has the slot next. A keeper that is late may be changing a file too.
+        self.stop_deliveries.send_replace(true);
+        let until = Instant::now() + LAST_CHANGES;
+        let (late, deliveries) = tokio::join!(
+            last(&mut self.keeper, "the keeper", until),
+            last(&mut self.deliveries, "a delivery", until)
+        );
+        let is_flushed = self.keeper.is_empty();
+        if !is_flushed {
+            tracing::warn!("ended without a last flush: what was taken is in the journal for the next start");
+        }
+        in_time.and(late).and(deliveries).map(|()| is_flushed)
+    }
+}
+
+/// Waits so long for parts that were told to end: a fault of one of them.
+async fn last<E: Into<Ended> + OfSlot + 'static>(
+    parts: &mut JoinSet<Result<(), E>>,
+    part: &str,
+    until: Instant,
+) -> Result<(), Ended> {
+    let mut ended = Ok(());
+    while let Ok(Some(end)) = tokio::time::timeout_at(until, parts.join_next()).await {
+        if !matches!(end, Ok(Ok(()))) && !is_of_slot(&end) {
+            ended = ended.and(Err(cause(part, end)));
+        }
+    }
+    ended
+}
+
+impl End {
+    fn of<E: Into<Ended> + OfSlot>(part: &str, end: Result<Result<(), E>, JoinError>) -> End {
+        match is_of_slot(&end) {
+            true => End::Lost,
+            false => End::Process(cause(part, end)),
+        }
+    }
+}
+
+/// What may end a slot and nothing else.
+trait OfSlot {
+    fn is_of_slot(&self) -> bool;
+}
+
+impl OfSlot for Trouble {
+    fn is_of_slot(&self) -> bool {
+        matches!(self, Trouble::Lost(_))
+    }
+}
+
+impl OfSlot for Fault {
+    fn is_of_slot(&self) -> bool {
+        matches!(self, Fault::Lost(_))
+    }
+}
+
+/// Whether a part ended since its slot is another instance's.
+fn is_of_slot<E: OfSlot>(end: &Result<Result<(), E>, JoinError>) -> bool {
+    matches!(end, Ok(Err(why)) if why.is_of_slot())
+}
+
+pub(super) fn cause<E: Into<Ended>>(part: &str, end: Result<Result<(), E>, JoinError>) -> Ended {
+    match end {
+        Ok(Err(why)) => why.into(),
+        Ok(Ok(())) => Ended::Other(anyhow!("{part} has ended by itself: this is a fault of totxegun")),
+        Err(error) => Ended::Other(anyhow!("{part} failed ({error}): this is a fault of totxegun")),
+    }
+}
+
+#[cfg(test)]
+pub(super) mod tests;

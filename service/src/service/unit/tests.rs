@@ -1,0 +1,70 @@
+use super::*;
+use crate::files::{Durability, Folder};
+use crate::metrics::Metrics;
+use crate::otlp::Clock;
+use crate::switch::Switch;
+use std::future::Future;
+use std::path::Path;
+
+/// A unit without deliveries, of which the keeper ends so after being told to.
+pub fn unit(
+    place: &Path,
+    number: u16,
+    end: impl Future<Output = Result<(), Fault>> + Send + 'static,
+) -> Unit {
+    let folder = Folder::open(place, Durability::Process).unwrap();
+    let (journal, outbox) = folder.slot(0).unwrap();
+    let (dead, outbox) = (Arc::new(folder.dead().unwrap()), Arc::new(outbox));
+    let metrics = Arc::new(Metrics::new().unwrap());
+    let shared = Shared::new(metrics, Clock::default());
+    let slot = Slot::of(number, journal, outbox.clone(), Core::new(1).unwrap(), &shared);
+    let (stop_keeper, mut stopped) = watch::channel(false);
+    let mut keeper = JoinSet::new();
+    keeper.spawn(async move {
+        stopped.wait_true().await;
+        end.await.map_err(Trouble::from)
+    });
+    let settings = crate::keeper::Settings {
+        every: Duration::from_secs(3600),
+        forget: None,
+    };
+    let orders = Keeper::new(slot.clone(), settings).1;
+    let delivery = Arc::default();
+    let left = Left {
+        number,
+        outbox,
+        delivery,
+    };
+    Unit {
+        of_desk: Arc::new(operate::Unit {
+            slot,
+            orders,
+            left,
+            former: Vec::new(),
+            dead,
+        }),
+        keeper,
+        deliveries: JoinSet::new(),
+        stop_keeper,
+        stop_deliveries: watch::channel(false).0,
+    }
+}
+
+pub fn no_disk() -> Fault {
+    Fault::Io {
+        path: "/outbox".into(),
+        source: std::io::Error::other("no disk"),
+    }
+}
+
+/// It is in the middle of a change of its files, as a rule of a commit.
+#[tokio::test]
+async fn a_fault_of_a_keeper_that_is_late_is_told() {
+    let place = tempfile::tempdir().unwrap();
+    let late = async {
+        tokio::time::sleep(LAST_CHECKPOINT + Duration::from_millis(200)).await;
+        Err(no_disk())
+    };
+    let ended = unit(place.path(), 0, late).stop().await;
+    assert!(matches!(ended, Err(Ended::Disk(_))), "{ended:?}");
+}

@@ -1,0 +1,171 @@
+//! The slots that are at work in this process. They come and go while it goes on; a folder's one stays.
+
+use super::unit::{cause, End, Files, Opened, Unit};
+use super::{Ended, Settings};
+use crate::operate;
+use crate::remarks::{Remarks, Teller};
+use crate::sinks::Sink;
+use crate::slot::{Place, Shared, Slot, Slots};
+use crate::switch::Switch;
+use crate::work::blocking;
+use std::collections::BTreeMap;
+use std::sync::{Arc, Mutex, MutexGuard, PoisonError};
+use tokio::sync::{mpsc, watch};
+use tokio::task::{JoinError, JoinHandle, JoinSet};
+
+/// The slots' tasks.
+pub(super) struct AtWork {
+    of_desk: Arc<operate::Units>,
+    tasks: Mutex<BTreeMap<u16, Task>>,
+    ends: mpsc::UnboundedSender<(u16, End)>,
+}
+
+/// What ended by itself.
+pub(super) type Ends = mpsc::UnboundedReceiver<(u16, End)>;
+
+/// It ends where this is dropped.
+struct Task {
+    stop: watch::Sender<bool>,
+    task: JoinHandle<Result<bool, Ended>>,
+}
+
+impl Drop for Task {
+    fn drop(&mut self) {
+        self.task.abort();
+    }
+}
+
+impl AtWork {
+    pub fn new(of_desk: Arc<operate::Units>) -> (Arc<AtWork>, Ends) {
+        let (ends, ended) = mpsc::unbounded_channel();
+        let at_work = AtWork {
+            of_desk,
+            tasks: Mutex::default(),
+            ends,
+        };
+        (Arc::new(at_work), ended)
+    }
+
+    /// The slots as operators see them.
+    pub fn units(&self) -> &Arc<operate::Units> {
+        &self.of_desk
+    }
+
+    pub fn start(&self, unit: Unit) {
+        let number = unit.of_desk.slot.number();
+        self.of_desk.put(unit.of_desk.clone());
+        let (stop, stopped) = watch::channel(false);
+        let task = tokio::spawn(run(number, unit, stopped, self.ends.clone()));
+        self.tasks().insert(number, Task { stop, task });
+    }
+
+    /// Ends a slot once all that was taken is in its outbox; false where that took too long.
+    pub async fn stop(&self, number: u16) -> Result<bool, Ended> {
+        let task = self.tasks().remove(&number);
+        let Some(mut task) = task else { return Ok(true) };
+        task.stop.send_replace(true);
+        let ended = (&mut task.task).await;
+        self.of_desk.remove(number);
+        ended.unwrap_or_else(|error| Err(failed(error)))
+    }
+
+    /// The same of all at once.
+    pub async fn stop_all(self: &Arc<Self>) -> Result<bool, Ended> {
+        let numbers: Vec<u16> = self.tasks().keys().copied().collect();
+        let mut stopping = JoinSet::new();
+        for number in numbers {
+            let at_work = self.clone();
+            stopping.spawn(async move { at_work.stop(number).await });
+        }
+        let mut all = Ok(true);
+        while let Some(stopped) = stopping.join_next().await {
+            let stopped = stopped.unwrap_or_else(|error| Err(failed(error)));
+            all = match (all, stopped) {
+                (Ok(all), Ok(in_time)) => Ok(all && in_time),
+                (Err(first), _) => Err(first),
+                (Ok(_), Err(fault)) => Err(fault),
+            };
+        }
+        all
+    }
+
+    /// Ends a slot that is another's: it answers and delivers nothing any more.
+    #[allow(dead_code)] // a folder's slot is never another's
+    pub fn lose(&self, number: u16) {
+        let task = self.tasks().remove(&number);
+        if let Some(unit) = self.of_desk.remove(number) {
+            unit.slot.stop();
+        }
+        drop(task);
+    }
+
+    fn tasks(&self) -> MutexGuard<'_, BTreeMap<u16, Task>> {
+        self.tasks.lock().unwrap_or_else(PoisonError::into_inner) // a map is sound at any time
+    }
+}
+
+fn failed(error: JoinError) -> Ended {
+    cause("a slot", Err::<Result<(), Ended>, _>(error))
+}
+
+async fn run(
+    number: u16,
+    mut unit: Unit,
+    mut stop: watch::Receiver<bool>,
+    ends: mpsc::UnboundedSender<(u16, End)>,
+) -> Result<bool, Ended> {
+    tokio::select! {
+        biased;
+        () = stop.wait_true() => unit.stop().await,
+        ended = unit.ended() => {
+            let _ = ends.send((number, ended)); // the process may be ending
+            Ok(false)
+        }
+    }
+}
+
+/// What opens slots, and ends them while posts go on.
+#[allow(dead_code)] // a folder's slot is opened at the start, and stays
+pub(super) struct Units {
+    pub settings: Arc<Settings>,
+    pub shared: Arc<Shared>,
+    pub sink: Arc<dyn Sink>,
+    pub teller: Arc<Teller>,
+    /// Where posts go.
+    pub slots: Arc<Slots<Remarks<Slot>>>,
+    pub at_work: Arc<AtWork>,
+}
+
+#[allow(dead_code)]
+impl Units {
+    /// Has a slot here: its posts are answered 503 until its book is filled.
+    pub async fn open(&self, files: Files) -> Result<(), Ended> {
+        let (settings, shared) = (self.settings.clone(), self.shared.clone());
+        let opened = blocking(move || Opened::new(files, &settings, &shared)).await?;
+        let (number, taker) = (opened.slot.number(), taker(&opened.slot, &self.teller));
+        self.at_work.start(opened.start(&self.sink));
+        self.slots.set(number, Place::Here(taker));
+        Ok(())
+    }
+
+    /// Gives a slot to another: posts are nobody's from now on, and what was taken goes into the outbox. False where that
+    /// took too long: its journal has the rest.
+    pub async fn hand_over(&self, number: u16) -> Result<bool, Ended> {
+        self.slots.set(number, Place::Nobody);
+        self.at_work.stop(number).await
+    }
+
+    /// Ends a slot that another has.
+    pub fn lose(&self, number: u16) {
+        self.slots.set(number, Place::Nobody);
+        self.at_work.lose(number);
+    }
+}
+
+/// What takes the posts of a slot.
+pub(super) fn taker(slot: &Arc<Slot>, teller: &Arc<Teller>) -> Arc<Remarks<Slot>> {
+    Remarks::new(slot.clone(), slot.outbox.clone(), teller.clone())
+}
+
+#[cfg(test)]
+mod tests;

@@ -1,0 +1,148 @@
+//! Which slots are here, and where posts of the others go.
+//!
+//! A folder has one, and nothing is looked at then. Of several each is here, another instance's, or nobody's yet, which changes
+//! while posts go on: a post has what it found, also where that changes meanwhile.
+
+use crate::otlp::{Encoding, Original, Outcome, Resources, Split};
+use bytes::Bytes;
+use std::future::Future;
+use std::pin::Pin;
+use std::sync::{Arc, PoisonError, RwLock};
+
+/// What is said where a slot is nobody's.
+pub const NO_OWNER: &str = "no instance has the slot of this post";
+
+/// Who has a slot.
+#[derive(Debug)]
+pub enum Place<T> {
+    Here(Arc<T>),
+    /// The instance at this address.
+    At(String),
+    Nobody,
+}
+
+impl<T> Clone for Place<T> {
+    fn clone(&self) -> Place<T> {
+        match self {
+            Place::Here(one) => Place::Here(one.clone()),
+            Place::At(address) => Place::At(address.clone()),
+            Place::Nobody => Place::Nobody,
+        }
+    }
+}
+
+/// Who brings posts to slots that are not here.
+pub trait Elsewhere: Send + Sync + 'static {
+    /// Has its slot's owner take a part of a request: that owner's answer, or 503 where it can't be had. Then the part may
+    /// have been taken.
+    fn post<'a>(
+        &'a self,
+        slot: u16,
+        sender: &'a str,
+        part: Original,
+    ) -> Pin<Box<dyn Future<Output = Outcome> + Send + 'a>>;
+}
+
+/// All slots, and what takes posts of those that are here.
+pub struct Slots<T>(Kind<T>);
+
+enum Kind<T> {
+    One(Arc<T>),
+    Several(Several<T>),
+}
+
+struct Several<T> {
+    resources: Resources,
+    places: Vec<RwLock<Place<T>>>,
+    elsewhere: Option<Arc<dyn Elsewhere>>,
+}
+
+/// Where a request goes.
+pub enum Way<T> {
+    /// All of it to a slot that is here.
+    Here(Arc<T>),
+    Split(Split),
+}
+
+impl<T> Slots<T> {
+    /// Slot 0, which is here for ever.
+    pub fn one(taker: Arc<T>) -> Arc<Slots<T>> {
+        Arc::new(Slots(Kind::One(taker)))
+    }
+
+    /// As many as resources are put into; each is nobody's.
+    pub fn several(resources: Resources, elsewhere: Option<Arc<dyn Elsewhere>>) -> Arc<Slots<T>> {
+        let nobody = |_| RwLock::new(Place::Nobody);
+        Arc::new(Slots(Kind::Several(Several {
+            places: (0..resources.slots()).map(nobody).collect(),
+            resources,
+            elsewhere,
+        })))
+    }
+
+    pub fn way(&self, encoding: Encoding, body: &Bytes) -> Way<T> {
+        match &self.0 {
+            Kind::One(taker) => Way::Here(taker.clone()),
+            Kind::Several(several) => match several.resources.split(encoding, body) {
+                Split::Whole(slot) => match self.here(slot) {
+                    Some(taker) => Way::Here(taker),
+                    None => Way::Split(Split::Whole(slot)),
+                },
+                parts => Way::Split(parts),
+            },
+        }
+    }
+
+    /// Who has a slot; nobody where there is no such slot.
+    pub fn place(&self, slot: u16) -> Place<T> {
+        match &self.0 {
+            Kind::One(taker) if slot == 0 => Place::Here(taker.clone()),
+            Kind::One(_) => Place::Nobody,
+            Kind::Several(several) => match several.places.get(usize::from(slot)) {
+                Some(place) => place.read().unwrap_or_else(PoisonError::into_inner).clone(), // one value is sound at any time
+                None => Place::Nobody,
+            },
+        }
+    }
+
+    /// What takes the posts of a slot, if it is here.
+    pub fn here(&self, slot: u16) -> Option<Arc<T>> {
+        match self.place(slot) {
+            Place::Here(taker) => Some(taker),
+            Place::At(_) | Place::Nobody => None,
+        }
+    }
+
+    /// Says who has a slot from now on. That of a folder stays.
+    pub fn set(&self, slot: u16, to: Place<T>) {
+        if let Kind::Several(several) = &self.0 {
+            if let Some(place) = several.places.get(usize::from(slot)) {
+                *place.write().unwrap_or_else(PoisonError::into_inner) = to;
+            }
+        }
+    }
+
+    pub fn count(&self) -> u16 {
+        match &self.0 {
+            Kind::One(_) => 1,
+            Kind::Several(several) => several.resources.slots(),
+        }
+    }
+
+    /// Brings a part of a request to its slot's owner.
+    pub async fn elsewhere(&self, slot: u16, sender: &str, part: Original) -> Outcome {
+        match &self.0 {
+            Kind::Several(Several {
+                elsewhere: Some(elsewhere),
+                ..
+            }) => elsewhere.post(slot, sender, part).await,
+            _ => Outcome::Refused {
+                status: 503,
+                message: NO_OWNER.into(),
+            },
+        }
+    }
+}
+
+#[cfg(test)]
+mod tests;

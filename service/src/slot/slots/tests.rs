@@ -1,0 +1,367 @@
+//! Requests in parts, to books and to slots that come and go.
+
+use super::super::numbers::Numbers;
+use super::super::{posted, Shared, Slot};
+use super::*;
+use crate::core::{Across, Core};
+use crate::files::{Durability, Folder};
+use crate::intake::head::{Head, Packing};
+use crate::intake::{Budget, Hears, Intake};
+use crate::metrics::Metrics;
+use crate::otlp::series::forwarded;
+use crate::otlp::{posts_of_test, prepare, requests_of_test, Clock, Reading};
+use std::path::Path;
+use std::sync::Mutex;
+
+fn draws(most: usize) -> usize {
+    std::env::var("TOTXEGUN_SEEDS").map_or(most, |seeds| seeds.parse().unwrap())
+}
+
+/// One book that gets requests whole, and one that gets them in parts.
+struct Both {
+    books: [Arc<Core>; 2],
+    resources: Resources,
+    reading: Arc<Reading>,
+    numbers: Numbers,
+    split: usize,
+    taken: usize,
+    foreign: u64,
+}
+
+impl Both {
+    fn new() -> Both {
+        let reading = Arc::<Reading>::default();
+        Both {
+            books: [(); 2].map(|()| Core::apart(20_000, Across::None).unwrap()),
+            resources: Resources::new(5, reading.clone()),
+            reading,
+            numbers: Numbers::default(),
+            split: 0,
+            taken: 0,
+            foreign: 0,
+        }
+    }
+
+    /// How many points are foreign; none where it is refused.
+    fn put(&self, book: usize, sender: &str, encoding: Encoding, body: &Bytes) -> Option<u64> {
+        let text = prepare(encoding, body.clone(), &self.reading).ok()?.body;
+        let window = Clock::default().window();
+        let core = &self.books[book];
+        let mut read = posted::read(core, &self.numbers, &window, sender.into(), text.into()).ok()?;
+        core.lock().admit(&mut read.read).ok()?;
+        Some(read.read.post.foreign)
+    }
+
+    fn post(&mut self, sender: &str, encoding: Encoding, body: Bytes) {
+        let Some(foreign) = self.put(0, sender, encoding, &body) else {
+            return;
+        };
+        let parts = match self.resources.split(encoding, &body) {
+            Split::Whole(_) => vec![body.clone()],
+            Split::Parts(parts) => parts.into_iter().map(|part| part.body).collect(),
+        };
+        let of_parts = parts.iter().map(|part| self.put(1, sender, encoding, part));
+        let of_parts: Vec<Option<u64>> = of_parts.collect();
+        let sum = of_parts.iter().copied().sum::<Option<u64>>();
+        assert_eq!(sum, Some(foreign), "{body:02x?}");
+        self.split += usize::from(parts.len() > 1);
+        self.taken += 1;
+        self.foreign += foreign;
+    }
+
+    /// Counts and totals of both are the same.
+    fn flush(&self) {
+        let [whole, parts] = [0, 1].map(|book| {
+            let core = &self.books[book];
+            let mut flushed = core.lock().take_all().unwrap();
+            let texts = flushed.texts().unwrap();
+            core.lock().settle(flushed).unwrap();
+            let report = String::from_utf8(core.lock().report().unwrap()).unwrap();
+            // Series, owners and frontiers: what was accepted is said since the last round, which come by the number of posts.
+            let lines = report.lines().filter_map(|line| line.split(" accepted ").next());
+            let mut report: Vec<String> = lines.map(String::from).collect();
+            report.sort();
+            let points = texts.iter().flat_map(|text| forwarded(text).unwrap());
+            let mut points: Vec<_> = points
+                .map(|point| (point.series, point.start, point.end, format!("{:?}", point.value)))
+                .collect();
+            points.sort();
+            (report, points)
+        });
+        for (one, other) in [(&parts, &whole), (&whole, &parts)] {
+            let line = one.0.iter().find(|line| !other.0.contains(line));
+            assert_eq!(line, None, "of a report");
+            let point = one.1.iter().find(|point| !other.1.contains(point));
+            assert_eq!(point, None);
+        }
+        assert_eq!((parts.0.len(), parts.1.len()), (whole.0.len(), whole.1.len()));
+    }
+}
+
+#[test]
+fn the_parts_of_requests_give_the_counts_and_totals_of_the_whole() {
+    let mut both = Both::new();
+    let many = draws(1500);
+    let of_protobuf = (1..).flat_map(|seed| posts_of_test(seed, 500)).take(many);
+    for (number, body) in of_protobuf.enumerate() {
+        both.post(["A", "B"][number / 700 % 2], Encoding::Protobuf, body.into());
+        if number % 100 == 99 {
+            both.flush();
+        }
+    }
+    for both_forms in requests_of_test(many / 4) {
+        for text in both_forms {
+            both.post("C", Encoding::Json, text);
+        }
+    }
+    both.flush();
+    let found = (both.split, both.taken, both.foreign);
+    assert!(
+        both.split > many / 8 && both.taken > many / 4 && both.foreign > 0,
+        "{found:?}"
+    );
+}
+
+const SLOTS: u16 = 4;
+
+/// Slots with their books and journals, behind an intake.
+struct Service {
+    slots: Arc<Slots<Slot>>,
+    all: Vec<Arc<Slot>>,
+    intake: Intake<Slot>,
+    budget: Arc<Budget>,
+    heard: Arc<Heard>,
+}
+
+#[derive(Default)]
+struct Heard(Mutex<Vec<String>>);
+
+impl Hears for Heard {
+    fn answered(&self, sender: &str, outcome: &Outcome) {
+        self.0
+            .lock()
+            .unwrap()
+            .push(format!("{sender} {}", outcome.status()));
+    }
+
+    fn part_refused(&self, sender: &str, outcome: &Outcome) {
+        let part = format!("{sender} part {}", outcome.status());
+        self.0.lock().unwrap().push(part);
+    }
+}
+
+impl Service {
+    /// No slot takes posts yet.
+    fn new(place: &Path) -> Service {
+        let metrics = Arc::new(Metrics::new().unwrap());
+        let shared = Shared::new(metrics.clone(), Clock::default());
+        let reading = Arc::<Reading>::default();
+        let slots = Slots::several(Resources::new(SLOTS, reading.clone()), None);
+        let all = (0..SLOTS).map(|number| {
+            let place = place.join(number.to_string());
+            let folder = Folder::open(&place, Durability::Process).unwrap();
+            let (journal, outbox) = folder.slot(0).unwrap();
+            let core = Core::new(1000).unwrap();
+            Slot::of(number, journal, Arc::new(outbox), core, &shared)
+        });
+        let (budget, heard) = (Budget::new(64 << 20), Arc::<Heard>::default());
+        let intake = Intake::of(slots.clone(), heard.clone(), reading, budget.clone(), metrics);
+        Service {
+            slots,
+            all: all.collect(),
+            intake,
+            budget,
+            heard,
+        }
+    }
+
+    /// Has a slot here.
+    fn open(&self, number: u16) {
+        let slot = &self.all[usize::from(number)];
+        slot.open();
+        self.slots.set(number, Place::Here(slot.clone()));
+    }
+
+    async fn post(&self, sender: &str, body: &Bytes) -> Outcome {
+        let head = Head {
+            sender: sender.into(),
+            encoding: Encoding::Json,
+            packing: Packing::Plain,
+        };
+        self.intake.put(head, body.clone(), self.budget.hold()).await
+    }
+
+    /// The values of all points that the books took.
+    fn totals(&self) -> Vec<i64> {
+        let mut totals = Vec::new();
+        for slot in &self.all {
+            let mut flushed = slot.core.lock().take_all().unwrap();
+            for text in flushed.texts().unwrap() {
+                let points = forwarded(&text).unwrap().into_iter();
+                totals.extend(points.map(|point| match point.value {
+                    crate::otlp::series::Value::Sum(value) => value,
+                    other => panic!("{other:?}"),
+                }));
+            }
+            slot.core.lock().settle(flushed).unwrap();
+        }
+        totals.sort_unstable();
+        totals
+    }
+
+    fn heard(&self) -> Vec<String> {
+        std::mem::take(&mut *self.heard.0.lock().unwrap())
+    }
+}
+
+/// The name of a process whose resource has a slot.
+fn process(slot: u16) -> String {
+    let has_slot = |name: &String| slot_of_process(name) == slot;
+    (0..).map(|number| format!("p{number}")).find(has_slot).unwrap()
+}
+
+fn attributes(name: &str) -> String {
+    format!(r#"[{{"key":"service.instance.id","value":{{"stringValue":"{name}"}}}}]"#)
+}
+
+fn slot_of_process(name: &str) -> u16 {
+    crate::otlp::slot_of(&attributes(name), SLOTS)
+}
+
+/// A request of these processes, each with a point of this value.
+fn request(processes: &[(&str, i64)], end: u64) -> Bytes {
+    let start = end - 1;
+    let resources: Vec<String> = processes
+        .iter()
+        .map(|(name, value)| {
+            let attributes = attributes(name);
+            format!(
+                r#"{{"resource":{{"attributes":{attributes}}},"scopeMetrics":[{{"metrics":[{{"name":"m","sum":{{"aggregationTemporality":1,"dataPoints":[{{"asInt":"{value}","startTimeUnixNano":"{start}","timeUnixNano":"{end}"}}]}}}}]}}]}}"#
+            )
+        })
+        .collect();
+    format!(r#"{{"resourceMetrics":[{}]}}"#, resources.join(",")).into()
+}
+
+fn refused(status: u16, message: &str) -> Outcome {
+    Outcome::Refused {
+        status,
+        message: message.into(),
+    }
+}
+
+/// A sender drops what is answered 400: it would take for lost what is there.
+#[tokio::test]
+async fn a_repeat_of_a_post_that_was_taken_in_part_is_taken() {
+    let place = tempfile::tempdir().unwrap();
+    let service = Service::new(place.path());
+    let (one, other) = (process(1), process(2));
+    let body = request(&[(&one, 5), (&other, 7)], 10);
+    service.open(1);
+    assert_eq!(service.post("A", &body).await, refused(503, NO_OWNER));
+    service.open(2);
+    let Outcome::Taken {
+        rejected, message, ..
+    } = service.post("A", &body).await
+    else {
+        panic!("what was taken in part is refused");
+    };
+    let why = "1 point is refused: out of order: point 0, frontier 10";
+    assert_eq!((rejected, message.as_deref()), (1, Some(why)));
+    assert_eq!(
+        service.post("A", &body).await,
+        refused(400, "out of order: point 0, frontier 10")
+    );
+    assert_eq!((service.totals(), service.budget.used()), (vec![5, 7], 0));
+    assert_eq!(service.heard(), ["A 503", "A part 400", "A 200", "A 400"]);
+}
+
+/// By its sender's slot each of two would have it.
+#[tokio::test]
+async fn a_series_of_two_senders_meets_in_one_slot() {
+    let place = tempfile::tempdir().unwrap();
+    let service = Service::new(place.path());
+    (0..SLOTS).for_each(|slot| service.open(slot));
+    let shared = process(3);
+    let by_sender = |sender: &str| crate::otlp::slot_of(sender, SLOTS);
+    let second = (0..).map(|number| format!("B{number}"));
+    let second = second
+        .clone()
+        .find(|name| by_sender(name) != by_sender("A"))
+        .unwrap();
+    assert_eq!(
+        service.post("A", &request(&[(&shared, 5)], 10)).await,
+        Outcome::taken(0)
+    );
+    let own = process(0);
+    let both = request(&[(&own, 3), (&shared, 5)], 20);
+    let said = service.post(&second, &both).await;
+    let why = r#""1 point is refused: other writer: point 1""#;
+    let text = String::from_utf8(said.body(Encoding::Json)).unwrap();
+    assert!(said.status() == 200 && text.contains(why), "{text}");
+    assert_eq!(service.totals(), [3, 5]);
+}
+
+/// What a post has found it goes to, whoever has the slot then; nothing is taken twice.
+#[tokio::test(flavor = "multi_thread", worker_threads = 4)]
+async fn slots_come_and_go_while_posts_go_on() {
+    let place = tempfile::tempdir().unwrap();
+    let service = Arc::new(Service::new(place.path()));
+    (0..SLOTS).for_each(|slot| service.open(slot));
+    let names: Vec<String> = (0..SLOTS).map(process).collect();
+    let (moving, last) = (service.clone(), 200);
+    let moves = tokio::spawn(async move {
+        for number in 0..u16::MAX {
+            let slot = number % SLOTS;
+            moving.slots.set(slot, Place::Nobody);
+            tokio::task::yield_now().await;
+            moving.open(slot);
+            tokio::task::yield_now().await;
+        }
+    });
+    let posts = (0..4).map(|task| {
+        let (service, names) = (service.clone(), names.clone());
+        tokio::spawn(async move {
+            let sender = format!("S{task}");
+            // Each sender has metrics of its own.
+            for end in 1..=last {
+                let all: Vec<(&str, i64)> = names.iter().map(|name| (name.as_str(), 1)).collect();
+                let body = request(&all, end * 10);
+                let body = String::from_utf8(body.to_vec())
+                    .unwrap()
+                    .replace("\"m\"", &format!("\"{sender}\""));
+                while service.post(&sender, &body.clone().into()).await.status() == 503 {
+                    tokio::task::yield_now().await;
+                }
+            }
+        })
+    });
+    for post in posts.collect::<Vec<_>>() {
+        post.await.unwrap();
+    }
+    moves.abort();
+    let _ = moves.await;
+    let wanted = 4 * i64::from(SLOTS) * last as i64;
+    assert_eq!(service.totals().into_iter().sum::<i64>(), wanted);
+    let heard = service.heard();
+    let in_time = heard
+        .iter()
+        .filter(|heard| !heard.contains("part") && !heard.ends_with(" 503"));
+    assert_eq!(
+        in_time.count(),
+        4 * last as usize,
+        "each post has one answer at the end"
+    );
+}
+
+/// A folder's one is asked whatever a request has.
+#[tokio::test]
+async fn one_slot_gets_all_requests_as_they_come() {
+    let one = Slots::one(Arc::new(5));
+    for body in [&b"{}"[..], b"\xff", b""] {
+        let way = one.way(Encoding::Json, &Bytes::from_static(body));
+        assert!(matches!(way, Way::Here(taker) if *taker == 5));
+    }
+    one.set(0, Place::Nobody);
+    assert!(one.here(0).is_some() && one.here(1).is_none());
+}
