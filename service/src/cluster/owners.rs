@@ -5,6 +5,9 @@
 //! that one of them was first.
 
 mod others;
+mod step;
+
+pub use step::{Step, Whose};
 
 use super::places::place;
 use super::terms::{Row, Seen, Stay};
@@ -21,34 +24,6 @@ const RESTARTED: u32 = 3;
 const AGAIN: u32 = 20;
 /// Slots that are taken or opened side by side: each replays its journal.
 const AT_ONCE: usize = 4;
-
-/// What is to be done.
-#[derive(Clone, Copy, Debug, PartialEq, Eq)]
-pub enum Step {
-    /// Take it where its term is still this, and open it.
-    Take { slot: u16, seen: u64 },
-    /// Another is its place: bring it to rest, and say that nobody has it.
-    HandOver { slot: u16, term: u64 },
-    /// It has this instance's name, is not open, and has its place elsewhere.
-    Release { slot: u16, term: u64 },
-    /// Another has it.
-    Drop { slot: u16, term: u64 },
-}
-
-/// Who serves a slot.
-#[derive(Clone, Debug, PartialEq, Eq)]
-pub enum Whose {
-    Here {
-        term: u64,
-    },
-    There {
-        name: String,
-        address: String,
-        term: u64,
-    },
-    /// Nobody does now, or it isn't known where.
-    Nobody,
-}
 
 #[derive(Clone, Copy, Debug, PartialEq, Eq)]
 enum Phase {
@@ -130,12 +105,10 @@ impl Owners {
         self.namesake > 0
     }
 
-    /// Slots that are open here, or being opened or closed.
-    pub fn owned(&self) -> usize {
-        self.mine
-            .values()
-            .filter(|mine| mine.phase != Phase::Taking)
-            .count()
+    /// Slots that are open here, or being opened or closed, and their terms.
+    pub fn terms(&self) -> BTreeMap<u16, u64> {
+        let owned = self.mine.iter().filter(|(_, mine)| mine.phase != Phase::Taking);
+        owned.map(|(slot, mine)| (*slot, mine.term)).collect()
     }
 
     /// Instances whose beats go on, this one among them.

@@ -341,11 +341,16 @@ fn who_comes_gets_slots_one_by_one_and_not_before_it_has_beaten_for_a_while() {
     world.join("b");
     world.rounds(SETTLED as usize - 1);
     assert_eq!(world.hand_overs, 0);
-    for _ in 0..200 {
+    for round in 0..200 {
+        if round % 12 == 0 {
+            // It takes none for a while, so it gets no further one.
+            world.nodes[1].stands_for = u64::from(GONE) - 2;
+        }
         world.round();
         assert!(world.store.rows.iter().filter(|row| row.owner.is_empty()).count() <= 1);
     }
-    assert!(world.is_settled() && world.hand_overs > 0);
+    world.rounds(40);
+    assert!(world.is_settled() && world.hand_overs > 1);
 }
 
 #[test]

@@ -1,0 +1,280 @@
+use super::*;
+use crate::cluster::terms::{Doing, Instance, Row, Seen, Stay};
+use std::sync::atomic::{AtomicBool, Ordering::SeqCst};
+use tokio::time::timeout;
+
+const SLOTS: u16 = 6;
+
+/// A store in memory. While it is silent its calls wait.
+struct Store {
+    rows: Mutex<(BTreeMap<String, Instance>, Vec<Row>)>,
+    is_silent: AtomicBool,
+}
+
+impl Store {
+    fn new() -> Arc<Store> {
+        let row = |slot| Row {
+            slot,
+            term: 0,
+            owner: String::new(),
+        };
+        Arc::new(Store {
+            rows: Mutex::new((BTreeMap::new(), (0..SLOTS).map(row).collect())),
+            is_silent: AtomicBool::new(false),
+        })
+    }
+
+    async fn answers(&self) {
+        while self.is_silent.load(SeqCst) {
+            sleep(Duration::from_millis(5)).await;
+        }
+    }
+
+    fn owners(&self) -> Vec<String> {
+        self.rows
+            .lock()
+            .unwrap()
+            .1
+            .iter()
+            .map(|row| row.owner.clone())
+            .collect()
+    }
+
+    async fn are_owners(&self, is_so: impl Fn(&str) -> bool, within: Duration) {
+        let all = async {
+            while !self.owners().iter().all(|owner| is_so(owner)) {
+                sleep(Duration::from_millis(20)).await;
+            }
+        };
+        let done = timeout(within, all).await;
+        assert!(done.is_ok(), "{:?}", self.owners());
+    }
+}
+
+/// The store as one instance asks it.
+struct Of(Arc<Store>, &'static str);
+
+impl Terms for Of {
+    fn beat(&self, stay: Stay) -> Doing<'_, Result<Seen, Silence>> {
+        Box::pin(async move {
+            self.0.answers().await;
+            let mut rows = self.0.rows.lock().unwrap();
+            let new = Instance {
+                name: self.1.into(),
+                address: String::new(),
+                beat: 0,
+            };
+            let own = rows.0.entry(self.1.into()).or_insert(new);
+            own.beat += 1;
+            own.address = if stay == Stay::Here {
+                format!("{}:1", self.1)
+            } else {
+                String::new()
+            };
+            Ok(Seen {
+                instances: rows.0.values().cloned().collect(),
+                slots: rows.1.clone(),
+            })
+        })
+    }
+
+    fn slots(&self) -> Doing<'_, Result<Vec<Row>, Silence>> {
+        Box::pin(async move {
+            self.0.answers().await;
+            Ok(self.0.rows.lock().unwrap().1.clone())
+        })
+    }
+
+    fn take(&self, slot: u16, seen: u64) -> Doing<'_, Result<Option<u64>, Silence>> {
+        Box::pin(async move {
+            self.0.answers().await;
+            let row = &mut self.0.rows.lock().unwrap().1[usize::from(slot)];
+            if row.term != seen {
+                return Ok(None);
+            }
+            (row.term, row.owner) = (seen + 1, self.1.into());
+            Ok(Some(row.term))
+        })
+    }
+
+    fn release(&self, slot: u16, term: u64) -> Doing<'_, Result<(), Silence>> {
+        Box::pin(async move {
+            self.0.answers().await;
+            let row = &mut self.0.rows.lock().unwrap().1[usize::from(slot)];
+            if row.term == term {
+                row.owner.clear();
+            }
+            Ok(())
+        })
+    }
+
+    fn leave(&self) -> Doing<'_, Result<(), Silence>> {
+        Box::pin(async move {
+            self.0.rows.lock().unwrap().0.remove(self.1);
+            Ok(())
+        })
+    }
+}
+
+/// What was asked of the slots, in order.
+#[derive(Default)]
+struct Told(Mutex<Vec<(u16, String)>>);
+
+impl Told {
+    fn note(&self, slot: u16, what: String) {
+        self.0.lock().unwrap().push((slot, what));
+    }
+
+    fn of(&self, slot: u16) -> Vec<String> {
+        let told = self.0.lock().unwrap();
+        told.iter()
+            .filter(|(of, _)| *of == slot)
+            .map(|(_, what)| what.clone())
+            .collect()
+    }
+}
+
+impl Units for Told {
+    fn open(&self, slot: u16, term: u64) -> Doing<'_, Result<(), Unopened>> {
+        Box::pin(async move {
+            self.note(slot, format!("open {term}"));
+            sleep(Duration::from_millis(30)).await;
+            self.note(slot, format!("opened {term}"));
+            Ok(())
+        })
+    }
+
+    fn hand_over(&self, slot: u16, term: u64) -> Doing<'_, ()> {
+        Box::pin(async move {
+            self.note(slot, format!("hand over {term}"));
+            sleep(Duration::from_millis(30)).await;
+            self.note(slot, format!("at rest {term}"));
+        })
+    }
+
+    fn is_served(&self, slot: u16, by: &Whose) {
+        let by = match by {
+            Whose::Here { term } => format!("here {term}"),
+            Whose::There { address, term, .. } => format!("{address} {term}"),
+            Whose::Nobody => "nobody".into(),
+        };
+        self.note(slot, by);
+    }
+
+    fn drop_lost(&self, slot: u16, term: u64) -> Doing<'_, ()> {
+        Box::pin(async move { self.note(slot, format!("drop {term}")) })
+    }
+}
+
+struct Node {
+    cluster: Arc<Cluster>,
+    told: Arc<Told>,
+    stop: watch::Sender<bool>,
+    runs: JoinHandle<()>,
+}
+
+fn start(store: &Arc<Store>, name: &'static str) -> Node {
+    let (cluster, told) = (Cluster::new(name), Arc::new(Told::default()));
+    let beats = Beats::new(cluster.clone(), Arc::new(Of(store.clone(), name)), told.clone());
+    let (stop, stopped) = watch::channel(false);
+    Node {
+        cluster,
+        told,
+        stop,
+        runs: tokio::spawn(beats.run(stopped)),
+    }
+}
+
+const SOON: Duration = Duration::from_secs(20);
+
+#[tokio::test(flavor = "multi_thread", worker_threads = 2)]
+async fn who_is_gone_is_followed_by_another_and_who_stops_hands_all_over() {
+    let store = Store::new();
+    let a = start(&store, "a");
+    store.are_owners(|owner| owner == "a", SOON).await;
+    let b = start(&store, "b");
+    sleep(BEAT * 2).await;
+    assert_eq!(b.cluster.status().instances, 2);
+    assert!(matches!(b.cluster.whose(2), Whose::There { address, term: 1, .. } if address == "a:1"));
+    a.runs.abort();
+    store.are_owners(|owner| owner == "b", SOON).await;
+    let is_open = async {
+        while b
+            .cluster
+            .places()
+            .borrow()
+            .values()
+            .any(|whose| *whose != (Whose::Here { term: 2 }))
+        {
+            sleep(Duration::from_millis(20)).await;
+        }
+    };
+    timeout(SOON, is_open).await.unwrap();
+    let status = b.cluster.status();
+    assert_eq!(
+        (status.counted.takeovers, status.terms.len(), status.without_owner),
+        (u64::from(SLOTS), 6, 0)
+    );
+    assert_eq!(b.told.of(2), ["a:1 1", "open 2", "opened 2", "here 2"]);
+    b.stop.send_replace(true);
+    timeout(SOON, b.runs).await.unwrap().unwrap();
+    assert!(store.owners().iter().all(String::is_empty));
+    assert_eq!(store.rows.lock().unwrap().0.keys().collect::<Vec<_>>(), ["a"]);
+    assert_eq!(b.told.of(2)[4..], ["nobody", "hand over 2", "at rest 2"]);
+    assert_eq!(b.cluster.status().counted.hand_overs, u64::from(SLOTS));
+}
+
+#[tokio::test(flavor = "multi_thread", worker_threads = 2)]
+async fn a_store_that_is_silent_is_seen_at_the_door_and_moves_nothing() {
+    let store = Store::new();
+    let a = start(&store, "a");
+    assert!(a.cluster.is_stalled(), "before the first beat");
+    store.are_owners(|owner| owner == "a", SOON).await;
+    assert!(!a.cluster.is_stalled());
+    store.is_silent.store(true, SeqCst);
+    sleep(STALL + BEAT + Duration::from_millis(200)).await;
+    assert!(a.cluster.is_stalled() && a.cluster.status().beat_age > Some(STALL));
+    let terms = a.cluster.status().terms;
+    store.is_silent.store(false, SeqCst);
+    let answers = async {
+        while a.cluster.is_stalled() {
+            sleep(Duration::from_millis(20)).await;
+        }
+    };
+    timeout(SOON, answers).await.unwrap();
+    assert_eq!(
+        (terms.len(), a.cluster.status().terms),
+        (usize::from(SLOTS), terms)
+    );
+    // It is told to stop while the store is silent: it ends once that answers, or after a minute.
+    a.stop.send_replace(true);
+    timeout(SOON, a.runs).await.unwrap().unwrap();
+}
+
+#[tokio::test(flavor = "multi_thread", worker_threads = 2)]
+async fn a_slot_that_was_lost_is_dropped_before_it_is_opened_again() {
+    let store = Store::new();
+    let a = start(&store, "a");
+    store.are_owners(|owner| owner == "a", SOON).await;
+    sleep(BEAT).await;
+    {
+        let row = &mut store.rows.lock().unwrap().1[3];
+        (row.term, row.owner) = (7, String::new());
+    }
+    // Its own writer has seen that another was there.
+    a.cluster.lost(4, 1);
+    let again = async {
+        while a.cluster.whose(3) != (Whose::Here { term: 8 })
+            || a.cluster.whose(4) != (Whose::Here { term: 2 })
+        {
+            sleep(Duration::from_millis(20)).await;
+        }
+    };
+    timeout(SOON, again).await.unwrap();
+    let told = a.told.of(3);
+    assert!(
+        told.ends_with(&["nobody", "drop 1", "open 8", "opened 8", "here 8"].map(String::from)),
+        "{told:?}"
+    );
+    assert_eq!(a.cluster.status().counted.lost, 2);
+}

@@ -1,0 +1,248 @@
+//! Posts for slots of other instances: each goes to its slot's owner over kept connections, and that one's answer comes back
+//! as it said it. `internal` is the owner's side, `head` what a request says beside its body, `said` an answer on its way.
+//!
+//! One that has not the slot has taken nothing, so another is asked then. Any other end may be behind a post that was taken:
+//! its sender is told 503, and its repeat finds out.
+
+mod head;
+mod internal;
+mod peer;
+mod said;
+
+pub use head::Secret;
+pub use internal::Internal;
+pub use peer::SILENT_FOR;
+
+use super::beats::Cluster;
+use super::owners::Whose;
+use super::terms::Doing;
+use crate::log::Seldom;
+use crate::otlp::{Original, Outcome};
+use head::Head;
+use hyper::client::HttpConnector;
+use hyper::{Body, Request};
+use hyper_rustls::HttpsConnector;
+use peer::{Peer, Peers};
+use rustls::ClientConfig;
+use said::Said;
+use std::sync::atomic::{AtomicU64, Ordering::Relaxed};
+use std::sync::Arc;
+use std::time::Duration;
+use tokio::time::{timeout, timeout_at, Instant};
+
+/// Where posts of other instances come.
+pub const PATH: &str = "/internal/post";
+/// Until a post is answered, whatever becomes of it.
+const WITHIN: Duration = Duration::from_secs(10);
+/// So long an owner is looked for.
+const LOOKED_FOR: Duration = Duration::from_secs(3);
+/// Between two looks, where nothing changes.
+const PAUSE: Duration = Duration::from_millis(100);
+const CONNECT: Duration = Duration::from_secs(3);
+/// Shorter than an idle connection is kept at the other end.
+const IDLE: Duration = Duration::from_secs(20);
+
+/// Why a post is 503 that may have been taken.
+const BROKEN: &str = "the instance that has the slot of this post has given no answer";
+/// Why one is that was not.
+const MOVED: &str = "the slot of this post is being moved";
+
+static TOLD: Seldom = Seldom::every(Duration::from_secs(10));
+
+/// The slots of this instance.
+pub trait Here: Send + Sync + 'static {
+    /// Takes a part of a request, or refuses it, under this term; none where the slot is not here under it: then nothing
+    /// was taken.
+    fn post<'a>(
+        &'a self,
+        slot: u16,
+        term: u64,
+        sender: &'a str,
+        part: Original,
+    ) -> Doing<'a, Option<Outcome>>;
+}
+
+/// What instances speak with each other.
+#[derive(Clone)]
+pub enum Wire {
+    Plain,
+    /// By the roots that their certificates are believed by.
+    Tls(Arc<ClientConfig>),
+}
+
+/// How many posts for others' slots ended how.
+#[derive(Default)]
+struct Counts {
+    answered: AtomicU64,
+    not_mine: AtomicU64,
+    broken: AtomicU64,
+}
+
+#[derive(Clone, Copy, Debug, Default, PartialEq, Eq)]
+pub struct Forwarded {
+    pub answered: u64,
+    /// Nothing was taken: the owner was another.
+    pub not_mine: u64,
+    /// There was no answer.
+    pub broken: u64,
+}
+
+/// Brings posts to the owners of their slots.
+pub struct Forward<H> {
+    cluster: Arc<Cluster>,
+    here: Arc<H>,
+    secret: Secret,
+    client: hyper::Client<HttpsConnector<HttpConnector>, Body>,
+    scheme: &'static str,
+    peers: Peers,
+    counts: Counts,
+}
+
+impl<H: Here> Forward<H> {
+    pub fn new(cluster: Arc<Cluster>, here: Arc<H>, secret: Secret, wire: Wire) -> Forward<H> {
+        let mut http = HttpConnector::new();
+        http.enforce_http(false);
+        http.set_nodelay(true);
+        http.set_connect_timeout(Some(CONNECT));
+        let (scheme, config) = match wire {
+            Wire::Plain => ("http", Arc::new(no_roots())),
+            Wire::Tls(config) => ("https", config),
+        };
+        let connector = HttpsConnector::from((http, config));
+        let mut client = hyper::Client::builder();
+        client.pool_idle_timeout(IDLE).pool_max_idle_per_host(peer::POSTS);
+        Forward {
+            cluster,
+            here,
+            secret,
+            client: client.build(connector),
+            scheme,
+            peers: Peers::default(),
+            counts: Counts::default(),
+        }
+    }
+
+    /// Has its slot's owner take a part of a request: that owner's answer, or 503.
+    pub async fn post(&self, slot: u16, sender: &str, part: Original) -> Outcome {
+        let began = Instant::now();
+        let mut places = self.cluster.places();
+        loop {
+            places.borrow_and_update();
+            let said = match self.cluster.whose(slot) {
+                Whose::Nobody => None,
+                Whose::Here { term } => self.here.post(slot, term, sender, part.clone()).await,
+                Whose::There { address, term, .. } => {
+                    let head = Head::new(slot, term, sender, part.encoding);
+                    self.ask(&address, &head, &part, began + WITHIN).await
+                }
+            };
+            match said {
+                Some(outcome) => return outcome,
+                None if began.elapsed() >= LOOKED_FOR => return unavailable(MOVED),
+                None => {}
+            }
+            self.cluster.look();
+            let _ = timeout(PAUSE, places.changed()).await;
+        }
+    }
+
+    /// One that has not the slot says so: then none.
+    async fn ask(&self, address: &str, head: &Head, part: &Original, until: Instant) -> Option<Outcome> {
+        let (peer, began) = (self.peers.at(address), Instant::now());
+        let said = timeout_at(until, self.exchange(&peer, address, head, part)).await;
+        let why = match said {
+            Ok(Ok(said)) => {
+                peer.answers();
+                return self.count(said);
+            }
+            Ok(Err(why)) => why,
+            Err(_) => Broken::Late,
+        };
+        self.counts.broken.fetch_add(1, Relaxed);
+        if peer.is_silent_since(began) && TOLD.is_due() {
+            let reason = why.to_string();
+            tracing::warn!(
+                address,
+                reason,
+                "the instance at {address} has not answered for 10 s: {reason}"
+            );
+        }
+        Some(unavailable(BROKEN))
+    }
+
+    fn count(&self, said: Said) -> Option<Outcome> {
+        match said {
+            Said::NotMine => {
+                self.counts.not_mine.fetch_add(1, Relaxed);
+                None
+            }
+            Said::Outcome(outcome) => {
+                self.counts.answered.fetch_add(1, Relaxed);
+                Some(outcome)
+            }
+        }
+    }
+
+    async fn exchange(
+        &self,
+        peer: &Peer,
+        address: &str,
+        head: &Head,
+        part: &Original,
+    ) -> Result<Said, Broken> {
+        let _room = peer.room(part.body.len()).await;
+        let uri = format!("{}://{address}{PATH}", self.scheme);
+        let request = head.put(Request::post(uri), &self.secret);
+        let request = request
+            .body(Body::from(part.body.clone()))
+            .map_err(Broken::Address)?;
+        let response = self.client.request(request).await.map_err(Broken::Wire)?;
+        said::read(response).await
+    }
+
+    pub fn forwarded(&self) -> Forwarded {
+        Forwarded {
+            answered: self.counts.answered.load(Relaxed),
+            not_mine: self.counts.not_mine.load(Relaxed),
+            broken: self.counts.broken.load(Relaxed),
+        }
+    }
+
+    /// The addresses of instances that have not answered for ten seconds, and for how long.
+    pub fn silent(&self) -> Vec<(String, Duration)> {
+        self.peers.silent()
+    }
+}
+
+/// Why there is no answer.
+#[derive(Debug, thiserror::Error)]
+enum Broken {
+    #[error("it has not answered in time")]
+    Late,
+    #[error("its address can't be asked: {0}")]
+    Address(hyper::http::Error),
+    #[error("{0}")]
+    Wire(hyper::Error),
+    #[error("it refuses this instance's secret: both need the same store")]
+    Secret,
+    #[error("what answers there is no instance, or of another version: it says {0}")]
+    Strange(u16),
+}
+
+fn unavailable(why: &str) -> Outcome {
+    Outcome::Refused {
+        status: 503,
+        message: why.into(),
+    }
+}
+
+/// Nothing is asked over TLS by it.
+fn no_roots() -> ClientConfig {
+    ClientConfig::builder()
+        .with_safe_defaults()
+        .with_root_certificates(rustls::RootCertStore::empty())
+        .with_no_client_auth()
+}
+
+#[cfg(test)]
+mod tests;

@@ -1,0 +1,87 @@
+//! The owner's side: posts that other instances bring.
+
+use super::head::{Head, Secret};
+use super::{said, unavailable, Here, PATH};
+use crate::cluster::beats::{Cluster, NO_STORE};
+use crate::cluster::owners::Whose;
+use crate::intake::connections::Handler;
+use crate::otlp::Original;
+use bytes::{Bytes, BytesMut};
+use hyper::body::HttpBody;
+use hyper::{Body, Method, Request, Response};
+use std::sync::Arc;
+use std::time::Duration;
+use tokio::sync::Semaphore;
+use tokio::time::timeout;
+
+/// A part is no longer than the request that it is of, but for what a length may grow by.
+const MOST: usize = 5 << 20;
+/// So many of them are in memory at once, whoever sends them.
+const PARTS: usize = 64;
+/// A body comes within.
+const WITHIN: Duration = Duration::from_secs(5);
+
+pub struct Internal<H> {
+    cluster: Arc<Cluster>,
+    here: Arc<H>,
+    secret: Secret,
+    parts: Semaphore,
+}
+
+impl<H: Here> Internal<H> {
+    pub fn new(cluster: Arc<Cluster>, here: Arc<H>, secret: Secret) -> Arc<Internal<H>> {
+        Arc::new(Internal {
+            cluster,
+            here,
+            secret,
+            parts: Semaphore::new(PARTS),
+        })
+    }
+
+    /// The error is what is said before a slot is asked.
+    async fn take(&self, request: Request<Body>) -> Result<Response<Body>, Response<Body>> {
+        if request.uri().path() != PATH || request.method() != Method::POST {
+            return Err(said::refused(404, "there is no such page"));
+        }
+        if !self.secret.is_in(request.headers()) {
+            return Err(said::refused(401, "this is no instance of this cluster"));
+        }
+        let head = Head::read(request.headers()).ok_or_else(|| said::refused(400, "a head is missing"))?;
+        if self.cluster.whose(head.slot) != (Whose::Here { term: head.term }) {
+            return Err(said::not_mine());
+        }
+        if self.cluster.is_stalled() {
+            return Err(said::answer(&unavailable(NO_STORE)));
+        }
+        let _room = self.parts.acquire().await; // it is never closed
+        let body = timeout(WITHIN, whole(request.into_body())).await;
+        let body = body
+            .ok()
+            .flatten()
+            .ok_or_else(|| said::refused(400, "the body is not whole, or too long"))?;
+        let part = Original {
+            encoding: head.encoding,
+            body,
+        };
+        // The slot says itself whether it is still here.
+        let outcome = self.here.post(head.slot, head.term, &head.sender, part).await;
+        Ok(outcome.map_or_else(said::not_mine, |outcome| said::answer(&outcome)))
+    }
+}
+
+impl<H: Here> Handler for Internal<H> {
+    async fn answer(self: Arc<Self>, request: Request<Body>) -> Response<Body> {
+        self.take(request).await.unwrap_or_else(|refused| refused)
+    }
+}
+
+async fn whole(mut body: Body) -> Option<Bytes> {
+    let mut bytes = BytesMut::new();
+    while let Some(part) = body.data().await {
+        bytes.extend_from_slice(&part.ok()?);
+        if bytes.len() > MOST {
+            return None;
+        }
+    }
+    Some(bytes.freeze())
+}

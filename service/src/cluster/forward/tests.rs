@@ -1,0 +1,346 @@
+//! Posts over real sockets, to owners that answer, stall, break off, or have not the slot.
+
+use super::*;
+use crate::intake::connections::Handler;
+use crate::otlp::Encoding;
+use bytes::Bytes;
+use hyper::server::conn::Http;
+use hyper::service::service_fn;
+use std::collections::VecDeque;
+use std::convert::Infallible;
+use std::sync::atomic::{AtomicUsize, Ordering::SeqCst};
+use std::sync::Mutex;
+use tokio::io::{AsyncReadExt, AsyncWriteExt};
+use tokio::net::TcpListener;
+use tokio::time::sleep;
+
+/// Slot, term, sender, and the part.
+type Came = (u16, u64, String, Encoding, Bytes);
+
+/// The slots of an instance: what came, and what is said of it.
+#[derive(Default)]
+struct Slots {
+    came: Mutex<Vec<Came>>,
+    says: Mutex<VecDeque<Option<Outcome>>>,
+    takes: Duration,
+    at_once: AtomicUsize,
+    most_at_once: AtomicUsize,
+}
+
+impl Here for Slots {
+    fn post<'a>(
+        &'a self,
+        slot: u16,
+        term: u64,
+        sender: &'a str,
+        part: Original,
+    ) -> Doing<'a, Option<Outcome>> {
+        Box::pin(async move {
+            let came = (slot, term, sender.to_string(), part.encoding, part.body);
+            self.came.lock().unwrap().push(came);
+            let now = self.at_once.fetch_add(1, SeqCst) + 1;
+            self.most_at_once.fetch_max(now, SeqCst);
+            sleep(self.takes).await;
+            self.at_once.fetch_sub(1, SeqCst);
+            self.says
+                .lock()
+                .unwrap()
+                .pop_front()
+                .unwrap_or(Some(Outcome::taken(0)))
+        })
+    }
+}
+
+impl Slots {
+    fn count(&self) -> usize {
+        self.came.lock().unwrap().len()
+    }
+}
+
+/// An instance with an address of its own.
+struct Peer {
+    cluster: Arc<Cluster>,
+    slots: Arc<Slots>,
+    address: String,
+    connections: Arc<AtomicUsize>,
+}
+
+fn secret(text: &str) -> Secret {
+    Secret::new(text).unwrap()
+}
+
+impl Peer {
+    async fn with(slots: Slots, whose: Whose) -> Peer {
+        let listener = TcpListener::bind("127.0.0.1:0").await.unwrap();
+        let address = listener.local_addr().unwrap().to_string();
+        let (cluster, slots) = (Cluster::new("peer"), Arc::new(slots));
+        cluster.knows(&[(3, whose)]);
+        let internal = Internal::new(cluster.clone(), slots.clone(), secret("of all"));
+        let connections = Arc::new(AtomicUsize::new(0));
+        let counted = connections.clone();
+        tokio::spawn(async move {
+            while let Ok((stream, _)) = listener.accept().await {
+                counted.fetch_add(1, SeqCst);
+                let internal = internal.clone();
+                let service = service_fn(move |request| {
+                    let internal = internal.clone();
+                    async move { Ok::<_, Infallible>(internal.answer(request).await) }
+                });
+                tokio::spawn(Http::new().serve_connection(stream, service));
+            }
+        });
+        Peer {
+            cluster,
+            slots,
+            address,
+            connections,
+        }
+    }
+
+    async fn here() -> Peer {
+        Peer::with(Slots::default(), Whose::Here { term: 5 }).await
+    }
+
+    fn whose(&self) -> Whose {
+        there(&self.address)
+    }
+}
+
+fn there(address: &str) -> Whose {
+    Whose::There {
+        name: "peer".into(),
+        address: address.into(),
+        term: 5,
+    }
+}
+
+/// Who gets posts of senders.
+fn receiver(whose: Whose, secret: Secret) -> Arc<Forward<Slots>> {
+    let cluster = Cluster::new("receiver");
+    cluster.knows(&[(3, whose)]);
+    Arc::new(Forward::new(cluster, Arc::default(), secret, Wire::Plain))
+}
+
+async fn posted(forward: &Forward<Slots>, text: &str) -> Outcome {
+    let body = Bytes::copy_from_slice(text.as_bytes());
+    let encoding = Encoding::Json;
+    forward.post(3, "web-1", Original { encoding, body }).await
+}
+
+#[tokio::test]
+async fn an_owners_answer_comes_back_as_it_said_it() {
+    let refused = |status, message: &str| Outcome::Refused {
+        status,
+        message: message.into(),
+    };
+    let says = [
+        Outcome::taken(0),
+        Outcome::taken(7),
+        Outcome::Taken {
+            rejected: 2,
+            off: Default::default(),
+            known: Default::default(),
+            message: Some("zwölf \"points\"\n".into()),
+        },
+        refused(400, "out of order: point 3"),
+        refused(403, "this sender is quarantined"),
+        refused(429, "too many series"),
+        refused(503, "recovering"),
+        Outcome::Later {
+            seconds: 17,
+            message: "its share".into(),
+        },
+    ];
+    let peer = Peer::here().await;
+    let forward = receiver(peer.whose(), secret("of all"));
+    for outcome in &says {
+        peer.slots.says.lock().unwrap().push_back(Some(outcome.clone()));
+        assert_eq!(posted(&forward, "{}").await, *outcome);
+    }
+    let body = Bytes::from([0, 159, 255, 10].repeat(1 << 18));
+    let part = Original {
+        encoding: Encoding::Protobuf,
+        body: body.clone(),
+    };
+    assert_eq!(forward.post(3, "web-2", part).await, Outcome::taken(0));
+    let came = peer.slots.came.lock().unwrap().clone();
+    assert_eq!(
+        came[0],
+        (3, 5, "web-1".into(), Encoding::Json, Bytes::from_static(b"{}"))
+    );
+    assert_eq!(came[says.len()], (3, 5, "web-2".into(), Encoding::Protobuf, body));
+    assert_eq!(came.len(), says.len() + 1);
+    assert_eq!(peer.connections.load(SeqCst), 1, "the connection is kept");
+    assert_eq!(forward.forwarded().answered, came.len() as u64);
+}
+
+#[tokio::test]
+async fn not_mine_is_asked_again_of_who_has_it_then() {
+    let (old, new) = (Peer::here().await, Peer::here().await);
+    old.cluster.knows(&[(3, Whose::Here { term: 6 })]); // another term
+    let forward = receiver(old.whose(), secret("of all"));
+    let moves = async {
+        sleep(Duration::from_millis(250)).await;
+        forward.cluster.knows(&[(3, new.whose())]);
+    };
+    let (outcome, ()) = tokio::join!(posted(&forward, "{}"), moves);
+    assert_eq!(outcome, Outcome::taken(0));
+    assert_eq!((old.slots.count(), new.slots.count()), (0, 1));
+    assert!(forward.forwarded().not_mine > 0);
+    // What the slot itself finds: it was lost behind the door.
+    new.slots.says.lock().unwrap().push_back(None);
+    assert_eq!(posted(&forward, "{}").await, Outcome::taken(0));
+    // It comes here.
+    forward.cluster.knows(&[(3, Whose::Here { term: 8 })]);
+    assert_eq!(posted(&forward, "{}").await, Outcome::taken(0));
+    assert_eq!(forward.here.came.lock().unwrap()[0].1, 8);
+}
+
+#[tokio::test]
+async fn a_slot_without_an_owner_is_waited_for_three_seconds() {
+    let old = Peer::with(Slots::default(), Whose::Nobody).await;
+    for whose in [Whose::Nobody, old.whose()] {
+        let (forward, began) = (receiver(whose, secret("of all")), Instant::now());
+        assert_eq!(posted(&forward, "{}").await, unavailable(MOVED));
+        assert!((LOOKED_FOR..LOOKED_FOR * 2).contains(&began.elapsed()));
+    }
+    assert_eq!(old.slots.count(), 0);
+}
+
+#[tokio::test]
+async fn who_has_another_secret_or_none_is_asked_nothing() {
+    let peer = Peer::here().await;
+    let forward = receiver(peer.whose(), secret("another"));
+    assert_eq!(posted(&forward, "{}").await, unavailable(BROKEN));
+    let client = hyper::Client::new();
+    let ask = |request: hyper::http::request::Builder, body: &'static str| {
+        let asking = client.request(request.body(Body::from(body)).unwrap());
+        async { asking.await.unwrap().status().as_u16() }
+    };
+    let uri = format!("http://{}{PATH}", peer.address);
+    let head = Head::new(3, 5, "web-1", Encoding::Json);
+    assert_eq!(ask(Request::post(&uri), "").await, 401);
+    assert_eq!(
+        ask(head.put(Request::get(&uri), &secret("of all")), "").await,
+        404
+    );
+    assert_eq!(
+        ask(head.put(Request::post(format!("{uri}s")), &secret("of all")), "").await,
+        404
+    );
+    let without = Request::post(&uri).header("totxegun-secret", "of all");
+    assert_eq!(ask(without, "").await, 400);
+    assert_eq!(peer.slots.count(), 0);
+}
+
+/// Somebody at an address who does as told with each request that came, and how many connections had one.
+async fn strange(says: &'static [u8], stays: bool) -> (String, Arc<AtomicUsize>) {
+    let listener = TcpListener::bind("127.0.0.1:0").await.unwrap();
+    let address = listener.local_addr().unwrap().to_string();
+    let count = Arc::new(AtomicUsize::new(0));
+    let counted = count.clone();
+    tokio::spawn(async move {
+        while let Ok((mut stream, _)) = listener.accept().await {
+            let counted = counted.clone();
+            tokio::spawn(async move {
+                let (mut bytes, mut new) = ([0; 4096], 1);
+                while !matches!(stream.read(&mut bytes).await, Ok(0) | Err(_)) {
+                    counted.fetch_add(std::mem::take(&mut new), SeqCst);
+                    let _ = stream.write_all(says).await;
+                    if !stays {
+                        break;
+                    }
+                }
+            });
+        }
+    });
+    (address, count)
+}
+
+#[tokio::test]
+async fn what_breaks_off_or_is_no_instance_is_503_and_is_asked_once() {
+    let broken: [&[u8]; 6] = [
+        b"",
+        b"HTTP/1.1 200 OK\r\ntotxegun-says: ans",
+        b"HTTP/1.1 200 OK\r\ntotxegun-says: answer\r\ncontent-length: 20\r\n\r\n{\"rejected\"",
+        b"HTTP/1.1 200 OK\r\ntotxegun-says: answer\r\ncontent-length: 2\r\n\r\n[]",
+        b"HTTP/1.1 200 OK\r\ncontent-length: 2\r\n\r\n{}",
+        b"HTTP/1.1 502 Bad Gateway\r\ncontent-length: 0\r\n\r\n",
+    ];
+    for says in broken {
+        let (address, count) = strange(says, false).await;
+        let forward = receiver(there(&address), secret("of all"));
+        assert_eq!(posted(&forward, "{}").await, unavailable(BROKEN));
+        assert_eq!(count.load(SeqCst), 1, "{}", String::from_utf8_lossy(says));
+        assert_eq!(forward.forwarded().broken, 1);
+        assert!(forward.silent().is_empty(), "not for ten seconds");
+    }
+    // Nobody listens there.
+    let listener = TcpListener::bind("127.0.0.1:0").await.unwrap();
+    let address = listener.local_addr().unwrap().to_string();
+    drop(listener);
+    let forward = receiver(there(&address), secret("of all"));
+    assert_eq!(posted(&forward, "{}").await, unavailable(BROKEN));
+}
+
+#[tokio::test]
+async fn who_stalls_is_left_after_ten_seconds_and_said_and_holds_up_no_other() {
+    let ((stalls, count), peer) = (strange(b"", true).await, Peer::here().await);
+    let forward = receiver(there(&stalls), secret("of all"));
+    forward.cluster.knows(&[(3, there(&stalls)), (4, peer.whose())]);
+    peer.cluster.knows(&[(4, Whose::Here { term: 5 })]);
+    let began = Instant::now();
+    let many: Vec<_> = (0..2 * peer::POSTS)
+        .map(|_| {
+            let forward = forward.clone();
+            tokio::spawn(async move { posted(&forward, "{}").await })
+        })
+        .collect();
+    sleep(Duration::from_millis(500)).await;
+    let part = Original {
+        encoding: Encoding::Json,
+        body: Bytes::new(),
+    };
+    assert_eq!(forward.post(4, "web-1", part).await, Outcome::taken(0));
+    assert!(began.elapsed() < Duration::from_secs(5));
+    assert_eq!(forward.silent(), []);
+    assert_eq!(count.load(SeqCst), peer::POSTS, "on their way at once");
+    for one in many {
+        assert_eq!(one.await.unwrap(), unavailable(BROKEN));
+    }
+    assert!((WITHIN..WITHIN * 2).contains(&began.elapsed()));
+    let silent: Vec<String> = forward.silent().into_iter().map(|(address, _)| address).collect();
+    assert_eq!(silent, [stalls]);
+}
+
+#[tokio::test]
+async fn so_many_posts_are_on_their_way_to_one_and_each_comes_once() {
+    let slots = Slots {
+        takes: Duration::from_millis(20),
+        ..Slots::default()
+    };
+    let peer = Peer::with(slots, Whose::Here { term: 5 }).await;
+    let forward = receiver(peer.whose(), secret("of all"));
+    let many: Vec<_> = (0..300)
+        .map(|number| {
+            let forward = forward.clone();
+            tokio::spawn(async move { posted(&forward, &number.to_string()).await })
+        })
+        .collect();
+    for one in many {
+        assert_eq!(one.await.unwrap(), Outcome::taken(0));
+    }
+    let mut came: Vec<Bytes> = peer
+        .slots
+        .came
+        .lock()
+        .unwrap()
+        .iter()
+        .map(|came| came.4.clone())
+        .collect();
+    came.sort();
+    came.dedup();
+    assert_eq!((came.len(), peer.slots.count()), (300, 300));
+    assert!(peer.slots.most_at_once.load(SeqCst) <= peer::POSTS);
+    assert!(peer.connections.load(SeqCst) <= peer::POSTS);
+}
