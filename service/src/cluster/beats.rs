@@ -109,6 +109,16 @@ impl Cluster {
     fn owners(&self) -> MutexGuard<'_, Owners> {
         self.owners.lock().unwrap_or_else(PoisonError::into_inner)
     }
+
+    /// Says who has which slot, where that is new. It is found under the lock of what is said, so the last word is the latest.
+    fn publish(&self) {
+        self.places.send_if_modified(|said| {
+            let places = Arc::new(self.owners().whose());
+            let is_new = *said != places;
+            *said = places;
+            is_new
+        });
+    }
 }
 
 /// What beats.
@@ -117,6 +127,7 @@ pub struct Beats<T, U> {
     /// Of each slot the last step: the next one begins behind it.
     last: HashMap<u16, JoinHandle<()>>,
     following: mpsc::Receiver<Step>,
+    between: Duration,
 }
 
 struct Work<T, U> {
@@ -124,7 +135,6 @@ struct Work<T, U> {
     terms: Arc<T>,
     units: Arc<U>,
     follow: mpsc::Sender<Step>,
-    telling: Mutex<()>,
 }
 
 impl<T: Terms + 'static, U: Units + 'static> Beats<T, U> {
@@ -135,13 +145,20 @@ impl<T: Terms + 'static, U: Units + 'static> Beats<T, U> {
             terms,
             units,
             follow,
-            telling: Mutex::default(),
         };
         Beats {
             work: Arc::new(work),
             last: HashMap::new(),
             following,
+            between: BEAT,
         }
+    }
+
+    /// Faster, where a test has no time.
+    #[cfg(test)]
+    pub(super) fn each(mut self, between: Duration) -> Beats<T, U> {
+        self.between = between;
+        self
     }
 
     /// Beats until `stop` is on, and then until all slots are handed over, or a minute has passed.
@@ -158,7 +175,7 @@ impl<T: Terms + 'static, U: Units + 'static> Beats<T, U> {
     }
 
     async fn beats(&mut self, mut stop: watch::Receiver<bool>) {
-        let mut ticks = tokio::time::interval(BEAT);
+        let mut ticks = tokio::time::interval(self.between);
         // Each beat is half a second behind the last one, whatever came between: others count their own by these.
         ticks.set_missed_tick_behavior(MissedTickBehavior::Delay);
         let mut leaves = false;
@@ -199,7 +216,7 @@ impl<T: Terms + 'static, U: Units + 'static> Beats<T, U> {
             tracing::error!("another process beats under this instance's name: give each its own --instance");
         }
         steps.into_iter().for_each(|step| self.begin(step));
-        self.work.publish();
+        self.work.cluster.publish();
     }
 
     async fn look(&mut self) {
@@ -207,7 +224,7 @@ impl<T: Terms + 'static, U: Units + 'static> Beats<T, U> {
             Ok(rows) => self.work.cluster.owners().look(rows),
             Err(silence) => tell(&silence),
         }
-        self.work.publish();
+        self.work.cluster.publish();
         sleep(LOOKS).await;
     }
 
@@ -235,21 +252,6 @@ fn tell(silence: &Silence) {
 }
 
 impl<T: Terms, U: Units> Work<T, U> {
-    /// Tells who has which slot where that is new: one at a time, so that the last word is the last one told.
-    fn publish(&self) {
-        let _order = self.telling.lock().unwrap_or_else(PoisonError::into_inner); // it guards nothing
-        let places = Arc::new(self.cluster.owners().whose());
-        let before = self.cluster.places.borrow().clone();
-        if before == places {
-            return;
-        }
-        let new = places
-            .iter()
-            .filter(|(slot, whose)| before.get(slot) != Some(whose));
-        new.for_each(|(slot, whose)| self.units.is_served(*slot, whose));
-        self.cluster.places.send_replace(places.clone());
-    }
-
     /// What follows from it.
     async fn does(&self, step: Step) -> Option<Step> {
         match step {
@@ -294,11 +296,11 @@ impl<T: Terms, U: Units> Work<T, U> {
                 self.cluster.owners().failed(slot, term);
             }
         }
-        self.publish();
+        self.cluster.publish();
     }
 
     async fn hand_over(&self, slot: u16, term: u64) -> Option<Step> {
-        self.publish(); // it is nobody's from here on
+        self.cluster.publish(); // it is nobody's from here on
         self.units.hand_over(slot, term).await;
         self.release(slot, term).await;
         self.cluster.counts.handed_over();
@@ -315,4 +317,4 @@ impl<T: Terms, U: Units> Work<T, U> {
 }
 
 #[cfg(test)]
-mod tests;
+pub(super) mod tests;

@@ -18,6 +18,7 @@ use super::owners::Whose;
 use super::terms::Doing;
 use crate::log::Seldom;
 use crate::otlp::{Original, Outcome};
+use crate::slot::Elsewhere;
 use head::Head;
 use hyper::client::HttpConnector;
 use hyper::{Body, Request};
@@ -26,7 +27,7 @@ use peer::{Peer, Peers};
 use rustls::ClientConfig;
 use said::Said;
 use std::sync::atomic::{AtomicU64, Ordering::Relaxed};
-use std::sync::Arc;
+use std::sync::{Arc, OnceLock};
 use std::time::Duration;
 use tokio::time::{timeout, timeout_at, Instant};
 
@@ -90,7 +91,8 @@ pub struct Forwarded {
 /// Brings posts to the owners of their slots.
 pub struct Forward<H> {
     cluster: Arc<Cluster>,
-    here: Arc<H>,
+    /// None before posts are served.
+    here: OnceLock<Arc<H>>,
     secret: Secret,
     client: hyper::Client<HttpsConnector<HttpConnector>, Body>,
     scheme: &'static str,
@@ -99,7 +101,7 @@ pub struct Forward<H> {
 }
 
 impl<H: Here> Forward<H> {
-    pub fn new(cluster: Arc<Cluster>, here: Arc<H>, secret: Secret, wire: Wire) -> Forward<H> {
+    pub fn new(cluster: Arc<Cluster>, secret: Secret, wire: Wire) -> Forward<H> {
         let mut http = HttpConnector::new();
         http.enforce_http(false);
         http.set_nodelay(true);
@@ -113,13 +115,18 @@ impl<H: Here> Forward<H> {
         client.pool_idle_timeout(IDLE).pool_max_idle_per_host(peer::POSTS);
         Forward {
             cluster,
-            here,
+            here: OnceLock::new(),
             secret,
             client: client.build(connector),
             scheme,
             peers: Peers::default(),
             counts: Counts::default(),
         }
+    }
+
+    /// Says once what takes posts of slots that have come here since they were looked for.
+    pub fn serve(&self, here: Arc<H>) {
+        let _ = self.here.set(here);
     }
 
     /// Has its slot's owner take a part of a request: that owner's answer, or 503.
@@ -130,7 +137,10 @@ impl<H: Here> Forward<H> {
             places.borrow_and_update();
             let said = match self.cluster.whose(slot) {
                 Whose::Nobody => None,
-                Whose::Here { term } => self.here.post(slot, term, sender, part.clone()).await,
+                Whose::Here { term } => match self.here.get() {
+                    Some(here) => here.post(slot, term, sender, part.clone()).await,
+                    None => None,
+                },
                 Whose::There { address, term, .. } => {
                     let head = Head::new(slot, term, sender, part.encoding);
                     self.ask(&address, &head, &part, began + WITHIN).await
@@ -211,6 +221,12 @@ impl<H: Here> Forward<H> {
     /// The addresses of instances that have not answered for ten seconds, and for how long.
     pub fn silent(&self) -> Vec<(String, Duration)> {
         self.peers.silent()
+    }
+}
+
+impl<H: Here> Elsewhere for Forward<H> {
+    fn post<'a>(&'a self, slot: u16, sender: &'a str, part: Original) -> Doing<'a, Outcome> {
+        Box::pin(Forward::post(self, slot, sender, part))
     }
 }
 

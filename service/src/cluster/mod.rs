@@ -15,3 +15,6 @@ pub use beats::{Beats, Cluster, NO_STORE};
 pub use forward::{Forward, Here, Internal, Secret, Wire};
 pub use owners::Whose;
 pub use status::Status;
+
+#[cfg(test)]
+mod tests;

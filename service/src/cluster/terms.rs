@@ -1,6 +1,5 @@
 //! What the cluster asks of the store, and of the slots of this process.
 
-use super::owners::Whose;
 use std::future::Future;
 use std::pin::Pin;
 
@@ -77,9 +76,6 @@ pub trait Units: Send + Sync {
     /// Shuts its posts, makes a last checkpoint, and ends it. Nothing of it is written any more once this is done, also
     /// where a part of it failed.
     fn hand_over(&self, slot: u16, term: u64) -> Doing<'_, ()>;
-    /// Says who serves a slot from now on: `Here` once it was opened, another or nobody before it is handed over or dropped.
-    /// It returns at once.
-    fn is_served(&self, slot: u16, by: &Whose);
     /// Ends a slot that another has: nothing more of it is answered, delivered or written.
     fn drop_lost(&self, slot: u16, term: u64) -> Doing<'_, ()>;
 }

@@ -11,6 +11,7 @@ mod keeping;
 mod letters;
 mod of_runs;
 mod of_senders;
+mod of_store;
 mod periods;
 mod print;
 mod reading;
@@ -278,6 +279,12 @@ mod tests {
             ("token a/b/c", "behind the /"),
             ("token -", "a sender's name"),
             ("store init", "<ADDRESS>"),
+            ("serve --data d --store postgres://u@h/d --instance a", "--peer"),
+            ("serve --data d --instance a", "--store"),
+            (
+                "serve --data d --store postgres://u@h/d --peer h:1 --instance a/b",
+                "--instance",
+            ),
             ("store init mysql://h/d", "a store is postgres://"),
             ("store init postgres://u@h/d --slots 0", "--slots"),
             ("serve --data d --listen nowhere", "--listen"),

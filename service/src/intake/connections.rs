@@ -262,6 +262,42 @@ pub async fn serve<L: Listener, H: Handler>(
     accept(listener, room, stop, begin).await;
 }
 
+/// The same over TLS, where there is some: each connection begins with a handshake, which has its place too.
+pub async fn serve_over<H: Handler>(
+    listener: TcpListener,
+    tls: Option<Arc<Tls>>,
+    limits: Limits,
+    handler: Arc<H>,
+    stop: watch::Receiver<bool>,
+) {
+    let Some(tls) = tls else {
+        return serve(listener, limits, handler, stop).await;
+    };
+    let room = Room::new(limits.connections);
+    let of_room = room.clone();
+    let begin = |open: &mut JoinSet<()>, stream: TcpStream, held: Held| {
+        let Ok(stream) = stream.into_std() else { return };
+        let (tls, room, limits) = (tls.clone(), of_room.clone(), limits.clone());
+        let (handler, mut stop) = (handler.clone(), stop.clone());
+        open.spawn(async move {
+            let (shaking, full) = (tls.clone(), room.clone());
+            let shaking = async move {
+                let is_full = || full.is_full();
+                shaking.handshake(stream, tls::Protocol::Http, is_full).await
+            };
+            let shaken = tokio::select! {
+                shaken = tls.runtime().spawn(shaking) => shaken.ok().flatten(),
+                _ = stop.wait_true() => None, // nothing is owed to it
+            };
+            if let Some(Ok(stream)) = shaken.map(tls::Shaken::arrive) {
+                connection(stream, None, room, limits, handler, stop).await;
+            }
+            drop(held);
+        });
+    };
+    accept(listener, room, stop.clone(), begin).await;
+}
+
 async fn connection<S: Transport, H: Handler>(
     stream: S,
     user: Option<User>,

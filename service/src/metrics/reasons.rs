@@ -175,7 +175,15 @@ mod tests {
             Refusal::TooLong,
             Refusal::TooManyBytes,
         ];
-        let of_slot = [NO_ANSWER, NO_STORE, NO_OWNER, NO_ROOM, MOVED, "recovering", "stopping"];
+        let of_slot = [
+            NO_ANSWER,
+            NO_STORE,
+            NO_OWNER,
+            NO_ROOM,
+            MOVED,
+            "recovering",
+            "stopping",
+        ];
         let texts = of_book.iter().map(ToString::to_string);
         let texts = texts.chain(of_intake.iter().map(ToString::to_string));
         let texts: Vec<String> = texts.chain(of_slot.map(String::from)).collect();

@@ -38,7 +38,9 @@ fn a_start_refuses_what_is_no_store_or_another_or_can_lose() {
         "is database 1 of its store, not 0",
     );
     refused(&[&one, &third], Copies::One, "a", "1 databases");
-    refused(&[&one, &other], Copies::Two, "a", "no synchronous standby");
+    refused(&[&one, &other], Copies::Two, "b", "no synchronous standby");
+    let servers = [address(&one).unwrap(), address(&other).unwrap()];
+    drop(PostgresStore::open(&servers, Copies::One, "a").unwrap());
     refused(&[&one, &other], Copies::One, "b", "There: a");
     server.ask("alter system set fsync = off");
     server.ask("select pg_reload_conf()");

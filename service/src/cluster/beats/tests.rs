@@ -3,16 +3,16 @@ use crate::cluster::terms::{Doing, Instance, Row, Seen, Stay};
 use std::sync::atomic::{AtomicBool, Ordering::SeqCst};
 use tokio::time::timeout;
 
-const SLOTS: u16 = 6;
+pub const SLOTS: u16 = 6;
 
 /// A store in memory. While it is silent its calls wait.
-struct Store {
-    rows: Mutex<(BTreeMap<String, Instance>, Vec<Row>)>,
+pub struct Store {
+    pub rows: Mutex<(BTreeMap<String, Instance>, Vec<Row>)>,
     is_silent: AtomicBool,
 }
 
 impl Store {
-    fn new() -> Arc<Store> {
+    pub fn new() -> Arc<Store> {
         let row = |slot| Row {
             slot,
             term: 0,
@@ -51,8 +51,8 @@ impl Store {
     }
 }
 
-/// The store as one instance asks it.
-struct Of(Arc<Store>, &'static str);
+/// The store as one instance asks it, which has this address.
+pub struct Of(pub Arc<Store>, pub &'static str, pub String);
 
 impl Terms for Of {
     fn beat(&self, stay: Stay) -> Doing<'_, Result<Seen, Silence>> {
@@ -66,10 +66,9 @@ impl Terms for Of {
             };
             let own = rows.0.entry(self.1.into()).or_insert(new);
             own.beat += 1;
-            own.address = if stay == Stay::Here {
-                format!("{}:1", self.1)
-            } else {
-                String::new()
+            own.address = match stay {
+                Stay::Here => self.2.clone(),
+                Stay::Leaves => String::new(),
             };
             Ok(Seen {
                 instances: rows.0.values().cloned().collect(),
@@ -152,15 +151,6 @@ impl Units for Told {
         })
     }
 
-    fn is_served(&self, slot: u16, by: &Whose) {
-        let by = match by {
-            Whose::Here { term } => format!("here {term}"),
-            Whose::There { address, term, .. } => format!("{address} {term}"),
-            Whose::Nobody => "nobody".into(),
-        };
-        self.note(slot, by);
-    }
-
     fn drop_lost(&self, slot: u16, term: u64) -> Doing<'_, ()> {
         Box::pin(async move { self.note(slot, format!("drop {term}")) })
     }
@@ -175,7 +165,11 @@ struct Node {
 
 fn start(store: &Arc<Store>, name: &'static str) -> Node {
     let (cluster, told) = (Cluster::new(name), Arc::new(Told::default()));
-    let beats = Beats::new(cluster.clone(), Arc::new(Of(store.clone(), name)), told.clone());
+    let beats = Beats::new(
+        cluster.clone(),
+        Arc::new(Of(store.clone(), name, format!("{name}:1"))),
+        told.clone(),
+    );
     let (stop, stopped) = watch::channel(false);
     Node {
         cluster,
@@ -215,12 +209,12 @@ async fn who_is_gone_is_followed_by_another_and_who_stops_hands_all_over() {
         (status.counted.takeovers, status.terms.len(), status.without_owner),
         (u64::from(SLOTS), 6, 0)
     );
-    assert_eq!(b.told.of(2), ["a:1 1", "open 2", "opened 2", "here 2"]);
+    assert_eq!(b.told.of(2), ["open 2", "opened 2"]);
     b.stop.send_replace(true);
     timeout(SOON, b.runs).await.unwrap().unwrap();
     assert!(store.owners().iter().all(String::is_empty));
     assert_eq!(store.rows.lock().unwrap().0.keys().collect::<Vec<_>>(), ["a"]);
-    assert_eq!(b.told.of(2)[4..], ["nobody", "hand over 2", "at rest 2"]);
+    assert_eq!(b.told.of(2)[2..], ["hand over 2", "at rest 2"]);
     assert_eq!(b.cluster.status().counted.hand_overs, u64::from(SLOTS));
 }
 
@@ -273,7 +267,7 @@ async fn a_slot_that_was_lost_is_dropped_before_it_is_opened_again() {
     timeout(SOON, again).await.unwrap();
     let told = a.told.of(3);
     assert!(
-        told.ends_with(&["nobody", "drop 1", "open 8", "opened 8", "here 8"].map(String::from)),
+        told.ends_with(&["drop 1", "open 8", "opened 8"].map(String::from)),
         "{told:?}"
     );
     assert_eq!(a.cluster.status().counted.lost, 2);

@@ -4,8 +4,10 @@ use super::head::{Head, Secret};
 use super::{said, unavailable, Here, PATH};
 use crate::cluster::beats::{Cluster, NO_STORE};
 use crate::cluster::owners::Whose;
+use crate::cluster::terms::Doing;
 use crate::intake::connections::Handler;
-use crate::otlp::Original;
+use crate::intake::{Intake, Taker};
+use crate::otlp::{Original, Outcome};
 use bytes::{Bytes, BytesMut};
 use hyper::body::HttpBody;
 use hyper::{Body, Method, Request, Response};
@@ -72,6 +74,19 @@ impl<H: Here> Internal<H> {
 impl<H: Here> Handler for Internal<H> {
     async fn answer(self: Arc<Self>, request: Request<Body>) -> Response<Body> {
         self.take(request).await.unwrap_or_else(|refused| refused)
+    }
+}
+
+impl<T: Taker> Here for Intake<T> {
+    /// A slot that is here has the term that was looked at before, or a later one of this instance.
+    fn post<'a>(
+        &'a self,
+        slot: u16,
+        _term: u64,
+        sender: &'a str,
+        part: Original,
+    ) -> Doing<'a, Option<Outcome>> {
+        Box::pin(self.forwarded(slot, sender, part))
     }
 }
 

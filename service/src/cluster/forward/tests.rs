@@ -1,7 +1,8 @@
 //! Posts over real sockets, to owners that answer, stall, break off, or have not the slot.
 
 use super::*;
-use crate::intake::connections::Handler;
+use crate::intake::connections::{serve_over, Handler};
+use crate::intake::Limits;
 use crate::otlp::Encoding;
 use bytes::Bytes;
 use hyper::server::conn::Http;
@@ -69,13 +70,19 @@ fn secret(text: &str) -> Secret {
     Secret::new(text).unwrap()
 }
 
+/// An instance that has slot 3, or not.
+fn internal(slots: Slots, whose: Whose) -> (Arc<Cluster>, Arc<Slots>, Arc<Internal<Slots>>) {
+    let (cluster, slots) = (Cluster::new("peer"), Arc::new(slots));
+    cluster.knows(&[(3, whose)]);
+    let internal = Internal::new(cluster.clone(), slots.clone(), secret("of all"));
+    (cluster, slots, internal)
+}
+
 impl Peer {
     async fn with(slots: Slots, whose: Whose) -> Peer {
         let listener = TcpListener::bind("127.0.0.1:0").await.unwrap();
         let address = listener.local_addr().unwrap().to_string();
-        let (cluster, slots) = (Cluster::new("peer"), Arc::new(slots));
-        cluster.knows(&[(3, whose)]);
-        let internal = Internal::new(cluster.clone(), slots.clone(), secret("of all"));
+        let (cluster, slots, internal) = internal(slots, whose);
         let connections = Arc::new(AtomicUsize::new(0));
         let counted = connections.clone();
         tokio::spawn(async move {
@@ -118,7 +125,7 @@ fn there(address: &str) -> Whose {
 fn receiver(whose: Whose, secret: Secret) -> Arc<Forward<Slots>> {
     let cluster = Cluster::new("receiver");
     cluster.knows(&[(3, whose)]);
-    Arc::new(Forward::new(cluster, Arc::default(), secret, Wire::Plain))
+    Arc::new(Forward::new(cluster, secret, Wire::Plain))
 }
 
 async fn posted(forward: &Forward<Slots>, text: &str) -> Outcome {
@@ -191,9 +198,11 @@ async fn not_mine_is_asked_again_of_who_has_it_then() {
     new.slots.says.lock().unwrap().push_back(None);
     assert_eq!(posted(&forward, "{}").await, Outcome::taken(0));
     // It comes here.
+    let here = Arc::new(Slots::default());
+    forward.serve(here.clone());
     forward.cluster.knows(&[(3, Whose::Here { term: 8 })]);
     assert_eq!(posted(&forward, "{}").await, Outcome::taken(0));
-    assert_eq!(forward.here.came.lock().unwrap()[0].1, 8);
+    assert_eq!(here.came.lock().unwrap()[0].1, 8);
 }
 
 #[tokio::test]
@@ -343,4 +352,41 @@ async fn so_many_posts_are_on_their_way_to_one_and_each_comes_once() {
     assert_eq!((came.len(), peer.slots.count()), (300, 300));
     assert!(peer.slots.most_at_once.load(SeqCst) <= peer::POSTS);
     assert!(peer.connections.load(SeqCst) <= peer::POSTS);
+}
+
+#[tokio::test(flavor = "multi_thread", worker_threads = 2)]
+async fn over_tls_a_peer_is_told_by_its_roots() {
+    let at = crate::tls::tests::folder();
+    crate::tls::tests::server(at.path());
+    let listener = TcpListener::bind("127.0.0.1:0").await.unwrap();
+    let port = listener.local_addr().unwrap().port();
+    let (_cluster, slots, internal) = internal(Slots::default(), Whose::Here { term: 5 });
+    let limits = Limits {
+        connections: 10,
+        head: Duration::from_secs(5),
+        idle: Duration::from_secs(60),
+    };
+    let (stop, stopped) = tokio::sync::watch::channel(false);
+    let tls = tokio::task::block_in_place(|| crate::tls::tests::tls(at.path(), None));
+    let serving = tokio::spawn(serve_over(listener, Some(tls.clone()), limits, internal, stopped));
+    let pem = std::fs::read(at.path().join("ca.pem")).unwrap();
+    for (roots, wanted) in [(pem, Outcome::taken(0)), (Vec::new(), unavailable(BROKEN))] {
+        let mut store = rustls::RootCertStore::empty();
+        let roots = rustls_pemfile::certs(&mut &roots[..]).unwrap();
+        roots
+            .iter()
+            .for_each(|root| store.add(&rustls::Certificate(root.clone())).unwrap());
+        let config = ClientConfig::builder()
+            .with_safe_defaults()
+            .with_root_certificates(store);
+        let cluster = Cluster::new("receiver");
+        cluster.knows(&[(3, there(&format!("localhost:{port}")))]);
+        let wire = Wire::Tls(Arc::new(config.with_no_client_auth()));
+        let forward = Forward::<Slots>::new(cluster, secret("of all"), wire);
+        assert_eq!(posted(&forward, "{}").await, wanted);
+    }
+    assert_eq!(slots.count(), 1);
+    stop.send_replace(true);
+    serving.await.unwrap();
+    tokio::task::block_in_place(|| drop(tls));
 }

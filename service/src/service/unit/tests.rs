@@ -50,6 +50,16 @@ pub fn unit(
     }
 }
 
+impl Unit {
+    /// With one that ends so, whatever it is told.
+    pub fn with_keeper(mut self, end: impl Future<Output = Result<(), Fault>> + Send + 'static) -> Unit {
+        let mut keeper = JoinSet::new();
+        keeper.spawn(async move { end.await.map_err(Trouble::from) });
+        self.keeper = keeper;
+        self
+    }
+}
+
 pub fn no_disk() -> Fault {
     Fault::Io {
         path: "/outbox".into(),

@@ -1,1 +1,368 @@
+//! Slots with their files in folders of their own, which come and go while posts go on.
 
+use super::super::operators::Operate;
+use super::super::unit::tests::{no_disk, unit};
+use super::*;
+use crate::core::Across;
+use crate::files::{Durability, Folder};
+use crate::identity::Door;
+use crate::intake::connections::Handler;
+use crate::intake::head::{Head, Packing};
+use crate::intake::{Budget, Intake};
+use crate::metrics::Metrics;
+use crate::operate::{Acts, Desk, Pulse};
+use crate::otlp::series::{forwarded, Value};
+use crate::otlp::{slot_of, Clock, Encoding, Outcome, Reading, Resources};
+use crate::shares::Share;
+use crate::sinks::{Address, Answer, Fate, Forwarded, Keep, Keys};
+use crate::slot::NO_OWNER;
+use bytes::Bytes;
+use hyper::{Body, Request};
+use std::path::{Path, PathBuf};
+use std::time::{Duration, Instant};
+
+const SLOTS: u16 = 3;
+
+/// A sink that takes all.
+#[derive(Default)]
+struct Taken {
+    came: Mutex<Vec<Forwarded>>,
+    held: Keys,
+}
+
+impl Sink for Taken {
+    fn deliver<'a>(&'a self, request: &'a Forwarded) -> Answer<'a, Fate> {
+        self.came.lock().unwrap().push(request.clone());
+        Box::pin(async { Fate::Taken })
+    }
+
+    fn name(&self) -> String {
+        "test".into()
+    }
+
+    fn keys(&self) -> &Keys {
+        &self.held
+    }
+}
+
+fn settings(place: &Path) -> Settings {
+    Settings {
+        data: place.into(),
+        listen: String::new(),
+        listen_grpc: None,
+        operate: Operate {
+            tcp: None,
+            socket: PathBuf::new(),
+            tokens: None,
+        },
+        door: Door::default(),
+        behind_proxy: false,
+        of_each: Share::default(),
+        sink: Address::Sqlite(PathBuf::new()),
+        keep: Keep::default(),
+        new_sink: false,
+        durability: Durability::Process,
+        every: Duration::from_secs(3600),
+        forget: None,
+        reading: Reading::default(),
+        clock: Clock::default(),
+        across: Across::None,
+        runs: crate::runs::Options::default(),
+        telling: crate::remarks::Telling::default(),
+        pass: None,
+        most_bytes: 64 << 20,
+        most_connections: 8,
+        threads: 1,
+        most_series: 1000,
+        metrics: Arc::new(Metrics::new().unwrap()),
+    }
+}
+
+struct Service {
+    place: PathBuf,
+    sink: Arc<Taken>,
+    units: Units,
+    ends: Ends,
+    intake: Intake<Remarks<Slot>>,
+    budget: Arc<Budget>,
+    desk: Arc<Desk>,
+}
+
+impl Service {
+    fn new(place: &Path) -> Service {
+        let settings = Arc::new(settings(place));
+        let (metrics, reading) = (settings.metrics.clone(), Arc::<Reading>::default());
+        let shared = Arc::new(Shared::new(metrics.clone(), settings.clock));
+        let sink = Arc::<Taken>::default();
+        let teller = Teller::new(settings.telling.clone(), metrics.clone(), Arc::default(), None);
+        let slots = Slots::several(Resources::new(SLOTS, reading.clone()), None);
+        let of_desk = operate::Units::of(SLOTS);
+        let (at_work, ends) = AtWork::new(of_desk.clone());
+        let budget = Budget::new(settings.most_bytes);
+        let intake = Intake::of(
+            slots.clone(),
+            teller.clone(),
+            reading,
+            budget.clone(),
+            metrics.clone(),
+        );
+        let desk = Arc::new(Desk {
+            units: of_desk,
+            shares: shared.shares.clone(),
+            acts: Arc::new(Acts::in_folder(place)),
+            sink: sink.clone(),
+            totals: None,
+            pulse: Pulse::begin(metrics.clone()),
+            metrics,
+            budget: budget.clone(),
+            heard: Arc::default(),
+            listen: String::new(),
+            operate: String::new(),
+            is_local: true,
+            data: place.display().to_string(),
+            most_series: 1000,
+            begun: Instant::now(),
+        });
+        let units = Units {
+            settings,
+            shared,
+            sink: sink.clone(),
+            teller,
+            slots,
+            at_work,
+        };
+        Service {
+            place: place.into(),
+            sink,
+            units,
+            ends,
+            intake,
+            budget,
+            desk,
+        }
+    }
+
+    async fn open(&self, number: u16) {
+        let place = self.place.join(number.to_string());
+        let folder = Arc::new(Folder::open(&place, Durability::Process).unwrap());
+        let (journal, outbox) = folder.slot(0).unwrap();
+        let dead = Arc::new(folder.dead().unwrap());
+        let files = Files {
+            number,
+            folder,
+            journal,
+            outbox: Arc::new(outbox),
+            dead,
+            former: Vec::new(),
+        };
+        self.units.open(files).await.unwrap();
+        while !self.desk.units.are_ready() {
+            tokio::time::sleep(Duration::from_millis(1)).await;
+        }
+    }
+
+    /// Posts a point of each of these slots' processes, which ends then.
+    async fn post(&self, slots: &[u16], end: u64) -> Outcome {
+        let head = Head {
+            sender: "A".into(),
+            encoding: Encoding::Json,
+            packing: Packing::Plain,
+        };
+        let body = request(slots, end);
+        self.intake.put(head, body, self.budget.hold()).await
+    }
+
+    async fn ask(&self, method: &str, path: &str) -> (u16, String) {
+        let request = Request::builder().method(method).uri(path);
+        let request = request.body(Body::empty()).unwrap();
+        let answer = self.desk.clone().answer(request).await;
+        let status = answer.status().as_u16();
+        let body = hyper::body::to_bytes(answer.into_body()).await.unwrap();
+        (status, String::from_utf8(body.to_vec()).unwrap())
+    }
+
+    /// The slots whose requests came to the sink, and the sum of all points.
+    async fn taken(&self) -> (Vec<u16>, i64) {
+        while self.desk.units.sum(|unit| unit.left.outbox.waiting().0) > 0 {
+            tokio::time::sleep(Duration::from_millis(1)).await;
+        }
+        let came = self.sink.came.lock().unwrap();
+        let mut slots: Vec<u16> = came.iter().map(|request| request.slot).collect();
+        slots.sort_unstable();
+        let points = came.iter().flat_map(|request| forwarded(&request.body).unwrap());
+        let values = points.map(|point| match point.value {
+            Value::Sum(value) => value,
+            other => panic!("{other:?}"),
+        });
+        (slots, values.sum())
+    }
+}
+
+/// The attributes of a process whose resource has a slot.
+fn attributes(slot: u16) -> String {
+    let of =
+        |number: u32| format!(r#"[{{"key":"service.instance.id","value":{{"stringValue":"p{number}"}}}}]"#);
+    (0..).map(of).find(|text| slot_of(text, SLOTS) == slot).unwrap()
+}
+
+fn request(slots: &[u16], end: u64) -> Bytes {
+    let resources: Vec<String> = slots
+        .iter()
+        .map(|slot| {
+            let (attributes, start) = (attributes(*slot), end - 1);
+            format!(
+                r#"{{"resource":{{"attributes":{attributes}}},"scopeMetrics":[{{"metrics":[{{"name":"m","sum":{{"aggregationTemporality":1,"dataPoints":[{{"asInt":"1","startTimeUnixNano":"{start}","timeUnixNano":"{end}"}}]}}}}]}}]}}"#
+            )
+        })
+        .collect();
+    format!(r#"{{"resourceMetrics":[{}]}}"#, resources.join(",")).into()
+}
+
+/// All that was taken is in its outbox then, and its files are another's.
+#[tokio::test]
+async fn a_slot_is_handed_over_while_the_others_go_on() {
+    let place = tempfile::tempdir().unwrap();
+    let service = Service::new(place.path());
+    for slot in 0..SLOTS {
+        service.open(slot).await;
+    }
+    assert_eq!(service.post(&[0, 1, 2], 10).await, Outcome::taken(0));
+    assert!(service.units.hand_over(1).await.unwrap(), "in time");
+    assert_eq!(service.units.at_work.units().missing(), Some(1));
+    let nobody = service.post(&[1], 20).await;
+    assert_eq!((nobody.status(), nobody.refusal()), (503, Some(NO_OWNER)));
+    assert_eq!(service.post(&[0, 2], 20).await, Outcome::taken(0));
+    service.open(1).await; // nobody has its folder any more
+    assert_eq!(service.post(&[1], 10).await.status(), 400, "it knows what it had");
+    assert_eq!(service.post(&[1], 20).await, Outcome::taken(0));
+    assert!(service.units.at_work.stop_all().await.unwrap());
+    let outboxes = service.desk.units.all();
+    assert!(outboxes.is_empty(), "all have ended");
+    for slot in 0..SLOTS {
+        service.open(slot).await;
+    }
+    let (mut slots, sum) = service.taken().await;
+    slots.dedup();
+    assert_eq!((slots, sum), (vec![0, 1, 2], 6));
+}
+
+#[tokio::test]
+async fn a_slot_that_is_lost_ends_alone() {
+    let place = tempfile::tempdir().unwrap();
+    let mut service = Service::new(place.path());
+    for slot in 0..SLOTS {
+        service.open(slot).await;
+    }
+    assert_eq!(service.post(&[0, 1, 2], 10).await, Outcome::taken(0));
+    let lost = service.units.at_work.units().all().remove(1);
+    service.units.lose(1);
+    assert_eq!(service.post(&[1], 20).await.status(), 503);
+    assert_eq!(
+        lost.slot.unavailable(),
+        Some("stopping"),
+        "also for who had found it before"
+    );
+    assert_eq!(service.post(&[0, 2], 20).await, Outcome::taken(0));
+    assert!(service.ends.try_recv().is_err(), "nothing else has ended");
+    assert_eq!(service.units.at_work.units().missing(), Some(1));
+}
+
+#[tokio::test]
+async fn what_ends_by_itself_is_told_with_its_slot() {
+    let (first, second) = (tempfile::tempdir().unwrap(), tempfile::tempdir().unwrap());
+    let (at_work, mut ends) = AtWork::new(operate::Units::of(2));
+    let (fail, failing) = tokio::sync::oneshot::channel::<()>();
+    at_work.start(unit(first.path(), 0, async { Ok(()) }));
+    let broken = unit(second.path(), 1, std::future::pending());
+    at_work.start(broken.with_keeper(async {
+        let _ = failing.await;
+        Err(no_disk())
+    }));
+    assert!(ends.try_recv().is_err());
+    fail.send(()).unwrap();
+    let (slot, ended) = ends.recv().await.unwrap();
+    assert!(slot == 1 && matches!(ended, Ended::Disk(_)), "{slot} {ended:?}");
+    assert!(at_work.stop(0).await.unwrap());
+}
+
+/// Else a sender would be taken by one slot that another refuses, and nobody would know.
+#[tokio::test]
+async fn orders_are_all_slots_and_503_where_one_is_not_here() {
+    let place = tempfile::tempdir().unwrap();
+    let service = Service::new(place.path());
+    service.open(0).await;
+    service.open(2).await;
+    let quarantine = ("POST", "/quarantine/A");
+    let (status, text) = service.ask(quarantine.0, quarantine.1).await;
+    assert!(
+        status == 503 && text.contains("slot 1 is not here"),
+        "{status} {text}"
+    );
+    assert_eq!(
+        service.post(&[0, 2], 10).await.status(),
+        403,
+        "those that are here refuse it"
+    );
+    service.open(1).await;
+    assert_eq!(
+        service.ask(quarantine.0, quarantine.1).await.0,
+        200,
+        "also where some had it"
+    );
+    assert_eq!(service.post(&[0, 1, 2], 10).await.status(), 403);
+    assert_eq!(service.ask(quarantine.0, quarantine.1).await.0, 400, "all had it");
+    assert_eq!(service.ask("POST", "/lift/A").await.0, 200);
+    assert_eq!(service.post(&[0, 1, 2], 10).await, Outcome::taken(0));
+    let (status, text) = service.ask("POST", "/flush").await;
+    assert_eq!((status, text.as_str()), (200, r#"{"requests":3}"#));
+    assert_eq!(service.taken().await, (vec![0, 1, 2], 3));
+}
+
+#[tokio::test]
+async fn what_is_shown_is_of_all_slots() {
+    let place = tempfile::tempdir().unwrap();
+    let service = Service::new(place.path());
+    for slot in 0..SLOTS {
+        service.open(slot).await;
+    }
+    assert_eq!(service.post(&[0, 1, 2], 10).await, Outcome::taken(0));
+    assert_eq!(service.ask("POST", "/flush").await.0, 200);
+    assert_eq!(service.post(&[1, 2], 20).await, Outcome::taken(0));
+    let (status, text) = service.ask("GET", "/status").await;
+    let said: serde_json::Value = serde_json::from_str(&text).unwrap();
+    let slots: Vec<_> = said["slots"]
+        .as_array()
+        .unwrap()
+        .iter()
+        .map(|slot| &slot["slot"])
+        .collect();
+    assert_eq!(
+        (status, slots, &said["ready"]),
+        (200, vec![0, 1, 2], &true.into())
+    );
+    let (_, metrics) = service.ask("GET", "/metrics").await;
+    for line in ["totxegun_series 3", "totxegun_ready 1"] {
+        assert!(metrics.lines().any(|found| found == line), "{line} in\n{metrics}");
+    }
+    let (status, page) = service.ask("GET", "/").await;
+    assert!(status == 200 && page.contains("takes posts"), "{page}");
+    let (status, report) = service.ask("GET", "/report").await;
+    let series = report.lines().filter(|line| line.starts_with("series")).count();
+    assert_eq!((status, series), (200, 3), "{report}");
+    let (status, why) = service.ask("POST", "/close/2026-10").await;
+    assert!(status == 409 && why.contains("not flushed"), "{status} {why}");
+    service.units.hand_over(0).await.unwrap();
+    let (status, why) = service.ask("POST", "/close/2026-10").await;
+    assert!(
+        status == 409 && why.contains("slot 0 is not here"),
+        "{status} {why}"
+    );
+    let dead = service.units.at_work.units().all().remove(1).dead.clone();
+    dead.keep("2-abc-7", "no", b"{}").unwrap();
+    let (status, letters) = service.ask("GET", "/dead").await;
+    assert!(status == 200 && letters.contains("2-abc-7"), "{letters}");
+    assert_eq!(service.ask("GET", "/dead/2-abc-7").await, (200, "{}".into()));
+    assert_eq!(service.ask("GET", "/dead/1-abc-7").await.0, 404);
+    assert_eq!(service.ask("POST", "/dead/2-abc-7/drop").await.0, 200);
+    assert_eq!(dead.count(), 0);
+}

@@ -30,7 +30,7 @@ pub enum StoreFault {
     Another { server: String, first: String },
     #[error("a store has 1 to {most} slots, and at least one for each database: not {given}")]
     Slots { given: u16, most: u16 },
-    #[error("this instance reads posts by other rules than the store's instances. Here: {here}. There: {there}. Start it with the same")]
+    #[error("this instance reads posts by other rules than the store's instances. Here: {here}. There: {there}. Start it with the same; or stop all, and `update totxegun_store.cluster set reading = ''`")]
     Reading { here: String, there: String },
     #[error("{server} can lose what it said is durable: {why}. Say --store-copies 1 to do so all the same")]
     Copies { server: String, why: String },

@@ -127,11 +127,12 @@ impl PostgresStore {
         let runtime = Threads::start()?;
         let (all, reading) = (servers.to_vec(), reading.to_string());
         let checking = async move {
-            let cluster = schema::check(&all, &reading).await?;
+            let cluster = schema::check(&all).await?;
             for server in &all {
                 let (client, _driver) = session::connect(server).await?;
                 copies::check(&client, server, copies).await?;
             }
+            schema::agree(&all, &reading).await?;
             Ok(cluster)
         };
         let cluster = runtime.wait(checking).unwrap_or_else(|| Err(ended()))?;

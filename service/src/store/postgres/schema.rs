@@ -51,7 +51,6 @@ struct Found {
     cluster: Cluster,
     version: i32,
     place: i32,
-    reading: String,
 }
 
 const IS_THERE: &str = "select count(*) from information_schema.tables
@@ -70,7 +69,6 @@ async fn find(client: &Client) -> Result<Option<Found>, Doubt> {
     Ok(row.map(|row| Found {
         version: row.get(1),
         place: row.get(4),
-        reading: row.get(6),
         cluster: Cluster {
             id: row.get(0),
             slots: row.get::<_, i32>(2) as u16,
@@ -152,8 +150,8 @@ async fn make_in(client: &mut Client, cluster: &Cluster, place: usize) -> Result
     transaction.commit().await
 }
 
-/// What the databases say, which has to be of one store, in this order, and as this program reads posts.
-pub(super) async fn check(servers: &[Server], reading: &str) -> Result<Cluster, StoreFault> {
+/// What the databases say, which has to be of one store, in this order.
+pub(super) async fn check(servers: &[Server]) -> Result<Cluster, StoreFault> {
     let mut all: Option<Cluster> = None;
     for (place, server) in servers.iter().enumerate() {
         let (client, _driver) = connect(server).await?;
@@ -169,7 +167,6 @@ pub(super) async fn check(servers: &[Server], reading: &str) -> Result<Cluster, 
                 first: servers.first().map(Server::to_string).unwrap_or_default(),
             });
         }
-        agree(&client, &found, reading).await?;
     }
     all.ok_or(StoreFault::Nowhere)
 }
@@ -198,17 +195,16 @@ fn check_one(found: &Found, server: &Server, servers: &[Server], place: usize) -
     Ok(())
 }
 
-/// The first instance that starts says how posts are read.
-async fn agree(client: &Client, found: &Found, reading: &str) -> Result<(), StoreFault> {
-    let mut there = found.reading.clone();
-    if there.is_empty() {
-        let first = "update totxegun_store.cluster set reading = $1 where reading = ''";
-        let agreeing = async {
-            client.execute(first, &[&reading]).await?;
-            client.query_one(FIND, &[]).await
-        };
-        there = within(SILENT, agreeing).await?.get(6);
-    }
+/// The first instance that starts says how posts are read, and the others as it does.
+pub(super) async fn agree(servers: &[Server], reading: &str) -> Result<(), StoreFault> {
+    let first = "update totxegun_store.cluster set reading = $1 where reading = ''";
+    let server = servers.first().ok_or(StoreFault::Nowhere)?;
+    let (client, _driver) = connect(server).await?;
+    let agreeing = async {
+        client.execute(first, &[&reading]).await?;
+        client.query_one(FIND, &[]).await
+    };
+    let there: String = within(SILENT, agreeing).await?.get(6);
     match there == reading {
         true => Ok(()),
         false => Err(StoreFault::Reading {

@@ -1,0 +1,273 @@
+//! Instances with sockets of their own over a store in memory: posts to any of them, while some stand still, end, come and go.
+//! What was answered is there, and everything once.
+
+use super::beats::tests::{Of, Store, SLOTS};
+use super::terms::{Doing, Units, Unopened};
+use super::*;
+use crate::intake::connections::serve;
+use crate::intake::Limits;
+use crate::otlp::{Encoding, Original, Outcome};
+use bytes::Bytes;
+use std::collections::{BTreeMap, HashMap};
+use std::sync::atomic::{AtomicBool, AtomicUsize, Ordering::SeqCst};
+use std::sync::{Arc, Mutex};
+use std::time::Duration;
+use tokio::net::TcpListener;
+use tokio::sync::watch;
+use tokio::task::JoinHandle;
+use tokio::time::{sleep, timeout};
+
+const BEAT: Duration = Duration::from_millis(50);
+const SENDERS: usize = 24;
+
+/// What is written of all slots, each post under a term that is the slot's.
+struct Ledger {
+    store: Arc<Store>,
+    posts: Mutex<Vec<(u16, String, u64)>>,
+}
+
+impl Ledger {
+    /// False where the slot has another term. Nothing comes between the look and the write.
+    fn commit(&self, slot: u16, term: u64, post: Option<(String, u64)>) -> bool {
+        let rows = self.store.rows.lock().unwrap();
+        let is_mine = rows.1[usize::from(slot)].term == term;
+        if let (true, Some((sender, number))) = (is_mine, post) {
+            self.posts.lock().unwrap().push((slot, sender, number));
+        }
+        is_mine
+    }
+
+    /// Of each sender the last post.
+    fn ends(&self, slot: u16) -> HashMap<String, u64> {
+        let posts = self.posts.lock().unwrap();
+        let of_slot = posts.iter().filter(|(of, _, _)| *of == slot);
+        of_slot
+            .map(|(_, sender, number)| (sender.clone(), *number))
+            .collect()
+    }
+}
+
+/// The slots of an instance: of each its term, and what its book has seen.
+struct Slots {
+    cluster: Arc<Cluster>,
+    ledger: Arc<Ledger>,
+    open: Mutex<HashMap<u16, (u64, HashMap<String, u64>)>>,
+}
+
+impl Slots {
+    fn close(&self, slot: u16, term: u64) {
+        let mut open = self.open.lock().unwrap();
+        if open.get(&slot).is_some_and(|(own, _)| *own == term) {
+            open.remove(&slot);
+        }
+    }
+
+    /// Whether a post is new to the book; none where the slot is not here.
+    fn admit(&self, slot: u16, term: u64, sender: &str, number: u64) -> Option<bool> {
+        let mut open = self.open.lock().unwrap();
+        let (_, ends) = open.get_mut(&slot).filter(|(own, _)| *own == term)?;
+        let end = ends.entry(sender.into()).or_default();
+        let is_new = number > *end;
+        *end = number.max(*end);
+        Some(is_new)
+    }
+}
+
+impl Units for Slots {
+    fn open(&self, slot: u16, term: u64) -> Doing<'_, Result<(), Unopened>> {
+        Box::pin(async move {
+            let ends = self.ledger.ends(slot);
+            sleep(Duration::from_millis(5)).await;
+            self.open.lock().unwrap().insert(slot, (term, ends));
+            Ok(())
+        })
+    }
+
+    fn hand_over(&self, slot: u16, term: u64) -> Doing<'_, ()> {
+        Box::pin(async move { self.close(slot, term) })
+    }
+
+    fn drop_lost(&self, slot: u16, term: u64) -> Doing<'_, ()> {
+        Box::pin(async move { self.close(slot, term) })
+    }
+}
+
+/// The same slots, to which posts come.
+struct Open(Arc<Slots>);
+
+impl Here for Open {
+    fn post<'a>(
+        &'a self,
+        slot: u16,
+        term: u64,
+        sender: &'a str,
+        part: Original,
+    ) -> Doing<'a, Option<Outcome>> {
+        let (slots, sender) = (self.0.clone(), sender.to_string());
+        let number: u64 = std::str::from_utf8(&part.body).unwrap().parse().unwrap();
+        Box::pin(async move {
+            let is_new = slots.admit(slot, term, &sender, number)?;
+            // What the book has taken is written whoever waits for it.
+            let writing = tokio::spawn(async move {
+                sleep(Duration::from_millis(number % 7)).await;
+                let is_done = slots
+                    .ledger
+                    .commit(slot, term, is_new.then_some((sender, number)));
+                if !is_done {
+                    slots.close(slot, term);
+                    slots.cluster.lost(slot, term);
+                }
+                is_done
+            });
+            let refused = |status| Outcome::Refused {
+                status,
+                message: "said".into(),
+            };
+            Some(match (writing.await.unwrap(), is_new) {
+                (false, _) => refused(503),
+                (true, true) => Outcome::taken(0),
+                (true, false) => refused(400),
+            })
+        })
+    }
+}
+
+struct Node {
+    forward: Arc<Forward<Open>>,
+    cluster: Arc<Cluster>,
+    beats: JoinHandle<()>,
+    stop: watch::Sender<bool>,
+    /// Its address, which is served until this is dropped.
+    _serves: watch::Sender<bool>,
+}
+
+async fn start(ledger: &Arc<Ledger>, name: &'static str) -> Node {
+    let listener = TcpListener::bind("127.0.0.1:0").await.unwrap();
+    let address = listener.local_addr().unwrap().to_string();
+    let (cluster, secret) = (Cluster::new(name), Secret::new("of all").unwrap());
+    let slots = Arc::new(Slots {
+        cluster: cluster.clone(),
+        ledger: ledger.clone(),
+        open: Mutex::default(),
+    });
+    let here = Arc::new(Open(slots.clone()));
+    let forward = Arc::new(Forward::new(cluster.clone(), secret.clone(), Wire::Plain));
+    forward.serve(here.clone());
+    let limits = Limits {
+        connections: 200,
+        head: Duration::from_secs(5),
+        idle: Duration::from_secs(60),
+    };
+    let (serves, served) = watch::channel(false);
+    let internal = Internal::new(cluster.clone(), here, secret);
+    tokio::spawn(serve(listener, limits, internal, served));
+    let terms = Of(ledger.store.clone(), name, address);
+    let beats = Beats::new(cluster.clone(), Arc::new(terms), slots).each(BEAT);
+    let (stop, stopped) = watch::channel(false);
+    Node {
+        forward,
+        cluster,
+        beats: tokio::spawn(beats.run(stopped)),
+        stop,
+        _serves: serves,
+    }
+}
+
+/// Where posts may come.
+type Doors = Arc<Mutex<Vec<Arc<Forward<Open>>>>>;
+
+/// Posts one after another, each until it is answered: how many were.
+async fn load(sender: usize, doors: Doors, ends: Arc<AtomicBool>, forwarded: Arc<AtomicUsize>) -> u64 {
+    let (name, slot) = (format!("s{sender}"), sender as u16 % SLOTS);
+    let (mut number, mut tries) = (1, sender);
+    while !ends.load(SeqCst) {
+        let door = {
+            let doors = doors.lock().unwrap();
+            doors[tries % doors.len()].clone()
+        };
+        tries += 1;
+        let part = Original {
+            encoding: Encoding::Json,
+            body: Bytes::from(number.to_string()),
+        };
+        // A sender may go away before it is answered.
+        let patience = Duration::from_millis(if tries.is_multiple_of(20) { 3 } else { 4000 });
+        match timeout(patience, door.post(slot, &name, part))
+            .await
+            .map(|outcome| outcome.status())
+        {
+            Ok(200 | 400) => number += 1,
+            Ok(503) | Err(_) => sleep(Duration::from_millis(20)).await,
+            Ok(other) => panic!("status {other}"),
+        }
+        forwarded.fetch_add(1, SeqCst);
+    }
+    number - 1
+}
+
+#[tokio::test(flavor = "multi_thread", worker_threads = 2)]
+async fn what_was_answered_is_there_once_while_instances_come_stop_and_stand_still() {
+    let ledger = Arc::new(Ledger {
+        store: Store::new(),
+        posts: Mutex::default(),
+    });
+    let (doors, ends, tries) = (Doors::default(), Arc::new(AtomicBool::new(false)), Arc::default());
+    let mut nodes = BTreeMap::new();
+    for name in ["a", "b", "c"] {
+        let node = start(&ledger, name).await;
+        doors.lock().unwrap().push(node.forward.clone());
+        nodes.insert(name, node);
+    }
+    let load = |sender| tokio::spawn(load(sender, doors.clone(), ends.clone(), Arc::clone(&tries)));
+    let loads: Vec<_> = (0..SENDERS).map(load).collect();
+    let pause = || sleep(BEAT * 30);
+    pause().await;
+    for round in 0..3 {
+        // It beats no more, and goes on with what it has, as one that is cut off from the store.
+        nodes["b"].beats.abort();
+        pause().await;
+        // Its process ends, and starts again under its name, at another address.
+        doors.lock().unwrap().remove(1);
+        let again = start(&ledger, "b").await;
+        doors.lock().unwrap().insert(1, again.forward.clone());
+        nodes.insert("b", again);
+        pause().await;
+        // One more comes, and one hands over what it has.
+        let node = start(&ledger, ["d", "e", "f"][round]).await;
+        doors.lock().unwrap().push(node.forward.clone());
+        pause().await;
+        node.stop.send_replace(true);
+        timeout(Duration::from_secs(60), node.beats)
+            .await
+            .unwrap()
+            .unwrap();
+        doors.lock().unwrap().pop();
+        pause().await;
+    }
+    ends.store(true, SeqCst);
+    let mut answered = Vec::new();
+    for load in loads {
+        answered.push(timeout(Duration::from_secs(60), load).await.unwrap().unwrap());
+    }
+    let posts = ledger.posts.lock().unwrap().clone();
+    for (sender, answered) in answered.into_iter().enumerate() {
+        let of_sender = posts.iter().filter(|(_, name, _)| *name == format!("s{sender}"));
+        let numbers: Vec<u64> = of_sender.map(|(_, _, number)| *number).collect();
+        assert!(
+            numbers.len() as u64 >= answered && answered > 10,
+            "{answered} answered, {}",
+            numbers.len()
+        );
+        assert!(
+            numbers.iter().copied().eq(1..=numbers.len() as u64),
+            "{numbers:?}"
+        );
+    }
+    let forwarded: u64 = nodes.values().map(|node| node.forward.forwarded().answered).sum();
+    let status = nodes["a"].cluster.status();
+    println!(
+        "{} posts, {tries:?} tries, {forwarded} forwarded, {status:?}",
+        posts.len()
+    );
+    assert!(forwarded > 0 && status.counted.takeovers > 0);
+}
