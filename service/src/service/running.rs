@@ -33,18 +33,15 @@ impl Running {
     /// Returns once a part has ended that nobody told to end. A slot that is lost has ended alone.
     pub async fn ended(&mut self) -> Ended {
         loop {
-            return tokio::select! {
+            tokio::select! {
                 Some((slot, end)) = self.ends.recv() => match end {
-                    End::Process(ended) => ended,
-                    End::Lost => {
-                        self.lost(slot);
-                        continue;
-                    }
+                    End::Lost => self.lost(slot),
+                    End::Failed(why) => return why,
                 },
-                end = &mut self.intake => cause("the intake", end.map(Ok::<(), Fault>)),
-                end = &mut self.operate => cause("the operator's address", end.map(Ok::<(), Fault>)),
-                cause = of_joined(&mut self.joined) => cause,
-            };
+                end = &mut self.intake => return cause("the intake", end.map(Ok::<(), Fault>)),
+                end = &mut self.operate => return cause("the operator's address", end.map(Ok::<(), Fault>)),
+                cause = of_joined(&mut self.joined) => return cause,
+            }
         }
     }
 

@@ -40,6 +40,14 @@ pub(super) struct Opened {
     former: Vec<(u16, Arc<Outbox>)>,
 }
 
+/// How a slot ended that nobody told to end.
+#[derive(Debug)]
+pub(super) enum End {
+    /// Another instance has it: nothing else ends.
+    Lost,
+    Failed(Ended),
+}
+
 /// A slot at work. All of it ends where this is dropped.
 pub(super) struct Unit {
     pub of_desk: Arc<operate::Unit>,
@@ -122,14 +130,6 @@ impl Opened {
     }
 }
 
-/// Why a slot has ended that nobody told to end.
-pub(super) enum End {
-    /// It is another instance's: all else goes on.
-    Lost,
-    /// And the process with it.
-    Process(Ended),
-}
-
 impl Unit {
     /// Returns once a part has ended that nobody told to end.
     pub async fn ended(&mut self) -> End {
@@ -166,20 +166,14 @@ async fn last<E: Into<Ended> + OfSlot + 'static>(
 ) -> Result<(), Ended> {
     let mut ended = Ok(());
     while let Ok(Some(end)) = tokio::time::timeout_at(until, parts.join_next()).await {
-        if !matches!(end, Ok(Ok(()))) && !is_of_slot(&end) {
-            ended = ended.and(Err(cause(part, end)));
+        if matches!(end, Ok(Ok(()))) {
+            continue;
+        }
+        if let End::Failed(why) = End::of(part, end) {
+            ended = ended.and(Err(why));
         }
     }
     ended
-}
-
-impl End {
-    fn of<E: Into<Ended> + OfSlot>(part: &str, end: Result<Result<(), E>, JoinError>) -> End {
-        match is_of_slot(&end) {
-            true => End::Lost,
-            false => End::Process(cause(part, end)),
-        }
-    }
 }
 
 /// What may end a slot and nothing else.
@@ -199,9 +193,13 @@ impl OfSlot for Fault {
     }
 }
 
-/// Whether a part ended since its slot is another instance's.
-fn is_of_slot<E: OfSlot>(end: &Result<Result<(), E>, JoinError>) -> bool {
-    matches!(end, Ok(Err(why)) if why.is_of_slot())
+impl End {
+    fn of<E: Into<Ended> + OfSlot>(part: &str, end: Result<Result<(), E>, JoinError>) -> End {
+        match end {
+            Ok(Err(why)) if why.is_of_slot() => End::Lost,
+            end => End::Failed(cause(part, end)),
+        }
+    }
 }
 
 pub(super) fn cause<E: Into<Ended>>(part: &str, end: Result<Result<(), E>, JoinError>) -> Ended {

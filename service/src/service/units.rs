@@ -93,7 +93,7 @@ impl AtWork {
     pub fn lose(&self, number: u16) {
         let task = self.tasks().remove(&number);
         if let Some(unit) = self.of_desk.remove(number) {
-            unit.slot.stop();
+            unit.slot.lose();
         }
         drop(task);
     }

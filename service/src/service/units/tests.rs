@@ -15,7 +15,7 @@ use crate::otlp::series::{forwarded, Value};
 use crate::otlp::{slot_of, Clock, Encoding, Outcome, Reading, Resources};
 use crate::shares::Share;
 use crate::sinks::{Address, Answer, Fate, Forwarded, Keep, Keys};
-use crate::slot::NO_OWNER;
+use crate::slot::{MOVED, NO_OWNER};
 use bytes::Bytes;
 use hyper::{Body, Request};
 use std::path::{Path, PathBuf};
@@ -144,12 +144,11 @@ impl Service {
 
     async fn open(&self, number: u16) {
         let place = self.place.join(number.to_string());
-        let folder = Arc::new(Folder::open(&place, Durability::Process).unwrap());
+        let folder = Folder::open(&place, Durability::Process).unwrap();
         let (journal, outbox) = folder.slot(0).unwrap();
         let dead = Arc::new(folder.dead().unwrap());
         let files = Files {
             number,
-            folder,
             journal,
             outbox: Arc::new(outbox),
             dead,
@@ -235,9 +234,10 @@ async fn a_slot_is_handed_over_while_the_others_go_on() {
     service.open(1).await; // nobody has its folder any more
     assert_eq!(service.post(&[1], 10).await.status(), 400, "it knows what it had");
     assert_eq!(service.post(&[1], 20).await, Outcome::taken(0));
-    assert!(service.units.at_work.stop_all().await.unwrap());
-    let outboxes = service.desk.units.all();
-    assert!(outboxes.is_empty(), "all have ended");
+    for slot in 0..SLOTS {
+        assert!(service.units.hand_over(slot).await.unwrap(), "in time");
+    }
+    assert!(service.desk.units.all().is_empty(), "all have ended");
     for slot in 0..SLOTS {
         service.open(slot).await;
     }
@@ -259,7 +259,7 @@ async fn a_slot_that_is_lost_ends_alone() {
     assert_eq!(service.post(&[1], 20).await.status(), 503);
     assert_eq!(
         lost.slot.unavailable(),
-        Some("stopping"),
+        Some(MOVED),
         "also for who had found it before"
     );
     assert_eq!(service.post(&[0, 2], 20).await, Outcome::taken(0));
@@ -281,7 +281,8 @@ async fn what_ends_by_itself_is_told_with_its_slot() {
     assert!(ends.try_recv().is_err());
     fail.send(()).unwrap();
     let (slot, ended) = ends.recv().await.unwrap();
-    assert!(slot == 1 && matches!(ended, Ended::Disk(_)), "{slot} {ended:?}");
+    let is_disk = matches!(ended, End::Failed(Ended::Disk(_)));
+    assert!(slot == 1 && is_disk, "{slot} {ended:?}");
     assert!(at_work.stop(0).await.unwrap());
 }
 
@@ -330,15 +331,11 @@ async fn what_is_shown_is_of_all_slots() {
     assert_eq!(service.post(&[1, 2], 20).await, Outcome::taken(0));
     let (status, text) = service.ask("GET", "/status").await;
     let said: serde_json::Value = serde_json::from_str(&text).unwrap();
-    let slots: Vec<_> = said["slots"]
-        .as_array()
-        .unwrap()
-        .iter()
-        .map(|slot| &slot["slot"])
-        .collect();
+    let slots = said["slots"].as_array().unwrap().iter();
+    let slots: Vec<u64> = slots.map(|slot| slot["slot"].as_u64().unwrap()).collect();
     assert_eq!(
-        (status, slots, &said["ready"]),
-        (200, vec![0, 1, 2], &true.into())
+        (status, slots, said["ready"].as_bool()),
+        (200, vec![0, 1, 2], Some(true))
     );
     let (_, metrics) = service.ask("GET", "/metrics").await;
     for line in ["totxegun_series 3", "totxegun_ready 1"] {
