@@ -310,6 +310,13 @@ impl Disk {
         })
     }
 
+    /// Removes what nobody needs, where that can be done.
+    pub fn discard(&self, path: &Path) {
+        if let Place::Folder { .. } = &self.place {
+            let _ = std::fs::remove_file(path);
+        }
+    }
+
     /// Puts a whole file in the place of what may be there: durable when this returns, and never seen in part.
     pub fn put_file(&self, path: &Path, bytes: &[u8]) -> Result<(), Fault> {
         let draft = path.with_extension("draft");

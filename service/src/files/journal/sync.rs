@@ -223,7 +223,12 @@ impl Shared {
                     self.prepare();
                 }
                 Due::Mark => self.mark_last(),
-                Due::End => return,
+                Due::End => {
+                    if self.disk.is_lost() {
+                        lock(&self.waiters).list.clear(); // who comes later is told so before it waits
+                    }
+                    return;
+                }
             }
         }
     }
@@ -242,7 +247,7 @@ impl Drop for Journal {
             let _ = syncer.join();
         }
         if let Some(next) = lock(&self.shared.next).take() {
-            let _ = std::fs::remove_file(&next.path); // the next start does it too
+            self.shared.disk.discard(&next.path); // the next start does it too
         }
         self.shared.sync();
         let ended = lock(&self.shared.place).segment.end();

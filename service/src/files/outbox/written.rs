@@ -122,7 +122,7 @@ impl Outbox {
         sync: bool,
         change: impl FnOnce(u64) -> Change,
     ) -> Result<(), Fault> {
-        writer.begin()?;
+        writer.begin(&self.disk)?;
         self.room.use_up(bytes.len() as u64);
         let begin = writer.segment.put(&[bytes])?;
         if sync {
@@ -151,7 +151,7 @@ impl Outbox {
     /// Deletes the segments that no waiting request is in, once it is durable that the sink has theirs.
     pub(super) fn sweep(&self) -> Result<(), Fault> {
         let mut writer = lock(&self.writer);
-        writer.begin()?;
+        writer.begin(&self.disk)?;
         writer.segment.order()?;
         self.delete_taken(&writer)?;
         writer.failed = false;

@@ -69,8 +69,8 @@ enum How {
 struct World {
     run: Option<Run>,
     /// Who has taken it.
-    next: Arc<Mutex<Option<Arc<Owner>>>>,
-    has_moved: bool,
+    next: Next,
+    moves: u64,
     sink: BTreeMap<(String, u64), Vec<u8>>,
     points: BTreeMap<&'static str, u64>,
     time: u64,
@@ -89,7 +89,7 @@ impl World {
         while self.run.is_none() {
             let owner = self.next.lock().unwrap().take().unwrap();
             self.run = began(owner).await;
-            self.has_moved = true;
+            self.moves += 1;
         }
     }
 
@@ -215,27 +215,37 @@ async fn began(owner: Arc<dyn Drive>) -> Option<Run> {
     Some(run)
 }
 
-/// Does all with a drive that is lost at its call of this number: whether there was one.
-async fn lose_at(call: u64, how: How) -> bool {
-    let (store, next) = (Arc::new(Store::default()), Arc::new(Mutex::new(None)));
-    let (calls, taken) = (AtomicU64::new(0), next.clone());
-    let taking = store.clone();
-    let hook = move |_: Step| -> io::Result<()> {
+/// The next owner of the slot, as soon as somebody takes it.
+type Next = Arc<Mutex<Option<Arc<Owner>>>>;
+
+/// An owner who loses the slot at its call of this number. Who takes it then loses it so many calls later, if at all.
+fn losing(store: &Arc<Store>, next: &Next, call: u64, more: Option<u64>, how: How) -> Arc<Owner> {
+    let (calls, of_store, of_next) = (AtomicU64::new(0), store.clone(), next.clone());
+    store.take_with(move |_: Step| -> io::Result<()> {
         if calls.fetch_add(1, SeqCst) != call {
             return Ok(());
         }
-        *taken.lock().unwrap() = Some(taking.take());
+        let taken = match more {
+            Some(more) => losing(&of_store, &of_next, call + more, Some(more), how),
+            None => of_store.take(),
+        };
+        *of_next.lock().unwrap() = Some(taken);
         match how {
             How::Told => Err(lost()),
             How::Unseen => Ok(()),
         }
-    };
-    let run = began(store.take_with(hook)).await;
+    })
+}
+
+/// Does all with a drive that is lost at its call of this number: how often the slot has moved.
+async fn lose_at(call: u64, more: Option<u64>, how: How) -> u64 {
+    let (store, next) = (Arc::new(Store::default()), Next::default());
+    let run = began(losing(&store, &next, call, more, how)).await;
     let (sink, points, time) = Default::default();
     let mut world = World {
         run,
         next,
-        has_moved: false,
+        moves: 0,
         sink,
         points,
         time,
@@ -254,19 +264,22 @@ async fn lose_at(call: u64, how: How) -> bool {
         let faults = run.slot.metrics.faults.with_label_values(&[kind]);
         assert_eq!(faults.get(), 0, "{kind}, call {call}, {how:?}");
     }
-    world.has_moved || world.is_taken()
+    world.moves + u64::from(world.is_taken())
 }
 
 /// As many at once as there are processors, as a rule.
 const AT_ONCE: u64 = 4;
 
+/// Up to which call each was tried.
 async fn lose_at_each(how: How) -> u64 {
     for first in (0..).step_by(AT_ONCE as usize) {
         let calls = first..first + AT_ONCE;
-        let runs: Vec<_> = calls.map(|call| tokio::spawn(lose_at(call, how))).collect();
+        let runs: Vec<_> = calls
+            .map(|call| tokio::spawn(lose_at(call, None, how)))
+            .collect();
         let mut was_there = true;
         for run in runs {
-            was_there &= run.await.unwrap();
+            was_there &= run.await.unwrap() > 0;
         }
         if !was_there {
             return first;
@@ -285,4 +298,15 @@ async fn what_was_answered_is_there_for_who_takes_the_slot_at_any_call_that_says
 async fn what_was_answered_is_there_for_who_takes_the_slot_unseen() {
     let calls = lose_at_each(How::Unseen).await;
     assert!(calls > 100, "{calls}");
+}
+
+/// Also while the one who has taken it opens its files and fills its book.
+#[tokio::test(flavor = "multi_thread", worker_threads = 4)]
+async fn what_was_answered_is_there_over_many_owners() {
+    for how in [How::Told, How::Unseen] {
+        for more in 1..8 {
+            let moves = lose_at(0, Some(more), how).await;
+            assert!(moves > 3, "{moves} moves, {more}, {how:?}");
+        }
+    }
 }
