@@ -210,6 +210,9 @@ impl<T: Terms + 'static, U: Units + 'static> Beats<T, U> {
                 return tell(&silence);
             }
         };
+        if began.elapsed() > STALL {
+            work.cluster.owners().late();
+        }
         let steps = work.cluster.owners().beat(seen);
         *work.cluster.beaten.lock().unwrap_or_else(PoisonError::into_inner) = Some(began);
         if work.cluster.owners().has_namesake() && NAMESAKE.is_due() {

@@ -16,10 +16,16 @@ use std::collections::{BTreeMap, BTreeSet};
 
 /// So many own beats are committed while another's stands still, until that one counts as gone.
 pub const GONE: u32 = 6;
+/// Behind a silence of the store so many more: connections are made anew, and one has its own sooner than another.
+pub const AFTER_SILENCE: u32 = 14;
 /// So many own beats another instance is the place of a slot, until it is handed over.
 pub const SETTLED: u32 = 20;
 /// A slot that has this instance's name, and is not open here, is an earlier process': a namesake that lives would beat within.
-const RESTARTED: u32 = 3;
+const RESTARTED: u32 = 4;
+/// A beat more than was asked for counts so much, and one that is as it should be takes 1 off: an own one may be late.
+const BEAT_MORE: u32 = 2;
+const IS_NAMESAKE: u32 = 2 * BEAT_MORE;
+const MOST_NAMESAKE: u32 = IS_NAMESAKE + GONE;
 /// So many own beats later a slot that could not be opened is tried again.
 const AGAIN: u32 = 20;
 /// Slots that are taken or opened side by side: each replays its journal.
@@ -64,7 +70,7 @@ pub struct Owners {
     beat: Option<u64>,
     /// Own beats that got no answer since the last one that did: they may be done as well.
     unanswered: u64,
-    /// So many beats to go until another of this name counts as gone.
+    /// How sure it is that another beats under this name.
     namesake: u32,
 }
 
@@ -102,7 +108,7 @@ impl Owners {
 
     /// Another process beats under this instance's name.
     pub fn has_namesake(&self) -> bool {
-        self.namesake > 0
+        self.namesake >= IS_NAMESAKE
     }
 
     /// Slots that are open here, or being opened or closed, and their terms.
@@ -144,6 +150,12 @@ impl Owners {
     /// An own beat got no answer.
     pub fn unanswered(&mut self) {
         self.unanswered += 1;
+        self.others.wait();
+    }
+
+    /// An own beat got its answer late.
+    pub fn late(&mut self) {
+        self.others.wait();
     }
 
     /// What was read without a beat. Nothing is decided by it.
@@ -172,10 +184,9 @@ impl Owners {
         };
         let most = self.beat.map(|before| before + 1 + self.unanswered);
         let is_more = most.is_some_and(|most| own.beat > most);
-        self.namesake = if is_more {
-            GONE
-        } else {
-            self.namesake.saturating_sub(1)
+        self.namesake = match is_more {
+            true => (self.namesake + BEAT_MORE).min(MOST_NAMESAKE),
+            false => self.namesake.saturating_sub(1),
         };
         self.beat = Some(own.beat);
         self.unanswered = 0;
@@ -288,7 +299,7 @@ impl Owners {
             owner if owner == self.me => self.is_left_alone_enough(row),
             owner => self.others.is_gone(owner),
         };
-        if !is_free || self.namesake > 0 {
+        if !is_free || self.has_namesake() {
             return None;
         }
         let slot = row.slot;

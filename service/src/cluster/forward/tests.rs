@@ -1,138 +1,16 @@
 //! Posts over real sockets, to owners that answer, stall, break off, or have not the slot.
 
+mod peers;
+
 use super::*;
-use crate::intake::connections::{serve_over, Handler};
+use crate::intake::connections::serve_over;
 use crate::intake::Limits;
 use crate::otlp::Encoding;
 use bytes::Bytes;
-use hyper::server::conn::Http;
-use hyper::service::service_fn;
-use std::collections::VecDeque;
-use std::convert::Infallible;
-use std::sync::atomic::{AtomicUsize, Ordering::SeqCst};
-use std::sync::Mutex;
-use tokio::io::{AsyncReadExt, AsyncWriteExt};
+use peers::{ends_after_one, internal, posted, receiver, secret, strange, there, Peer, Slots};
+use std::sync::atomic::Ordering::SeqCst;
 use tokio::net::TcpListener;
 use tokio::time::sleep;
-
-/// Slot, term, sender, and the part.
-type Came = (u16, u64, String, Encoding, Bytes);
-
-/// The slots of an instance: what came, and what is said of it.
-#[derive(Default)]
-struct Slots {
-    came: Mutex<Vec<Came>>,
-    says: Mutex<VecDeque<Option<Outcome>>>,
-    takes: Duration,
-    at_once: AtomicUsize,
-    most_at_once: AtomicUsize,
-}
-
-impl Here for Slots {
-    fn post<'a>(
-        &'a self,
-        slot: u16,
-        term: u64,
-        sender: &'a str,
-        part: Original,
-    ) -> Doing<'a, Option<Outcome>> {
-        Box::pin(async move {
-            let came = (slot, term, sender.to_string(), part.encoding, part.body);
-            self.came.lock().unwrap().push(came);
-            let now = self.at_once.fetch_add(1, SeqCst) + 1;
-            self.most_at_once.fetch_max(now, SeqCst);
-            sleep(self.takes).await;
-            self.at_once.fetch_sub(1, SeqCst);
-            self.says
-                .lock()
-                .unwrap()
-                .pop_front()
-                .unwrap_or(Some(Outcome::taken(0)))
-        })
-    }
-}
-
-impl Slots {
-    fn count(&self) -> usize {
-        self.came.lock().unwrap().len()
-    }
-}
-
-/// An instance with an address of its own.
-struct Peer {
-    cluster: Arc<Cluster>,
-    slots: Arc<Slots>,
-    address: String,
-    connections: Arc<AtomicUsize>,
-}
-
-fn secret(text: &str) -> Secret {
-    Secret::new(text).unwrap()
-}
-
-/// An instance that has slot 3, or not.
-fn internal(slots: Slots, whose: Whose) -> (Arc<Cluster>, Arc<Slots>, Arc<Internal<Slots>>) {
-    let (cluster, slots) = (Cluster::new("peer"), Arc::new(slots));
-    cluster.knows(&[(3, whose)]);
-    let internal = Internal::new(cluster.clone(), slots.clone(), secret("of all"));
-    (cluster, slots, internal)
-}
-
-impl Peer {
-    async fn with(slots: Slots, whose: Whose) -> Peer {
-        let listener = TcpListener::bind("127.0.0.1:0").await.unwrap();
-        let address = listener.local_addr().unwrap().to_string();
-        let (cluster, slots, internal) = internal(slots, whose);
-        let connections = Arc::new(AtomicUsize::new(0));
-        let counted = connections.clone();
-        tokio::spawn(async move {
-            while let Ok((stream, _)) = listener.accept().await {
-                counted.fetch_add(1, SeqCst);
-                let internal = internal.clone();
-                let service = service_fn(move |request| {
-                    let internal = internal.clone();
-                    async move { Ok::<_, Infallible>(internal.answer(request).await) }
-                });
-                tokio::spawn(Http::new().serve_connection(stream, service));
-            }
-        });
-        Peer {
-            cluster,
-            slots,
-            address,
-            connections,
-        }
-    }
-
-    async fn here() -> Peer {
-        Peer::with(Slots::default(), Whose::Here { term: 5 }).await
-    }
-
-    fn whose(&self) -> Whose {
-        there(&self.address)
-    }
-}
-
-fn there(address: &str) -> Whose {
-    Whose::There {
-        name: "peer".into(),
-        address: address.into(),
-        term: 5,
-    }
-}
-
-/// Who gets posts of senders.
-fn receiver(whose: Whose, secret: Secret) -> Arc<Forward<Slots>> {
-    let cluster = Cluster::new("receiver");
-    cluster.knows(&[(3, whose)]);
-    Arc::new(Forward::new(cluster, secret, Wire::Plain))
-}
-
-async fn posted(forward: &Forward<Slots>, text: &str) -> Outcome {
-    let body = Bytes::copy_from_slice(text.as_bytes());
-    let encoding = Encoding::Json;
-    forward.post(3, "web-1", Original { encoding, body }).await
-}
 
 #[tokio::test]
 async fn an_owners_answer_comes_back_as_it_said_it() {
@@ -242,30 +120,6 @@ async fn who_has_another_secret_or_none_is_asked_nothing() {
     assert_eq!(peer.slots.count(), 0);
 }
 
-/// Somebody at an address who does as told with each request that came, and how many connections had one.
-async fn strange(says: &'static [u8], stays: bool) -> (String, Arc<AtomicUsize>) {
-    let listener = TcpListener::bind("127.0.0.1:0").await.unwrap();
-    let address = listener.local_addr().unwrap().to_string();
-    let count = Arc::new(AtomicUsize::new(0));
-    let counted = count.clone();
-    tokio::spawn(async move {
-        while let Ok((mut stream, _)) = listener.accept().await {
-            let counted = counted.clone();
-            tokio::spawn(async move {
-                let (mut bytes, mut new) = ([0; 4096], 1);
-                while !matches!(stream.read(&mut bytes).await, Ok(0) | Err(_)) {
-                    counted.fetch_add(std::mem::take(&mut new), SeqCst);
-                    let _ = stream.write_all(says).await;
-                    if !stays {
-                        break;
-                    }
-                }
-            });
-        }
-    });
-    (address, count)
-}
-
 #[tokio::test]
 async fn what_breaks_off_or_is_no_instance_is_503_and_is_asked_once() {
     let broken: [&[u8]; 6] = [
@@ -290,6 +144,26 @@ async fn what_breaks_off_or_is_no_instance_is_503_and_is_asked_once() {
     drop(listener);
     let forward = receiver(there(&address), secret("of all"));
     assert_eq!(posted(&forward, "{}").await, unavailable(BROKEN));
+}
+
+#[tokio::test]
+async fn a_kept_connection_that_ends_is_made_anew_but_not_under_a_post() {
+    let (address, count) = ends_after_one(false).await;
+    let forward = receiver(there(&address), secret("of all"));
+    assert_eq!(posted(&forward, "{}").await, Outcome::taken(0));
+    assert_eq!(posted(&forward, "{}").await, unavailable(BROKEN));
+    assert_eq!(
+        count.load(SeqCst),
+        2,
+        "it may have been taken, so it is not sent again"
+    );
+    let (address, count) = ends_after_one(true).await;
+    let forward = receiver(there(&address), secret("of all"));
+    for _ in 0..3 {
+        assert_eq!(posted(&forward, "{}").await, Outcome::taken(0));
+        sleep(Duration::from_millis(50)).await;
+    }
+    assert_eq!(count.load(SeqCst), 3);
 }
 
 #[tokio::test]

@@ -1,6 +1,6 @@
 //! The other instances: whose beats go on, counted in own beats.
 
-use super::GONE;
+use super::{AFTER_SILENCE, GONE};
 use crate::cluster::terms::Seen;
 use std::collections::BTreeMap;
 
@@ -16,6 +16,8 @@ struct Other {
 pub(super) struct Others {
     me: String,
     by_name: BTreeMap<String, Other>,
+    /// So many own beats does nobody's standing still count.
+    uncounted: u32,
 }
 
 impl Others {
@@ -23,6 +25,7 @@ impl Others {
         Others {
             me: me.into(),
             by_name: BTreeMap::new(),
+            uncounted: 0,
         }
     }
 
@@ -39,6 +42,8 @@ impl Others {
         let instances = seen.instances.iter();
         there.extend(instances.map(|one| (one.name.as_str(), (Some(one.beat), one.address.as_str()))));
         there.remove(self.me.as_str());
+        let counts = self.uncounted == 0;
+        self.uncounted = self.uncounted.saturating_sub(1);
         self.by_name.retain(|name, _| there.contains_key(name.as_str()));
         for (name, (beat, address)) in there {
             let other = self.by_name.entry(name.into()).or_insert(Other {
@@ -47,13 +52,22 @@ impl Others {
                 address: String::new(),
                 leaves: false,
             });
-            let stands = other.beat == beat;
-            other.still = if stands { other.still.saturating_add(1) } else { 0 };
+            other.still = match other.beat == beat {
+                true => other.still.saturating_add(counts.into()),
+                false => 0,
+            };
             (other.beat, other.leaves) = (beat, address.is_empty());
             if !other.leaves {
                 other.address = address.into();
             }
         }
+    }
+
+    /// The store was silent, and others may wait for it longer than this instance.
+    pub fn wait(&mut self) {
+        self.uncounted = AFTER_SILENCE;
+        let living = self.by_name.values_mut().filter(|other| other.still < GONE);
+        living.for_each(|other| other.still = 0);
     }
 
     pub fn is_gone(&self, name: &str) -> bool {

@@ -1,272 +1,9 @@
 //! Random schedules of instances over a store in memory.
 
+mod world;
+
 use super::*;
-use crate::cluster::terms::Instance;
-use std::collections::HashMap;
-
-const SLOTS: u16 = 8;
-
-struct Random(u64);
-
-impl Random {
-    fn below(&mut self, most: u64) -> u64 {
-        self.0 = self
-            .0
-            .wrapping_mul(6364136223846793005)
-            .wrapping_add(1442695040888963407);
-        (self.0 >> 33) % most
-    }
-
-    fn once_in(&mut self, times: u64) -> bool {
-        self.below(times) == 0
-    }
-}
-
-#[derive(Default)]
-struct Store {
-    rows: Vec<Row>,
-    instances: BTreeMap<String, (u64, Option<Stay>)>,
-    /// Who was the owner under which term.
-    terms: HashMap<(u16, u64), usize>,
-}
-
-impl Store {
-    fn beat(&mut self, name: &str, stay: Stay) -> Seen {
-        let row = self.instances.entry(name.into()).or_default();
-        *row = (row.0 + 1, Some(stay));
-        let instances = self.instances.iter().map(|(name, (beat, stay))| Instance {
-            name: name.clone(),
-            address: if *stay == Some(Stay::Here) {
-                format!("{name}:1")
-            } else {
-                String::new()
-            },
-            beat: *beat,
-        });
-        Seen {
-            instances: instances.collect(),
-            slots: self.rows.clone(),
-        }
-    }
-
-    fn take(&mut self, node: usize, name: &str, slot: u16, seen: u64) -> Option<u64> {
-        let row = &mut self.rows[usize::from(slot)];
-        if row.term != seen {
-            return None;
-        }
-        (row.term, row.owner) = (seen + 1, name.into());
-        let before = self.terms.insert((slot, row.term), node);
-        assert_eq!(before, None, "slot {slot} has two owners under term {}", row.term);
-        Some(row.term)
-    }
-
-    fn release(&mut self, slot: u16, term: u64) {
-        let row = &mut self.rows[usize::from(slot)];
-        if row.term == term {
-            row.owner.clear();
-        }
-    }
-}
-
-struct Node {
-    name: String,
-    owners: Owners,
-    /// What is under way, and comes in any order.
-    under_way: Vec<Step>,
-    opening: Vec<(u16, u64)>,
-    stands_for: u64,
-}
-
-struct World {
-    random: Random,
-    store: Store,
-    nodes: Vec<Node>,
-    /// Whether answers are lost, openings fail, and so on.
-    is_rough: bool,
-    stalls_for: u64,
-    takes: usize,
-    hand_overs: usize,
-}
-
-impl World {
-    fn of(seed: u64, names: &[&str]) -> World {
-        let row = |slot| Row {
-            slot,
-            term: 0,
-            owner: String::new(),
-        };
-        let store = Store {
-            rows: (0..SLOTS).map(row).collect(),
-            ..Store::default()
-        };
-        let mut world = World {
-            random: Random(seed.wrapping_mul(0x9e37_79b9_7f4a_7c15)),
-            store,
-            nodes: Vec::new(),
-            is_rough: false,
-            stalls_for: 0,
-            takes: 0,
-            hand_overs: 0,
-        };
-        names.iter().for_each(|name| world.join(name));
-        world
-    }
-
-    fn join(&mut self, name: &str) {
-        self.nodes.push(Node {
-            name: name.into(),
-            owners: Owners::new(name),
-            under_way: Vec::new(),
-            opening: Vec::new(),
-            stands_for: 0,
-        });
-    }
-
-    /// Half a second: each that does not stand still beats, some of what is under way is done, in any order.
-    fn round(&mut self) {
-        let first = self.random.below(self.nodes.len() as u64) as usize;
-        for place in 0..self.nodes.len() {
-            let node = (first + place) % self.nodes.len();
-            if self.nodes[node].stands_for > 0 {
-                self.nodes[node].stands_for -= 1;
-                continue;
-            }
-            self.beat(node);
-            for _ in 0..SLOTS {
-                self.work(node);
-            }
-        }
-        self.stalls_for = self.stalls_for.saturating_sub(1);
-        self.look();
-    }
-
-    fn beat(&mut self, node: usize) {
-        let is_lost = self.is_rough && self.random.once_in(20);
-        let one = &mut self.nodes[node];
-        if self.stalls_for > 0 {
-            return one.owners.unanswered();
-        }
-        let seen = self.store.beat(&one.name, one.owners.stay());
-        if is_lost {
-            return one.owners.unanswered();
-        }
-        let steps = one.owners.beat(seen);
-        one.under_way.extend(steps);
-    }
-
-    fn work(&mut self, node: usize) {
-        let is_slow = self.is_rough && self.random.once_in(2);
-        let one = &mut self.nodes[node];
-        let count = one.under_way.len() as u64;
-        if is_slow || self.stalls_for > 0 {
-            return;
-        }
-        if count > 0 {
-            let step = one.under_way.remove(self.random.below(count) as usize);
-            self.does(node, step);
-        } else if let Some((slot, term)) = one.opening.pop() {
-            match self.is_rough && self.random.once_in(10) {
-                true => one.owners.failed(slot, term),
-                false => drop(one.owners.opened(slot, term)),
-            }
-        }
-    }
-
-    fn does(&mut self, node: usize, step: Step) {
-        let is_lost = self.is_rough && self.random.once_in(5);
-        let one = &mut self.nodes[node];
-        match step {
-            Step::Take { slot, seen } => {
-                let term = self.store.take(node, &one.name, slot, seen);
-                self.takes += usize::from(term.is_some());
-                let told = term.filter(|_| !is_lost);
-                one.owners.taken(slot, told);
-                one.opening.extend(told.map(|term| (slot, term)));
-            }
-            Step::HandOver { slot, term } => {
-                self.hand_overs += 1;
-                let others = one
-                    .under_way
-                    .iter()
-                    .filter(|step| matches!(step, Step::HandOver { .. }));
-                assert_eq!(others.count(), 0, "two slots are handed over at once");
-                if !is_lost {
-                    self.store.release(slot, term);
-                }
-                let next = one.owners.released(slot, term);
-                one.under_way.extend(next);
-            }
-            Step::Release { slot, term } => self.store.release(slot, term),
-            Step::Drop { .. } => {}
-        }
-    }
-
-    /// Two never serve a slot under one term, and who serves it has the term of its own taking.
-    fn look(&self) {
-        for (place, node) in self.nodes.iter().enumerate() {
-            for (slot, whose) in node.owners.whose() {
-                if let Whose::Here { term } = whose {
-                    assert_eq!(
-                        self.store.terms.get(&(slot, term)),
-                        Some(&place),
-                        "slot {slot}, term {term}"
-                    );
-                }
-            }
-        }
-    }
-
-    fn rounds(&mut self, count: usize) {
-        (0..count).for_each(|_| self.round());
-    }
-
-    /// Each slot is served by its place alone, and all know it.
-    fn is_settled(&self) -> bool {
-        let names: Vec<&str> = self.nodes.iter().map(|node| node.name.as_str()).collect();
-        self.store.rows.iter().all(|row| {
-            let served = |node: &Node| match &node.owners.whose()[&row.slot] {
-                Whose::Here { term } => node.name == row.owner && *term == row.term,
-                Whose::There { name, address, term } => {
-                    *name == row.owner
-                        && *address == format!("{name}:1")
-                        && *term == row.term
-                        && *name != node.name
-                }
-                Whose::Nobody => false,
-            };
-            place(row.slot, names.iter().copied()) == Some(&row.owner) && self.nodes.iter().all(served)
-        })
-    }
-
-    /// Anything may happen to anybody.
-    fn disturb(&mut self) {
-        let node = self.random.below(self.nodes.len() as u64) as usize;
-        match self.random.below(8) {
-            0 => self.nodes[node].stands_for = self.random.below(40),
-            1 => self.stalls_for = self.random.below(60),
-            2 => {
-                // It is killed, and starts again under its name; what it had sent is executed or not.
-                let one = self.nodes.remove(node);
-                for step in one.under_way {
-                    if let (Step::Release { slot, term } | Step::HandOver { slot, term }, true) =
-                        (step, self.random.once_in(2))
-                    {
-                        self.store.release(slot, term);
-                    }
-                }
-                self.store.terms.values_mut().for_each(|place| {
-                    *place = match *place {
-                        place if place == node => usize::MAX,
-                        place if place > node && place != usize::MAX => place - 1,
-                        place => place,
-                    }
-                });
-                self.join(&one.name);
-            }
-            _ => {}
-        }
-    }
-}
+use world::World;
 
 #[test]
 fn over_random_schedules_two_never_own_a_slot_and_each_has_its_place_in_the_end() {
@@ -301,10 +38,12 @@ fn a_store_that_stands_still_moves_no_slot() {
         assert!(world.is_settled());
         let before = (world.takes, world.hand_overs);
         world.stalls_for = 120;
+        // One finds the store again later than the others.
+        world.nodes[2].stands_for = 130;
         world.rounds(240);
         assert_eq!((world.takes, world.hand_overs), before);
-        // Nor does an instance that stands still for less than the others' patience.
-        world.nodes[1].stands_for = u64::from(GONE) - 2;
+        // Nor does an instance that stands still for two seconds.
+        world.nodes[1].stands_for = 4;
         world.rounds(60);
         assert_eq!((world.takes, world.hand_overs), before);
     }
@@ -344,7 +83,7 @@ fn who_comes_gets_slots_one_by_one_and_not_before_it_has_beaten_for_a_while() {
     for round in 0..200 {
         if round % 12 == 0 {
             // It takes none for a while, so it gets no further one.
-            world.nodes[1].stands_for = u64::from(GONE) - 2;
+            world.nodes[1].stands_for = 4;
         }
         world.round();
         assert!(world.store.rows.iter().filter(|row| row.owner.is_empty()).count() <= 1);
@@ -382,7 +121,7 @@ fn of_two_with_one_name_none_takes_a_slot_from_the_other() {
     assert_eq!(world.takes, takes);
     assert!(world.nodes.iter().all(|node| node.owners.has_namesake()));
     world.nodes.pop();
-    world.rounds(10);
+    world.rounds(20);
     assert!(world.is_settled() && !world.nodes[0].owners.has_namesake());
 }
 

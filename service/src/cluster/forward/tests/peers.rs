@@ -1,0 +1,176 @@
+//! Owners that answer, stall or break off, each at an address of its own.
+
+use super::*;
+use crate::intake::connections::Handler;
+use hyper::server::conn::Http;
+use hyper::service::service_fn;
+use std::collections::VecDeque;
+use std::convert::Infallible;
+use std::sync::atomic::AtomicUsize;
+use std::sync::Mutex;
+use tokio::io::{AsyncReadExt, AsyncWriteExt};
+
+/// Slot, term, sender, and the part.
+pub type Came = (u16, u64, String, Encoding, Bytes);
+
+/// The slots of an instance: what came, and what is said of it.
+#[derive(Default)]
+pub struct Slots {
+    pub came: Mutex<Vec<Came>>,
+    pub says: Mutex<VecDeque<Option<Outcome>>>,
+    pub takes: Duration,
+    pub at_once: AtomicUsize,
+    pub most_at_once: AtomicUsize,
+}
+
+impl Here for Slots {
+    fn post<'a>(
+        &'a self,
+        slot: u16,
+        term: u64,
+        sender: &'a str,
+        part: Original,
+    ) -> Doing<'a, Option<Outcome>> {
+        Box::pin(async move {
+            let came = (slot, term, sender.to_string(), part.encoding, part.body);
+            self.came.lock().unwrap().push(came);
+            let now = self.at_once.fetch_add(1, SeqCst) + 1;
+            self.most_at_once.fetch_max(now, SeqCst);
+            sleep(self.takes).await;
+            self.at_once.fetch_sub(1, SeqCst);
+            self.says
+                .lock()
+                .unwrap()
+                .pop_front()
+                .unwrap_or(Some(Outcome::taken(0)))
+        })
+    }
+}
+
+impl Slots {
+    pub fn count(&self) -> usize {
+        self.came.lock().unwrap().len()
+    }
+}
+
+/// An instance with an address of its own.
+pub struct Peer {
+    pub cluster: Arc<Cluster>,
+    pub slots: Arc<Slots>,
+    pub address: String,
+    pub connections: Arc<AtomicUsize>,
+}
+
+pub fn secret(text: &str) -> Secret {
+    Secret::new(text).unwrap()
+}
+
+/// An instance that has slot 3, or not.
+pub fn internal(slots: Slots, whose: Whose) -> (Arc<Cluster>, Arc<Slots>, Arc<Internal<Slots>>) {
+    let (cluster, slots) = (Cluster::new("peer"), Arc::new(slots));
+    cluster.knows(&[(3, whose)]);
+    let internal = Internal::new(cluster.clone(), slots.clone(), secret("of all"));
+    (cluster, slots, internal)
+}
+
+impl Peer {
+    pub async fn with(slots: Slots, whose: Whose) -> Peer {
+        let listener = TcpListener::bind("127.0.0.1:0").await.unwrap();
+        let address = listener.local_addr().unwrap().to_string();
+        let (cluster, slots, internal) = internal(slots, whose);
+        let connections = Arc::new(AtomicUsize::new(0));
+        let counted = connections.clone();
+        tokio::spawn(async move {
+            while let Ok((stream, _)) = listener.accept().await {
+                counted.fetch_add(1, SeqCst);
+                let internal = internal.clone();
+                let service = service_fn(move |request| {
+                    let internal = internal.clone();
+                    async move { Ok::<_, Infallible>(internal.answer(request).await) }
+                });
+                tokio::spawn(Http::new().serve_connection(stream, service));
+            }
+        });
+        Peer {
+            cluster,
+            slots,
+            address,
+            connections,
+        }
+    }
+
+    pub async fn here() -> Peer {
+        Peer::with(Slots::default(), Whose::Here { term: 5 }).await
+    }
+
+    pub fn whose(&self) -> Whose {
+        there(&self.address)
+    }
+}
+
+pub fn there(address: &str) -> Whose {
+    Whose::There {
+        name: "peer".into(),
+        address: address.into(),
+        term: 5,
+    }
+}
+
+/// Who gets posts of senders.
+pub fn receiver(whose: Whose, secret: Secret) -> Arc<Forward<Slots>> {
+    let cluster = Cluster::new("receiver");
+    cluster.knows(&[(3, whose)]);
+    Arc::new(Forward::new(cluster, secret, Wire::Plain))
+}
+
+pub async fn posted(forward: &Forward<Slots>, text: &str) -> Outcome {
+    let body = Bytes::copy_from_slice(text.as_bytes());
+    let encoding = Encoding::Json;
+    forward.post(3, "web-1", Original { encoding, body }).await
+}
+
+/// Somebody at an address who does as told with each request that came, and how many connections had one.
+pub async fn strange(says: &'static [u8], stays: bool) -> (String, Arc<AtomicUsize>) {
+    let listener = TcpListener::bind("127.0.0.1:0").await.unwrap();
+    let address = listener.local_addr().unwrap().to_string();
+    let count = Arc::new(AtomicUsize::new(0));
+    let counted = count.clone();
+    tokio::spawn(async move {
+        while let Ok((mut stream, _)) = listener.accept().await {
+            let counted = counted.clone();
+            tokio::spawn(async move {
+                let (mut bytes, mut new) = ([0; 4096], 1);
+                while !matches!(stream.read(&mut bytes).await, Ok(0) | Err(_)) {
+                    counted.fetch_add(std::mem::take(&mut new), SeqCst);
+                    let _ = stream.write_all(says).await;
+                    if !stays {
+                        break;
+                    }
+                }
+            });
+        }
+    });
+    (address, count)
+}
+
+/// Answers the first post of each connection, and ends it: at once, or once another post has come.
+pub async fn ends_after_one(at_once: bool) -> (String, Arc<AtomicUsize>) {
+    let answer = b"HTTP/1.1 200 OK\r\ntotxegun-says: answer\r\ncontent-length: 2\r\n\r\n{}";
+    let listener = TcpListener::bind("127.0.0.1:0").await.unwrap();
+    let address = listener.local_addr().unwrap().to_string();
+    let count = Arc::new(AtomicUsize::new(0));
+    let counted = count.clone();
+    tokio::spawn(async move {
+        while let Ok((mut stream, _)) = listener.accept().await {
+            let mut bytes = [0; 4096];
+            let _ = stream.read(&mut bytes).await;
+            counted.fetch_add(1, SeqCst);
+            let _ = stream.write_all(answer).await;
+            if !at_once {
+                let _ = stream.read(&mut bytes).await;
+                counted.fetch_add(1, SeqCst);
+            }
+        }
+    });
+    (address, count)
+}
