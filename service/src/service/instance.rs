@@ -107,6 +107,10 @@ pub(super) struct Joined {
 }
 
 impl Joined {
+    pub fn cluster(&self) -> Arc<Cluster> {
+        self.cluster.clone()
+    }
+
     /// A slot has ended alone: its writes found another owner.
     pub fn lost(&self, slot: u16) {
         if let Some(drive) = self.instance.forget(slot) {

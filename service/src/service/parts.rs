@@ -1,7 +1,7 @@
 //! Opens all parts.
 
 use super::adopt::leave_others;
-use super::instance::Joining;
+use super::instance::{Joined, Joining};
 use super::operators::Operators;
 use super::running::Running;
 use super::senders::Senders;
@@ -153,6 +153,7 @@ impl Parts {
         });
         let desk = Desk {
             units,
+            cluster: joined.as_ref().map(Joined::cluster),
             shares: self.shared.shares.clone(),
             acts: self.acts,
             sink: self.sink,

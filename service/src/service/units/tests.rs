@@ -107,6 +107,7 @@ impl Service {
             metrics.clone(),
         );
         let desk = Arc::new(Desk {
+            cluster: None,
             units: of_desk,
             shares: shared.shares.clone(),
             acts: Arc::new(Acts::in_folder(place)),
