@@ -81,7 +81,7 @@ pub(super) fn likeness(
     )
 }
 
-/// `--store` and what goes with it, or a folder.
+/// No folder is beside a store, in which a file could be the sink.
 pub(super) fn needs_sink() -> anyhow::Error {
     anyhow!("--store has no sink of its own: give --sink postgres://.. or http://.. too")
 }

@@ -47,6 +47,7 @@ impl Sink for Taken {
 
 fn settings(place: &Path) -> Settings {
     Settings {
+        store: None,
         data: place.into(),
         listen: String::new(),
         listen_grpc: None,
