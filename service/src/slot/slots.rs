@@ -48,7 +48,7 @@ pub struct Slots<T>(Kind<T>);
 
 enum Kind<T> {
     One(Arc<T>),
-    Several(Several<T>),
+    Several(Box<Several<T>>),
 }
 
 struct Several<T> {
@@ -73,11 +73,11 @@ impl<T> Slots<T> {
     /// As many as resources are put into; each is nobody's.
     pub fn several(resources: Resources, elsewhere: Option<Arc<dyn Elsewhere>>) -> Arc<Slots<T>> {
         let nobody = |_| RwLock::new(Place::Nobody);
-        Arc::new(Slots(Kind::Several(Several {
+        Arc::new(Slots(Kind::Several(Box::new(Several {
             places: (0..resources.slots()).map(nobody).collect(),
             resources,
             elsewhere,
-        })))
+        }))))
     }
 
     pub fn way(&self, encoding: Encoding, body: &Bytes) -> Way<T> {
@@ -131,12 +131,13 @@ impl<T> Slots<T> {
 
     /// Brings a part of a request to its slot's owner.
     pub async fn elsewhere(&self, slot: u16, sender: &str, part: Original) -> Outcome {
-        match &self.0 {
-            Kind::Several(Several {
-                elsewhere: Some(elsewhere),
-                ..
-            }) => elsewhere.post(slot, sender, part).await,
-            _ => Outcome::Refused {
+        let elsewhere = match &self.0 {
+            Kind::One(_) => None,
+            Kind::Several(several) => several.elsewhere.as_ref(),
+        };
+        match elsewhere {
+            Some(elsewhere) => elsewhere.post(slot, sender, part).await,
+            None => Outcome::Refused {
                 status: 503,
                 message: NO_OWNER.into(),
             },
