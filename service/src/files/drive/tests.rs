@@ -192,8 +192,10 @@ async fn all_who_wait_are_told_that_the_slot_is_lost() {
         .collect();
     let (of_journal, of_outbox) = (journal.clone(), outbox.clone());
     let told = tokio::spawn(async move { (of_journal.lost().await, of_outbox.lost().await) });
-    tokio::time::sleep(Duration::from_millis(20)).await;
-    assert!(waiting.iter().all(|one| !one.is_finished()) && journal.under_way() > Duration::ZERO);
+    while journal.under_way() == Duration::ZERO {
+        tokio::time::sleep(Duration::from_millis(1)).await;
+    }
+    assert!(waiting.iter().all(|one| !one.is_finished()));
     store.take();
     stalls.store(false, SeqCst);
     for one in waiting {

@@ -7,7 +7,7 @@ use crate::files::drive::memory::{Owner, Step, Store};
 use crate::files::drive::{self, lost};
 use crate::files::{Drive, Fault};
 use crate::otlp::series::{forwarded, Value};
-use crate::slot::{Request, MOVED};
+use crate::slot::{Request, MOVED, NO_STORE};
 use std::collections::BTreeMap;
 use std::io;
 use std::sync::atomic::AtomicU64;
@@ -274,9 +274,7 @@ const AT_ONCE: u64 = 4;
 async fn lose_at_each(how: How) -> u64 {
     for first in (0..).step_by(AT_ONCE as usize) {
         let calls = first..first + AT_ONCE;
-        let runs: Vec<_> = calls
-            .map(|call| tokio::spawn(lose_at(call, None, how)))
-            .collect();
+        let runs: Vec<_> = calls.map(|call| tokio::spawn(lose_at(call, None, how))).collect();
         let mut was_there = true;
         for run in runs {
             was_there &= run.await.unwrap() > 0;
@@ -309,4 +307,42 @@ async fn what_was_answered_is_there_over_many_owners() {
             assert!(moves > 3, "{moves} moves, {more}, {how:?}");
         }
     }
+}
+
+/// A store may take long, and posts are put into the book meanwhile; who comes later is told.
+#[tokio::test(flavor = "multi_thread", worker_threads = 4)]
+async fn nobody_waits_for_the_store_with_the_lock_of_the_book() {
+    let (store, stalls) = (Arc::new(Store::default()), Arc::new(AtomicBool::new(false)));
+    let stalling = stalls.clone();
+    let owner = store.take_with(move |step| {
+        while step == Step::Sync && stalling.load(SeqCst) {
+            std::thread::sleep(Duration::from_millis(1));
+        }
+        Ok(())
+    });
+    let run = began(owner).await.unwrap();
+    assert_eq!(run.post(1).await, Outcome::taken(0));
+    stalls.store(true, SeqCst);
+    let (orders, slot) = (run.orders.clone(), run.slot.clone());
+    let checkpoint = tokio::spawn(async move { orders.order(Order::Checkpoint).await });
+    while run.slot.outbox.waiting().0 == 0 {
+        tokio::time::sleep(Duration::from_millis(1)).await;
+    }
+    let post = tokio::spawn(async move { slot.post("A".into(), point("a", 2).into()).await });
+    let began = Instant::now();
+    while run.slot.ungrouped() == 0 || run.slot.unavailable().is_none() {
+        assert!(
+            began.elapsed() < Duration::from_secs(10),
+            "it waits for the store"
+        );
+        tokio::time::sleep(Duration::from_millis(5)).await;
+    }
+    let shown = (run.slot.unavailable(), run.slot.outbox.may_deliver(1));
+    let wait = !post.is_finished() && !checkpoint.is_finished();
+    stalls.store(false, SeqCst);
+    assert!(wait && shown == (Some(NO_STORE), false), "{shown:?}");
+    assert_eq!(post.await.unwrap(), Outcome::taken(0));
+    assert_eq!(checkpoint.await.unwrap(), Some(Done::Flushed { requests: 1 }));
+    assert_eq!(run.flush().await, 1);
+    run.end().await;
 }
