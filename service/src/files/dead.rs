@@ -3,7 +3,7 @@
 //! One file a letter, `KEY.json`: its head as JSON on the first line, then the body as it was sent. Another request that
 //! comes under the key of one is kept beside it, as `KEY_2.json`.
 
-use super::disk::{io_fault, Disk};
+use super::disk::{io_fault, Cursor, Disk};
 use super::{lock, seconds, Fault};
 use std::io::{self, BufRead, BufReader, Read};
 use std::path::{Path, PathBuf};
@@ -51,7 +51,7 @@ pub fn sent_as(name: &str) -> &str {
 impl Dead {
     pub(super) fn open(disk: &Disk, folder: &Path) -> Result<Dead, Fault> {
         disk.make_folder(folder)?;
-        disk.sync_folder(folder)?;
+        disk.order_folder(folder)?;
         let changing = Mutex::new(());
         let dead = Dead {
             disk: disk.clone(),
@@ -70,8 +70,7 @@ impl Dead {
     /// What is there now, and is counted so: an operator moves letters out of the folder, and back, by hand.
     fn keys(&self) -> Result<Vec<String>, Fault> {
         let mut keys = Vec::new();
-        for entry in std::fs::read_dir(&self.folder).map_err(io_fault(&self.folder))? {
-            let name = entry.map_err(io_fault(&self.folder))?.file_name();
+        for name in self.disk.names(&self.folder)? {
             let key = name
                 .to_str()
                 .and_then(|name| name.strip_suffix(".json"))
@@ -165,14 +164,14 @@ impl Dead {
 
     /// What is told of a letter by its file alone.
     fn unreadable(&self, key: String, fault: &Fault) -> Letter {
-        let file = std::fs::metadata(self.folder.join(format!("{key}.json"))).ok();
-        let written = file.as_ref().and_then(|file| file.modified().ok());
+        let path = self.folder.join(format!("{key}.json"));
+        let written = self.disk.written(&path);
         let since = written.and_then(|time| time.duration_since(UNIX_EPOCH).ok());
         Letter {
             key,
             since: since.map_or(0, |since| since.as_secs()),
             reason: fault.to_string(),
-            bytes: file.map_or(0, |file| file.len()),
+            bytes: self.disk.length(&path).ok().flatten().unwrap_or(0),
         }
     }
 
@@ -190,15 +189,14 @@ impl Dead {
     }
 
     /// A letter's head, and the file behind it.
-    fn read(&self, key: &str) -> Result<Option<(Letter, BufReader<std::fs::File>)>, Fault> {
+    fn read(&self, key: &str) -> Result<Option<(Letter, BufReader<Cursor>)>, Fault> {
         let Some(path) = self.path(key) else {
             return Ok(None);
         };
-        let file = match std::fs::File::open(&path) {
-            Err(error) if error.kind() == io::ErrorKind::NotFound => return Ok(None),
-            file => file.map_err(io_fault(&path))?,
+        let Some(file) = self.disk.find(&path)? else {
+            return Ok(None);
         };
-        let mut file = BufReader::new(file);
+        let mut file = BufReader::new(Cursor { file, at: 0 });
         let mut head = Vec::new();
         file.by_ref()
             .take(LONGEST_HEAD)
@@ -217,7 +215,7 @@ impl Dead {
             return Ok(false);
         };
         let _one = lock(&self.changing);
-        if !path.exists() {
+        if !self.disk.has(&path)? {
             return Ok(false);
         }
         self.remove(&path)?;

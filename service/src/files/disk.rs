@@ -1,17 +1,29 @@
-//! Calls that change the disk. A test may let each of them fail.
+//! The one door to files: those of a folder, or those of a slot whose files are kept by a drive. A test may let each call
+//! that changes the disk fail.
+//!
+//! A drive keeps the order of all that is done, and what it has is never torn. So where a folder is synced before the next
+//! step (`order`), nothing is waited for there; and what has to be durable now (`sync`) is so by one call for all files.
 
+mod file;
+mod owned;
+mod read;
+mod under_way;
+
+use super::drive::{is_lost, Drive, Lost};
 use super::Fault;
+pub use file::{Cursor, File};
 use nix::errno::Errno;
 use nix::fcntl::{fallocate, FallocateFlags};
 use nix::sys::uio::pwritev;
-use std::fs::{DirBuilder, File, OpenOptions};
+use owned::Owned;
+use std::fs::{DirBuilder, OpenOptions};
 use std::io::{self, IoSlice};
 use std::os::fd::AsRawFd;
 use std::os::unix::fs::{DirBuilderExt, FileExt, OpenOptionsExt};
 use std::path::Path;
-use std::sync::atomic::{AtomicU64, Ordering::Relaxed};
-use std::sync::{Arc, LazyLock};
-use std::time::{Duration, Instant};
+use std::sync::Arc;
+use std::time::Duration;
+use under_way::UnderWay;
 
 #[derive(Clone, Copy, Debug, PartialEq, Eq)]
 pub enum Call {
@@ -30,48 +42,25 @@ type End = dyn Fn(&Fault) + Send + Sync;
 /// The disk as it is, or as a test wants it to fail.
 #[derive(Clone, Default)]
 pub struct Disk {
+    place: Place,
     hook: Option<Arc<Hook>>,
     end: Option<Arc<End>>,
     under_way: Arc<UnderWay>,
 }
 
-/// Calls side by side: one writes, one syncs, one deletes, and one more.
-const PLACES: usize = 4;
-static BEGAN: LazyLock<Instant> = LazyLock::new(Instant::now);
-
-/// The calls that are under way. No lock is needed to look at them: who has one may be in such a call.
-#[derive(Default)]
-struct UnderWay([AtomicU64; PLACES]);
-
-/// A call that is under way until this is dropped.
-struct Noted<'a>(Option<&'a AtomicU64>);
-
-impl UnderWay {
-    /// In nanoseconds, and never 0.
-    fn now() -> u64 {
-        1 + BEGAN.elapsed().as_nanos() as u64
-    }
-
-    fn note(&self) -> Noted<'_> {
-        let now = UnderWay::now();
-        let is_taken = |place: &&AtomicU64| place.compare_exchange(0, now, Relaxed, Relaxed).is_ok();
-        Noted(self.0.iter().find(is_taken))
-    }
-
-    fn longest(&self) -> Duration {
-        let began = self.0.iter().map(|place| place.load(Relaxed));
-        let first = began.filter(|began| *began > 0).min();
-        first.map_or(Duration::ZERO, |first| {
-            Duration::from_nanos(UnderWay::now().saturating_sub(first))
-        })
-    }
+/// Where files are kept.
+#[derive(Clone)]
+enum Place {
+    /// What locks it is held as long as anything can be written there.
+    Folder {
+        _locks: Option<Arc<super::folder::Locks>>,
+    },
+    Drive(Arc<Owned>),
 }
 
-impl Drop for Noted<'_> {
-    fn drop(&mut self) {
-        if let Some(place) = self.0 {
-            place.store(0, Relaxed);
-        }
+impl Default for Place {
+    fn default() -> Place {
+        Place::Folder { _locks: None }
     }
 }
 
@@ -79,13 +68,34 @@ impl Drop for Noted<'_> {
 pub const FAILED: i32 = 70;
 
 pub fn io_fault(path: &Path) -> impl FnOnce(io::Error) -> Fault + '_ {
-    move |source| Fault::Io {
-        path: path.into(),
-        source,
+    move |source| match is_lost(&source) {
+        true => Fault::Lost(Lost),
+        false => Fault::Io {
+            path: path.into(),
+            source,
+        },
     }
 }
 
 impl Disk {
+    /// The files of a slot whose drive was taken just now.
+    pub fn of_drive(drive: Arc<dyn Drive>) -> Disk {
+        Disk {
+            place: Place::Drive(Arc::new(Owned::new(drive))),
+            ..Disk::default()
+        }
+    }
+
+    /// A folder that is locked so.
+    pub fn locked(&self, locks: &Arc<super::folder::Locks>) -> Disk {
+        Disk {
+            place: Place::Folder {
+                _locks: Some(locks.clone()),
+            },
+            ..self.clone()
+        }
+    }
+
     /// Asks `hook` before each call.
     #[cfg(test)]
     pub fn failing(hook: impl Fn(Call, &Path) -> io::Result<()> + Send + Sync + 'static) -> Disk {
@@ -123,7 +133,49 @@ impl Disk {
 
     /// How long the call that began first has been under way; zero where none is.
     pub fn under_way(&self) -> Duration {
-        self.under_way.longest()
+        let longest = self.under_way.longest();
+        match &self.place {
+            Place::Folder { .. } => longest,
+            Place::Drive(owned) => longest.max(owned.under_way()),
+        }
+    }
+
+    /// Whether what is done is done in order, without a sync between, and is never torn.
+    pub fn keeps_order(&self) -> bool {
+        matches!(self.place, Place::Drive(_))
+    }
+
+    /// Whether something was changed that is not durable, and that no caller may wait for.
+    pub fn is_behind(&self) -> bool {
+        matches!(&self.place, Place::Drive(owned) if owned.is_behind())
+    }
+
+    /// How long ago the slot was certainly this instance's. A folder is until the process ends.
+    pub fn ours_before(&self) -> Duration {
+        match &self.place {
+            Place::Folder { .. } => Duration::ZERO,
+            Place::Drive(owned) => owned.ours_before(),
+        }
+    }
+
+    pub fn is_lost(&self) -> bool {
+        matches!(&self.place, Place::Drive(owned) if owned.is_lost())
+    }
+
+    /// Returns once the slot is lost. A folder never is.
+    pub async fn lost(&self) -> Lost {
+        match &self.place {
+            Place::Folder { .. } => std::future::pending().await,
+            Place::Drive(owned) => owned.lost().await,
+        }
+    }
+
+    /// Ends the process, but where the slot alone is lost.
+    pub fn fail(&self, fault: Fault) -> Lost {
+        match fault {
+            Fault::Lost(lost) => lost,
+            fault => self.end(&fault),
+        }
     }
 
     /// Ends the process: what is on disk is not known then, and only a start reads just that.
@@ -141,17 +193,24 @@ impl Disk {
             }
         }
     }
+}
 
+/// What is changed.
+impl Disk {
     fn call<T>(&self, call: Call, path: &Path, does: impl FnOnce() -> io::Result<T>) -> Result<T, Fault> {
         let _noted = self.under_way.note();
         let asked = self.hook.as_ref().map_or(Ok(()), |hook| hook(call, path));
         asked.and_then(|()| does()).map_err(io_fault(path))
     }
 
+    /// A drive needs none.
     pub fn make_folder(&self, path: &Path) -> Result<(), Fault> {
-        self.call(Call::MakeFolder, path, || {
-            DirBuilder::new().recursive(true).mode(0o700).create(path)
-        })
+        match &self.place {
+            Place::Folder { .. } => self.call(Call::MakeFolder, path, || {
+                DirBuilder::new().recursive(true).mode(0o700).create(path)
+            }),
+            Place::Drive(_) => Ok(()),
+        }
     }
 
     /// The same, with a name that is durable, as those of the folders above.
@@ -170,14 +229,14 @@ impl Disk {
 
     /// Makes a file that is not there yet.
     pub fn create(&self, path: &Path) -> Result<File, Fault> {
-        let mut options = OpenOptions::new();
-        self.call(Call::Create, path, || {
-            options
-                .read(true)
-                .write(true)
-                .create_new(true)
-                .mode(0o600)
-                .open(path)
+        let mut how = OpenOptions::new();
+        how.read(true).write(true).create_new(true).mode(0o600);
+        self.call(Call::Create, path, || match &self.place {
+            Place::Folder { .. } => Ok(File::OfFolder(how.open(path)?)),
+            Place::Drive(owned) => {
+                let number = owned.change(|drive| drive.create(path))?;
+                Ok(File::OfDrive(owned.clone(), number))
+            }
         })
     }
 
@@ -189,50 +248,90 @@ impl Disk {
         parts: &[&[u8]; N],
         at: u64,
     ) -> Result<(), Fault> {
-        self.call(Call::Write, path, || match &parts[..] {
-            [bytes] => file.write_all_at(bytes, at),
-            _ => write_parts_at(file, parts, at),
+        self.call(Call::Write, path, || match (file, &parts[..]) {
+            (File::OfFolder(file), [bytes]) => file.write_all_at(bytes, at),
+            (File::OfFolder(file), _) => write_parts_at(file, parts, at),
+            (File::OfDrive(owned, number), parts) => owned.change(|drive| drive.write_at(*number, parts, at)),
         })
     }
 
     /// Takes blocks for what will be written there, and leaves the file's length. Where there are none, the writes say so.
     pub fn take_blocks(&self, file: &File, at: u64, length: u64) {
-        let _noted = self.under_way.note();
-        let keep_size = FallocateFlags::FALLOC_FL_KEEP_SIZE;
-        let _ = fallocate(file.as_raw_fd(), keep_size, at as i64, length as i64);
+        if let File::OfFolder(file) = file {
+            let _noted = self.under_way.note();
+            let keep_size = FallocateFlags::FALLOC_FL_KEEP_SIZE;
+            let _ = fallocate(file.as_raw_fd(), keep_size, at as i64, length as i64);
+        }
     }
 
+    /// Makes a file durable; of a drive all that was done.
     pub fn sync(&self, file: &File, path: &Path) -> Result<(), Fault> {
-        self.call(Call::Sync, path, || file.sync_data())
+        self.call(Call::Sync, path, || match file {
+            File::OfFolder(file) => file.sync_data(),
+            File::OfDrive(owned, _) => owned.sync(),
+        })
     }
 
+    /// Makes a folder's names durable; of a drive all that was done.
     pub fn sync_folder(&self, path: &Path) -> Result<(), Fault> {
-        self.call(Call::SyncFolder, path, || File::open(path)?.sync_all())
+        self.call(Call::SyncFolder, path, || match &self.place {
+            Place::Folder { .. } => std::fs::File::open(path)?.sync_all(),
+            Place::Drive(owned) => owned.sync(),
+        })
+    }
+
+    /// Makes a file durable before anything that comes next.
+    pub fn order(&self, file: &File, path: &Path) -> Result<(), Fault> {
+        match self.keeps_order() {
+            true => Ok(()),
+            false => self.sync(file, path),
+        }
+    }
+
+    /// The same of a folder's names.
+    pub fn order_folder(&self, path: &Path) -> Result<(), Fault> {
+        match self.keeps_order() {
+            true => Ok(()),
+            false => self.sync_folder(path),
+        }
     }
 
     pub fn rename(&self, from: &Path, to: &Path) -> Result<(), Fault> {
-        self.call(Call::Rename, to, || std::fs::rename(from, to))
+        self.call(Call::Rename, to, || match &self.place {
+            Place::Folder { .. } => std::fs::rename(from, to),
+            Place::Drive(owned) => owned.change(|drive| drive.rename(from, to)),
+        })
     }
 
     pub fn remove(&self, path: &Path) -> Result<(), Fault> {
-        self.call(Call::Remove, path, || std::fs::remove_file(path))
+        self.call(Call::Remove, path, || match &self.place {
+            Place::Folder { .. } => std::fs::remove_file(path),
+            Place::Drive(owned) => owned.change(|drive| drive.remove(path)),
+        })
+    }
+
+    /// Removes what nobody needs, where that can be done.
+    pub fn discard(&self, path: &Path) {
+        if let Place::Folder { .. } = &self.place {
+            let _ = std::fs::remove_file(path);
+        }
     }
 
     /// Puts a whole file in the place of what may be there: durable when this returns, and never seen in part.
     pub fn put_file(&self, path: &Path, bytes: &[u8]) -> Result<(), Fault> {
         let draft = path.with_extension("draft");
-        if draft.exists() {
+        if self.has(&draft)? {
             self.remove(&draft)?;
         }
         let file = self.create(&draft)?;
         self.write_at(&file, &draft, &[bytes], 0)?;
-        self.sync(&file, &draft)?;
+        self.order(&file, &draft)?;
         self.rename(&draft, path)?;
         path.parent().map_or(Ok(()), |folder| self.sync_folder(folder))
     }
 }
 
-fn write_parts_at<const N: usize>(file: &File, parts: &[&[u8]; N], at: u64) -> io::Result<()> {
+fn write_parts_at<const N: usize>(file: &std::fs::File, parts: &[&[u8]; N], at: u64) -> io::Result<()> {
     let slices = parts.map(IoSlice::new);
     let written = match pwritev(file.as_raw_fd(), &slices, at as i64) {
         Err(Errno::EINTR) => 0,

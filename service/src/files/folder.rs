@@ -18,7 +18,7 @@ mod version;
 
 use super::disk::{io_fault, Disk};
 use super::journal::Expected;
-use super::room::{Promise, Room};
+use super::room::Room;
 use super::{lock, segment, Dead, Durability, Fault, Journal, Outbox};
 use nix::errno::Errno;
 use nix::fcntl::{flock, FlockArg};
@@ -61,8 +61,12 @@ pub struct Folder {
     version: Mutex<Version>,
     /// It was made by this start.
     is_new: bool,
-    /// Locked as long as it is open.
-    lock: File,
+    locks: Arc<Locks>,
+}
+
+/// Locked as long as anything of the folder can be written.
+pub struct Locks {
+    file: File,
     /// The folder itself, locked too: somebody may delete the file, and a second service would make another.
     _itself: File,
 }
@@ -80,21 +84,20 @@ impl Folder {
             disk.make_lasting_folder(path)
                 .map_err(|fault| usable::named(fault, path))?;
         }
-        let (lock, itself) = locked(path)?;
+        let locks = Arc::new(locked(path)?);
         let room = Arc::new(Room::new(path)?);
         let known = Version::read(path)?;
         if known.is_none() {
             check_new(path)?;
         }
         let folder = Folder {
-            disk,
+            disk: disk.locked(&locks),
             path: path.into(),
             durability,
             room,
             version: Mutex::new(known.clone().unwrap_or_default()),
             is_new: known.is_none(),
-            lock,
-            _itself: itself,
+            locks,
         };
         let found = folder.identity()?;
         match known {
@@ -171,17 +174,7 @@ impl Folder {
     }
 
     fn identity(&self) -> Result<Identity, Fault> {
-        Identity::of(&self.lock).map_err(io_fault(&self.path.join("lock")))
-    }
-
-    /// Whether a post may be taken: room for commits is kept behind it.
-    pub fn has_room(&self) -> bool {
-        self.room.is_left()
-    }
-
-    /// The same for a post of so many bytes that is under way from now on.
-    pub fn room_for(&self, bytes: usize) -> Option<Promise<'_>> {
-        self.room.promise(bytes)
+        Identity::of(&self.locks.file).map_err(io_fault(&self.path.join("lock")))
     }
 
     /// A disk as a test wants it.
@@ -219,7 +212,7 @@ impl Folder {
     pub fn outbox(&self, number: u16) -> Result<Outbox, Fault> {
         let slot = self.of_slot(number);
         let (journal, outbox) = (slot.join("journal"), slot.join("outbox"));
-        if lock(&self.version).begun.contains_key(&number) && !has_segments(&outbox)? {
+        if lock(&self.version).begun.contains_key(&number) && !self.has_segments(&outbox)? {
             return Err(Fault::Damaged {
                 path: outbox,
                 at: 0,
@@ -231,12 +224,17 @@ impl Folder {
         }
         self.disk.sync_folder(&slot)?;
         self.disk.sync_folder(&self.path)?;
-        let epoch = match self.is_new || !segment::numbers(&outbox)?.is_empty() {
+        let epoch = match self.is_new || !segment::numbers(&self.disk, &outbox)?.is_empty() {
             true => lock(&self.version).epoch.clone(),
             // It counts from 1 again, and an outbox that was there and is gone has used these keys.
             false => self.renew_epoch()?,
         };
         Outbox::open(&self.disk, &outbox, &epoch, self.room.clone())
+    }
+
+    /// Whether an outbox was made there.
+    fn has_segments(&self, folder: &Path) -> Result<bool, Fault> {
+        Ok(folder.exists() && !segment::numbers(&self.disk, folder)?.is_empty())
     }
 
     fn of_slot(&self, number: u16) -> PathBuf {
@@ -266,14 +264,9 @@ impl Folder {
     }
 }
 
-/// Whether an outbox was made there.
-fn has_segments(folder: &Path) -> Result<bool, Fault> {
-    Ok(folder.exists() && !segment::numbers(folder)?.is_empty())
-}
-
 /// The kernel gives the locks back when the process ends, in whatever way. A started gateway does not get them: files
 /// of the standard library are closed where another program is started.
-fn locked(folder: &Path) -> Result<(File, File), FolderFault> {
+fn locked(folder: &Path) -> Result<Locks, FolderFault> {
     let path = folder.join("lock");
     let mut options = OpenOptions::new();
     let file = options
@@ -293,7 +286,10 @@ fn locked(folder: &Path) -> Result<(File, File), FolderFault> {
     match take_lock(&itself) {
         Err(Errno::EWOULDBLOCK) => Err(FolderFault::InUse(folder.into())),
         // Not every file system locks folders.
-        Ok(()) | Err(_) => Ok((file, itself)),
+        Ok(()) | Err(_) => Ok(Locks {
+            file,
+            _itself: itself,
+        }),
     }
 }
 

@@ -23,7 +23,8 @@ mod record;
 mod said;
 mod sync;
 
-use super::disk::Disk;
+use super::disk::{Disk, File};
+use super::drive::Lost;
 use super::records::{self, Which};
 use super::room::Room;
 use super::segment::{self, Ahead, Dropped, Segment};
@@ -32,7 +33,6 @@ pub use held::Held;
 pub use post::{Body, Names, NoNames, OfRun, Points, Post, Replayed};
 use said::Said;
 use std::collections::{BTreeMap, BTreeSet};
-use std::fs::File;
 use std::path::{Path, PathBuf};
 use std::sync::atomic::{AtomicU64, Ordering::SeqCst};
 use std::sync::{Arc, Condvar, Mutex};
@@ -50,7 +50,8 @@ const RUNS: u8 = records::OWN + 5;
 #[derive(Clone, Copy, Debug, PartialEq, Eq, PartialOrd, Ord)]
 pub struct Ticket(pub u64);
 
-/// Shared by all who post. What can't be written ends the process.
+/// Shared by all who post. What can't be written ends the process, but where only the slot is lost: then what is appended
+/// is durable never.
 pub struct Journal {
     shared: Arc<Shared>,
     syncer: Option<std::thread::JoinHandle<()>>,
@@ -158,27 +159,47 @@ impl Journal {
 
     fn turn_to(&self, place: &mut Place, number: u64) {
         if let Err(fault) = self.shared.begin(place, number) {
-            self.shared.disk.end(&fault);
+            let Lost = self.shared.disk.fail(fault);
         }
     }
 
-    /// A ticket for all that was appended until now.
+    /// A ticket for all that was appended until now. Of a drive it is for a sync that begins later, also where nothing was
+    /// appended: so it is known then that the slot was still this instance's.
     pub fn now(&self) -> Ticket {
-        Ticket(lock(&self.shared.place).ticket)
+        let mut place = lock(&self.shared.place);
+        place.ticket += u64::from(self.shared.disk.keeps_order());
+        Ticket(place.ticket)
     }
 
-    /// Returns once all before a ticket is as durable as was asked for.
-    pub async fn durable(&self, ticket: Ticket) {
-        if self.shared.durability == Durability::Disk {
-            self.shared.synced(ticket.0).await;
+    /// Returns once all before a ticket is as durable as was asked for, or once the slot is lost.
+    pub async fn durable(&self, ticket: Ticket) -> Result<(), Lost> {
+        match self.shared.durability {
+            Durability::Disk => self.shared.synced(ticket.0).await,
+            Durability::Process => Ok(()),
         }
     }
 
-    /// Makes sure that all before a ticket is on the disk, whatever was asked for posts.
+    /// Makes sure that all before a ticket is on the disk before what comes next, whatever was asked for posts.
     pub fn settle(&self, ticket: Ticket) {
-        if self.shared.durable.load(SeqCst) < ticket.0 {
-            self.shared.sync();
+        let shared = &*self.shared;
+        if !shared.disk.keeps_order() && shared.durable.load(SeqCst) < ticket.0 {
+            shared.sync();
         }
+    }
+
+    /// Whether a drive keeps it, and no folder.
+    pub fn is_in_store(&self) -> bool {
+        self.shared.disk.keeps_order()
+    }
+
+    /// Returns once another instance has the slot, or may have.
+    pub async fn lost(&self) -> Lost {
+        self.shared.disk.lost().await
+    }
+
+    /// Whether there is room for what is written.
+    pub(crate) fn room(&self) -> &Arc<Room> {
+        &self.shared.room
     }
 
     /// Makes sure that the next segment's number is at least this: the outbox may know of a later segment than is left.
@@ -189,7 +210,7 @@ impl Journal {
         }
     }
 
-    /// Makes the last turn and the last note of what is held durable, whatever was asked for posts.
+    /// Makes the last turn and the last note of what is held durable before what comes next, whatever was asked for posts.
     fn settle_kept(&self) {
         let kept = lock(&self.shared.place).kept;
         self.settle(Ticket(kept));
@@ -200,7 +221,7 @@ impl Journal {
         let shared = &*self.shared;
         let last = lock(&shared.place).segment.number;
         self.settle_kept();
-        let mut numbers = segment::numbers(&shared.folder)?;
+        let mut numbers = segment::numbers(&shared.disk, &shared.folder)?;
         numbers.retain(|number| *number < before && *number < last);
         if !numbers.is_empty() {
             // A start that misses one of them is told so whether the outbox is older than this.
@@ -243,7 +264,7 @@ impl Shared {
         let length = parts.iter().map(|part| part.len() as u64).sum();
         self.room.use_up(length);
         if let Err(fault) = place.segment.put(parts) {
-            self.disk.end(&fault);
+            let Lost = self.disk.fail(fault);
         }
         place.ticket += 1;
         place.moved.remove(&post.sender);
@@ -298,12 +319,12 @@ fn prepare(
     forgotten: u64,
 ) -> Result<Segment, Fault> {
     let draft = segment::path(folder, number).with_extension("draft");
-    if draft.exists() {
+    if disk.has(&draft)? {
         disk.remove(&draft)?;
     }
-    let (ahead, which) = (ahead(durability), Which::Journal);
+    let (ahead, which) = (ahead(disk, durability), Which::Journal);
     let segment = Segment::create(disk, draft.clone(), which, number, ahead, Some(forgotten))?;
-    disk.sync(&segment.file, &draft)?;
+    disk.order(&segment.file, &draft)?;
     Ok(segment)
 }
 
@@ -315,9 +336,10 @@ fn name(disk: &Disk, folder: &Path, segment: &mut Segment) -> Result<(), Fault> 
     Ok(())
 }
 
-/// What a segment has ahead.
-fn ahead(durability: Durability) -> Ahead {
+/// What a segment has ahead. A drive is written by its syncs, and not in place.
+fn ahead(disk: &Disk, durability: Durability) -> Ahead {
     match durability {
+        _ if disk.keeps_order() => Ahead::Nothing,
         Durability::Disk => Ahead::Zeros(0),
         Durability::Process => Ahead::Blocks(0),
     }

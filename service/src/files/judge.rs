@@ -5,11 +5,9 @@
 //! follow, and no sector of it is zero up to the next of them. All else is torn, nobody was told that it is there,
 //! and it is cut.
 
-use super::disk::io_fault;
+use super::disk::{io_fault, Disk};
 use super::records::{self, END, HEAD, HEADER, LAST, MARK, MARK_LENGTHS, OWN};
 use super::Fault;
-use std::fs::File;
-use std::io::{Read, Seek, SeekFrom};
 use std::path::Path;
 
 const SECTOR: u64 = 512;
@@ -21,12 +19,8 @@ pub const CHANGED: &str =
     put a copy of this file in its place, or move the folder away and start with a new one";
 
 /// Passes where what begins at `at` in the last file of its kind was torn.
-pub fn is_torn(path: &Path, at: u64) -> Result<(), Fault> {
-    let mut rest = Vec::new();
-    let mut file = File::open(path).map_err(io_fault(path))?;
-    file.seek(SeekFrom::Start(at))
-        .and_then(|_| file.read_to_end(&mut rest))
-        .map_err(io_fault(path))?;
+pub fn is_torn(disk: &Disk, path: &Path, at: u64) -> Result<(), Fault> {
+    let rest = disk.open(path)?.read_from(at).map_err(io_fault(path))?;
     if was_changed(at, &rest) {
         return Err(Fault::Damaged {
             path: path.into(),

@@ -2,6 +2,7 @@
 
 pub mod dead;
 mod disk;
+pub mod drive;
 pub mod folder;
 pub mod journal;
 mod judge;
@@ -18,9 +19,11 @@ pub use dead::Dead;
 pub(crate) use disk::FAILED;
 #[cfg(test)]
 pub(crate) use disk::{Call, Disk};
+pub use drive::{Drive, Lost};
 pub use folder::{Folder, FolderFault, KnownSink, MOST_SLOTS};
 pub use journal::{Body, Held, Journal, Names, NoNames, OfRun, Points, Post, Replayed, Ticket};
 pub use outbox::{Outbox, Runs, Series};
+pub(crate) use room::Room;
 pub use segment::Dropped;
 
 use std::sync::{Mutex, MutexGuard, PoisonError};
@@ -34,7 +37,7 @@ pub enum Durability {
     Process,
 }
 
-/// A fault of a file. The process ends by it: the next start reads what is there.
+/// A fault of a file. The process ends by it, but where only a slot is lost: the next start reads what is there.
 #[derive(Debug, thiserror::Error)]
 pub enum Fault {
     #[error("{path}: {source}")]
@@ -49,6 +52,9 @@ pub enum Fault {
         at: u64,
         what: String,
     },
+    /// The slot is another instance's: it ends here, and nothing else does.
+    #[error(transparent)]
+    Lost(#[from] Lost),
 }
 
 /// A lock whose holder panicked is taken as it is: what it guards is changed only once the files have it.

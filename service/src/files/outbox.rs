@@ -8,31 +8,36 @@ mod damaged;
 mod moved;
 mod open;
 mod owned;
+mod reading;
 mod rows;
 mod state;
 mod writer;
+mod written;
 
 use super::disk::Disk;
-use super::records::Which;
+use super::drive::Lost;
 use super::room::Room;
-use super::segment::{self, Ahead, Dropped, Segment};
-use super::{lock, seconds, Fault};
+use super::segment::{self, Dropped};
+use super::{lock, Fault};
 use crate::otlp::series::{self, NotForwarded, SeriesKey};
 use crate::runs::{Run, Since};
 use crate::work::blocking;
-use changes::{Change, Group};
-use rows::Snapshot;
+use changes::Change;
 use state::{Age, State};
 use std::collections::{BTreeSet, HashMap, HashSet};
 use std::io;
-use std::path::{Path, PathBuf};
+use std::path::PathBuf;
+use std::sync::atomic::{AtomicU64, Ordering::SeqCst};
 use std::sync::{Arc, Mutex};
-use std::time::{Duration, Instant};
+use std::time::Duration;
 use tokio::sync::Notify;
 use writer::Writer;
 
 /// A segment that is as long, and twice its snapshot, is followed by another.
 const SEGMENT: u64 = 16 << 20;
+/// How long before a delivery the slot has to have been this instance's for certain. A sink that forgets keys may count
+/// what another instance delivers too.
+const OURS: Duration = Duration::from_millis(if cfg!(test) { 300 } else { 10_000 });
 
 /// What is known of a series.
 #[derive(Clone, Debug, PartialEq, Eq)]
@@ -63,7 +68,8 @@ pub struct Waiting {
 type ReadEnds = fn(&[u8]) -> Result<Vec<(SeriesKey, u64)>, NotForwarded>;
 
 /// Shared by the keeper, who commits, and the delivery, which acknowledges. What only asks never waits for the disk;
-/// what writes may wait for a sync of another call.
+/// what writes may wait for a sync of another call. With a drive it does not: what was written is durable once it is settled,
+/// and is not delivered before.
 pub struct Outbox {
     disk: Disk,
     folder: PathBuf,
@@ -74,6 +80,8 @@ pub struct Outbox {
     writer: Mutex<Writer>,
     state: Mutex<State>,
     arrived: Notify,
+    /// Requests before this number are durable.
+    settled: AtomicU64,
     /// Which segment the last run wrote to, and up to where.
     ended: (PathBuf, u64),
     dropped: Vec<Dropped>,
@@ -136,87 +144,6 @@ impl Outbox {
         lock(&self.state).quarantined.contains(sender)
     }
 
-    /// As `commit`, of a group without runs.
-    #[cfg(test)]
-    pub fn commit(&self, bodies: &[Vec<u8>], journal: u64) -> Result<(), Fault> {
-        self.commit_with(bodies, journal, Runs::new()).map(drop)
-    }
-
-    /// Makes a group durable, whole or not at all. Posts of the journal's segments before `journal` are in it or in earlier
-    /// ones. Of the runs those count whose series the group has: these are returned.
-    pub fn commit_with(&self, bodies: &[Vec<u8>], journal: u64, mut runs: Runs) -> Result<Runs, Fault> {
-        let mut ends: HashMap<SeriesKey, u64> = HashMap::new();
-        let mut items = Vec::new();
-        for body in bodies {
-            for (key, end) in (self.read_ends)(body).map_err(|error| self.unreadable(error))? {
-                ends.entry(key)
-                    .and_modify(|known| *known = end.max(*known))
-                    .or_insert(end);
-            }
-            items.push(rows::deflated(body));
-        }
-        runs.retain(|key, _| ends.contains_key(key));
-        let saved = runs.clone();
-        let mut writer = lock(&self.writer);
-        let (group, bytes) = {
-            let state = lock(&self.state);
-            let group = Group {
-                first: state.next,
-                epoch: state.next_epoch.clone(),
-                since: seconds(),
-                heard: Some(Instant::now()),
-                journal,
-                ends,
-                runs,
-            };
-            let bytes = rows::group(&group, &items, &state);
-            (group, bytes)
-        };
-        self.write(&mut writer, &bytes.records, true, |begin| {
-            let items = begin + bytes.items.start as u64..begin + bytes.items.end as u64;
-            Change::Group {
-                group,
-                count: bodies.len() as u64,
-                segment: 0,
-                items,
-            }
-        })?;
-        self.arrived.notify_one();
-        Ok(saved)
-    }
-
-    fn unreadable(&self, error: NotForwarded) -> Fault {
-        let source = io::Error::new(io::ErrorKind::InvalidData, error.to_string());
-        Fault::Io {
-            path: self.folder.clone(),
-            source,
-        }
-    }
-
-    /// Makes durable who owns series.
-    pub fn own(&self, owners: HashMap<SeriesKey, String>) -> Result<(), Fault> {
-        self.change(true, |state| {
-            let owners: Vec<_> = owners
-                .into_iter()
-                .filter(|(key, _)| state.series.contains_key(key))
-                .collect();
-            (!owners.is_empty()).then_some(Change::Own(owners))
-        })
-        .map(drop)
-    }
-
-    pub fn quarantine(&self, sender: &str) -> Result<(), Fault> {
-        let change = || Change::Quarantine(sender.into());
-        self.change(true, |state| (!state.quarantined.contains(sender)).then(change))
-            .map(drop)
-    }
-
-    pub fn lift(&self, sender: &str) -> Result<(), Fault> {
-        let change = || Change::Lift(sender.into());
-        self.change(true, |state| state.quarantined.contains(sender).then(change))
-            .map(drop)
-    }
-
     /// Leaves out the series that no group had for so long, but those in `keep`. Which these were.
     pub fn forget(&self, age: Duration, keep: &HashSet<SeriesKey>) -> Result<Vec<SeriesKey>, Fault> {
         self.forget_of(Age::from_now(age), keep)
@@ -270,8 +197,8 @@ impl Outbox {
                 continue;
             };
             let waiting = front.waiting.clone();
-            let path = segment::path(&self.folder, front.segment);
-            match blocking(move || rows::read_item(&path, &front)).await {
+            let (disk, path) = (self.disk.clone(), segment::path(&self.folder, front.segment));
+            match blocking(move || rows::read_item(&disk, &path, &front)).await {
                 Err(fault @ Fault::Damaged { .. }) => self.note_changed(&fault).await,
                 read => {
                     self.note_sound();
@@ -279,6 +206,26 @@ impl Outbox {
                 }
             }
         }
+    }
+
+    /// Makes durable all that was written. In a folder it is already.
+    pub fn settle(&self) -> Result<(), Fault> {
+        if self.disk.keeps_order() {
+            let next = lock(&self.state).next;
+            self.disk.sync_folder(&self.folder)?;
+            self.settled.fetch_max(next, SeqCst);
+        }
+        Ok(())
+    }
+
+    /// Whether this request may be delivered now: it is durable, and the slot was this instance's a moment ago.
+    pub fn may_deliver(&self, number: u64) -> bool {
+        !self.disk.keeps_order() || number < self.settled.load(SeqCst) && self.disk.ours_before() < OURS
+    }
+
+    /// Returns once another instance has the slot, or may have.
+    pub async fn lost(&self) -> Lost {
+        self.disk.lost().await
     }
 
     /// Notes that the sink has the first waiting request, or that it lies in `dead/`. Lost, it is sent again under the same key.
@@ -300,7 +247,7 @@ impl Outbox {
                 source,
             });
         };
-        let length = rows::item_length(&segment::path(&self.folder, front.segment), &front)?;
+        let length = rows::item_length(&self.disk, &segment::path(&self.folder, front.segment), &front)?;
         let taken = self.change(false, |state| {
             (number > state.acknowledged).then_some(Change::Acknowledge { number, length })
         })?;
@@ -308,113 +255,6 @@ impl Outbox {
             self.sweep()?;
         }
         Ok(())
-    }
-
-    /// Writes what is to be changed, and then changes it; whether there was something.
-    fn change(&self, sync: bool, make: impl FnOnce(&State) -> Option<Change>) -> Result<bool, Fault> {
-        let mut writer = lock(&self.writer);
-        let (change, record) = {
-            let state = lock(&self.state);
-            let Some(change) = make(&state) else {
-                return Ok(false);
-            };
-            let record = rows::record(&change, &state);
-            (change, record)
-        };
-        self.write(&mut writer, &record, sync, |_| change)?;
-        Ok(true)
-    }
-
-    fn write(
-        &self,
-        writer: &mut Writer,
-        bytes: &[u8],
-        sync: bool,
-        change: impl FnOnce(u64) -> Change,
-    ) -> Result<(), Fault> {
-        writer.begin()?;
-        self.room.use_up(bytes.len() as u64);
-        let begin = writer.segment.put(&[bytes])?;
-        if sync {
-            writer.segment.sync()?;
-        }
-        lock(&self.state).apply(change(begin).in_segment(writer.segment.number));
-        // Else a change of this record can't be told from one that was torn.
-        writer.segment.mark_last()?;
-        if writer.is_full(self.longest) {
-            self.begin_segment(writer)?;
-        }
-        writer.failed = false;
-        Ok(())
-    }
-
-    /// Ends the segment and begins another, with a snapshot.
-    fn begin_segment(&self, writer: &mut Writer) -> Result<(), Fault> {
-        writer.segment.end()?;
-        writer.segment.sync()?;
-        let number = writer.segment.number + 1;
-        let snapshot = lock(&self.state).snapshot();
-        writer.go_on_in(begin(&self.disk, &self.folder, number, &snapshot)?);
-        self.delete_taken(writer)
-    }
-
-    /// Deletes the segments that no waiting request is in, once it is durable that the sink has theirs.
-    fn sweep(&self) -> Result<(), Fault> {
-        let mut writer = lock(&self.writer);
-        writer.begin()?;
-        writer.segment.sync()?;
-        self.delete_taken(&writer)?;
-        writer.failed = false;
-        Ok(())
-    }
-
-    fn delete_taken(&self, writer: &Writer) -> Result<(), Fault> {
-        let last = writer.segment.number;
-        let first = lock(&self.state)
-            .front()
-            .map_or(last, |front| front.segment.min(last));
-        for number in segment::numbers(&self.folder)?
-            .into_iter()
-            .filter(|number| *number < first)
-        {
-            self.disk.remove(&segment::path(&self.folder, number))?;
-        }
-        Ok(())
-    }
-}
-
-/// Makes a segment that begins with a snapshot. It has another name until it is whole.
-fn begin(disk: &Disk, folder: &Path, number: u64, snapshot: &Snapshot) -> Result<Segment, Fault> {
-    let path = segment::path(folder, number);
-    let draft = path.with_extension("draft");
-    if draft.exists() {
-        disk.remove(&draft)?;
-    }
-    let mut segment = Segment::create(disk, draft.clone(), Which::Outbox, number, Ahead::Nothing, None)?;
-    segment.put(&[&snapshot.record()])?;
-    segment.sync()?;
-    disk.rename(&draft, &path)?;
-    disk.sync_folder(folder)?;
-    segment.path = path;
-    Ok(segment)
-}
-
-/// The outbox is closed, so that the next start can tell a changed record from a torn one everywhere in it.
-impl Drop for Outbox {
-    fn drop(&mut self) {
-        let mut writer = lock(&self.writer);
-        if writer.failed {
-            return;
-        }
-        let segment = &mut writer.segment;
-        let ended = segment
-            .sync()
-            .and_then(|()| segment.end())
-            .and_then(|()| segment.sync());
-        drop(writer);
-        if let Err(fault) = ended {
-            self.disk.end(&fault);
-        }
     }
 }
 

@@ -8,10 +8,9 @@
 //!
 //! Other kinds are a file's own. No kind is a byte that JSON or packed points may have, so that no body has a record in it.
 
-use super::disk::io_fault;
+use super::disk::{io_fault, Cursor, Disk};
 use super::Fault;
-use std::fs::File;
-use std::io::{self, BufReader, Read, Seek, SeekFrom};
+use std::io::{self, BufReader, Read, Seek};
 use std::path::{Path, PathBuf};
 
 pub const HEADER: u8 = 1;
@@ -117,7 +116,7 @@ pub enum Next {
 
 /// Reads the records of a file one after the other.
 pub struct Reader {
-    file: BufReader<File>,
+    file: BufReader<Cursor>,
     pub path: PathBuf,
     /// Where the next record begins.
     pub at: u64,
@@ -133,8 +132,14 @@ pub struct Reader {
 
 impl Reader {
     /// Reads up to `end`, where the file is still written, and checks the header.
-    pub fn open(path: &Path, which: Which, number: u64, end: Option<u64>) -> Result<(Reader, Next), Fault> {
-        let mut reader = Reader::bare(path, end)?;
+    pub fn open(
+        disk: &Disk,
+        path: &Path,
+        which: Which,
+        number: u64,
+        end: Option<u64>,
+    ) -> Result<(Reader, Next), Fault> {
+        let mut reader = Reader::bare(disk, path, end)?;
         let first = reader.next()?;
         if let Next::Record { kind, bytes, .. } = &first {
             reader.check_header(*kind, bytes, which, number)?;
@@ -142,14 +147,19 @@ impl Reader {
         Ok((reader, first))
     }
 
-    fn bare(path: &Path, end: Option<u64>) -> Result<Reader, Fault> {
-        let file = File::open(path).map_err(io_fault(path))?;
-        let length = file.metadata().map_err(io_fault(path))?.len();
+    fn bare(disk: &Disk, path: &Path, end: Option<u64>) -> Result<Reader, Fault> {
+        Reader::from(disk, path, 0, end, 1 << 16)
+    }
+
+    /// From a place on, so many bytes at a time.
+    fn from(disk: &Disk, path: &Path, at: u64, end: Option<u64>, piece: usize) -> Result<Reader, Fault> {
+        let file = disk.open(path)?;
+        let length = file.length().map_err(io_fault(path))?;
         let end = end.map_or(length, |end| end.min(length));
         Ok(Reader {
-            file: BufReader::with_capacity(1 << 16, file),
+            file: BufReader::with_capacity(piece, Cursor { file, at }),
             path: path.into(),
-            at: 0,
+            at,
             has_marks: false,
             made: 0,
             forgotten: 0,
@@ -248,11 +258,8 @@ impl Reader {
 }
 
 /// Reads one record at a known place: its kind, bytes, and length in the file. `None` where it is not whole.
-pub fn read_at(path: &Path, at: u64) -> Result<Option<(u8, Vec<u8>, u64)>, Fault> {
-    let mut reader = Reader::bare(path, None)?;
-    reader.file = BufReader::with_capacity(HEAD, reader.file.into_inner());
-    reader.file.seek(SeekFrom::Start(at)).map_err(io_fault(path))?;
-    reader.at = at;
+pub fn read_at(disk: &Disk, path: &Path, at: u64) -> Result<Option<(u8, Vec<u8>, u64)>, Fault> {
+    let mut reader = Reader::from(disk, path, at, None, HEAD)?;
     let read = reader.read().map_err(io_fault(path))?;
     Ok(read.map(|(kind, bytes)| (kind, bytes, reader.at - at)))
 }

@@ -58,6 +58,18 @@ impl Room {
         .map_err(io_fault(path))
     }
 
+    /// Of a slot that has no disk: what keeps its files says itself that it is full.
+    pub fn endless() -> Room {
+        Room {
+            look: Box::new(|| Ok((u64::MAX >> 2, 0, u64::MAX))),
+            began: Instant::now(),
+            looked: AtomicU64::new(0),
+            left: AtomicI64::new(i64::MAX >> 2),
+            promised: AtomicI64::new(0),
+            is_full: AtomicBool::new(false),
+        }
+    }
+
     pub(super) fn with(
         look: impl Fn() -> std::io::Result<(u64, u64, u64)> + Send + Sync + 'static,
     ) -> std::io::Result<Room> {

@@ -1,11 +1,10 @@
 //! Segments: numbered files of a folder, of which the last is written.
 
-use super::disk::{io_fault, Disk};
+use super::disk::{io_fault, Disk, File};
+use super::judge::CHANGED;
 use super::records::{self, Which, END, MARK, MARK_LENGTHS};
 use super::Fault;
-use std::fs::File;
-use std::io::{ErrorKind, Read, Seek, SeekFrom};
-use std::os::unix::fs::FileExt;
+use std::io::ErrorKind;
 use std::path::{Path, PathBuf};
 use std::sync::Arc;
 
@@ -28,10 +27,9 @@ pub enum Ahead {
 }
 
 /// The numbers of the segments of a folder, ascending.
-pub fn numbers(folder: &Path) -> Result<Vec<u64>, Fault> {
+pub fn numbers(disk: &Disk, folder: &Path) -> Result<Vec<u64>, Fault> {
     let mut numbers = Vec::new();
-    for entry in std::fs::read_dir(folder).map_err(io_fault(folder))? {
-        let name = entry.map_err(io_fault(folder))?.file_name();
+    for name in disk.names(folder)? {
         let number = name
             .to_str()
             .and_then(|name| name.strip_suffix(".seg")?.parse().ok());
@@ -47,14 +45,19 @@ pub fn path(folder: &Path, number: u64) -> PathBuf {
 
 /// Makes durable what an earlier process wrote, and may have been killed before it could. From the segment `first` on
 /// it may also have been told that it could not. Behind such a failure the system has in memory what the disk has not,
-/// and takes it for written: only what is written anew is brought to the disk.
+/// and takes it for written: only what is written anew is brought to the disk. What a drive has was durable before it was
+/// taken.
 pub fn settle(disk: &Disk, folder: &Path, first: u64) -> Result<(), Fault> {
-    for number in numbers(folder)? {
+    if disk.keeps_order() {
+        return Ok(());
+    }
+    for number in numbers(disk, folder)? {
         let path = path(folder, number);
         let is_doubtful = number >= first;
-        let mut open = File::options();
-        let file = open.read(true).write(is_doubtful).open(&path);
-        let file = file.map_err(io_fault(&path))?;
+        let file = match is_doubtful {
+            true => disk.open_to_write(&path)?,
+            false => disk.open(&path)?,
+        };
         if is_doubtful {
             // The same bytes at the same places. Zeros are what was there before.
             each_piece(&file, &path, 0, |at, piece| {
@@ -128,24 +131,24 @@ impl std::fmt::Display for Dropped {
 
 /// Keeps what is in a file from `at` on, but zeros at its end, before it is dropped: in a file beside it, durably.
 pub fn keep_aside(disk: &Disk, path: &Path, at: u64) -> Result<Option<Dropped>, Fault> {
-    let mut rest = Vec::new();
-    let mut file = File::open(path).map_err(io_fault(path))?;
-    file.seek(SeekFrom::Start(at))
-        .and_then(|_| file.read_to_end(&mut rest))
-        .map_err(io_fault(path))?;
+    let mut rest = disk.open(path)?.read_from(at).map_err(io_fault(path))?;
     let Some(last) = rest.iter().rposition(|byte| *byte != 0) else {
         return Ok(None);
     };
+    if disk.keeps_order() {
+        let (path, what) = (path.into(), CHANGED.into());
+        return Err(Fault::Damaged { path, at, what });
+    }
     rest.truncate(last + 1);
     let stem = path.file_stem().unwrap_or_default().to_string_lossy();
     let mut kept = path.with_file_name(format!("{stem}-{at}.torn"));
     let mut number = 1;
     // An earlier start may have ended after it.
-    while std::fs::read(&kept).is_ok_and(|there| there != rest) {
+    while is_other(disk, &kept, &rest)? {
         number += 1;
         kept = path.with_file_name(format!("{stem}-{at}-{number}.torn"));
     }
-    if !kept.exists() {
+    if !disk.has(&kept)? {
         disk.put_file(&kept, &rest)?;
     }
     let dropped = Dropped {
@@ -159,17 +162,24 @@ pub fn keep_aside(disk: &Disk, path: &Path, at: u64) -> Result<Option<Dropped>, 
     Ok(Some(dropped))
 }
 
+/// Whether a file is there that has other bytes.
+fn is_other(disk: &Disk, path: &Path, bytes: &[u8]) -> Result<bool, Fault> {
+    let Some(file) = disk.find(path)? else {
+        return Ok(false);
+    };
+    Ok(file.read_from(0).is_ok_and(|there| there != bytes))
+}
+
 /// Closes the last segment of an earlier run at `at`. What was torn behind becomes zeros, and the file stays as long:
 /// one that is shorter than it was made is a fault.
 pub fn close_at(disk: &Disk, path: &Path, at: u64) -> Result<(), Fault> {
-    let mut open = File::options();
-    let file = open.read(true).write(true).open(path).map_err(io_fault(path))?;
+    let file = disk.open_to_write(path)?;
     each_piece(&file, path, at, |at, piece| {
         disk.write_at(&file, path, &[&ZEROS[..piece.len()]], at)
     })?;
-    disk.sync(&file, path)?;
+    disk.order(&file, path)?;
     disk.write_at(&file, path, &[&mark(END, &[at])], at)?;
-    disk.sync(&file, path)
+    disk.order(&file, path)
 }
 
 fn mark(kind: u8, numbers: &[u64]) -> Vec<u8> {
@@ -326,17 +336,21 @@ impl Segment {
         Ok(())
     }
 
-    /// Notes that all before a place is durable, and that the file is so long.
+    /// Notes that all before a place is durable, and that the file is so long. A drive needs no mark of that: it has nothing
+    /// that is torn.
     pub fn note_durable(&mut self, at: u64, length: u64) {
+        if self.disk.keeps_order() {
+            return;
+        }
         self.durable = self.durable.max(at);
         if let Some(says) = &mut self.says {
             says.length = says.length.max(length);
         }
     }
 
-    /// Makes all durable that was put.
-    pub fn sync(&mut self) -> Result<(), Fault> {
-        self.disk.sync(&self.file, &self.path)?;
+    /// Makes all durable that was put, before anything that comes next.
+    pub fn order(&mut self) -> Result<(), Fault> {
+        self.disk.order(&self.file, &self.path)?;
         self.note_durable(self.at, self.length());
         Ok(())
     }
@@ -378,13 +392,10 @@ mod tests {
         );
         let written = std::fs::read(&path).unwrap();
         assert!(written.ends_with(&parts.concat().repeat(300)));
-        let can = fallocate(
-            segment.file.as_raw_fd(),
-            FallocateFlags::FALLOC_FL_KEEP_SIZE,
-            0,
-            1,
-        )
-        .is_ok();
+        let File::OfFolder(file) = &*segment.file else {
+            panic!("it is in a folder")
+        };
+        let can = fallocate(file.as_raw_fd(), FallocateFlags::FALLOC_FL_KEEP_SIZE, 0, 1).is_ok();
         assert!(
             !can || there.blocks() * 512 >= taken,
             "{} blocks for {taken}",

@@ -78,6 +78,7 @@ fn checkpoint(slot: &Slot, carried: Vec<Vec<u8>>) -> Result<Checkpointed, Troubl
         Ok(group) => {
             let (requests, saved) = commit(slot, &bodies, group)?;
             slot.runs.lock().saved(&saved);
+            slot.outbox.settle()?;
             Ok((Vec::new(), Ok(requests)))
         }
         Err(refused) => Ok((bodies, Err(refused))),
@@ -151,7 +152,8 @@ fn turn(slot: &Slot, runs: &State) -> Group {
 }
 
 /// Journal first, then outbox: a group is committed once all its posts are on the disk, and so is what no flush takes. How many
-/// requests it has, and which runs.
+/// requests it has, and which runs. Where a drive keeps that order by itself, nothing is waited for: who has a lock may call
+/// it, and settles the outbox without.
 pub(super) fn commit(slot: &Slot, bodies: &[Vec<u8>], group: Group) -> Result<(u64, Runs), Fault> {
     let Group {
         posts,

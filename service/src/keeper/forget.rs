@@ -50,7 +50,7 @@ fn forget(slot: &Arc<Slot>, age: Duration) -> Result<Vec<Vec<u8>>, Trouble> {
     slot.metrics.forgotten_series.inc_by(forgotten);
     let filled = match fill(slot, &mut fresh, || false) {
         Ok(filled) => filled.unwrap_or_default(),
-        Err(Trouble::File(fault)) => return Err(fault.into()),
+        Err(trouble @ (Trouble::File(_) | Trouble::Lost(_))) => return Err(trouble),
         // It knows more series than the files have, which is no fault.
         Err(why) => {
             stays(slot, &why);
@@ -63,6 +63,7 @@ fn forget(slot: &Arc<Slot>, age: Duration) -> Result<Vec<Vec<u8>>, Trouble> {
     drop(book);
     drop(runs);
     drop(old); // without the lock: it has much to give back
+    slot.outbox.settle()?;
     let pause = &slot.metrics.checkpoint_pause_seconds;
     pause.observe(began.elapsed().as_secs_f64());
     let number = slot.number();

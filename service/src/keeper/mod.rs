@@ -16,7 +16,7 @@ mod run;
 mod series;
 
 use crate::core::Refused;
-use crate::files::Fault;
+use crate::files::{Fault, Lost};
 use crate::otlp::Outcome;
 use crate::slot::Slot;
 use std::sync::Arc;
@@ -56,7 +56,10 @@ pub enum Done {
 pub enum Trouble {
     /// Only a new start knows what is on the disk.
     #[error("{0}")]
-    File(#[from] Fault),
+    File(Fault),
+    /// Another instance has the slot, or may have. Nothing but the slot ends.
+    #[error(transparent)]
+    Lost(#[from] Lost),
     /// It was tried often enough. The journal has all.
     #[error("there is no memory to flush the book: nothing is lost, since the journal has all that was taken; give a greater --book-memory")]
     NoMemory,
@@ -66,6 +69,15 @@ pub enum Trouble {
     /// A fresh book does not take what the files have.
     #[error("{0}")]
     NotFilled(String),
+}
+
+impl From<Fault> for Trouble {
+    fn from(fault: Fault) -> Trouble {
+        match fault {
+            Fault::Lost(lost) => Trouble::Lost(lost),
+            fault => Trouble::File(fault),
+        }
+    }
 }
 
 /// Gives orders to a keeper.

@@ -2,6 +2,7 @@
 
 use super::fill::{fill, Filled};
 use super::{Done, Keeper, Order, Trouble};
+use crate::files::Lost;
 use crate::switch::Switch;
 use crate::work::blocking;
 use std::time::{Duration, Instant};
@@ -23,6 +24,7 @@ enum Event {
     Hurried,
     Ordered(Order, oneshot::Sender<Done>),
     Stop,
+    Lost(Lost),
 }
 
 impl Keeper {
@@ -30,7 +32,14 @@ impl Keeper {
     /// during the start leaves posts in the journal alone: the next start puts them in.
     pub async fn run(mut self, mut stop: watch::Receiver<bool>) -> Result<(), Trouble> {
         let ended = self.serve(&mut stop).await;
-        self.slot.stop();
+        match ended {
+            Err(Trouble::Lost(_)) => {
+                self.slot.lose();
+                let slot = self.slot.number();
+                tracing::warn!(slot, "slot {slot} is another instance's: it ends here");
+            }
+            _ => self.slot.stop(),
+        }
         ended
     }
 
@@ -50,10 +59,14 @@ impl Keeper {
                 Event::Hurried if self.put_off > 0 => {}
                 Event::Hurried => drop(self.checkpoint().await?),
                 Event::Ordered(order, to) => {
-                    // Who ordered it may not wait any more.
-                    let _ = to.send(self.carry_out(order).await?);
+                    let done = self.carry_out(order).await?;
+                    // Also of what was refused: by a slot that is another's nothing is said.
+                    let outbox = self.slot.outbox.clone();
+                    blocking(move || outbox.settle()).await?;
+                    let _ = to.send(done); // who ordered it may not wait any more
                 }
                 Event::Stop => return self.finish().await,
+                Event::Lost(lost) => return Err(lost.into()),
             }
         }
     }
@@ -75,7 +88,7 @@ impl Keeper {
     pub(super) async fn start(&mut self, stop: &watch::Receiver<bool>) -> Result<bool, Trouble> {
         let began = Instant::now();
         // What is read of the journal has to be there.
-        self.slot.journal.durable(self.slot.journal.now()).await;
+        self.slot.journal.durable(self.slot.journal.now()).await?;
         let (slot, stop) = (self.slot.clone(), stop.clone());
         let filled = blocking(move || fill(&slot, &mut slot.core.lock(), || *stop.borrow())).await?;
         let Some(Filled { posts, carried, runs }) = filled else {
@@ -104,6 +117,7 @@ impl Keeper {
     ) -> Event {
         tokio::select! {
             biased;
+            lost = self.slot.journal.lost() => Event::Lost(lost),
             () = stop.wait_true() => Event::Stop,
             Some((order, to)) = self.orders.recv() => Event::Ordered(order, to),
             () = self.slot.crowded.notified() => Event::Crowded,

@@ -1,12 +1,14 @@
 //! What a keeper does over files: in which order, while a disk is slow, over restarts, and where series are forgotten.
 
+mod cumulative;
 mod forget;
+mod moved;
 mod runs;
 mod stall;
 
 use super::*;
 use crate::core::Core;
-use crate::files::{Call, Disk, Durability, Folder};
+use crate::files::{Call, Disk, Durability, Folder, Journal, Outbox};
 use crate::metrics::Metrics;
 use std::path::{Path, PathBuf};
 use std::sync::atomic::{AtomicBool, Ordering::SeqCst};
@@ -32,15 +34,20 @@ impl Run {
 
     async fn begin_in(folder: Folder, settings: Settings) -> Run {
         let (journal, outbox) = folder.slot(0).unwrap();
+        let run = Run::over(journal, outbox, settings);
+        while !run.slot.is_ready() {
+            tokio::time::sleep(Duration::from_millis(5)).await;
+        }
+        run
+    }
+
+    fn over(journal: Journal, outbox: Outbox, settings: Settings) -> Run {
         let metrics = Arc::new(Metrics::new().unwrap());
         let core = Core::new(1).unwrap();
-        let slot = Slot::new(0, Arc::new(folder), journal, Arc::new(outbox), metrics, core);
+        let slot = Slot::new(0, journal, Arc::new(outbox), metrics, core);
         let (keeper, orders) = Keeper::new(slot.clone(), settings);
         let (stop, stopped) = watch::channel(false);
         let running = tokio::spawn(keeper.run(stopped));
-        while !slot.is_ready() {
-            tokio::time::sleep(Duration::from_millis(5)).await;
-        }
         Run {
             slot,
             orders,

@@ -6,7 +6,7 @@ use crate::otlp::Outcome;
 const UNREADABLE: &str = "unreadable";
 
 /// What an answer's text begins with, and what is to be done.
-const REASONS: [(&str, &str); 31] = [
+const REASONS: [(&str, &str); 33] = [
     (
         "out of order",
         "right for a repeat: it was taken before. If each post of a sender gets it, its clock was set back",
@@ -82,6 +82,14 @@ const REASONS: [(&str, &str); 31] = [
         "look at the disk, its controller or its network (dmesg)",
     ),
     (
+        "the store does not answer",
+        "look at the store's server, its standby and the network",
+    ),
+    (
+        "this slot is being moved",
+        "this ends by itself once another instance has it",
+    ),
+    (
         "too many series",
         "shorten --forget-series, drop an attribute, or raise --most-series",
     ),
@@ -129,7 +137,7 @@ mod tests {
     use super::*;
     use crate::core::Refused;
     use crate::intake::refusal::Refusal;
-    use crate::slot::{NO_ANSWER, NO_OWNER, NO_ROOM};
+    use crate::slot::{MOVED, NO_ANSWER, NO_OWNER, NO_ROOM, NO_STORE};
 
     fn said(message: impl ToString) -> Option<&'static str> {
         of(&Outcome::Refused {
@@ -167,7 +175,15 @@ mod tests {
             Refusal::TooLong,
             Refusal::TooManyBytes,
         ];
-        let of_slot = [NO_ANSWER, NO_OWNER, NO_ROOM, "recovering", "stopping"];
+        let of_slot = [
+            NO_ANSWER,
+            NO_STORE,
+            NO_OWNER,
+            NO_ROOM,
+            MOVED,
+            "recovering",
+            "stopping",
+        ];
         let texts = of_book.iter().map(ToString::to_string);
         let texts = texts.chain(of_intake.iter().map(ToString::to_string));
         let texts: Vec<String> = texts.chain(of_slot.map(String::from)).collect();

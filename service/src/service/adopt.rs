@@ -119,7 +119,7 @@ async fn rest(
     leave_others(&outbox, number, slots)?;
     let metrics = Arc::new(Metrics::new().context("metrics")?); // nobody sees them
     let core = Core::new(most_series).context("there is no book")?;
-    let slot = Slot::new(number, folder.clone(), journal, Arc::new(outbox), metrics, core);
+    let slot = Slot::new(number, journal, Arc::new(outbox), metrics, core);
     match Keeper::new(slot, settings.clone()).0.drain(stop.clone()).await? {
         true => Ok(()),
         false => Err(refused(

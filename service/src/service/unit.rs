@@ -3,7 +3,7 @@
 
 use super::{Ended, Settings};
 use crate::core::Core;
-use crate::files::{Dead, Fault, Folder, Journal, Outbox};
+use crate::files::{Dead, Fault, Journal, Outbox};
 use crate::keeper::{Keeper, Orders, Trouble};
 use crate::operate::{self, Left};
 use crate::sinks::{self, Delivery, Sink};
@@ -24,7 +24,6 @@ pub(super) const LAST_CHANGES: Duration = Duration::from_secs(2);
 /// Where a slot is kept.
 pub(super) struct Files {
     pub number: u16,
-    pub folder: Arc<Folder>,
     pub journal: Journal,
     pub outbox: Arc<Outbox>,
     pub dead: Arc<Dead>,
@@ -39,6 +38,14 @@ pub(super) struct Opened {
     orders: Orders,
     dead: Arc<Dead>,
     former: Vec<(u16, Arc<Outbox>)>,
+}
+
+/// How a slot ended that nobody told to end.
+#[derive(Debug)]
+pub(super) enum End {
+    /// Another instance has it: nothing else ends.
+    Lost,
+    Failed(Ended),
 }
 
 /// A slot at work. All of it ends where this is dropped.
@@ -63,13 +70,12 @@ impl Opened {
         })?;
         let Files {
             number,
-            folder,
             journal,
             outbox,
             dead,
             former,
         } = files;
-        let slot = Slot::of(number, folder, journal, outbox, core, shared);
+        let slot = Slot::of(number, journal, outbox, core, shared);
         slot.runs.set(settings.runs);
         let (keeper, orders) = Keeper::new(slot.clone(), settings.keeping());
         Ok(Opened {
@@ -126,10 +132,10 @@ impl Opened {
 
 impl Unit {
     /// Returns once a part has ended that nobody told to end.
-    pub async fn ended(&mut self) -> Ended {
+    pub async fn ended(&mut self) -> End {
         tokio::select! {
-            Some(end) = self.keeper.join_next() => cause("the keeper", end),
-            Some(end) = self.deliveries.join_next() => cause("a delivery", end),
+            Some(end) = self.keeper.join_next() => End::of("the keeper", end),
+            Some(end) = self.deliveries.join_next() => End::of("a delivery", end),
         }
     }
 
@@ -153,18 +159,47 @@ impl Unit {
 }
 
 /// Waits so long for parts that were told to end: a fault of one of them.
-async fn last<E: Into<Ended> + 'static>(
+async fn last<E: Into<Ended> + OfSlot + 'static>(
     parts: &mut JoinSet<Result<(), E>>,
     part: &str,
     until: Instant,
 ) -> Result<(), Ended> {
     let mut ended = Ok(());
     while let Ok(Some(end)) = tokio::time::timeout_at(until, parts.join_next()).await {
-        if !matches!(end, Ok(Ok(()))) {
-            ended = ended.and(Err(cause(part, end)));
+        if matches!(end, Ok(Ok(()))) {
+            continue;
+        }
+        if let End::Failed(why) = End::of(part, end) {
+            ended = ended.and(Err(why));
         }
     }
     ended
+}
+
+/// What may end a slot and nothing else.
+trait OfSlot {
+    fn is_of_slot(&self) -> bool;
+}
+
+impl OfSlot for Trouble {
+    fn is_of_slot(&self) -> bool {
+        matches!(self, Trouble::Lost(_))
+    }
+}
+
+impl OfSlot for Fault {
+    fn is_of_slot(&self) -> bool {
+        matches!(self, Fault::Lost(_))
+    }
+}
+
+impl End {
+    fn of<E: Into<Ended> + OfSlot>(part: &str, end: Result<Result<(), E>, JoinError>) -> End {
+        match end {
+            Ok(Err(why)) if why.is_of_slot() => End::Lost,
+            end => End::Failed(cause(part, end)),
+        }
+    }
 }
 
 pub(super) fn cause<E: Into<Ended>>(part: &str, end: Result<Result<(), E>, JoinError>) -> Ended {

@@ -1,6 +1,6 @@
 //! The slots that are at work in this process. They come and go while it goes on; a folder's one stays.
 
-use super::unit::{cause, Files, Opened, Unit};
+use super::unit::{cause, End, Files, Opened, Unit};
 use super::{Ended, Settings};
 use crate::operate;
 use crate::remarks::{Remarks, Teller};
@@ -17,11 +17,11 @@ use tokio::task::{JoinError, JoinHandle, JoinSet};
 pub(super) struct AtWork {
     of_desk: Arc<operate::Units>,
     tasks: Mutex<BTreeMap<u16, Task>>,
-    ends: mpsc::UnboundedSender<(u16, Ended)>,
+    ends: mpsc::UnboundedSender<(u16, End)>,
 }
 
 /// What ended by itself.
-pub(super) type Ends = mpsc::UnboundedReceiver<(u16, Ended)>;
+pub(super) type Ends = mpsc::UnboundedReceiver<(u16, End)>;
 
 /// It ends where this is dropped.
 struct Task {
@@ -90,11 +90,10 @@ impl AtWork {
     }
 
     /// Ends a slot that is another's: it answers and delivers nothing any more.
-    #[allow(dead_code)] // a folder's slot is never another's
     pub fn lose(&self, number: u16) {
         let task = self.tasks().remove(&number);
         if let Some(unit) = self.of_desk.remove(number) {
-            unit.slot.stop();
+            unit.slot.lose();
         }
         drop(task);
     }
@@ -112,7 +111,7 @@ async fn run(
     number: u16,
     mut unit: Unit,
     mut stop: watch::Receiver<bool>,
-    ends: mpsc::UnboundedSender<(u16, Ended)>,
+    ends: mpsc::UnboundedSender<(u16, End)>,
 ) -> Result<bool, Ended> {
     tokio::select! {
         biased;
@@ -125,7 +124,6 @@ async fn run(
 }
 
 /// What opens slots, and ends them while posts go on.
-#[allow(dead_code)] // a folder's slot is opened at the start, and stays
 pub(super) struct Units {
     pub settings: Arc<Settings>,
     pub shared: Arc<Shared>,
@@ -136,7 +134,6 @@ pub(super) struct Units {
     pub at_work: Arc<AtWork>,
 }
 
-#[allow(dead_code)]
 impl Units {
     /// Has a slot here: its posts are answered 503 until its book is filled.
     pub async fn open(&self, files: Files) -> Result<(), Ended> {

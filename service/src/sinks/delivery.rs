@@ -2,7 +2,7 @@
 
 use super::{backoff, Fate, Forwarded, Sink};
 use crate::files::outbox::Waiting;
-use crate::files::{Dead, Fault, Outbox};
+use crate::files::{Dead, Fault, Lost, Outbox};
 use crate::metrics::Metrics;
 use crate::switch::Switch;
 use crate::work::blocking;
@@ -25,8 +25,8 @@ pub struct Delivery {
     pub tries: u64,
 }
 
-/// Brings a slot's outbox to the sink. It returns by a fault of a file, or once it is told to stop; what changes a file
-/// is then done to its end first, so that its fault is told.
+/// Brings a slot's outbox to the sink. It returns by a fault of a file, once it is told to stop, or once the slot is lost; what
+/// changes a file is then done to its end first, so that its fault is told.
 pub async fn deliver(
     slot: u16,
     outbox: Arc<Outbox>,
@@ -54,6 +54,9 @@ pub async fn deliver(
 trait Store: Sync {
     fn epoch(&self) -> String;
     fn first(&self) -> impl Future<Output = Result<(Waiting, Vec<u8>), Fault>> + Send;
+    /// Returns once a request may be sent: it is durable, and the slot is this instance's.
+    fn may_deliver(&self, number: u64) -> impl Future<Output = Result<(), Fault>> + Send;
+    fn lost(&self) -> impl Future<Output = Lost> + Send;
     fn acknowledge(&self, number: u64) -> impl Future<Output = Result<(), Fault>> + Send;
     /// Durable once it returns.
     fn keep(
@@ -78,6 +81,18 @@ impl Store for Files {
 
     async fn first(&self) -> Result<(Waiting, Vec<u8>), Fault> {
         self.outbox.first().await
+    }
+
+    async fn may_deliver(&self, number: u64) -> Result<(), Fault> {
+        if self.outbox.may_deliver(number) {
+            return Ok(());
+        }
+        let outbox = self.outbox.clone();
+        blocking(move || outbox.settle()).await
+    }
+
+    async fn lost(&self) -> Lost {
+        self.outbox.lost().await
     }
 
     async fn acknowledge(&self, number: u64) -> Result<(), Fault> {
@@ -151,6 +166,8 @@ impl<S: Store> Run<S> {
         loop {
             let key = request.key();
             let held = self.unless_stopped(self.sink.keys().hold(&key)).await?;
+            self.unless_stopped(self.files.may_deliver(request.number))
+                .await??;
             let fate = self.unless_stopped(self.sink.deliver(&request)).await?;
             let outcome = match fate {
                 Fate::Denied { .. } => "denied",
@@ -214,6 +231,7 @@ impl<S: Store> Run<S> {
         tokio::select! {
             biased;
             () = stop.wait_true() => Err(End::Stopped),
+            lost = self.files.lost() => Err(End::Failed(lost.into())),
             done = work => Ok(done),
         }
     }

@@ -10,6 +10,8 @@ pub(crate) enum Phase {
     Serving,
     /// The service is ending: nothing is taken any more.
     Stopping,
+    /// Another instance has the slot.
+    Lost,
 }
 
 pub(super) struct Phases(Mutex<Phase>);
@@ -26,14 +28,21 @@ impl Phases {
     /// Takes posts, unless the service is ending.
     pub fn open(&self) {
         self.go_on(|now| match now {
-            Phase::Stopping => now,
+            Phase::Stopping | Phase::Lost => now,
             _ => Phase::Serving,
         });
     }
 
     /// Refuses posts for ever.
     pub fn stop(&self) {
-        self.go_on(|_| Phase::Stopping);
+        self.go_on(|now| match now {
+            Phase::Lost => now,
+            _ => Phase::Stopping,
+        });
+    }
+
+    pub fn lose(&self) {
+        self.go_on(|_| Phase::Lost);
     }
 
     fn go_on(&self, to: impl FnOnce(Phase) -> Phase) {
@@ -55,5 +64,9 @@ mod tests {
         phases.stop();
         phases.open();
         assert_eq!(phases.now(), Phase::Stopping, "an end is for ever");
+        phases.lose();
+        phases.stop();
+        phases.open();
+        assert_eq!(phases.now(), Phase::Lost);
     }
 }

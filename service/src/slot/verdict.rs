@@ -2,11 +2,13 @@
 //!
 //! `Taken` can't be said to anybody: only `Journal::append` makes a `Journalled` of it, and only what is durable
 //! gives its verdict away. A refusal waits for the journal too: a repeat's `out of order` must not outrun the record
-//! of the first attempt, or the sender would drop a batch that a loss of power then takes.
+//! of the first attempt, or the sender would drop a batch that a loss of power then takes. Where the slot was lost
+//! meanwhile neither is given: what another instance has says it.
 
 use super::posted::Posted;
+use super::MOVED;
 use crate::core::Refused;
-use crate::files::{Journal, Names, Post, Ticket};
+use crate::files::{Journal, Lost, Names, Post, Ticket};
 use crate::otlp::{Causes, OffClock, Outcome};
 use crate::runs::Turned;
 
@@ -75,8 +77,13 @@ impl Journalled {
 
     /// Waits until it may be said.
     pub async fn durable(self, journal: &Journal) -> Outcome {
-        journal.durable(self.ticket).await;
-        self.outcome
+        match journal.durable(self.ticket).await {
+            Ok(()) => self.outcome,
+            Err(Lost) => Outcome::Refused {
+                status: 503,
+                message: MOVED.into(),
+            },
+        }
     }
 }
 

@@ -55,12 +55,12 @@ impl Place {
     pub async fn run_with(&self, settings: Settings) -> Run {
         // Shown where a test fails.
         let _ = tracing_subscriber::fmt().with_test_writer().try_init();
-        let folder = Arc::new(Folder::open(&self.data(), Durability::Process).unwrap());
+        let folder = Folder::open(&self.data(), Durability::Process).unwrap();
         let (journal, outbox) = folder.slot(0).unwrap();
         let (outbox, metrics) = (Arc::new(outbox), Arc::new(Metrics::new().unwrap()));
         let core = Core::new(self.most_series).unwrap();
         let (of_outbox, of_metrics) = (outbox.clone(), metrics.clone());
-        let slot = Slot::by_clock(0, folder, journal, of_outbox, of_metrics, core, self.clock);
+        let slot = Slot::by_clock(0, journal, of_outbox, of_metrics, core, self.clock);
         let (keeper, orders) = Keeper::new(slot.clone(), settings);
         let (stop, stopped) = watch::channel(false);
         let task = tokio::spawn(keeper.run(stopped));

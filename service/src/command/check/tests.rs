@@ -38,7 +38,10 @@ fn killed(data: &Path) -> Result<()> {
     let (next, _) = journal.turn();
     let request = br#"{"resourceMetrics":[]}"#.to_vec();
     outbox.commit(&[request.clone(), request], next)?;
-    std::mem::forget(outbox); // as `kill -9` leaves it
+    let segment = data.join("slot-0/outbox/000000000001.seg");
+    let killed = std::fs::read(&segment)?;
+    drop(outbox);
+    std::fs::write(&segment, killed)?; // as `kill -9` leaves it
     Ok(())
 }
 

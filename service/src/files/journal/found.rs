@@ -2,6 +2,7 @@
 //! not durable otherwise than it was written.
 
 use super::{held, record, Expected, Size, HELD};
+use crate::files::disk::Disk;
 use crate::files::judge::{is_torn, CHANGED};
 use crate::files::records::{self, Next, Reader, Which};
 use crate::files::{segment, Fault};
@@ -25,12 +26,10 @@ pub(super) struct Found {
     pub held: held::List,
 }
 
-pub(super) fn find(folder: &Path, number: u64) -> Result<Found, Fault> {
+pub(super) fn find(disk: &Disk, folder: &Path, number: u64) -> Result<Found, Fault> {
     let path = segment::path(folder, number);
-    let length = std::fs::metadata(&path)
-        .map_err(crate::files::disk::io_fault(&path))?
-        .len();
-    let (mut reader, mut next) = Reader::open(&path, Which::Journal, number, None)?;
+    let length = disk.length(&path)?.unwrap_or(0); // where there is none, the reader says so
+    let (mut reader, mut next) = Reader::open(disk, &path, Which::Journal, number, None)?;
     let has_header = matches!(next, Next::Record { .. });
     let mut size = Size {
         number,
@@ -76,7 +75,7 @@ pub(super) fn find(folder: &Path, number: u64) -> Result<Found, Fault> {
 }
 
 /// Passes where what is there is what an end of the process or a loss of power may leave.
-pub(super) fn check(folder: &Path, found: &[Found], expected: &Expected) -> Result<(), Fault> {
+pub(super) fn check(disk: &Disk, folder: &Path, found: &[Found], expected: &Expected) -> Result<(), Fault> {
     is_not_behind(found, expected)?;
     let reach = expected.reach.max(1);
     let mut needed: Vec<u64> = found.iter().map(|one| one.size.number).collect();
@@ -90,9 +89,11 @@ pub(super) fn check(folder: &Path, found: &[Found], expected: &Expected) -> Resu
     if needed.first().is_some_and(|first| *first > reach) {
         return Err(segment::missing(folder, reach));
     }
-    found.iter().try_for_each(|one| one.check(folder, expected))?;
+    found
+        .iter()
+        .try_for_each(|one| one.check(disk, folder, expected))?;
     let first = found.iter().find(|one| one.size.number == reach);
-    first.map_or(Ok(()), |first| held::check(folder, &first.held))
+    first.map_or(Ok(()), |first| held::check(disk, folder, &first.held))
 }
 
 /// An older outbox would have posts counted again that are in a group.
@@ -112,7 +113,7 @@ fn is_not_behind(found: &[Found], expected: &Expected) -> Result<(), Fault> {
 }
 
 impl Found {
-    fn check(&self, folder: &Path, expected: &Expected) -> Result<(), Fault> {
+    fn check(&self, disk: &Disk, folder: &Path, expected: &Expected) -> Result<(), Fault> {
         let path = segment::path(folder, self.size.number);
         let damaged = |path: PathBuf, at, what: String| Err(Fault::Damaged { path, at, what });
         if self.closed || self.size.number < expected.reach {
@@ -129,7 +130,7 @@ impl Found {
             );
             return damaged(path, length, what);
         }
-        is_torn(&path, self.end)?;
+        is_torn(disk, &path, self.end)?;
         // Each start closes all that is there, durably, before it begins another.
         match expected.begun.is_some_and(|begun| self.size.number < begun) {
             true => damaged(path, self.end, CHANGED.into()),

@@ -8,13 +8,12 @@
 use super::record::{self, Posts};
 use super::said::put_name;
 use super::{lock, Journal, Post, Replayed, Shared, HELD};
-use crate::files::disk::io_fault;
+use crate::files::disk::{io_fault, Disk, File};
 use crate::files::records::{self, Next, Reader, Which};
 use crate::files::Fault;
 use bytes::Bytes;
 use serde::{Deserialize, Serialize};
 use std::collections::{BTreeMap, BTreeSet, HashMap};
-use std::fs::File;
 use std::io;
 use std::path::{Path, PathBuf};
 
@@ -45,7 +44,7 @@ impl Journal {
     /// At a checkpoint, after the flush and the turn to `next`, and once all before it is durable: notes what is held of
     /// these quarantined senders. Posts of theirs in the segments from `first` to before `next` are moved to their own
     /// files; nothing is read where none has posted since it was moved. Of a sender that is quarantined no more nothing
-    /// is held. Durable when this returns, and it counts once `next` is the first segment that is replayed.
+    /// is held. Durable before what comes next, and it counts once `next` is the first segment that is replayed.
     pub fn hold(&self, quarantined: &BTreeSet<String>, first: u64, next: u64) -> Result<(), Fault> {
         let shared = &*self.shared;
         let mut list = lock(&shared.held).get(&first).cloned().unwrap_or_default();
@@ -98,8 +97,8 @@ impl Journal {
                 .map(|sender| path(&shared.folder, sender))
                 .collect()
         };
-        for entry in std::fs::read_dir(&shared.folder).map_err(io_fault(&shared.folder))? {
-            let path = entry.map_err(io_fault(&shared.folder))?.path();
+        for name in shared.disk.names(&shared.folder)? {
+            let path = shared.folder.join(name);
             let is_held = path.extension().is_some_and(|extension| extension == "held");
             if is_held && !wanted.contains(&path) {
                 shared.disk.remove(&path)?;
@@ -151,12 +150,13 @@ pub(super) fn list_of(bytes: &[u8]) -> Option<List> {
 
 /// Gives the posts that count: whether `each` wants more.
 pub(super) fn posts(
+    disk: &Disk,
     folder: &Path,
     list: &List,
     each: &mut impl FnMut(u64, Replayed) -> Result<bool, Fault>,
 ) -> Result<bool, Fault> {
     for (sender, part) in list {
-        if !posts_of(folder, sender, part, each)? {
+        if !posts_of(disk, folder, sender, part, each)? {
             return Ok(false);
         }
     }
@@ -164,12 +164,13 @@ pub(super) fn posts(
 }
 
 fn posts_of(
+    disk: &Disk,
     folder: &Path,
     sender: &str,
     part: &Part,
     each: &mut impl FnMut(u64, Replayed) -> Result<bool, Fault>,
 ) -> Result<bool, Fault> {
-    let (mut reader, first) = Reader::open(&path(folder, sender), Which::Held, 0, Some(part.end))?;
+    let (mut reader, first) = Reader::open(disk, &path(folder, sender), Which::Held, 0, Some(part.end))?;
     let (mut posts, mut left) = (Posts::default(), part.posts);
     let mut next = if first == Next::Stop {
         first
@@ -196,13 +197,10 @@ fn posts_of(
 }
 
 /// Passes where the files of the first segment's record are there, and as long.
-pub(super) fn check(folder: &Path, list: &List) -> Result<(), Fault> {
+pub(super) fn check(disk: &Disk, folder: &Path, list: &List) -> Result<(), Fault> {
     for (sender, part) in list {
         let path = path(folder, sender);
-        let length = match std::fs::metadata(&path) {
-            Err(error) if error.kind() == io::ErrorKind::NotFound => 0,
-            about => about.map_err(io_fault(&path))?.len(),
-        };
+        let length = disk.length(&path)?.unwrap_or(0);
         if length < part.end {
             let what = format!(
                 "this file is missing or was cut: it had {} posts of a quarantined sender, {} bytes. Nothing was deleted: put \
@@ -273,23 +271,15 @@ impl<'a> Moving<'a> {
     /// Behind what counts of a file. What is there of one of which nothing counts goes.
     fn writer(&mut self, sender: &str) -> Result<Writer, Fault> {
         let path = path(&self.shared.folder, sender);
+        let disk = &self.shared.disk;
         let (file, at, waiting) = match self.list.get(sender) {
-            Some(part) => {
-                let mut options = File::options();
-                let file = options
-                    .read(true)
-                    .write(true)
-                    .open(&path)
-                    .map_err(io_fault(&path))?;
-                (file, part.end, Vec::new())
-            }
+            Some(part) => (disk.open_to_write(&path)?, part.end, Vec::new()),
             None => {
-                if path.exists() {
-                    self.shared.disk.remove(&path)?;
+                if disk.has(&path)? {
+                    disk.remove(&path)?;
                 }
                 self.is_new = true;
-                let file = self.shared.disk.create(&path)?;
-                (file, 0, records::header(Which::Held, 0))
+                (disk.create(&path)?, 0, records::header(Which::Held, 0))
             }
         };
         Ok(Writer {
@@ -304,7 +294,7 @@ impl<'a> Moving<'a> {
     fn sync(&mut self) -> Result<(), Fault> {
         for mut writer in std::mem::take(&mut self.open).into_values() {
             writer.write(self.shared)?;
-            self.shared.disk.sync(&writer.file, &writer.path)?;
+            self.shared.disk.order(&writer.file, &writer.path)?;
         }
         Ok(())
     }
@@ -312,7 +302,7 @@ impl<'a> Moving<'a> {
     fn finish(mut self) -> Result<(), Fault> {
         self.sync()?;
         match self.is_new {
-            true => self.shared.disk.sync_folder(&self.shared.folder),
+            true => self.shared.disk.order_folder(&self.shared.folder),
             false => Ok(()),
         }
     }

@@ -78,8 +78,8 @@ impl Journal {
 
 /// Segments that had no name yet.
 fn remove_drafts(disk: &Disk, folder: &Path) -> Result<(), Fault> {
-    for entry in std::fs::read_dir(folder).map_err(io_fault(folder))? {
-        let path = entry.map_err(io_fault(folder))?.path();
+    for name in disk.names(folder)? {
+        let path = folder.join(name);
         if path.extension().is_some_and(|extension| extension == "draft") {
             disk.remove(&path)?;
         }
@@ -93,10 +93,10 @@ fn remove_drafts(disk: &Disk, folder: &Path) -> Result<(), Fault> {
 /// then nothing of the later ones was durable, nobody was told of it, and it goes with what was torn.
 fn close(disk: &Disk, folder: &Path, expected: &Expected) -> Result<(Vec<Found>, Vec<Dropped>), Fault> {
     let mut found = Vec::new();
-    for number in segment::numbers(folder)? {
-        found.push(found::find(folder, number)?);
+    for number in segment::numbers(disk, folder)? {
+        found.push(found::find(disk, folder, number)?);
     }
-    found::check(folder, &found, expected)?;
+    found::check(disk, folder, &found, expected)?;
     segment::settle(disk, folder, expected.reach)?;
     let mut dropped = Vec::new();
     let is_torn = |one: &Found| !one.closed && one.size.number >= expected.reach;
@@ -145,7 +145,7 @@ fn cut(
     } else {
         segment::close_at(disk, &path, end)?;
     }
-    disk.sync_folder(folder)
+    disk.order_folder(folder)
 }
 
 /// Which segment is begun: another one takes the place of a last one that has no post, and those that have none behind
@@ -164,5 +164,5 @@ fn drop_empty(disk: &Disk, folder: &Path, found: &mut Vec<Found>, expected: &Exp
 /// Durable when this returns: not every file system keeps the order of deletions over a loss of power.
 fn remove(disk: &Disk, folder: &Path, number: u64) -> Result<(), Fault> {
     disk.remove(&segment::path(folder, number))?;
-    disk.sync_folder(folder)
+    disk.order_folder(folder)
 }

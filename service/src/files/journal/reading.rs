@@ -26,7 +26,7 @@ impl Shared {
             let place = lock(&self.place);
             (place.segment.number, place.segment.at)
         };
-        for number in segment::numbers(&self.folder)? {
+        for number in segment::numbers(&self.disk, &self.folder)? {
             if !(first..end).contains(&number) || number > last {
                 continue;
             }
@@ -52,12 +52,13 @@ impl Shared {
         // Ahead of its own posts: behind some of them these files would say otherwise what their numbers stand for.
         if segment.is_first && segment.with_held {
             let list = lock(&self.held).get(&segment.number).cloned();
-            if !held::posts(&self.folder, &list.unwrap_or_default(), each)? {
+            if !held::posts(&self.disk, &self.folder, &list.unwrap_or_default(), each)? {
                 return Ok(false);
             }
         }
         let path = segment::path(&self.folder, segment.number);
-        let (mut reader, mut next) = Reader::open(&path, Which::Journal, segment.number, segment.written)?;
+        let (number, written) = (segment.number, segment.written);
+        let (mut reader, mut next) = Reader::open(&self.disk, &path, Which::Journal, number, written)?;
         let mut posts = Posts::default();
         loop {
             match next {

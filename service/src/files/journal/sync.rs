@@ -1,6 +1,7 @@
 //! The journal's syncer: one thread, one `fdatasync` for all that wait.
 
 use super::{lock, Journal, Shared};
+use crate::files::drive::Lost;
 use crate::files::Fault;
 use std::sync::atomic::Ordering::SeqCst;
 use std::sync::{Arc, PoisonError};
@@ -47,15 +48,19 @@ impl Drop for Told {
 }
 
 impl Shared {
-    pub async fn synced(&self, ticket: u64) {
+    pub async fn synced(&self, ticket: u64) -> Result<(), Lost> {
         if self.durable.load(SeqCst) >= ticket {
-            return;
+            return Ok(());
         }
         let done = {
             let mut waiters = lock(&self.waiters);
             // Who syncs stores this before it looks for waiters.
             if self.durable.load(SeqCst) >= ticket {
-                return;
+                return Ok(());
+            }
+            // And who finds the slot lost forgets the waiters behind that.
+            if self.disk.is_lost() {
+                return Err(Lost);
             }
             let (tell, done) = oneshot::channel();
             let thread = std::thread::current().id();
@@ -65,9 +70,11 @@ impl Shared {
             }
             done
         };
-        if done.await.is_err() {
+        match done.await {
+            Ok(_) => Ok(()),
+            Err(_) if self.disk.is_lost() => Err(Lost),
             // The journal was closed, or the process ends: nobody may be told that this is durable.
-            std::future::pending::<()>().await;
+            Err(_) => std::future::pending().await,
         }
     }
 
@@ -76,7 +83,8 @@ impl Shared {
     pub fn sync(&self) {
         let _one = lock(&self.syncing);
         if let Err(fault) = self.try_sync() {
-            self.disk.end(&fault);
+            let Lost = self.disk.fail(fault);
+            lock(&self.waiters).list.clear(); // who waited is told so
         }
     }
 
@@ -98,11 +106,14 @@ impl Shared {
             )
         };
         for (file, path) in &ended {
-            self.disk.sync(file, path)?;
+            self.disk.order(file, path)?;
         }
-        self.disk.sync(&file, &path)?;
-        if !named {
-            self.disk.sync_folder(&self.folder)?;
+        match named {
+            true => self.disk.sync(&file, &path)?,
+            false => {
+                self.disk.order(&file, &path)?;
+                self.disk.sync_folder(&self.folder)?;
+            }
         }
         {
             let mut place = lock(&self.place);
@@ -146,7 +157,7 @@ impl Shared {
         let mut waiters = lock(&self.waiters);
         let mut waited = Duration::ZERO;
         loop {
-            if waiters.ending {
+            if waiters.ending || self.disk.is_lost() {
                 return Due::End;
             }
             if !waiters.list.is_empty() {
@@ -168,7 +179,8 @@ impl Shared {
             let Ok(place) = self.place.try_lock() else {
                 continue;
             };
-            if waited >= IDLE && self.durable.load(SeqCst) < place.ticket {
+            let is_behind = self.durable.load(SeqCst) < place.ticket || self.disk.is_behind();
+            if waited >= IDLE && is_behind {
                 return Due::Sync;
             }
             if place.segment.needs_mark() {
@@ -180,12 +192,15 @@ impl Shared {
     /// Marks the last record, where nothing else is written. The mark itself need not be durable.
     fn mark_last(&self) {
         if let Err(fault) = lock(&self.place).segment.mark_last() {
-            self.disk.end(&fault);
+            let Lost = self.disk.fail(fault);
         }
     }
 
-    /// Makes the segment that comes next, so that a turn has only to name it.
+    /// Makes the segment that comes next, so that a turn has only to name it. With a drive it waits for nothing anyway.
     fn prepare(&self) {
+        if self.disk.keeps_order() {
+            return;
+        }
         let (number, forgotten) = {
             let place = lock(&self.place);
             (place.segment.number + 1, place.segment.forgotten())
@@ -208,22 +223,31 @@ impl Shared {
                     self.prepare();
                 }
                 Due::Mark => self.mark_last(),
-                Due::End => return,
+                Due::End => {
+                    if self.disk.is_lost() {
+                        lock(&self.waiters).list.clear(); // who comes later is told so before it waits
+                    }
+                    return;
+                }
             }
         }
     }
 }
 
-/// The segment is ended, so that the next start can tell a changed record from a torn one everywhere in it.
+/// The segment is ended, so that the next start can tell a changed record from a torn one everywhere in it. On a drive
+/// nothing is torn, and what anybody was told of is durable: nothing is waited for.
 impl Drop for Journal {
     fn drop(&mut self) {
         lock(&self.shared.waiters).ending = true;
         self.shared.work.notify_one();
+        if self.shared.disk.keeps_order() {
+            return;
+        }
         if let Some(syncer) = self.syncer.take() {
             let _ = syncer.join();
         }
         if let Some(next) = lock(&self.shared.next).take() {
-            let _ = std::fs::remove_file(&next.path); // the next start does it too
+            self.shared.disk.discard(&next.path); // the next start does it too
         }
         self.shared.sync();
         let ended = lock(&self.shared.place).segment.end();

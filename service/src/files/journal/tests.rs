@@ -115,7 +115,7 @@ fn starts_that_end_at_once_leave_one_segment() {
         drop(open(folder.path()));
         kill(open(folder.path()));
     }
-    assert_eq!(segment::numbers(folder.path()).unwrap(), [1, 2]);
+    assert_eq!(segment::numbers(&Disk::default(), folder.path()).unwrap(), [1, 2]);
     assert_eq!(texts(&open(folder.path()), 1), ["a"]);
 }
 
@@ -211,7 +211,7 @@ fn it_is_as_a_list_in_memory_over_any_calls_and_starts() {
                     let kind = [POST, NAME, POINTS][numbers.below(3) as usize];
                     records::put(&mut torn, kind, &[&vec![7; numbers.below(2000) as usize]]);
                     torn.truncate(numbers.below(torn.len() as u64) as usize);
-                    let file = File::options()
+                    let file = std::fs::File::options()
                         .write(true)
                         .open(segment::path(folder.path(), segment))
                         .unwrap();

@@ -56,15 +56,18 @@ impl Outbox {
                 segment: batch.segment,
                 at: batch.at,
             };
-            let (mut next, fault) = match rows::read_item(&path, &front) {
-                Ok(_) => (Some(batch.at + rows::sound_length(&path, &front)?), None),
+            let (mut next, fault) = match rows::read_item(&self.disk, &path, &front) {
+                Ok(_) => (
+                    Some(batch.at + rows::sound_length(&self.disk, &path, &front)?),
+                    None,
+                ),
                 Err(fault @ Fault::Damaged { .. }) => (None, Some(fault)),
                 Err(fault) => return Err(fault),
             };
             changed.extend(fault);
             (batch.first, batch.count) = (batch.first + 1, batch.count - 1);
             if next.is_none() && batch.count > 0 {
-                next = rows::find_item(&path, batch.at..batch.end, batch.first)?;
+                next = rows::find_item(&self.disk, &path, batch.at..batch.end, batch.first)?;
             }
             // Where none is found each of the others is as that one.
             batch.at = next.unwrap_or(batch.at);

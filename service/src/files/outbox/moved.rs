@@ -19,7 +19,7 @@ impl Outbox {
             return Ok(());
         }
         let mut writer = lock(&self.writer);
-        writer.begin()?;
+        writer.begin(&self.disk)?;
         lock(&self.state).adopt(series);
         // Its snapshot has them.
         self.begin_segment(&mut writer)?;

@@ -17,7 +17,7 @@
 use super::changes::{Change, Group};
 use super::state::{Front, Known, State};
 use super::{Runs, Series};
-use crate::files::disk::io_fault;
+use crate::files::disk::{io_fault, Disk};
 use crate::files::records::{self, put, take_number, HEAD, OWN};
 use crate::files::Fault;
 use crate::otlp::series::SeriesKey;
@@ -27,7 +27,6 @@ use serde::{de::DeserializeOwned, Deserialize, Serialize};
 use std::collections::{BTreeSet, HashMap};
 use std::io::{Read, Write};
 use std::ops::Range;
-use std::os::unix::fs::FileExt;
 use std::path::Path;
 use std::sync::Arc;
 
@@ -294,28 +293,28 @@ pub fn change_of(kind: u8, bytes: &[u8], keys: &[SeriesKey]) -> Option<Change> {
 }
 
 /// The body of a waiting request, as it was committed.
-pub fn read_item(path: &Path, front: &Front) -> Result<Vec<u8>, Fault> {
-    let packed = read_packed(path, front)?.0;
+pub fn read_item(disk: &Disk, path: &Path, front: &Front) -> Result<Vec<u8>, Fault> {
+    let packed = read_packed(disk, path, front)?.0;
     inflated(&packed[8..]).ok_or_else(|| changed(path, front))
 }
 
 /// The length of its record, of which each byte is as it was.
-pub fn sound_length(path: &Path, front: &Front) -> Result<u64, Fault> {
-    Ok(read_packed(path, front)?.1)
+pub fn sound_length(disk: &Disk, path: &Path, front: &Front) -> Result<u64, Fault> {
+    Ok(read_packed(disk, path, front)?.1)
 }
 
-fn read_packed(path: &Path, front: &Front) -> Result<(Vec<u8>, u64), Fault> {
+fn read_packed(disk: &Disk, path: &Path, front: &Front) -> Result<(Vec<u8>, u64), Fault> {
     let number = front.waiting.number.to_le_bytes();
-    let read = records::read_at(path, front.at)?;
+    let read = records::read_at(disk, path, front.at)?;
     let read = read.filter(|(kind, bytes, _)| *kind == ITEM && bytes.starts_with(&number));
     let (_, bytes, length) = read.ok_or_else(|| changed(path, front))?;
     Ok((bytes, length))
 }
 
 /// Where the record of a request begins, between these places; `None` where none is whole.
-pub fn find_item(path: &Path, places: Range<u64>, number: u64) -> Result<Option<u64>, Fault> {
+pub fn find_item(disk: &Disk, path: &Path, places: Range<u64>, number: u64) -> Result<Option<u64>, Fault> {
     let mut bytes = vec![0; (places.end - places.start) as usize];
-    let read = std::fs::File::open(path).and_then(|file| file.read_exact_at(&mut bytes, places.start));
+    let read = disk.open(path)?.read_exact_at(&mut bytes, places.start);
     read.map_err(io_fault(path))?;
     let begins = |at: &usize| {
         let rest = &bytes[*at..];
@@ -329,9 +328,9 @@ pub fn find_item(path: &Path, places: Range<u64>, number: u64) -> Result<Option<
 }
 
 /// The length of its record.
-pub fn item_length(path: &Path, front: &Front) -> Result<u64, Fault> {
+pub fn item_length(disk: &Disk, path: &Path, front: &Front) -> Result<u64, Fault> {
     let mut head = [0; HEAD];
-    let read = std::fs::File::open(path).and_then(|file| file.read_exact_at(&mut head, front.at));
+    let read = disk.open(path)?.read_exact_at(&mut head, front.at);
     read.map_err(io_fault(path))?;
     let length = records::whole_length(&head).filter(|_| head[8] == ITEM);
     length

@@ -9,7 +9,8 @@ use super::*;
 use crate::files::disk::Call;
 use crate::files::numbers::Numbers;
 use std::fs::File;
-use std::sync::atomic::{AtomicBool, AtomicUsize, Ordering::SeqCst};
+use std::path::Path;
+use std::sync::atomic::{AtomicBool, AtomicUsize};
 
 /// Of everything.
 const AT_ONCE: Age = Age {
@@ -47,7 +48,10 @@ fn kill(outbox: Outbox) {
 }
 
 fn last_segment(path: &Path) -> PathBuf {
-    segment::path(path, *segment::numbers(path).unwrap().last().unwrap())
+    segment::path(
+        path,
+        *segment::numbers(&Disk::default(), path).unwrap().last().unwrap(),
+    )
 }
 
 async fn take(outbox: &Outbox) -> (u64, Vec<u8>) {
@@ -72,7 +76,7 @@ fn view(outbox: &Outbox) -> String {
 /// A copy of a folder, with another last segment.
 fn copied(from: &Path, last: &[u8]) -> tempfile::TempDir {
     let to = crate::files::power::place();
-    for number in segment::numbers(from).unwrap() {
+    for number in segment::numbers(&Disk::default(), from).unwrap() {
         std::fs::copy(segment::path(from, number), segment::path(to.path(), number)).unwrap();
     }
     std::fs::write(
@@ -149,7 +153,7 @@ async fn starts_that_end_at_once_leave_one_segment() {
         drop(open(folder.path()));
         kill(open(folder.path()));
     }
-    assert_eq!(segment::numbers(folder.path()).unwrap(), [1, 2]);
+    assert_eq!(segment::numbers(&Disk::default(), folder.path()).unwrap(), [1, 2]);
     let outbox = open(folder.path());
     assert_eq!(view(&outbox), before);
     assert_eq!(take(&outbox).await, (1, first));
@@ -157,7 +161,10 @@ async fn starts_that_end_at_once_leave_one_segment() {
     drop(open(folder.path()));
     let outbox = open(folder.path());
     assert_eq!(
-        (outbox.waiting().0, segment::numbers(folder.path()).unwrap().len()),
+        (
+            outbox.waiting().0,
+            segment::numbers(&Disk::default(), folder.path()).unwrap().len()
+        ),
         (0, 1)
     );
 }

@@ -1,7 +1,8 @@
 //! Where an outbox is written.
 
+use crate::files::disk::Disk;
 use crate::files::segment::Segment;
-use crate::files::Fault;
+use crate::files::{Fault, Lost};
 use std::io;
 
 pub struct Writer {
@@ -34,9 +35,12 @@ impl Writer {
     }
 
     /// From here on it has failed, until it is said that it has not.
-    pub fn begin(&mut self) -> Result<(), Fault> {
+    pub fn begin(&mut self, disk: &Disk) -> Result<(), Fault> {
         if !std::mem::replace(&mut self.failed, true) {
             return Ok(());
+        }
+        if disk.is_lost() {
+            return Err(Lost.into());
         }
         let source = io::Error::other("an earlier write failed: start again, to see what is there");
         let path = self.segment.path.clone();

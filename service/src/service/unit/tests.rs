@@ -1,5 +1,5 @@
 use super::*;
-use crate::files::Durability;
+use crate::files::{Durability, Folder};
 use crate::metrics::Metrics;
 use crate::otlp::Clock;
 use crate::switch::Switch;
@@ -12,19 +12,12 @@ pub fn unit(
     number: u16,
     end: impl Future<Output = Result<(), Fault>> + Send + 'static,
 ) -> Unit {
-    let folder = Arc::new(Folder::open(place, Durability::Process).unwrap());
+    let folder = Folder::open(place, Durability::Process).unwrap();
     let (journal, outbox) = folder.slot(0).unwrap();
     let (dead, outbox) = (Arc::new(folder.dead().unwrap()), Arc::new(outbox));
     let metrics = Arc::new(Metrics::new().unwrap());
     let shared = Shared::new(metrics, Clock::default());
-    let slot = Slot::of(
-        number,
-        folder,
-        journal,
-        outbox.clone(),
-        Core::new(1).unwrap(),
-        &shared,
-    );
+    let slot = Slot::of(number, journal, outbox.clone(), Core::new(1).unwrap(), &shared);
     let (stop_keeper, mut stopped) = watch::channel(false);
     let mut keeper = JoinSet::new();
     keeper.spawn(async move {

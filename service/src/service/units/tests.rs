@@ -15,7 +15,7 @@ use crate::otlp::series::{forwarded, Value};
 use crate::otlp::{slot_of, Clock, Encoding, Outcome, Reading, Resources};
 use crate::shares::Share;
 use crate::sinks::{Address, Answer, Fate, Forwarded, Keep, Keys};
-use crate::slot::NO_OWNER;
+use crate::slot::{MOVED, NO_OWNER};
 use bytes::Bytes;
 use hyper::{Body, Request};
 use std::path::{Path, PathBuf};
@@ -99,8 +99,15 @@ impl Service {
         let of_desk = operate::Units::of(SLOTS);
         let (at_work, ends) = AtWork::new(of_desk.clone());
         let budget = Budget::new(settings.most_bytes);
-        let intake = Intake::of(slots.clone(), teller.clone(), reading, budget.clone(), metrics.clone());
+        let intake = Intake::of(
+            slots.clone(),
+            teller.clone(),
+            reading,
+            budget.clone(),
+            metrics.clone(),
+        );
         let desk = Arc::new(Desk {
+            cluster: None,
             units: of_desk,
             shares: shared.shares.clone(),
             acts: Arc::new(Acts::in_folder(place)),
@@ -138,12 +145,11 @@ impl Service {
 
     async fn open(&self, number: u16) {
         let place = self.place.join(number.to_string());
-        let folder = Arc::new(Folder::open(&place, Durability::Process).unwrap());
+        let folder = Folder::open(&place, Durability::Process).unwrap();
         let (journal, outbox) = folder.slot(0).unwrap();
         let dead = Arc::new(folder.dead().unwrap());
         let files = Files {
             number,
-            folder,
             journal,
             outbox: Arc::new(outbox),
             dead,
@@ -194,9 +200,8 @@ impl Service {
 
 /// The attributes of a process whose resource has a slot.
 fn attributes(slot: u16) -> String {
-    let of = |number: u32| {
-        format!(r#"[{{"key":"service.instance.id","value":{{"stringValue":"p{number}"}}}}]"#)
-    };
+    let of =
+        |number: u32| format!(r#"[{{"key":"service.instance.id","value":{{"stringValue":"p{number}"}}}}]"#);
     (0..).map(of).find(|text| slot_of(text, SLOTS) == slot).unwrap()
 }
 
@@ -230,9 +235,10 @@ async fn a_slot_is_handed_over_while_the_others_go_on() {
     service.open(1).await; // nobody has its folder any more
     assert_eq!(service.post(&[1], 10).await.status(), 400, "it knows what it had");
     assert_eq!(service.post(&[1], 20).await, Outcome::taken(0));
-    assert!(service.units.at_work.stop_all().await.unwrap());
-    let outboxes = service.desk.units.all();
-    assert!(outboxes.is_empty(), "all have ended");
+    for slot in 0..SLOTS {
+        assert!(service.units.hand_over(slot).await.unwrap(), "in time");
+    }
+    assert!(service.desk.units.all().is_empty(), "all have ended");
     for slot in 0..SLOTS {
         service.open(slot).await;
     }
@@ -252,7 +258,11 @@ async fn a_slot_that_is_lost_ends_alone() {
     let lost = service.units.at_work.units().all().remove(1);
     service.units.lose(1);
     assert_eq!(service.post(&[1], 20).await.status(), 503);
-    assert_eq!(lost.slot.unavailable(), Some("stopping"), "also for who had found it before");
+    assert_eq!(
+        lost.slot.unavailable(),
+        Some(MOVED),
+        "also for who had found it before"
+    );
     assert_eq!(service.post(&[0, 2], 20).await, Outcome::taken(0));
     assert!(service.ends.try_recv().is_err(), "nothing else has ended");
     assert_eq!(service.units.at_work.units().missing(), Some(1));
@@ -272,7 +282,8 @@ async fn what_ends_by_itself_is_told_with_its_slot() {
     assert!(ends.try_recv().is_err());
     fail.send(()).unwrap();
     let (slot, ended) = ends.recv().await.unwrap();
-    assert!(slot == 1 && matches!(ended, Ended::Disk(_)), "{slot} {ended:?}");
+    let is_disk = matches!(ended, End::Failed(Ended::Disk(_)));
+    assert!(slot == 1 && is_disk, "{slot} {ended:?}");
     assert!(at_work.stop(0).await.unwrap());
 }
 
@@ -285,10 +296,21 @@ async fn orders_are_all_slots_and_503_where_one_is_not_here() {
     service.open(2).await;
     let quarantine = ("POST", "/quarantine/A");
     let (status, text) = service.ask(quarantine.0, quarantine.1).await;
-    assert!(status == 503 && text.contains("slot 1 is not here"), "{status} {text}");
-    assert_eq!(service.post(&[0, 2], 10).await.status(), 403, "those that are here refuse it");
+    assert!(
+        status == 503 && text.contains("slot 1 is not here"),
+        "{status} {text}"
+    );
+    assert_eq!(
+        service.post(&[0, 2], 10).await.status(),
+        403,
+        "those that are here refuse it"
+    );
     service.open(1).await;
-    assert_eq!(service.ask(quarantine.0, quarantine.1).await.0, 200, "also where some had it");
+    assert_eq!(
+        service.ask(quarantine.0, quarantine.1).await.0,
+        200,
+        "also where some had it"
+    );
     assert_eq!(service.post(&[0, 1, 2], 10).await.status(), 403);
     assert_eq!(service.ask(quarantine.0, quarantine.1).await.0, 400, "all had it");
     assert_eq!(service.ask("POST", "/lift/A").await.0, 200);
@@ -310,8 +332,12 @@ async fn what_is_shown_is_of_all_slots() {
     assert_eq!(service.post(&[1, 2], 20).await, Outcome::taken(0));
     let (status, text) = service.ask("GET", "/status").await;
     let said: serde_json::Value = serde_json::from_str(&text).unwrap();
-    let slots: Vec<_> = said["slots"].as_array().unwrap().iter().map(|slot| &slot["slot"]).collect();
-    assert_eq!((status, slots, &said["ready"]), (200, vec![0, 1, 2], &true.into()));
+    let slots = said["slots"].as_array().unwrap().iter();
+    let slots: Vec<u64> = slots.map(|slot| slot["slot"].as_u64().unwrap()).collect();
+    assert_eq!(
+        (status, slots, said["ready"].as_bool()),
+        (200, vec![0, 1, 2], Some(true))
+    );
     let (_, metrics) = service.ask("GET", "/metrics").await;
     for line in ["totxegun_series 3", "totxegun_ready 1"] {
         assert!(metrics.lines().any(|found| found == line), "{line} in\n{metrics}");
@@ -325,7 +351,10 @@ async fn what_is_shown_is_of_all_slots() {
     assert!(status == 409 && why.contains("not flushed"), "{status} {why}");
     service.units.hand_over(0).await.unwrap();
     let (status, why) = service.ask("POST", "/close/2026-10").await;
-    assert!(status == 409 && why.contains("slot 0 is not here"), "{status} {why}");
+    assert!(
+        status == 409 && why.contains("slot 0 is not here"),
+        "{status} {why}"
+    );
     let dead = service.units.at_work.units().all().remove(1).dead.clone();
     dead.keep("2-abc-7", "no", b"{}").unwrap();
     let (status, letters) = service.ask("GET", "/dead").await;

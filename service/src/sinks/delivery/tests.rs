@@ -7,6 +7,7 @@ use std::pin::Pin;
 
 mod files;
 mod held;
+mod lost;
 
 /// Says these fates, then `Taken`.
 #[derive(Default)]
@@ -51,6 +52,10 @@ struct Memory {
     acknowledged: Mutex<Vec<u64>>,
     dead_fails: bool,
     acknowledge_fails: bool,
+    /// Turned on once the slot is another instance's.
+    lost: Option<watch::Receiver<bool>>,
+    /// How often it is still found to be this instance's, where that ends.
+    ours: Option<Mutex<u64>>,
 }
 
 fn fault() -> Fault {
@@ -85,6 +90,23 @@ impl Store for &Memory {
             )),
             None => Err(fault()),
         }
+    }
+
+    async fn may_deliver(&self, _number: u64) -> Result<(), Fault> {
+        let Some(ours) = &self.ours else {
+            return Ok(());
+        };
+        let mut ours = ours.lock().expect("ours");
+        *ours = ours.checked_sub(1).ok_or(Lost)?;
+        Ok(())
+    }
+
+    async fn lost(&self) -> Lost {
+        match self.lost.clone() {
+            Some(mut lost) => lost.wait_true().await,
+            None => std::future::pending().await,
+        }
+        Lost
     }
 
     async fn acknowledge(&self, number: u64) -> Result<(), Fault> {

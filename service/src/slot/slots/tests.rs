@@ -159,10 +159,10 @@ impl Service {
         let slots = Slots::several(Resources::new(SLOTS, reading.clone()), None);
         let all = (0..SLOTS).map(|number| {
             let place = place.join(number.to_string());
-            let folder = Arc::new(Folder::open(&place, Durability::Process).unwrap());
+            let folder = Folder::open(&place, Durability::Process).unwrap();
             let (journal, outbox) = folder.slot(0).unwrap();
             let core = Core::new(1000).unwrap();
-            Slot::of(number, folder, journal, Arc::new(outbox), core, &shared)
+            Slot::of(number, journal, Arc::new(outbox), core, &shared)
         });
         let (budget, heard) = (Budget::new(64 << 20), Arc::<Heard>::default());
         let intake = Intake::of(slots.clone(), heard.clone(), reading, budget.clone(), metrics);

@@ -138,7 +138,7 @@ fn torn_before_its_last(folder: &Path, durable: bool) {
     kill(journal);
     let path = segment::path(folder, 1);
     let length = bytes(&path).len() as u64;
-    let file = File::options().write(true).open(&path).unwrap();
+    let file = std::fs::File::options().write(true).open(&path).unwrap();
     file.set_len(length - records::MARK_LENGTHS[1] as u64 - 3)
         .unwrap();
 }

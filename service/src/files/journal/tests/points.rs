@@ -5,7 +5,7 @@ use super::*;
 /// A segment's records, but marks and the header: kind and bytes.
 fn records_of(path: &Path) -> Vec<(u8, Vec<u8>)> {
     let number = path.file_stem().and_then(|stem| stem.to_str()?.parse().ok());
-    let reader = records::Reader::open(path, Which::Journal, number.unwrap(), None);
+    let reader = records::Reader::open(&Disk::default(), path, Which::Journal, number.unwrap(), None);
     let (mut reader, _) = reader.unwrap();
     let mut found = Vec::new();
     while let records::Next::Record { kind, bytes, .. } = reader.next().unwrap() {

@@ -29,10 +29,10 @@ async fn one_sync_is_for_all_that_wait_and_nobody_is_told_before() {
     assert!(waiting.iter().all(|one| !one.is_finished()));
     open_gate.store(true, SeqCst);
     for one in waiting {
-        one.await.unwrap();
+        one.await.unwrap().unwrap();
     }
     assert!(syncs.load(SeqCst) - before <= 3);
-    journal.durable(journal.now()).await;
+    journal.durable(journal.now()).await.unwrap();
 }
 
 #[tokio::test]
@@ -50,7 +50,7 @@ async fn who_goes_away_leaves_nobody_waiting() {
         let waiting: Vec<_> = (0..30).map(|_| wait(append(&journal, "one"))).collect();
         tokio::time::sleep(Duration::from_millis(50)).await;
         // Those that go away before they are told, or while they are.
-        let go = |waiting: &[tokio::task::JoinHandle<()>]| {
+        let go = |waiting: &[tokio::task::JoinHandle<Result<(), Lost>>]| {
             waiting.iter().skip(2).step_by(3).for_each(|one| one.abort())
         };
         if pause > 0 {
@@ -125,7 +125,7 @@ fn a_process_only_journal_waits_for_nothing() {
         .build()
         .unwrap();
     let durable = async { tokio::time::timeout(Duration::from_secs(5), journal.durable(ticket)).await };
-    runtime.block_on(durable).unwrap();
+    runtime.block_on(durable).unwrap().unwrap();
 }
 
 #[tokio::test(flavor = "multi_thread")]

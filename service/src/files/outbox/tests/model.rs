@@ -119,7 +119,7 @@ async fn it_is_as_its_model_over_any_calls_and_starts() {
         }
         outbox.commit(&[], model.journal + 1).unwrap();
         assert!(
-            segment::numbers(folder.path()).unwrap().len() <= 1,
+            segment::numbers(&Disk::default(), folder.path()).unwrap().len() <= 1,
             "segments without a waiting request are deleted"
         );
     }

@@ -146,7 +146,7 @@ async fn any_of_the_segments_that_were_deleted_may_be_back() {
     }
     let found = view(&outbox);
     kill(outbox);
-    let numbers = |name: &str| segment::numbers(&at(name)).unwrap();
+    let numbers = |name: &str| segment::numbers(&Disk::default(), &at(name)).unwrap();
     let deleted: Vec<u64> = numbers("before")
         .into_iter()
         .filter(|it| !numbers("run").contains(it))
@@ -158,6 +158,9 @@ async fn any_of_the_segments_that_were_deleted_may_be_back() {
         std::fs::copy(segment::path(&at("before"), number), segment::path(&left, number)).unwrap();
         let outbox = open_on(&Disk::default(), &left, "e", 300).unwrap();
         assert_eq!(view(&outbox), found, "{number}");
-        assert_eq!(segment::numbers(&left).unwrap()[0], numbers("run")[0]);
+        assert_eq!(
+            segment::numbers(&Disk::default(), &left).unwrap()[0],
+            numbers("run")[0]
+        );
     }
 }

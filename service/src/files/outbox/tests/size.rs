@@ -1,6 +1,7 @@
 //! How many bytes it takes, and how long a start with a long backlog.
 
 use super::*;
+use crate::files::outbox::changes::Group;
 
 /// A request as the service forwards it, of that many series.
 fn request(series: usize, end: u64) -> Vec<u8> {

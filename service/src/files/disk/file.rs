@@ -1,0 +1,75 @@
+//! A file of a folder, or of a drive.
+
+use super::owned::Owned;
+use std::io::{self, ErrorKind, Read, Seek, SeekFrom};
+use std::os::unix::fs::FileExt;
+use std::sync::Arc;
+
+/// It has no place of its own: who reads says where.
+pub enum File {
+    OfFolder(std::fs::File),
+    OfDrive(Arc<Owned>, u64),
+}
+
+impl File {
+    /// How many bytes were read, 0 at the end alone.
+    pub fn read_at(&self, bytes: &mut [u8], at: u64) -> io::Result<usize> {
+        match self {
+            File::OfFolder(file) => file.read_at(bytes, at),
+            File::OfDrive(owned, number) => owned.call(|drive| drive.read_at(*number, bytes, at)),
+        }
+    }
+
+    pub fn length(&self) -> io::Result<u64> {
+        match self {
+            File::OfFolder(file) => Ok(file.metadata()?.len()),
+            File::OfDrive(owned, number) => owned.call(|drive| drive.length(*number)),
+        }
+    }
+
+    pub fn read_exact_at(&self, bytes: &mut [u8], at: u64) -> io::Result<()> {
+        let mut read = 0;
+        while read < bytes.len() {
+            match self.read_at(&mut bytes[read..], at + read as u64) {
+                Ok(0) => return Err(ErrorKind::UnexpectedEof.into()),
+                Err(error) if error.kind() == ErrorKind::Interrupted => {}
+                more => read += more?,
+            }
+        }
+        Ok(())
+    }
+
+    /// All behind a place.
+    pub fn read_from(&self, at: u64) -> io::Result<Vec<u8>> {
+        let left = self.length()?.saturating_sub(at);
+        let mut bytes = vec![0; left as usize];
+        self.read_exact_at(&mut bytes, at)?;
+        Ok(bytes)
+    }
+}
+
+/// A file that is read from a place on.
+pub struct Cursor {
+    pub file: File,
+    pub at: u64,
+}
+
+impl Read for Cursor {
+    fn read(&mut self, bytes: &mut [u8]) -> io::Result<usize> {
+        let length = self.file.read_at(bytes, self.at)?;
+        self.at += length as u64;
+        Ok(length)
+    }
+}
+
+impl Seek for Cursor {
+    fn seek(&mut self, to: SeekFrom) -> io::Result<u64> {
+        let at = match to {
+            SeekFrom::Start(at) => Some(at),
+            SeekFrom::Current(by) => self.at.checked_add_signed(by),
+            SeekFrom::End(by) => self.file.length()?.checked_add_signed(by),
+        };
+        self.at = at.ok_or(ErrorKind::InvalidInput)?;
+        Ok(self.at)
+    }
+}

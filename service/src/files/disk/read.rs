@@ -1,0 +1,79 @@
+//! What is read of a disk.
+
+use super::{io_fault, Disk, File, Place};
+use crate::files::Fault;
+use std::ffi::OsString;
+use std::fs::OpenOptions;
+use std::io::{self, ErrorKind};
+use std::path::Path;
+use std::time::SystemTime;
+
+impl Disk {
+    /// The names in a folder.
+    pub fn names(&self, folder: &Path) -> Result<Vec<OsString>, Fault> {
+        let names = match &self.place {
+            Place::Folder { .. } => {
+                std::fs::read_dir(folder).and_then(|all| all.map(|entry| Ok(entry?.file_name())).collect())
+            }
+            Place::Drive(owned) => owned.call(|drive| drive.list(folder)),
+        };
+        names.map_err(io_fault(folder))
+    }
+
+    /// For who reads alone.
+    pub fn open(&self, path: &Path) -> Result<File, Fault> {
+        self.open_with(path, OpenOptions::new().read(true))
+            .map_err(io_fault(path))
+    }
+
+    /// The same; none where there is none.
+    pub fn find(&self, path: &Path) -> Result<Option<File>, Fault> {
+        match self.open_with(path, OpenOptions::new().read(true)) {
+            Err(error) if error.kind() == ErrorKind::NotFound => Ok(None),
+            file => file.map(Some).map_err(io_fault(path)),
+        }
+    }
+
+    pub fn open_to_write(&self, path: &Path) -> Result<File, Fault> {
+        self.open_with(path, OpenOptions::new().read(true).write(true))
+            .map_err(io_fault(path))
+    }
+
+    fn open_with(&self, path: &Path, how: &OpenOptions) -> io::Result<File> {
+        match &self.place {
+            Place::Folder { .. } => Ok(File::OfFolder(how.open(path)?)),
+            Place::Drive(owned) => {
+                let number = owned.call(|drive| drive.open(path))?;
+                Ok(File::OfDrive(owned.clone(), number))
+            }
+        }
+    }
+
+    /// Whether there is one. Of a folder, where that can't be known there is none, and who makes it finds out.
+    pub fn has(&self, path: &Path) -> Result<bool, Fault> {
+        match &self.place {
+            Place::Folder { .. } => Ok(path.exists()),
+            Place::Drive(_) => Ok(self.find(path)?.is_some()),
+        }
+    }
+
+    /// A file's length; none where there is none.
+    pub fn length(&self, path: &Path) -> Result<Option<u64>, Fault> {
+        let length = match &self.place {
+            Place::Folder { .. } => std::fs::metadata(path).map(|about| about.len()),
+            Place::Drive(owned) => owned.call(|drive| drive.length(drive.open(path)?)),
+        };
+        match length {
+            Err(error) if error.kind() == ErrorKind::NotFound => Ok(None),
+            length => length.map(Some).map_err(io_fault(path)),
+        }
+    }
+
+    /// When a file was written last, where that is known.
+    pub fn written(&self, path: &Path) -> Option<SystemTime> {
+        match &self.place {
+            Place::Folder { .. } => std::fs::metadata(path).ok()?.modified().ok(),
+            Place::Drive(_) => None,
+        }
+    }
+}

@@ -1,0 +1,264 @@
+//! A store in memory, for tests: a slot's files as they were last synced, and the term of its owner.
+
+use super::{lost, Drive};
+use crate::files::lock;
+use std::collections::{BTreeMap, HashMap};
+use std::ffi::OsString;
+use std::io::{self, ErrorKind};
+use std::path::{Path, PathBuf};
+use std::sync::{Arc, Mutex};
+use std::time::{Duration, Instant};
+
+type Bytes = Arc<Vec<u8>>;
+
+/// What outlives owners: who takes the slot has what was synced alone, and the one before is `Lost` at its next sync.
+#[derive(Default)]
+pub(crate) struct Store(Mutex<Kept>);
+
+#[derive(Default)]
+struct Kept {
+    term: u64,
+    files: BTreeMap<PathBuf, Bytes>,
+}
+
+/// A call, or a moment of one.
+#[derive(Clone, Copy, Debug, PartialEq, Eq)]
+pub(crate) enum Step {
+    Create,
+    Open,
+    List,
+    Length,
+    Read,
+    Write,
+    Rename,
+    Remove,
+    /// Before a sync is a commit.
+    Sync,
+    /// It is one, and its answer may be lost.
+    Committed,
+}
+
+/// Asked before each step, by a test that takes the slot, lets a call fail, or stalls it.
+type Hook = dyn Fn(Step) -> io::Result<()> + Send + Sync;
+
+/// The slot's drive, for one term.
+pub(crate) struct Owner {
+    store: Arc<Store>,
+    term: u64,
+    hook: Box<Hook>,
+    view: Mutex<View>,
+    /// One at a time: an older view must not take the place of a later one.
+    syncing: Mutex<()>,
+    waiting: Mutex<Vec<Instant>>,
+}
+
+/// The files as this owner has left them.
+#[derive(Default)]
+struct View {
+    names: BTreeMap<PathBuf, u64>,
+    files: HashMap<u64, Bytes>,
+    last: u64,
+}
+
+impl Store {
+    pub fn take(self: &Arc<Self>) -> Arc<Owner> {
+        self.take_with(|_| Ok(()))
+    }
+
+    pub fn take_with(
+        self: &Arc<Self>,
+        hook: impl Fn(Step) -> io::Result<()> + Send + Sync + 'static,
+    ) -> Arc<Owner> {
+        let mut kept = lock(&self.0);
+        kept.term += 1;
+        let mut view = View::default();
+        for (name, bytes) in &kept.files {
+            view.put(name, bytes.clone());
+        }
+        Arc::new(Owner {
+            store: self.clone(),
+            term: kept.term,
+            hook: Box::new(hook),
+            view: Mutex::new(view),
+            syncing: Mutex::new(()),
+            waiting: Mutex::new(Vec::new()),
+        })
+    }
+
+    /// What the next owner has.
+    pub fn names(&self) -> Vec<PathBuf> {
+        lock(&self.0).files.keys().cloned().collect()
+    }
+
+    /// Changes what the next owner has of a file; it has none that is empty then.
+    pub fn change(&self, name: &Path, change: impl FnOnce(&mut Vec<u8>)) {
+        let mut kept = lock(&self.0);
+        let bytes = Arc::make_mut(kept.files.get_mut(name).unwrap());
+        change(bytes);
+        if bytes.is_empty() {
+            kept.files.remove(name);
+        }
+    }
+}
+
+impl View {
+    fn put(&mut self, name: &Path, bytes: Bytes) -> u64 {
+        self.last += 1;
+        self.names.insert(name.into(), self.last);
+        self.files.insert(self.last, bytes);
+        self.last
+    }
+
+    fn number(&self, name: &Path) -> io::Result<u64> {
+        self.names.get(name).copied().ok_or(ErrorKind::NotFound.into())
+    }
+
+    fn file(&self, number: u64) -> io::Result<&Bytes> {
+        self.files.get(&number).ok_or(ErrorKind::NotFound.into())
+    }
+
+    fn remove(&mut self, name: &Path) -> io::Result<()> {
+        let number = self.number(name)?;
+        self.names.remove(name);
+        self.files.remove(&number);
+        Ok(())
+    }
+}
+
+impl Drive for Owner {
+    fn create(&self, name: &Path) -> io::Result<u64> {
+        (self.hook)(Step::Create)?;
+        let mut view = lock(&self.view);
+        match view.names.contains_key(name) {
+            true => Err(ErrorKind::AlreadyExists.into()),
+            false => Ok(view.put(name, Bytes::default())),
+        }
+    }
+
+    fn open(&self, name: &Path) -> io::Result<u64> {
+        (self.hook)(Step::Open)?;
+        lock(&self.view).number(name)
+    }
+
+    fn list(&self, folder: &Path) -> io::Result<Vec<OsString>> {
+        (self.hook)(Step::List)?;
+        let view = lock(&self.view);
+        let inside = view.names.keys().filter(|name| name.parent() == Some(folder));
+        Ok(inside.filter_map(|name| Some(name.file_name()?.into())).collect())
+    }
+
+    fn length(&self, file: u64) -> io::Result<u64> {
+        (self.hook)(Step::Length)?;
+        Ok(lock(&self.view).file(file)?.len() as u64)
+    }
+
+    fn read_at(&self, file: u64, bytes: &mut [u8], at: u64) -> io::Result<usize> {
+        (self.hook)(Step::Read)?;
+        let view = lock(&self.view);
+        let rest = view.file(file)?.get(at as usize..).unwrap_or_default();
+        let length = rest.len().min(bytes.len());
+        bytes[..length].copy_from_slice(&rest[..length]);
+        Ok(length)
+    }
+
+    fn write_at(&self, file: u64, parts: &[&[u8]], at: u64) -> io::Result<()> {
+        (self.hook)(Step::Write)?;
+        let mut view = lock(&self.view);
+        let there = view.files.get_mut(&file).ok_or(ErrorKind::NotFound)?;
+        let (there, at) = (Arc::make_mut(there), at as usize);
+        assert!(at <= there.len(), "a hole before {at}, behind {}", there.len());
+        let bytes = parts.concat();
+        let over = bytes.len().min(there.len() - at);
+        there[at..at + over].copy_from_slice(&bytes[..over]);
+        there.extend_from_slice(&bytes[over..]);
+        Ok(())
+    }
+
+    fn rename(&self, from: &Path, to: &Path) -> io::Result<()> {
+        (self.hook)(Step::Rename)?;
+        let mut view = lock(&self.view);
+        let number = view.number(from)?;
+        let _ = view.remove(to); // where there is none nothing is replaced
+        view.names.remove(from);
+        view.names.insert(to.into(), number);
+        Ok(())
+    }
+
+    fn remove(&self, name: &Path) -> io::Result<()> {
+        (self.hook)(Step::Remove)?;
+        lock(&self.view).remove(name)
+    }
+
+    fn sync(&self) -> io::Result<()> {
+        let began = Instant::now();
+        lock(&self.waiting).push(began);
+        let synced = self.commit();
+        let mut waiting = lock(&self.waiting);
+        let place = waiting.iter().position(|other| *other == began);
+        place.map(|place| waiting.remove(place));
+        synced
+    }
+
+    fn under_way(&self) -> Duration {
+        let first = lock(&self.waiting).iter().min().copied();
+        first.map_or(Duration::ZERO, |first| first.elapsed())
+    }
+}
+
+impl Owner {
+    fn commit(&self) -> io::Result<()> {
+        let _one = lock(&self.syncing);
+        (self.hook)(Step::Sync)?;
+        let now: BTreeMap<_, _> = {
+            let view = lock(&self.view);
+            let file = |(name, number): (&PathBuf, &u64)| (name.clone(), view.files[number].clone());
+            view.names.iter().map(file).collect()
+        };
+        {
+            let mut kept = lock(&self.store.0);
+            if kept.term != self.term {
+                return Err(lost());
+            }
+            kept.files = now;
+        }
+        (self.hook)(Step::Committed)
+    }
+}
+
+#[cfg(test)]
+mod tests {
+    use super::*;
+    use crate::files::drive::is_lost;
+
+    #[test]
+    fn the_next_owner_has_what_was_synced_and_the_one_before_is_lost() {
+        let (store, name) = (Arc::new(Store::default()), Path::new("journal/1"));
+        let first = store.take();
+        let file = first.create(name).unwrap();
+        first.write_at(file, &[b"ab", b"cd"], 0).unwrap();
+        first.sync().unwrap();
+        first.write_at(file, &[b"xyz"], 3).unwrap();
+        first.rename(name, Path::new("journal/2")).unwrap();
+        let second = store.take();
+        assert_eq!(second.list(Path::new("journal")).unwrap(), ["1"]);
+        let mut bytes = [0; 9];
+        let there = second.read_at(second.open(name).unwrap(), &mut bytes, 1).unwrap();
+        assert_eq!(&bytes[..there], b"bcd");
+        assert!(is_lost(&first.sync().unwrap_err()));
+        assert_eq!(first.length(file).unwrap(), 6, "it sees what it wrote");
+        second.sync().unwrap();
+        assert_eq!(store.names(), [name]);
+    }
+
+    #[test]
+    fn a_commit_whose_answer_is_lost_is_there() {
+        let (store, name) = (Arc::new(Store::default()), Path::new("a"));
+        let first = store.take_with(|step| match step {
+            Step::Committed => Err(lost()),
+            _ => Ok(()),
+        });
+        first.create(name).unwrap();
+        assert!(is_lost(&first.sync().unwrap_err()));
+        assert!(store.take().open(name).is_ok());
+    }
+}

@@ -1,0 +1,38 @@
+//! A slot whose files a drive has.
+
+use super::Drive;
+use crate::files::disk::Disk;
+use crate::files::journal::Expected;
+use crate::files::room::Room;
+use crate::files::{segment, Dead, Durability, Fault, Journal, Outbox};
+use std::path::Path;
+use std::sync::Arc;
+
+const LOST_OUTBOX: &str = "has no segments, and the journal beside it has: put all of the slot's files back";
+
+/// Opens the files of a slot that was taken just now. Its requests have keys of the epoch, which is the store's for ever.
+pub fn open(drive: Arc<dyn Drive>, epoch: &str) -> Result<(Journal, Outbox, Dead), Fault> {
+    let disk = Disk::of_drive(drive);
+    let (journal, outbox) = (Path::new("journal"), Path::new("outbox"));
+    let is_new = segment::numbers(&disk, outbox)?.is_empty();
+    if is_new && !segment::numbers(&disk, journal)?.is_empty() {
+        // It would count from 1 again, under keys that were used.
+        return Err(Fault::Damaged {
+            path: outbox.into(),
+            at: 0,
+            what: LOST_OUTBOX.into(),
+        });
+    }
+    let room = Arc::new(Room::endless());
+    let outbox = Outbox::open(&disk, outbox, epoch, room.clone())?;
+    let reach = outbox.journal();
+    let expected = Expected {
+        reach,
+        // The first commit of a slot has both, and each later one has the segment that it names.
+        begun: (!is_new).then_some(reach),
+        by: outbox.ended(),
+    };
+    let journal = Journal::open(&disk, journal, Durability::Disk, room, &expected)?;
+    let dead = Dead::open(&disk, Path::new("dead"))?;
+    Ok((journal, outbox, dead))
+}

@@ -1,0 +1,296 @@
+//! The files of a slot over a drive: what the next owner has of them, who waits, and who is told that it is lost.
+
+use super::memory::{Owner, Step, Store};
+use super::*;
+use crate::files::journal::{Body, NoNames, Post};
+use crate::files::outbox::Runs;
+use crate::files::{Dead, Fault, Journal, Outbox, Ticket};
+use std::collections::BTreeSet;
+use std::path::PathBuf;
+use std::sync::atomic::{AtomicBool, AtomicUsize, Ordering::SeqCst};
+use std::sync::Arc;
+
+const EPOCH: &str = "00000000000000aa";
+
+fn open_of(owner: Arc<Owner>) -> (Journal, Outbox, Dead) {
+    open(owner, EPOCH).unwrap()
+}
+
+fn append(journal: &Journal, sender: &str, text: &str) -> Ticket {
+    let post = Post {
+        sender: sender.into(),
+        foreign: 0,
+        body: Body::Text(text.to_string().into()),
+    };
+    journal.append(&post, &NoNames)
+}
+
+fn texts(journal: &Journal, first: u64) -> Vec<String> {
+    let mut texts = Vec::new();
+    let each = |read: crate::files::Replayed| {
+        if let Body::Text(text) = &read.post.body {
+            texts.push(String::from_utf8(text.to_vec()).unwrap());
+        }
+        true
+    };
+    journal.posts(first, u64::MAX, each).unwrap();
+    texts
+}
+
+/// A request as the book forwards it.
+fn request(end: u64) -> Vec<u8> {
+    format!(
+        r#"{{"resourceMetrics":[{{"resource":{{"attributes":[]}},"scopeMetrics":[{{"scope":{{"name":"","version":"","attributes":[]}},"metrics":[{{"name":"a","unit":"","sum":{{"aggregationTemporality":1,"isMonotonic":false,"dataPoints":[{{"attributes":[],"startTimeUnixNano":"{}","timeUnixNano":"{end}","asInt":"1"}}]}}}}]}}]}}]}}"#,
+        end - 1
+    )
+    .into_bytes()
+}
+
+/// Counts the syncs that have begun.
+fn counted(store: &Arc<Store>) -> (Arc<Owner>, Arc<AtomicUsize>) {
+    let syncs = Arc::new(AtomicUsize::new(0));
+    let counted = syncs.clone();
+    let owner = store.take_with(move |step| {
+        counted.fetch_add(usize::from(step == Step::Sync), SeqCst);
+        Ok(())
+    });
+    (owner, syncs)
+}
+
+#[tokio::test]
+async fn the_next_owner_has_what_was_durable() {
+    let store = Arc::new(Store::default());
+    let (journal, outbox, dead) = open_of(store.take());
+    append(&journal, "A", "one");
+    let (second, turned) = journal.turn();
+    journal.settle(turned);
+    outbox.commit_with(&[request(5)], second, Runs::new()).unwrap();
+    journal.forget(second).unwrap();
+    dead.keep("0-e-1", "400", b"body").unwrap();
+    let ticket = append(&journal, "A", "two");
+    journal.durable(ticket).await.unwrap();
+    append(&journal, "A", "three");
+    outbox.quarantine("B").unwrap();
+    let (journal, outbox, dead) = open_of(store.take());
+    assert_eq!(
+        (outbox.journal(), texts(&journal, 2)),
+        (2, vec!["two".to_string()])
+    );
+    let (waiting, body) = outbox.first().await.unwrap();
+    assert_eq!((waiting.number, body), (1, request(5)));
+    assert_eq!((outbox.epoch().as_str(), outbox.quarantined().len()), (EPOCH, 0));
+    assert_eq!(dead.body("0-e-1").unwrap().unwrap(), b"body");
+    outbox.acknowledge(1).unwrap();
+    outbox.settle().unwrap();
+    let (journal, outbox, _dead) = open_of(store.take());
+    assert_eq!(
+        (outbox.waiting().0, texts(&journal, 2)),
+        (0, vec!["two".to_string()])
+    );
+}
+
+#[test]
+fn nothing_is_written_ahead_and_owners_that_end_at_once_leave_no_file() {
+    let store = Arc::new(Store::default());
+    let (journal, _outbox, _dead) = open_of(store.take());
+    append(&journal, "A", "one");
+    let names = || {
+        open_of(store.take());
+        store.names()
+    };
+    drop(journal);
+    let first = names();
+    (0..3).for_each(|_| assert_eq!(names(), first));
+    for name in first {
+        store.change(&name, |bytes| {
+            assert!(bytes.len() < 1000, "{name:?}");
+        });
+    }
+}
+
+/// A commit is one transaction, and none is waited for before it: who calls these may have the book's lock.
+#[test]
+fn a_checkpoint_is_one_sync() {
+    let store = Arc::new(Store::default());
+    let (owner, syncs) = counted(&store);
+    let (journal, outbox, _dead) = open_of(owner);
+    outbox.quarantine("B").unwrap();
+    let opened = syncs.load(SeqCst);
+    for number in 1..4 {
+        append(&journal, "A", "one");
+        append(&journal, "B", "two");
+        let (next, turned) = journal.turn();
+        journal.settle(turned);
+        let first = outbox.journal();
+        journal
+            .hold(&BTreeSet::from(["B".to_string()]), first, next)
+            .unwrap();
+        outbox.commit_with(&[request(number)], next, Runs::new()).unwrap();
+        journal.forget(next).unwrap();
+        assert!(!outbox.may_deliver(number), "it is not durable yet");
+        outbox.settle().unwrap();
+        assert!(outbox.may_deliver(number));
+    }
+    assert_eq!(syncs.load(SeqCst), opened + 3);
+    let (journal, outbox, _dead) = open_of(store.take());
+    assert_eq!(texts(&journal, outbox.journal()), ["two"; 3]);
+}
+
+/// An instance that was stopped finds so that it has the slot no more; a sink that forgets keys would count twice.
+#[test]
+fn nothing_is_delivered_where_it_is_not_known_whose_the_slot_is() {
+    let store = Arc::new(Store::default());
+    let (journal, outbox, _dead) = open_of(store.take());
+    outbox.commit(&[request(5)], journal.turn().0).unwrap();
+    outbox.settle().unwrap();
+    assert!(outbox.may_deliver(1));
+    std::thread::sleep(Duration::from_millis(350));
+    assert!(!outbox.may_deliver(1));
+    outbox.settle().unwrap();
+    assert!(outbox.may_deliver(1));
+    store.take();
+    std::thread::sleep(Duration::from_millis(350));
+    assert!(!outbox.may_deliver(1));
+    assert!(matches!(outbox.settle(), Err(Fault::Lost(_))));
+}
+
+/// What a refusal rests on may be another's since: only a commit that begins later says that it is not.
+#[tokio::test]
+async fn a_refusal_waits_for_a_sync_of_its_own() {
+    let store = Arc::new(Store::default());
+    let (owner, syncs) = counted(&store);
+    let (journal, _outbox, _dead) = open_of(owner);
+    journal.durable(append(&journal, "A", "one")).await.unwrap();
+    let before = syncs.load(SeqCst);
+    journal.durable(journal.now()).await.unwrap();
+    assert!(syncs.load(SeqCst) > before);
+    store.take();
+    assert_eq!(journal.durable(journal.now()).await, Err(Lost));
+}
+
+#[tokio::test(flavor = "multi_thread")]
+async fn all_who_wait_are_told_that_the_slot_is_lost() {
+    let store = Arc::new(Store::default());
+    let stalls = Arc::new(AtomicBool::new(false));
+    let stalling = stalls.clone();
+    let owner = store.take_with(move |step| {
+        while step == Step::Sync && stalling.load(SeqCst) {
+            std::thread::sleep(Duration::from_millis(1));
+        }
+        Ok(())
+    });
+    let (journal, outbox, dead) = open_of(owner);
+    let (journal, outbox) = (Arc::new(journal), Arc::new(outbox));
+    stalls.store(true, SeqCst);
+    let wait = |ticket| {
+        let journal = journal.clone();
+        tokio::spawn(async move { journal.durable(ticket).await })
+    };
+    let waiting: Vec<_> = (0..50)
+        .map(|_| wait(append(&journal, "A", "one")))
+        .chain([wait(journal.now())])
+        .collect();
+    let (of_journal, of_outbox) = (journal.clone(), outbox.clone());
+    let told = tokio::spawn(async move { (of_journal.lost().await, of_outbox.lost().await) });
+    tokio::time::sleep(Duration::from_millis(20)).await;
+    assert!(waiting.iter().all(|one| !one.is_finished()) && journal.under_way() > Duration::ZERO);
+    store.take();
+    stalls.store(false, SeqCst);
+    for one in waiting {
+        assert_eq!(one.await.unwrap(), Err(Lost));
+    }
+    told.await.unwrap();
+    // What comes later is told so too, and no call reaches the drive.
+    let ticket = append(&journal, "A", "two");
+    assert_eq!(journal.durable(ticket).await, Err(Lost));
+    journal.turn();
+    assert_eq!(journal.durable(journal.now()).await, Err(Lost));
+    assert!(matches!(journal.forget(2), Err(Fault::Lost(_))));
+    for _ in 0..2 {
+        assert!(matches!(outbox.quarantine("B"), Err(Fault::Lost(_))));
+    }
+    assert!(matches!(dead.keep("k", "", b""), Err(Fault::Lost(_))));
+}
+
+/// Nobody waits for an acknowledgement; but what is sent again for long is counted again by a sink that forgets keys.
+#[test]
+fn what_nobody_waits_for_is_durable_a_moment_later() {
+    let store = Arc::new(Store::default());
+    let (journal, outbox, _dead) = open_of(store.take());
+    outbox.commit(&[request(5)], journal.turn().0).unwrap();
+    outbox.settle().unwrap();
+    outbox.acknowledge(1).unwrap();
+    let began = std::time::Instant::now();
+    while open_of(store.take()).1.waiting().0 > 0 {
+        assert!(began.elapsed() < Duration::from_secs(10), "it is never durable");
+        // Who looks takes the slot, so it is looked once.
+        let (journal, outbox, _dead) = open_of(store.take());
+        if outbox.waiting().0 > 0 {
+            outbox.acknowledge(1).unwrap();
+            std::thread::sleep(Duration::from_millis(1500));
+        }
+        drop(journal);
+    }
+}
+
+/// Where a move was durable and its commit was not, the next owner moves the same posts to the same place.
+#[test]
+fn posts_that_were_moved_before_a_commit_that_did_not_come_are_held_once() {
+    let store = Arc::new(Store::default());
+    let quarantined = BTreeSet::from(["B".to_string()]);
+    let (journal, outbox, _dead) = open_of(store.take());
+    append(&journal, "B", "one");
+    let (next, _) = journal.turn();
+    journal.hold(&quarantined, 1, next).unwrap();
+    outbox.commit(&[], next).unwrap();
+    journal.forget(next).unwrap();
+    append(&journal, "B", "two and more");
+    let (third, _) = journal.turn();
+    journal.hold(&quarantined, next, third).unwrap();
+    outbox.settle().unwrap();
+    let (journal, outbox, _dead) = open_of(store.take());
+    assert_eq!(texts(&journal, outbox.journal()), ["one", "two and more"]);
+    append(&journal, "B", "three");
+    let (last, _) = journal.turn();
+    journal.hold(&quarantined, outbox.journal(), last).unwrap();
+    outbox.commit(&[], last).unwrap();
+    journal.forget(last).unwrap();
+    outbox.settle().unwrap();
+    let (journal, outbox, _dead) = open_of(store.take());
+    let all = ["one", "two and more", "three"];
+    assert_eq!(
+        (texts(&journal, outbox.journal()), journal.held().posts),
+        (all.map(String::from).to_vec(), 3)
+    );
+}
+
+/// A loss of power tears a folder's files, and a start goes on; but what a drive has is as it was written.
+#[test]
+fn what_was_cut_changed_or_removed_is_refused_by_name() {
+    let opened = |change: &dyn Fn(&Store)| {
+        let store = Arc::new(Store::default());
+        let (journal, outbox, _dead) = open_of(store.take());
+        append(&journal, "A", "one");
+        append(&journal, "A", "two");
+        outbox.quarantine("B").unwrap();
+        outbox.settle().unwrap();
+        change(&store);
+        open(store.take(), EPOCH).err().map(|fault| fault.to_string())
+    };
+    let names = ["journal", "outbox"].map(|folder| PathBuf::from(folder).join("000000000001.seg"));
+    assert_eq!(opened(&|_| {}), None);
+    for name in &names {
+        let shown = name.display().to_string();
+        let changed = |change: fn(&mut Vec<u8>)| opened(&|store| store.change(name, change)).unwrap();
+        let cut = changed(|bytes| bytes.truncate(bytes.len() - 1));
+        let flipped = changed(|bytes| *bytes.last_mut().unwrap() ^= 1);
+        let more = changed(|bytes| bytes.extend(b"more"));
+        let gone = changed(Vec::clear);
+        for fault in [&cut, &flipped, &more, &gone] {
+            assert!(
+                fault.starts_with(&shown) || fault.starts_with("outbox"),
+                "{fault}"
+            );
+        }
+    }
+}

@@ -1,0 +1,257 @@
+//! A segment of the outbox that an earlier run left.
+//!
+//! Of closed segments only the heads of groups are read, and their commits; the bodies are passed over, and checked
+//! when they are delivered. The last segment is read whole, for a crash may have torn its last group.
+
+use super::changes::{Change, Group};
+use super::rows::{self, GroupHead};
+use super::state::{Batch, State};
+use crate::files::disk::Disk;
+use crate::files::judge::{is_torn, CHANGED};
+use crate::files::records::{Next, Reader, Which, HEADER};
+use crate::files::{segment, Fault};
+use crate::otlp::series::SeriesKey;
+use std::path::Path;
+use std::sync::Arc;
+
+const NOT_WRITTEN: &str = "is no record that is written here: put a copy of this file in its place";
+
+/// A segment that is read.
+pub(super) struct Reading {
+    disk: Disk,
+    pub reader: Reader,
+    number: u64,
+    next: Next,
+    /// The last epoch, which most groups share.
+    epoch: Arc<str>,
+}
+
+/// The records behind the head of a group.
+enum Items {
+    Whole {
+        journal: u64,
+        ends: Vec<u8>,
+        from: u64,
+        to: u64,
+    },
+    /// They end here.
+    Torn(u64),
+}
+
+impl Reading {
+    pub fn open(disk: &Disk, folder: &Path, number: u64) -> Result<Reading, Fault> {
+        let path = segment::path(folder, number);
+        let (mut reader, first) = Reader::open(disk, &path, Which::Outbox, number, None)?;
+        if first == Next::Stop {
+            return Err(reader.damaged(0, CHANGED));
+        }
+        let next = reader.next()?;
+        Ok(Reading {
+            disk: disk.clone(),
+            reader,
+            number,
+            next,
+            epoch: "".into(),
+        })
+    }
+
+    fn step(&mut self) -> Result<Next, Fault> {
+        let next = self.reader.next()?;
+        Ok(std::mem::replace(&mut self.next, next))
+    }
+
+    /// Finds the groups of a closed segment.
+    pub fn pass_over(mut self, batches: &mut Vec<Batch>) -> Result<(), Fault> {
+        loop {
+            match std::mem::replace(&mut self.next, Next::Stop) {
+                Next::Closed => return Ok(()),
+                Next::Stop => return Err(self.reader.damaged(self.reader.at, CHANGED)),
+                Next::Record {
+                    at,
+                    kind: rows::GROUP,
+                    bytes,
+                } => {
+                    let head = self.head(at, &bytes)?;
+                    match self.items(&head, false)? {
+                        Items::Torn(at) => return Err(self.reader.damaged(at, CHANGED)),
+                        Items::Whole { from, to, .. } => batches.extend(self.batch(&head, from, to)),
+                    }
+                }
+                Next::Record { .. } => {}
+            }
+            self.next = self.reader.next()?;
+        }
+    }
+
+    fn head(&self, at: u64, bytes: &[u8]) -> Result<GroupHead, Fault> {
+        rows::head_of(bytes).ok_or_else(|| self.reader.damaged(at, NOT_WRITTEN))
+    }
+
+    fn batch(&mut self, head: &GroupHead, at: u64, end: u64) -> Option<Batch> {
+        if *self.epoch != *head.epoch {
+            self.epoch = head.epoch.as_str().into();
+        }
+        let (first, count, epoch, since) = (head.first, head.count, self.epoch.clone(), head.since);
+        (count > 0).then_some(Batch {
+            first,
+            count,
+            epoch,
+            since,
+            segment: self.number,
+            at,
+            end,
+        })
+    }
+
+    /// Goes behind a group's commit. With `whole` each item is read.
+    fn items(&mut self, head: &GroupHead, whole: bool) -> Result<Items, Fault> {
+        let from = self.reader.at;
+        let mut number = head.first;
+        while whole && self.reader.at < from + head.length {
+            match self.reader.next()? {
+                Next::Record {
+                    kind: rows::ITEM,
+                    bytes,
+                    ..
+                } if bytes.starts_with(&number.to_le_bytes()) => number += 1,
+                Next::Record { at, .. } => return Err(self.reader.damaged(at, NOT_WRITTEN)),
+                Next::Stop | Next::Closed => return Ok(Items::Torn(self.reader.at)),
+            }
+        }
+        if !whole && !self.reader.skip(head.length)? {
+            return Ok(Items::Torn(self.reader.at));
+        }
+        let to = self.reader.at;
+        match self.reader.next()? {
+            Next::Record {
+                at,
+                kind: rows::COMMIT,
+                bytes,
+            } => match rows::commit_of(&bytes, head) {
+                Some((journal, ends))
+                    if to == from + head.length && (!whole || number == head.first + head.count) =>
+                {
+                    Ok(Items::Whole {
+                        journal,
+                        ends: ends.to_vec(),
+                        from,
+                        to,
+                    })
+                }
+                _ => Err(self.reader.damaged(at, NOT_WRITTEN)),
+            },
+            Next::Record { at, .. } => Err(self.reader.damaged(at, NOT_WRITTEN)),
+            Next::Stop | Next::Closed => Ok(Items::Torn(self.reader.at)),
+        }
+    }
+
+    /// The items of a group of the last segment, which may be torn. Where they are durable and one was changed, all else is
+    /// known by the commit: the delivery stops at that one, and says so.
+    fn last_items(&mut self, head: &GroupHead) -> Result<Items, Fault> {
+        let from = self.reader.at;
+        let torn = match self.items(head, true)? {
+            Items::Torn(torn) => torn,
+            whole => return Ok(whole),
+        };
+        let Err(changed) = is_torn(&self.disk, &self.reader.path, torn) else {
+            return Ok(Items::Torn(torn));
+        };
+        self.reader.seek(from)?;
+        match self.items(head, false) {
+            Ok(whole @ Items::Whole { .. }) => Ok(whole),
+            _ => Err(changed),
+        }
+    }
+
+    /// The state that the last segment tells, and where it has to be closed, where it was not.
+    pub fn read_last(&mut self) -> Result<(State, Option<u64>), Fault> {
+        let Next::Record {
+            at,
+            kind: rows::SNAPSHOT,
+            bytes,
+        } = self.step()?
+        else {
+            return Err(self.reader.damaged(self.reader.at, CHANGED));
+        };
+        let mut state = rows::Snapshot::read(&bytes).ok_or_else(|| self.reader.damaged(at, NOT_WRITTEN))?;
+        let mut keys: Vec<SeriesKey> = state.series.keys().cloned().collect();
+        keys.sort_unstable_by_key(|key| state.series.get(key).map(|known| known.id));
+        loop {
+            match std::mem::replace(&mut self.next, Next::Stop) {
+                Next::Closed => return Ok((state, None)),
+                Next::Stop => {
+                    is_torn(&self.disk, &self.reader.path, self.reader.at)?;
+                    return Ok((state, Some(self.reader.at)));
+                }
+                Next::Record {
+                    at,
+                    kind: rows::GROUP,
+                    bytes,
+                } => {
+                    let head = self.head(at, &bytes)?;
+                    match self.last_items(&head)? {
+                        Items::Torn(_) => return Ok((state, Some(at))),
+                        whole => state.apply(self.group(head, whole, &mut keys, at)?),
+                    }
+                }
+                Next::Record { at, kind, bytes } => self.apply(&mut state, at, kind, &bytes, &keys)?,
+            }
+            self.next = self.reader.next()?;
+        }
+    }
+
+    fn group(
+        &mut self,
+        head: GroupHead,
+        items: Items,
+        keys: &mut Vec<SeriesKey>,
+        at: u64,
+    ) -> Result<Change, Fault> {
+        let wrong = || self.reader.damaged(at, NOT_WRITTEN);
+        let Items::Whole {
+            journal,
+            ends,
+            from,
+            to,
+        } = items
+        else {
+            return Err(wrong());
+        };
+        let (ends, runs) = rows::ends_of(&ends, keys).ok_or_else(wrong)?;
+        let group = Group {
+            first: head.first,
+            epoch: head.epoch.as_str().into(),
+            since: head.since,
+            heard: None,
+            journal,
+            ends,
+            runs,
+        };
+        Ok(Change::Group {
+            group,
+            count: head.count,
+            segment: self.number,
+            items: from..to,
+        })
+    }
+
+    fn apply(
+        &self,
+        state: &mut State,
+        at: u64,
+        kind: u8,
+        bytes: &[u8],
+        keys: &[SeriesKey],
+    ) -> Result<(), Fault> {
+        let wrong = || self.reader.damaged(at, NOT_WRITTEN);
+        match kind {
+            HEADER => return Err(wrong()),
+            // Which requests still wait is found once all segments are read.
+            rows::ACK => {
+                state.acknowledged = bytes.try_into().map(u64::from_le_bytes).map_err(|_| wrong())?
+            }
+            _ => state.apply(rows::change_of(kind, bytes, keys).ok_or_else(wrong)?),
+        }
+        Ok(())
+    }
+}

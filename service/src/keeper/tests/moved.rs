@@ -1,0 +1,312 @@
+//! A slot whose files are in a store: another instance takes it at each call of its drive in turn, and has exactly what was
+//! answered. Who posts repeats what got no answer.
+
+use super::cumulative::{self, text, BEGIN};
+use super::*;
+use crate::files::drive::memory::{Owner, Step, Store};
+use crate::files::drive::{self, lost};
+use crate::files::{Drive, Fault};
+use crate::otlp::series::{forwarded, Value};
+use crate::slot::{Request, MOVED};
+use std::collections::BTreeMap;
+use std::io;
+use std::sync::atomic::AtomicU64;
+
+const EPOCH: &str = "00000000000000aa";
+
+/// What is done, one after the other.
+#[derive(Clone, Copy, Debug)]
+enum Act {
+    /// The next delta point of a sender's series.
+    Delta(&'static str),
+    /// A point of A's run, of this value.
+    Run(i64),
+    Checkpoint,
+    Quarantine,
+    Lift,
+    Deliver,
+}
+
+use Act::{Checkpoint, Deliver, Delta, Lift, Quarantine, Run as OfRun};
+
+const ACTS: [Act; 24] = [
+    Delta("A"),
+    OfRun(5),
+    Delta("B"),
+    Checkpoint,
+    Deliver,
+    Delta("A"),
+    Delta("B"),
+    Quarantine,
+    OfRun(9),
+    Checkpoint,
+    Delta("A"),
+    Deliver,
+    Lift,
+    Delta("B"),
+    OfRun(11),
+    Checkpoint,
+    Delta("B"),
+    Quarantine,
+    Checkpoint,
+    Deliver,
+    Lift,
+    Delta("A"),
+    Checkpoint,
+    Deliver,
+];
+
+/// How the slot goes away.
+#[derive(Clone, Copy, Debug)]
+enum How {
+    /// The call says so.
+    Told,
+    /// The next sync finds it.
+    Unseen,
+}
+
+/// The instance that has the slot, and what comes of it.
+struct World {
+    run: Option<Run>,
+    /// Who has taken it.
+    next: Next,
+    moves: u64,
+    sink: BTreeMap<(String, u64), Vec<u8>>,
+    points: BTreeMap<&'static str, u64>,
+    time: u64,
+}
+
+/// The slot is lost: what was done got no answer.
+struct Moved;
+
+impl World {
+    fn is_taken(&self) -> bool {
+        self.next.lock().unwrap().is_some()
+    }
+
+    /// The instance that has the slot now.
+    async fn begun(&mut self) {
+        while self.run.is_none() {
+            let owner = self.next.lock().unwrap().take().unwrap();
+            self.run = began(owner).await;
+            self.moves += 1;
+        }
+    }
+
+    async fn act(&mut self, act: Act) {
+        for tries in 0.. {
+            self.begun().await;
+            let was_taken = self.is_taken();
+            match self.tried(act, tries > 0).await {
+                Ok(()) => {
+                    let may_be = matches!(act, Deliver); // the same under the same key
+                    assert!(!was_taken || may_be, "{act:?} was answered after the loss");
+                    return;
+                }
+                Err(Moved) => self.move_on().await,
+            }
+        }
+    }
+
+    /// The former instance has ended this slot, and nothing else.
+    async fn move_on(&mut self) {
+        let run = self.run.take().unwrap();
+        let ended = run.running.await.unwrap();
+        assert!(matches!(ended, Err(Trouble::Lost(_))), "{ended:?}");
+        assert_eq!(run.slot.unavailable(), Some(MOVED));
+        let late = run.slot.post("C".into(), point("c", 1).into()).await;
+        assert_eq!((late.status(), late.refusal()), (503, Some(MOVED)));
+    }
+
+    async fn tried(&mut self, act: Act, again: bool) -> Result<(), Moved> {
+        let run = self.run.as_ref().unwrap();
+        match act {
+            Delta(sender) => {
+                let number = self.points.entry(sender).or_default();
+                let body = point(sender, *number + 1);
+                match answered(run.slot.post(sender.into(), body.into()).await)? {
+                    (200, _) => {}
+                    (400, why) if again && why.starts_with("out of order") => {}
+                    other => panic!("{act:?}: {other:?}"),
+                }
+                *number += 1;
+            }
+            OfRun(value) => {
+                let points = [cumulative::point("m", BEGIN, BEGIN + value as u64, value)];
+                let by = run.slot.numbered_text(&text(&points, 2).into()).unwrap().unwrap();
+                let outcome = run.slot.request("A".into(), Request::Numbered(by)).await;
+                assert_eq!(answered(outcome)?.0, 200);
+                self.time = self.time.max(value as u64);
+            }
+            Checkpoint => drop(run.orders.order(Order::Checkpoint).await.ok_or(Moved)?),
+            Quarantine | Lift => {
+                let order = match act {
+                    Lift => Order::Lift("B".into()),
+                    _ => Order::Quarantine("B".into()),
+                };
+                match run.orders.order(order).await.ok_or(Moved)? {
+                    Done::Answered(outcome) if outcome.status() == 200 => {}
+                    // The first try was durable.
+                    Done::Answered(outcome) if again && outcome.status() == 400 => {}
+                    other => panic!("{act:?}: {other:?}"),
+                }
+            }
+            Deliver => self.deliver().await.map_err(|fault| match fault {
+                Fault::Lost(_) => Moved,
+                fault => panic!("{fault}"),
+            })?,
+        }
+        Ok(())
+    }
+
+    async fn deliver(&mut self) -> Result<(), Fault> {
+        let outbox = self.run.as_ref().unwrap().slot.outbox.clone();
+        while outbox.waiting().0 > 0 {
+            let (waiting, body) = outbox.first().await?;
+            if !outbox.may_deliver(waiting.number) {
+                outbox.settle()?;
+            }
+            let known = self.sink.insert((outbox.epoch(), waiting.number), body.clone());
+            assert!(
+                known.is_none_or(|known| known == body),
+                "another body under one key"
+            );
+            outbox.acknowledge(waiting.number)?;
+        }
+        Ok(())
+    }
+
+    fn sums(&self) -> BTreeMap<String, i64> {
+        let mut sums = BTreeMap::new();
+        for point in self.sink.values().flat_map(|body| forwarded(body).unwrap()) {
+            let Value::Sum(value) = point.value else {
+                panic!("{point:?}")
+            };
+            *sums.entry(point.series.parts().unwrap().name).or_default() += value;
+        }
+        sums
+    }
+}
+
+/// Status and text; none where the slot is lost.
+fn answered(outcome: Outcome) -> Result<(u16, String), Moved> {
+    let why = outcome.refusal().unwrap_or_default().to_string();
+    match (outcome.status(), why.as_str()) {
+        (503, MOVED) => Err(Moved),
+        (status, _) => Ok((status, why)),
+    }
+}
+
+/// An instance that takes posts; none where it lost the slot before.
+async fn began(owner: Arc<dyn Drive>) -> Option<Run> {
+    let (journal, outbox, _dead) = match drive::open(owner, EPOCH) {
+        Err(Fault::Lost(_)) => return None,
+        opened => opened.unwrap(),
+    };
+    let run = Run::over(journal, outbox, settings());
+    while !run.slot.is_ready() {
+        if run.running.is_finished() {
+            let ended = run.running.await.unwrap();
+            assert!(matches!(ended, Err(Trouble::Lost(_))), "{ended:?}");
+            return None;
+        }
+        tokio::time::sleep(Duration::from_millis(1)).await;
+    }
+    Some(run)
+}
+
+/// The next owner of the slot, as soon as somebody takes it.
+type Next = Arc<Mutex<Option<Arc<Owner>>>>;
+
+/// An owner who loses the slot at its call of this number. Who takes it then loses it so many calls later, if at all.
+fn losing(store: &Arc<Store>, next: &Next, call: u64, more: Option<u64>, how: How) -> Arc<Owner> {
+    let (calls, of_store, of_next) = (AtomicU64::new(0), store.clone(), next.clone());
+    store.take_with(move |_: Step| -> io::Result<()> {
+        if calls.fetch_add(1, SeqCst) != call {
+            return Ok(());
+        }
+        let taken = match more {
+            Some(more) => losing(&of_store, &of_next, call + more, Some(more), how),
+            None => of_store.take(),
+        };
+        *of_next.lock().unwrap() = Some(taken);
+        match how {
+            How::Told => Err(lost()),
+            How::Unseen => Ok(()),
+        }
+    })
+}
+
+/// Does all with a drive that is lost at its call of this number: how often the slot has moved.
+async fn lose_at(call: u64, more: Option<u64>, how: How) -> u64 {
+    let (store, next) = (Arc::new(Store::default()), Next::default());
+    let run = began(losing(&store, &next, call, more, how)).await;
+    let (sink, points, time) = Default::default();
+    let mut world = World {
+        run,
+        next,
+        moves: 0,
+        sink,
+        points,
+        time,
+    };
+    for act in ACTS {
+        world.act(act).await;
+    }
+    let mut wanted: BTreeMap<String, i64> = BTreeMap::new();
+    for (name, points) in &world.points {
+        wanted.insert(name.to_string(), *points as i64);
+    }
+    wanted.insert("m".into(), world.time as i64);
+    assert_eq!(world.sums(), wanted, "call {call}, {how:?}");
+    let run = world.run.take().unwrap();
+    for kind in ["reading", "replay", "owner"] {
+        let faults = run.slot.metrics.faults.with_label_values(&[kind]);
+        assert_eq!(faults.get(), 0, "{kind}, call {call}, {how:?}");
+    }
+    world.moves + u64::from(world.is_taken())
+}
+
+/// As many at once as there are processors, as a rule.
+const AT_ONCE: u64 = 4;
+
+/// Up to which call each was tried.
+async fn lose_at_each(how: How) -> u64 {
+    for first in (0..).step_by(AT_ONCE as usize) {
+        let calls = first..first + AT_ONCE;
+        let runs: Vec<_> = calls
+            .map(|call| tokio::spawn(lose_at(call, None, how)))
+            .collect();
+        let mut was_there = true;
+        for run in runs {
+            was_there &= run.await.unwrap() > 0;
+        }
+        if !was_there {
+            return first;
+        }
+    }
+    0
+}
+
+#[tokio::test(flavor = "multi_thread", worker_threads = 4)]
+async fn what_was_answered_is_there_for_who_takes_the_slot_at_any_call_that_says_so() {
+    let calls = lose_at_each(How::Told).await;
+    assert!(calls > 100, "{calls}");
+}
+
+#[tokio::test(flavor = "multi_thread", worker_threads = 4)]
+async fn what_was_answered_is_there_for_who_takes_the_slot_unseen() {
+    let calls = lose_at_each(How::Unseen).await;
+    assert!(calls > 100, "{calls}");
+}
+
+/// Also while the one who has taken it opens its files and fills its book.
+#[tokio::test(flavor = "multi_thread", worker_threads = 4)]
+async fn what_was_answered_is_there_over_many_owners() {
+    for how in [How::Told, How::Unseen] {
+        for more in 1..8 {
+            let moves = lose_at(0, Some(more), how).await;
+            assert!(moves > 3, "{moves} moves, {more}, {how:?}");
+        }
+    }
+}

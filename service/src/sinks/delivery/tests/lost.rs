@@ -1,0 +1,35 @@
+//! A slot that another instance takes while its requests are delivered.
+
+use super::*;
+
+#[tokio::test]
+async fn a_delivery_ends_once_its_slot_is_lost() {
+    let (lose, lost) = watch::channel(false);
+    let (_never, stop) = watch::channel(false);
+    let memory = Memory {
+        lost: Some(lost),
+        ..waiting([1])
+    };
+    let delivering = run_until(&memory, vec![again(Some(Duration::from_secs(60)))], stop);
+    let losing = async {
+        tokio::time::sleep(Duration::from_millis(50)).await;
+        lose.send_replace(true);
+    };
+    let ((tried, end), ()) = tokio::join!(delivering, losing);
+    assert!(matches!(end, Err(Fault::Lost(_))), "{end:?}");
+    assert_eq!(tried.keys(), ["2-e-1"]);
+    assert!(memory.acknowledged.lock().expect("acknowledged").is_empty());
+}
+
+/// The next owner delivers it too, and a sink may forget keys.
+#[tokio::test]
+async fn each_try_is_made_while_the_slot_is_this_instances() {
+    let (_never, stop) = watch::channel(false);
+    let memory = Memory {
+        ours: Some(Mutex::new(2)),
+        ..waiting([1])
+    };
+    let (tried, end) = run_until(&memory, vec![again(None), again(None)], stop).await;
+    assert!(matches!(end, Err(Fault::Lost(_))), "{end:?}");
+    assert_eq!(tried.keys(), ["2-e-1", "2-e-1"]);
+}
