@@ -68,6 +68,7 @@ SERVICE_STEPS = (
     ("same_answers.py", [GATEWAY], 100),
     ("behind_proxies.py", [], 60),
     ("two_services.py", ["0", "1", "--sink", "one"], 40),
+    ("store.py", ["60"], 120),
     ("demo.py", ["25"], 60),
     ("alerts.py", [], 60),
     ("pages.py", [], 40),

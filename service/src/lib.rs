@@ -4,7 +4,8 @@
 //! with its journal and outbox (`files`). A `keeper` fills the book at the start, and flushes it. What was flushed
 //! is delivered to one of the `sinks`. `shares` is what each sender may have, `remarks` tells in the log what an operator may want to know of posts.
 //! `operate` is the operator's address, `command` the command line, `service` all of it as one process, `log` what it says;
-//! `switch` tells a part of it to stop, `work` is done beside the runtime.
+//! `switch` tells a part of it to stop, `work` is done beside the runtime, `postgres` connects.
+//! A `store` has the files of slots that several machines share.
 
 // What may be missing is handled; in a test these two are the check. `print!` and `eprint!` panic where nobody reads: see
 // `command` and `log`.
@@ -33,6 +34,7 @@ pub mod metrics;
 pub mod operate;
 pub mod otlp;
 pub mod pass;
+pub mod postgres;
 pub mod remarks;
 pub mod renewed;
 pub mod runs;
@@ -40,6 +42,7 @@ pub mod service;
 pub mod shares;
 pub mod sinks;
 pub mod slot;
+pub mod store;
 pub mod switch;
 pub mod tls;
 mod work;

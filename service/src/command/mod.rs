@@ -12,12 +12,14 @@ mod keeping;
 mod letters;
 mod of_runs;
 mod of_senders;
+mod of_store;
 mod periods;
 mod print;
 mod reading;
 mod serve;
 mod settings;
 mod status;
+mod store;
 mod table;
 mod token;
 mod totals;
@@ -81,6 +83,9 @@ enum Command {
     Check(check::Options),
     /// Says of each point of a captured request whether it is taken, and why not
     Explain(explain::Options),
+    /// Makes a store that several machines share
+    #[command(subcommand)]
+    Store(store::Command),
     /// Makes a token for a sender: prints its line for the file of --tokens, and the token itself, once, on standard error
     Token(token::Options),
     /// Prints the version, and whether the book was proved
@@ -146,10 +151,12 @@ pub fn run() -> ExitCode {
     }
 }
 
-/// A sink's address and headers may have a password: what is wrong with them is said without them.
+/// A sink's or a store's address, and headers, may have a password: what is wrong with them is said without them.
 fn without_secrets(mut error: clap::Error) -> clap::Error {
     let is_secret = match error.get(ContextKind::InvalidArg) {
-        Some(ContextValue::String(option)) => option.starts_with("--sink"),
+        Some(ContextValue::String(option)) => ["--sink", "--store", "<ADDRESS>"]
+            .iter()
+            .any(|name| option.starts_with(name)),
         _ => false,
     };
     if is_secret {
@@ -177,6 +184,7 @@ impl Command {
             Command::Export(options) => Ok(options.run().map(|()| Vec::new())?),
             Command::Check(options) => options.run(),
             Command::Explain(options) => options.run(),
+            Command::Store(command) => Ok(command.run()?),
             Command::Token(options) => Ok(token::run(&options)?),
             Command::Version => Ok(line(version::Versions)),
             Command::Print { what } => Ok(print::run(what)?),
@@ -277,6 +285,15 @@ mod tests {
             ("serve --data d --sender-points 0", "--sender-points"),
             ("token a/b/c", "behind the /"),
             ("token -", "a sender's name"),
+            ("store init", "<ADDRESS>"),
+            ("serve --data d --store postgres://u@h/d --instance a", "--peer"),
+            ("serve --data d --instance a", "--store"),
+            (
+                "serve --data d --store postgres://u@h/d --peer h:1 --instance a/b",
+                "--instance",
+            ),
+            ("store init mysql://h/d", "a store is postgres://"),
+            ("store init postgres://u@h/d --slots 0", "--slots"),
             ("serve --data d --listen nowhere", "--listen"),
             ("serve --data d --listen 127.0.0.1:65536", "--listen"),
             ("serve --data d --listen-grpc :4317", "--listen-grpc"),
@@ -318,6 +335,22 @@ mod tests {
                 .unwrap_or_else(|| panic!("{words} was taken"))
                 .to_string();
             assert!(text.contains(part), "{words}: {text}");
+        }
+    }
+
+    #[test]
+    fn what_is_wrong_with_an_address_is_said_without_its_password() {
+        for words in [
+            "store init postgres://u:secret@h",
+            "serve --data d --sink postgres://u:secret@h",
+        ] {
+            let line = [&["totxegun"], &words.split(' ').collect::<Vec<_>>()[..]].concat();
+            let error = Line::try_parse_from(line).err().map(without_secrets);
+            let text = error.map_or_else(|| panic!("{words} was taken"), |error| error.to_string());
+            assert!(
+                text.contains("no database") && !text.contains("secret"),
+                "{words}: {text}"
+            );
         }
     }
 }

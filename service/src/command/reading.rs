@@ -1,6 +1,8 @@
 //! Options that say how requests are read, for what takes posts and for what explains them.
 
+use super::of_store::likeness;
 use super::values::{time_or_off, MayBeOff};
+use crate::core::Across;
 use crate::otlp::{Bounds, Choice, Clock, Cumulative, Reading, Whole, INSTANCE};
 use anyhow::{anyhow, bail};
 use clap::builder::NonEmptyStringValueParser;
@@ -58,6 +60,20 @@ impl OfReading {
             most_ahead: self.most_ahead.0,
             most_behind: self.most_behind.0,
         }
+    }
+
+    /// What the meaning of posts hangs on.
+    pub fn likeness(&self, across: Across) -> String {
+        let sender_from = self.sender_from.as_deref();
+        let likeness = likeness(
+            &self.whole,
+            &self.drop_attributes,
+            sender_from,
+            self.cumulative,
+            across,
+        );
+        let (instance, exponential) = (self.instance_from_sender, &self.exponential);
+        format!("{likeness} instance-from-sender={instance} exponential={exponential:?}")
     }
 
     pub fn reading(self) -> anyhow::Result<Reading> {

@@ -3,6 +3,7 @@
 use super::keeping::OfKeeping;
 use super::of_runs::OfRuns;
 use super::of_senders::OfSenders;
+use super::of_store::{needs_sink, OfStore};
 use super::reading::OfReading;
 use super::settings::Names;
 use super::values::{bytes_shown, operator, orders_at, place, size, time, time_or_never, MayBeNever, SOCKET};
@@ -28,8 +29,9 @@ use tracing_subscriber::{filter::Targets, prelude::*};
 
 /// Threads of all that no sender waits for: checkpoints, the delivery, operators.
 const BACKGROUND: usize = 2;
-/// Threads for calls of files that wait for a disk.
+/// Threads for calls of files that wait for a disk. A store has several slots, each of which may wait for it.
 const LONG_WORK: usize = 16;
+const LONG_WORK_OF_STORE: usize = 128;
 
 /// Open files of the service's own, with the operators' connections.
 const OWN_FILES: u64 = 192;
@@ -130,6 +132,8 @@ pub struct Options {
     // What is behind a group stands under its heading: so the groups come last.
     #[command(flatten)]
     of_senders: OfSenders,
+    #[command(flatten)]
+    of_store: OfStore,
     #[command(flatten)]
     of_sink: OfSink,
     #[command(flatten)]
@@ -273,7 +277,10 @@ impl Options {
         let mut building = tokio::runtime::Builder::new_multi_thread();
         building
             .worker_threads(BACKGROUND)
-            .max_blocking_threads(LONG_WORK)
+            .max_blocking_threads(match self.of_store.is_given() {
+                true => LONG_WORK_OF_STORE,
+                false => LONG_WORK,
+            })
             .enable_all();
         let runtime = building.build().context("no threads could be started")?;
         let ended = runtime.block_on(service::run(self.settings(most_files, metrics)?));
@@ -303,11 +310,15 @@ impl Options {
         core::bound_memory(self.of_book.memory());
         metrics.most_series(self.of_book.most_series);
         let data = absolute(&self.data)?;
-        let sink = self
-            .sink
-            .unwrap_or_else(|| Address::Sqlite(data.join("metrics.db")));
+        let sink = match self.sink {
+            Some(sink) => sink,
+            None if self.of_store.is_given() => return Err(Failure::Line(needs_sink())),
+            None => Address::Sqlite(data.join("metrics.db")),
+        };
         let sink = self.of_sink.put_into(sink).map_err(Failure::Line)?;
         let keep = self.of_keeping.keep(&sink).map_err(Failure::Line)?;
+        let likeness = self.of_reading.likeness(self.never_across);
+        let store = self.of_store.settings(likeness, &sink).map_err(Failure::Line)?;
         let clock = self.of_reading.clock();
         let reading = self.of_reading.reading().map_err(Failure::Line)?;
         if self.of_senders.has_names() && reading.sender_from.is_some() {
@@ -331,6 +342,7 @@ impl Options {
         let door = self.of_senders.door(&metrics)?;
         Ok(Settings {
             data,
+            store,
             listen: self.listen,
             listen_grpc: self.listen_grpc,
             operate,

@@ -30,6 +30,7 @@ pub use tcp::AtTcp;
 pub use totals::Totals;
 pub use units::{Left, Unit, Units};
 
+use crate::cluster::Cluster;
 use crate::intake::connections::Handler;
 use crate::intake::user::User;
 use crate::intake::Budget;
@@ -53,6 +54,8 @@ const PROMETHEUS: &str = "text/plain; version=0.0.4";
 /// All that an operator may ask. `units` are the slots that are here.
 pub struct Desk {
     pub units: Arc<Units>,
+    /// Where there are other instances.
+    pub cluster: Option<Arc<Cluster>>,
     pub shares: Arc<Shares>,
     pub acts: Arc<Acts>,
     pub sink: Arc<dyn Sink>,

@@ -1,6 +1,7 @@
 //! What is asked of the keepers and of the books.
 
 use super::{answered, message, reply, Desk, Unit, JSON, TEXT};
+use crate::cluster::NO_STORE;
 use crate::core::Refused;
 use crate::keeper::{Done, Order};
 use crate::otlp::Outcome;
@@ -13,7 +14,8 @@ use tokio::task::JoinSet;
 impl Desk {
     /// Why posts are answered 503.
     pub(super) fn unavailable(&self) -> Option<&'static str> {
-        self.units.unavailable()
+        let stalled = self.cluster.as_ref().filter(|cluster| cluster.is_stalled());
+        self.units.unavailable().or(stalled.map(|_| NO_STORE))
     }
 
     /// Has each slot carry out an order. One that is not here has to be asked elsewhere, or later.

@@ -4,6 +4,7 @@
 
 mod adopt;
 pub mod init;
+mod instance;
 mod operators;
 mod parts;
 mod running;
@@ -14,6 +15,7 @@ mod unit;
 mod units;
 
 pub(crate) use adopt::slot_of;
+pub use instance::OfStore;
 pub use operators::Operate;
 
 use crate::core::Across;
@@ -29,9 +31,10 @@ use crate::runs;
 use crate::shares::Share;
 use crate::sinks::{Address, Keep};
 use anyhow::{anyhow, Context};
-use operators::Readers;
+use instance::Joining;
+use operators::{Operators, Readers};
 use parts::Parts;
-use senders::Senders;
+use senders::{bind, Senders};
 use std::path::PathBuf;
 use std::sync::{Arc, OnceLock};
 use std::time::Duration;
@@ -41,6 +44,8 @@ use tokio::signal::unix::{signal, Signal, SignalKind};
 /// What `totxegun serve` was told.
 pub struct Settings {
     pub data: PathBuf,
+    /// None where the folder has all.
+    pub store: Option<OfStore>,
     pub listen: String,
     /// Where senders call gRPC, if they may.
     pub listen_grpc: Option<String>,
@@ -78,6 +83,16 @@ pub struct Settings {
 }
 
 impl Settings {
+    /// Where all is kept.
+    fn place(&self) -> String {
+        let folder = || self.data.display().to_string();
+        let databases = |of: &OfStore| {
+            let databases: Vec<String> = of.databases.iter().map(ToString::to_string).collect();
+            databases.join(" and ")
+        };
+        self.store.as_ref().map_or_else(folder, databases)
+    }
+
     fn keeping(&self) -> Keeping {
         Keeping {
             every: self.every,
@@ -134,16 +149,16 @@ pub async fn run(settings: Settings) -> Result<(), Ended> {
     // Before the files are opened: that may take longer than a supervisor waits.
     let is_ready = move || begun.get().is_some_and(|units| units.are_ready());
     let watched = tokio::spawn(supervisor.clone().watch(is_ready));
-    let folder = Arc::new(Folder::open(&settings.data, settings.durability)?);
-    let operators = readers.and_socket(&settings.operate).await?;
-    let keeping = settings.keeping();
-    let ending = async { tracing::info!("{}: ending", signals.received().await) };
-    if !adopt::slots(&folder, settings.most_series, &keeping, ending).await? {
+    let opened = match &settings.store {
+        None => of_folder(&settings, readers, &mut signals).await?,
+        Some(of) => Some(of_store(&settings, of, readers).await?),
+    };
+    let Some((parts, operators)) = opened else {
         return Ok(());
-    }
-    let parts = Parts::open(folder, &settings)?;
-    let (folder, sink) = (settings.data.display().to_string(), parts.sink.name());
-    tracing::info!(folder, sink, "data in {folder}, sink {sink}");
+    };
+    let settings = Arc::new(settings);
+    let (place, sink) = (settings.place(), parts.sink.name());
+    tracing::info!(place, sink, "data in {place}, sink {sink}");
     tracing::info!("{}", settings.door);
     tracing::info!(
         "senders post to {}, operators {}",
@@ -165,6 +180,31 @@ pub async fn run(settings: Settings) -> Result<(), Ended> {
         Ok(()) => running.stop().await,
         Err(cause) => Err(cause),
     }
+}
+
+/// None where it was told to end meanwhile.
+async fn of_folder(
+    settings: &Settings,
+    readers: Readers,
+    signals: &mut Signals,
+) -> Result<Option<(Parts, Operators)>, Ended> {
+    let folder = Arc::new(Folder::open(&settings.data, settings.durability)?);
+    let operators = readers.and_socket(&settings.operate).await?;
+    let keeping = settings.keeping();
+    let ending = async { tracing::info!("{}: ending", signals.received().await) };
+    match adopt::slots(&folder, settings.most_series, &keeping, ending).await? {
+        true => Ok(Some((Parts::open(folder, settings)?, operators))),
+        false => Ok(None),
+    }
+}
+
+async fn of_store(settings: &Settings, of: &OfStore, readers: Readers) -> Result<(Parts, Operators), Ended> {
+    let peer = bind("--peer", &of.peer).await?;
+    let folder = settings.data.display();
+    std::fs::create_dir_all(&settings.data).with_context(|| format!("the folder {folder} can't be made"))?;
+    let operators = readers.and_socket(&settings.operate).await?;
+    let joining = Joining::open(of, peer).await?;
+    Ok((Parts::of_store(joining, settings)?, operators))
 }
 
 /// The signals that end the service.

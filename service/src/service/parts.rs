@@ -1,20 +1,21 @@
 //! Opens all parts.
 
 use super::adopt::leave_others;
+use super::instance::{Joined, Joining};
 use super::operators::Operators;
 use super::running::Running;
 use super::senders::Senders;
 use super::unit::{Files, Opened};
-use super::units::{taker, AtWork};
+use super::units::{taker, AtWork, Units};
 use super::{Ended, Settings};
 use crate::files::{Folder, Outbox};
 use crate::intake::connections::Limits;
 use crate::intake::{Budget, Intake, Threads};
 use crate::operate::{self, Acts, Desk, Pulse, Totals};
-use crate::remarks::{Heard, Teller};
+use crate::remarks::{Heard, Remarks, Teller};
 use crate::shares::Rules;
-use crate::sinks::Sink;
-use crate::slot::{Shared, Slots};
+use crate::sinks::{self, Sink};
+use crate::slot::{Shared, Slot, Slots};
 use anyhow::Context;
 use std::sync::Arc;
 use std::time::{Duration, Instant};
@@ -29,13 +30,20 @@ const OPERATORS: usize = 64;
 
 /// All parts, open and not running yet.
 pub(super) struct Parts {
-    /// The folder's.
-    opened: Opened,
-    shared: Shared,
+    of: Of,
+    shared: Arc<Shared>,
     acts: Arc<Acts>,
     pub sink: Arc<dyn Sink>,
     budget: Arc<Budget>,
     threads: Arc<Threads>,
+}
+
+/// Where slots are kept.
+enum Of {
+    /// A folder, which has one.
+    Folder(Box<Opened>),
+    /// A store, of which there is none yet.
+    Store(Joining),
 }
 
 impl Parts {
@@ -56,7 +64,7 @@ impl Parts {
             outboxes,
             acts.clone(),
         )?;
-        let shared = Shared::new(settings.metrics.clone(), settings.clock);
+        let shared = Arc::new(Shared::new(settings.metrics.clone(), settings.clock));
         let files = Files {
             number: 0,
             journal,
@@ -64,8 +72,28 @@ impl Parts {
             dead,
             former,
         };
+        let opened = Opened::new(files, settings, &shared)?;
+        Parts::of(Of::Folder(Box::new(opened)), settings, shared, acts, sink)
+    }
+
+    /// The slots of a store are opened once they are taken. All instances name the same sink, so none is remembered.
+    pub fn of_store(joining: Joining, settings: &Settings) -> Result<Parts, Ended> {
+        let acts = Arc::new(Acts::in_folder(&settings.data));
+        let sink = sinks::open(&settings.sink, settings.keep, Arc::new(()));
+        let sink = sink.context("the sink can't be opened")?;
+        let shared = Arc::new(Shared::new(settings.metrics.clone(), settings.clock));
+        Parts::of(Of::Store(joining), settings, shared, acts, sink)
+    }
+
+    fn of(
+        of: Of,
+        settings: &Settings,
+        shared: Arc<Shared>,
+        acts: Arc<Acts>,
+        sink: Arc<dyn Sink>,
+    ) -> Result<Parts, Ended> {
         Ok(Parts {
-            opened: Opened::new(files, settings, &shared)?,
+            of,
             shared,
             acts,
             sink,
@@ -74,10 +102,10 @@ impl Parts {
         })
     }
 
-    pub fn start(self, settings: &Settings, senders: Senders, operators: Operators) -> Running {
+    pub fn start(self, settings: &Arc<Settings>, senders: Senders, operators: Operators) -> Running {
         let (stop_intake, intake_stopped) = watch::channel(false);
         let (stop_operate, operate_stopped) = watch::channel(false);
-        let units = operate::Units::of(1);
+        let units = operate::Units::of(self.of.slots());
         let (at_work, ends) = AtWork::new(units.clone());
         let (metrics, heard) = (settings.metrics.clone(), Arc::<Heard>::default());
         let teller = Teller::new(
@@ -86,8 +114,7 @@ impl Parts {
             heard.clone(),
             settings.pass.clone(),
         );
-        let slots = Slots::one(taker(&self.opened.slot, &teller));
-        at_work.start(self.opened.start(&self.sink));
+        let (slots, joining) = self.of.begin(settings, &at_work, &teller, &self.sink);
         // Of series that are there already.
         self.shared.shares.begin(Rules {
             most_series: settings.most_series as u64,
@@ -96,24 +123,38 @@ impl Parts {
             profile: settings.reading.profile(),
             owned: Box::new(units.clone()),
         });
-        let limits = Limits {
-            connections: settings.most_connections,
-            head: HEAD,
-            idle: IDLE,
-        };
         let of_operators = Limits {
             connections: OPERATORS,
-            ..limits.clone()
+            ..limits(settings)
         };
         if let Some(pass) = &settings.pass {
             tracing::info!("points outside the profile are passed on to {}", pass.url());
             tokio::spawn(pass.clone().run());
         }
         let reading = Arc::new(settings.reading.clone());
-        let intake = Intake::of(slots, teller, reading, self.budget.clone(), metrics.clone());
+        let intake = Intake::of(
+            slots.clone(),
+            teller.clone(),
+            reading,
+            self.budget.clone(),
+            metrics.clone(),
+        );
+        let intake = Arc::new(intake);
+        let joined = joining.zip(settings.store.as_ref()).map(|(joining, of)| {
+            let of_instance = Units {
+                settings: settings.clone(),
+                shared: self.shared.clone(),
+                sink: self.sink.clone(),
+                teller,
+                slots,
+                at_work: at_work.clone(),
+            };
+            joining.join(settings, of, of_instance, &intake)
+        });
         let desk = Desk {
             units,
-            shares: self.shared.shares,
+            cluster: joined.as_ref().map(Joined::cluster),
+            shares: self.shared.shares.clone(),
             acts: self.acts,
             sink: self.sink,
             totals: Totals::of(&settings.sink),
@@ -128,15 +169,52 @@ impl Parts {
             most_series: settings.most_series,
             begun: Instant::now(),
         };
+        let threads = self.threads;
         Running {
-            intake: tokio::spawn(senders.serve(limits, intake, self.threads.clone(), intake_stopped)),
+            intake: tokio::spawn(senders.serve(limits(settings), intake, threads.clone(), intake_stopped)),
             operate: tokio::spawn(operators.serve(of_operators, Arc::new(desk), operate_stopped)),
             stop_intake,
             stop_operate,
             at_work,
             ends,
-            _threads: self.threads,
+            joined,
+            _threads: threads,
         }
+    }
+}
+
+impl Of {
+    fn slots(&self) -> u16 {
+        match self {
+            Of::Folder(_) => 1,
+            Of::Store(joining) => joining.store.cluster.slots,
+        }
+    }
+
+    /// A folder's slot is at work from now on.
+    fn begin(
+        self,
+        settings: &Settings,
+        at_work: &AtWork,
+        teller: &Arc<Teller>,
+        sink: &Arc<dyn Sink>,
+    ) -> (Arc<Slots<Remarks<Slot>>>, Option<Joining>) {
+        match self {
+            Of::Folder(opened) => {
+                let slots = Slots::one(taker(&opened.slot, teller));
+                at_work.start(opened.start(sink));
+                (slots, None)
+            }
+            Of::Store(joining) => (super::instance::slots(&joining, settings), Some(joining)),
+        }
+    }
+}
+
+pub(super) fn limits(settings: &Settings) -> Limits {
+    Limits {
+        connections: settings.most_connections,
+        head: HEAD,
+        idle: IDLE,
     }
 }
 

@@ -1,5 +1,6 @@
 //! The parts at work, and their end.
 
+use super::instance::Joined;
 use super::unit::{cause, End};
 use super::units::{AtWork, Ends};
 use super::Ended;
@@ -22,27 +23,40 @@ pub(super) struct Running {
     pub stop_operate: watch::Sender<bool>,
     pub at_work: Arc<AtWork>,
     pub ends: Ends,
+    /// None where a folder has all.
+    pub joined: Option<Joined>,
     /// A post that is under way has its thread until the keepers have ended: who is answered 200 by then is told so.
     pub _threads: Arc<Threads>,
 }
 
 impl Running {
-    /// Returns once a part has ended that nobody told to end. A slot that is lost has ended alone: all else goes on.
+    /// Returns once a part has ended that nobody told to end. A slot that is lost has ended alone.
     pub async fn ended(&mut self) -> Ended {
         loop {
             tokio::select! {
                 Some((slot, end)) = self.ends.recv() => match end {
-                    End::Lost => self.at_work.lose(slot),
+                    End::Lost => self.lost(slot),
                     End::Failed(why) => return why,
                 },
                 end = &mut self.intake => return cause("the intake", end.map(Ok::<(), Fault>)),
                 end = &mut self.operate => return cause("the operator's address", end.map(Ok::<(), Fault>)),
+                cause = of_joined(&mut self.joined) => return cause,
             }
+        }
+    }
+
+    fn lost(&self, slot: u16) {
+        match &self.joined {
+            Some(joined) => joined.lost(slot),
+            None => self.at_work.lose(slot),
         }
     }
 
     /// Nothing more is accepted, what was taken goes into the outbox.
     pub async fn stop(mut self) -> Result<(), Ended> {
+        if let Some(joined) = &mut self.joined {
+            joined.leave().await;
+        }
         self.stop_intake.send_replace(true);
         let _ = tokio::time::timeout(LAST_POSTS, &mut self.intake).await; // who is slower was not answered
         self.stop_operate.send_replace(true);
@@ -51,6 +65,16 @@ impl Running {
             tracing::info!("ended");
         }
         ended.map(drop)
+    }
+}
+
+async fn of_joined(joined: &mut Option<Joined>) -> Ended {
+    match joined {
+        Some(joined) => tokio::select! {
+            end = &mut joined.beats => cause("the beats", end.map(Ok::<(), Fault>)),
+            end = &mut joined.peer => cause("the peers' address", end.map(Ok::<(), Fault>)),
+        },
+        None => std::future::pending().await,
     }
 }
 
@@ -88,6 +112,7 @@ mod tests {
             stop_operate: watch::channel(false).0,
             at_work,
             ends,
+            joined: None,
             _threads: threads,
         };
         let ended = running.stop().await;

@@ -76,11 +76,10 @@ impl Senders {
     pub async fn serve<T: Taker>(
         self,
         limits: Limits,
-        intake: Intake<T>,
+        intake: Arc<Intake<T>>,
         threads: Arc<Threads>,
         stop: watch::Receiver<bool>,
     ) {
-        let intake = Arc::new(intake);
         let shared = || Shared::new(limits.clone(), self.door.clone(), intake.clone(), stop.clone());
         let callers = async {
             if let Some(callers) = self.callers {

@@ -124,7 +124,6 @@ async fn run(
 }
 
 /// What opens slots, and ends them while posts go on.
-#[allow(dead_code)] // a folder's slot is opened at the start, and stays
 pub(super) struct Units {
     pub settings: Arc<Settings>,
     pub shared: Arc<Shared>,
@@ -135,7 +134,6 @@ pub(super) struct Units {
     pub at_work: Arc<AtWork>,
 }
 
-#[allow(dead_code)]
 impl Units {
     /// Has a slot here: its posts are answered 503 until its book is filled.
     pub async fn open(&self, files: Files) -> Result<(), Ended> {

@@ -13,7 +13,7 @@ mod otlp;
 mod part;
 pub mod periods;
 pub mod postgres;
-mod roots;
+pub(crate) mod roots;
 pub mod sqlite;
 
 pub use address::{Address, BadAddress};

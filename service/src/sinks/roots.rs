@@ -11,21 +11,21 @@ pub enum NoRoots {
 }
 
 /// Why an address is refused.
-pub(super) const NO_NAME: &str =
+pub(crate) const NO_NAME: &str =
     "with TLS it has to have the name of a host, which its certificate is for, and no IP address";
 
 /// Whether a certificate can be for it: the TLS here knows names alone, also where a certificate has addresses.
-pub(super) fn is_name(host: &str) -> bool {
+pub(crate) fn is_name(host: &str) -> bool {
     matches!(host.try_into(), Ok(rustls::ServerName::DnsName(_)))
 }
 
 /// Those of the machine, or of the file in SSL_CERT_FILE.
-pub(super) fn of_machine() -> Result<RootCertStore, NoRoots> {
+pub(crate) fn of_machine() -> Result<RootCertStore, NoRoots> {
     of(rustls_native_certs::load_native_certs())
 }
 
 /// A client that believes these roots, and shows no certificate of its own.
-pub(super) fn client_config(roots: RootCertStore) -> ClientConfig {
+pub(crate) fn client_config(roots: RootCertStore) -> ClientConfig {
     ClientConfig::builder()
         .with_safe_defaults()
         .with_root_certificates(roots)

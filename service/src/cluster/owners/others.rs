@@ -4,6 +4,9 @@ use super::{AFTER_SILENCE, GONE};
 use crate::cluster::terms::Seen;
 use std::collections::BTreeMap;
 
+/// So many own beats lie between two silences that others are waited for.
+const BETWEEN_SILENCES: u32 = 40;
+
 struct Other {
     beat: Option<u64>,
     /// So many own beats has its own stood still.
@@ -18,6 +21,8 @@ pub(super) struct Others {
     by_name: BTreeMap<String, Other>,
     /// So many own beats does nobody's standing still count.
     uncounted: u32,
+    /// Own beats since a silence that others were waited for.
+    since_silence: u32,
 }
 
 impl Others {
@@ -26,6 +31,7 @@ impl Others {
             me: me.into(),
             by_name: BTreeMap::new(),
             uncounted: 0,
+            since_silence: BETWEEN_SILENCES,
         }
     }
 
@@ -42,6 +48,7 @@ impl Others {
         let instances = seen.instances.iter();
         there.extend(instances.map(|one| (one.name.as_str(), (Some(one.beat), one.address.as_str()))));
         there.remove(self.me.as_str());
+        self.since_silence = self.since_silence.saturating_add(1);
         let counts = self.uncounted == 0;
         self.uncounted = self.uncounted.saturating_sub(1);
         self.by_name.retain(|name, _| there.contains_key(name.as_str()));
@@ -63,8 +70,13 @@ impl Others {
         }
     }
 
-    /// The store was silent, and others may wait for it longer than this instance.
+    /// The store was silent, and others may wait for it longer than this instance. Not again soon: one whose own
+    /// connection breaks all the time would never see that another is gone.
     pub fn wait(&mut self) {
+        if self.since_silence < BETWEEN_SILENCES {
+            return;
+        }
+        self.since_silence = 0;
         self.uncounted = AFTER_SILENCE;
         let living = self.by_name.values_mut().filter(|other| other.still < GONE);
         living.for_each(|other| other.still = 0);

@@ -74,6 +74,20 @@ fn who_is_gone_loses_its_slots_after_six_beats_and_gets_them_back_one_by_one() {
 }
 
 #[test]
+fn who_hears_nothing_of_the_store_again_and_again_still_sees_that_another_is_gone() {
+    let mut world = World::of(7, &["a", "b"]);
+    world.rounds(200);
+    world.nodes[0].stands_for = 100;
+    for round in 0..60 {
+        if round % 8 == 0 {
+            world.nodes[1].owners.unanswered();
+        }
+        world.round();
+    }
+    assert!(world.store.rows.iter().all(|row| row.owner == "b"));
+}
+
+#[test]
 fn who_comes_gets_slots_one_by_one_and_not_before_it_has_beaten_for_a_while() {
     let mut world = World::of(3, &["a"]);
     world.rounds(20);

@@ -47,6 +47,7 @@ impl Sink for Taken {
 
 fn settings(place: &Path) -> Settings {
     Settings {
+        store: None,
         data: place.into(),
         listen: String::new(),
         listen_grpc: None,
@@ -107,6 +108,7 @@ impl Service {
             metrics.clone(),
         );
         let desk = Arc::new(Desk {
+            cluster: None,
             units: of_desk,
             shares: shared.shares.clone(),
             acts: Arc::new(Acts::in_folder(place)),

@@ -1,9 +1,9 @@
 //! Reads what came of one series in its last hours, by the view `by_hour`.
 
-use super::address::Server;
 use super::fault::PostgresFault;
 use super::session;
 use super::totals::{number, parts_of, Odd, PATIENCE};
+use super::Server;
 use crate::sinks::sqlite::by_hour::Hour;
 use crate::sinks::sqlite::totals::SeriesTotal;
 use crate::sinks::sqlite::Exact;

@@ -1,8 +1,8 @@
 //! Reads what a database has of a month or a day, as of one moment.
 
-use super::address::Server;
 use super::fault::PostgresFault;
 use super::totals::parts_of;
+use super::Server;
 use super::{periods, schema, session, statements};
 use crate::sinks::export::{view_of, Each, Line};
 use crate::sinks::periods::{Closed, Period};

@@ -1,12 +1,8 @@
 //! What can be wrong with the server, and what to do about it.
 
-use crate::log;
 use crate::otlp::series::NotForwarded;
+use crate::postgres::shown;
 use std::time::Duration;
-use tokio_postgres::error::DbError;
-
-/// The most characters of what a server says: it may quote what a sender wrote.
-const LONGEST: usize = 1000;
 
 #[derive(Debug, thiserror::Error)]
 pub enum PostgresFault {
@@ -42,39 +38,6 @@ impl PostgresFault {
     pub(super) fn is_lasting(&self) -> bool {
         !matches!(self, PostgresFault::Server { .. })
     }
-}
-
-/// An error with what to do about it.
-pub(super) fn shown(error: &tokio_postgres::Error) -> String {
-    let Some(said) = error.as_db_error() else {
-        return error.to_string();
-    };
-    let detail = said
-        .detail()
-        .map_or(String::new(), |detail| format!(" ({detail})"));
-    let text = log::shown(&format!("{}{detail}", said.message()), LONGEST);
-    let text = format!("{text} [{}]", said.code().code());
-    match what_to_do(said) {
-        Some(what) => format!("{what}: {text}"),
-        None => text,
-    }
-}
-
-fn what_to_do(said: &DbError) -> Option<&'static str> {
-    Some(match said.code().code() {
-        "28P01" => "the password is wrong, correct it in the address or in PGPASSWORD",
-        "28000" => "the server does not let this user in, look at pg_hba.conf",
-        "3D000" => "the database is missing, make it",
-        "42501" => "the role lacks a right, grant it",
-        "25006" => "the server or the role is read-only, name one that writes",
-        "53100" => "the server's disk is full, make room",
-        "54000" => "a limit of the server or of the request, look at the server's log",
-        "53300" => "the server has no connection left, raise max_connections",
-        "57P01" | "57P02" | "57P03" => "the server is starting or ending",
-        "57014" | "55P03" => "the server took too long",
-        "40P01" | "40001" => "another writer was in the way",
-        _ => return None,
-    })
 }
 
 /// Why a request was not taken.

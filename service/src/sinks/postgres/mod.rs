@@ -3,7 +3,6 @@
 //! It connects when it is needed and again after a fault, so whatever is wrong with the server is a reason to try
 //! again: no request is lost by it.
 
-mod address;
 pub mod by_hour;
 pub mod export;
 mod fault;
@@ -20,11 +19,10 @@ mod series_rows;
 mod session;
 mod statements;
 mod store;
-mod tls;
 pub mod totals;
 mod values;
 
-pub use address::Server;
+pub use crate::postgres::Server;
 pub use fault::PostgresFault;
 
 use super::part::Left;

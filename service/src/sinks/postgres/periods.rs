@@ -1,10 +1,11 @@
 //! Periods that are closed, and corrections: by a connection of its own, between two requests of any service.
 
-use super::address::Server;
-use super::fault::{shown, PostgresFault};
+use super::fault::PostgresFault;
 use super::schema::{self, is_filling};
 use super::session;
 use super::statements;
+use super::Server;
+use crate::postgres::shown;
 use crate::sinks::periods::{
     closed, Closed, Correction, Deed, Period, Row, Told, MOST_CORRECTED, NOT_FILLED,
 };

@@ -1,16 +1,13 @@
 //! A connection with its statements, to a schema of the right version.
 
-use super::address::Server;
 use super::fault::PostgresFault;
 use super::series::Seen;
-use super::tls::Tls;
-use super::{schema, statements};
-use crate::sinks::{roots, Memory};
+use super::{schema, statements, Server};
+use crate::postgres::{self, Connected, Driver, NotConnected};
+use crate::sinks::Memory;
 use std::time::Duration;
-use tokio::io::{AsyncRead, AsyncWrite};
-use tokio::task::JoinHandle;
 use tokio::time::timeout;
-use tokio_postgres::{Client, Connection, NoTls, Statement};
+use tokio_postgres::{Client, Statement};
 
 /// Each statement is bounded, and a transaction whose client is gone does not keep its locks. Texts and times mean the
 /// same whatever the role's own settings are. A commit that is told must be on the server's disk.
@@ -98,40 +95,12 @@ impl Session {
 /// A connection with our settings, whatever schema is there.
 pub(super) async fn connect(server: &Server) -> Result<(Client, Driver), PostgresFault> {
     let name = server.to_string();
-    let fault = |error| PostgresFault::of(&name, &error);
-    let (client, connection) = if server.wants_tls() {
-        let roots = roots::of_machine().map_err(|error| PostgresFault::told(&name, error.to_string()))?;
-        let tls = Tls::new(roots::client_config(roots));
-        let (client, connection) = server.config().connect(tls).await.map_err(fault)?;
-        (client, Driver::of(connection))
-    } else {
-        let (client, connection) = server.config().connect(NoTls).await.map_err(fault)?;
-        (client, Driver::of(connection))
-    };
-    client.batch_execute(SETTINGS).await.map_err(fault)?;
-    Ok((client, connection))
-}
-
-/// The task that moves a connection's bytes: it ends with this, so no statement goes on unseen.
-pub(super) struct Driver(JoinHandle<()>);
-
-impl Driver {
-    fn of<S, T>(connection: Connection<S, T>) -> Driver
-    where
-        S: AsyncRead + AsyncWrite + Unpin + Send + 'static,
-        T: AsyncRead + AsyncWrite + Unpin + Send + 'static,
-    {
-        Driver(tokio::spawn(async move {
-            // Whoever waits for an answer is told of its fault.
-            let _ = connection.await;
-        }))
-    }
-}
-
-impl Drop for Driver {
-    fn drop(&mut self) {
-        self.0.abort();
-    }
+    let fault = |error: NotConnected| PostgresFault::told(&name, error.to_string());
+    let connected = postgres::connect(server, &server.config()).await.map_err(fault)?;
+    let Connected { client, driver } = connected;
+    let set = client.batch_execute(SETTINGS).await;
+    set.map_err(|error| PostgresFault::of(&name, &error))?;
+    Ok((client, driver))
 }
 
 impl Statements {

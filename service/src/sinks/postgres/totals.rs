@@ -1,7 +1,7 @@
 //! Reads a database's totals, also while services write it.
 
-use super::address::Server;
 use super::fault::PostgresFault;
+use super::Server;
 use super::{schema, session};
 use crate::otlp::series::{NotForwarded, SeriesKey};
 use crate::sinks::sqlite::totals::SeriesTotal;

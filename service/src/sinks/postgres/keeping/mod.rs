@@ -11,9 +11,10 @@ mod hours;
 mod reader;
 mod spans;
 
-use super::address::Server;
-use super::fault::{shown, PostgresFault};
+use super::fault::PostgresFault;
+use super::Server;
 use super::{schema, session};
+use crate::postgres::shown;
 use crate::sinks::{Keep, Memory};
 use std::sync::atomic::{AtomicBool, Ordering::Relaxed};
 use std::sync::Arc;

@@ -3,7 +3,7 @@
 use crate::sinks::roots;
 use std::str::FromStr;
 use std::time::Duration;
-use tokio_postgres::config::{ChannelBinding, Host, SslMode};
+use tokio_postgres::config::{ChannelBinding, Host, SslMode, TargetSessionAttrs};
 use tokio_postgres::Config;
 
 /// How long a connection may take to be made.
@@ -23,6 +23,15 @@ pub struct Server(Config);
 impl Server {
     /// Reads what follows `postgres:`. What it says of a faulty one has no part of it, since that may be a password.
     pub(crate) fn read(rest: &str) -> Result<Server, String> {
+        let server = Server::read_hosts(rest)?;
+        match server.0.get_hosts() {
+            [_] => Ok(server),
+            _ => Err("there is more than one host, and two servers would count apart".into()),
+        }
+    }
+
+    /// The same, of one or more hosts that share what they have, of which one writes.
+    pub(crate) fn read_hosts(rest: &str) -> Result<Server, String> {
         if !rest.starts_with("//") {
             return Err("`//` is missing".into());
         }
@@ -34,7 +43,7 @@ impl Server {
         if config.get_dbname().is_none_or(str::is_empty) {
             return Err("there is no database".into());
         }
-        one_host(&config)?;
+        check_hosts(&config)?;
         if config.get_channel_binding() == ChannelBinding::Require {
             return Err("`channel_binding=require` is not known here: leave it out".into());
         }
@@ -56,13 +65,17 @@ impl Server {
 
     /// Where it is, whoever comes to it.
     pub(crate) fn place(&self) -> String {
-        let host = match self.0.get_hosts().first() {
-            Some(Host::Tcp(host)) => host.clone(),
-            Some(Host::Unix(folder)) => folder.display().to_string(),
-            None => String::new(),
+        let ports = self.0.get_ports();
+        let place = |(number, host): (usize, &Host)| {
+            let host = match host {
+                Host::Tcp(host) => host.clone(),
+                Host::Unix(folder) => folder.display().to_string(),
+            };
+            let port = ports.get(number).or(ports.first()).copied().unwrap_or(PORT);
+            format!("{host}:{port}")
         };
-        let port = self.0.get_ports().first().copied().unwrap_or(PORT);
-        format!("{host}:{port}/{}", self.0.get_dbname().unwrap_or_default())
+        let places: Vec<String> = self.0.get_hosts().iter().enumerate().map(place).collect();
+        format!("{}/{}", places.join(","), self.0.get_dbname().unwrap_or_default())
     }
 
     pub(super) fn wants_tls(&self) -> bool {
@@ -70,7 +83,7 @@ impl Server {
     }
 
     /// With the password of the environment, where the address has none.
-    pub(super) fn config(&self) -> Config {
+    pub(crate) fn config(&self) -> Config {
         let mut config = self.0.clone();
         if config.get_password().is_none() {
             if let Some(password) = std::env::var_os("PGPASSWORD") {
@@ -79,17 +92,49 @@ impl Server {
         }
         config
     }
+
+    /// The same for each host alone, where only one that writes counts: so each can be given its time.
+    pub(crate) fn each_host(&self) -> Vec<Config> {
+        let all = self.config();
+        let ports = all.get_ports();
+        let one = |(number, host): (usize, &Host)| {
+            let mut config = Config::new();
+            match host {
+                Host::Tcp(host) => config.host(host),
+                Host::Unix(folder) => config.host_path(folder),
+            };
+            config.port(ports.get(number).or(ports.first()).copied().unwrap_or(PORT));
+            all.get_user().map(|user| config.user(user));
+            all.get_password().map(|password| config.password(password));
+            all.get_dbname().map(|name| config.dbname(name));
+            all.get_options().map(|options| config.options(options));
+            all.get_application_name()
+                .map(|name| config.application_name(name));
+            all.get_connect_timeout()
+                .map(|limit| config.connect_timeout(*limit));
+            config
+                .ssl_mode(all.get_ssl_mode())
+                .channel_binding(all.get_channel_binding())
+                .keepalives(all.get_keepalives())
+                .keepalives_idle(all.get_keepalives_idle())
+                .target_session_attrs(TargetSessionAttrs::ReadWrite);
+            config
+        };
+        all.get_hosts().iter().enumerate().map(one).collect()
+    }
 }
 
-/// One host, to which there can be the TLS that is asked for.
-fn one_host(config: &Config) -> Result<(), &'static str> {
+/// Hosts to each of which there can be the TLS that is asked for.
+fn check_hosts(config: &Config) -> Result<(), &'static str> {
     let wants_tls = config.get_ssl_mode() == SslMode::Require;
+    let check = |host: &Host| match host {
+        Host::Unix(_) if wants_tls => Err("a Unix socket has no TLS: leave `sslmode` out"),
+        Host::Tcp(host) if wants_tls && !roots::is_name(host) => Err(roots::NO_NAME),
+        _ => Ok(()),
+    };
     match config.get_hosts() {
         [] => Err("there is no host"),
-        [Host::Unix(_)] if wants_tls => Err("a Unix socket has no TLS: leave `sslmode` out"),
-        [Host::Tcp(host)] if wants_tls && !roots::is_name(host) => Err(roots::NO_NAME),
-        [_] => Ok(()),
-        _ => Err("there is more than one host, and two servers would count apart"),
+        hosts => hosts.iter().try_for_each(check),
     }
 }
 
@@ -123,6 +168,30 @@ mod tests {
             assert_eq!(server.to_string(), shown);
             assert!(!format!("{server:?}").contains("secret"));
         }
+    }
+
+    #[test]
+    fn each_host_of_several_is_come_to_as_the_address_says() {
+        let rest = "//u:secret@h1:5433,h2:5434/d?application_name=shop&keepalives_idle=7&connect_timeout=3";
+        let server = Server::read_hosts(rest).expect(rest);
+        assert_eq!(server.to_string(), "u@h1:5433,h2:5434/d");
+        let each = server.each_host();
+        let [one, other] = &each[..] else {
+            panic!("{each:?}")
+        };
+        for (config, host, port) in [(one, "h1", 5433), (other, "h2", 5434)] {
+            assert_eq!(config.get_hosts(), [Host::Tcp(host.into())]);
+            assert_eq!(config.get_ports(), [port]);
+            assert_eq!(config.get_password(), Some(&b"secret"[..]));
+            assert_eq!(config.get_application_name(), Some("shop"));
+            assert_eq!(config.get_keepalives_idle(), Duration::from_secs(7));
+            assert_eq!(config.get_connect_timeout(), Some(&Duration::from_secs(3)));
+            assert_eq!(config.get_target_session_attrs(), TargetSessionAttrs::ReadWrite);
+        }
+        let same_port = Server::read_hosts("//u@h1,h2:5433/d?sslmode=require").expect("two hosts");
+        assert_eq!(same_port.each_host().len(), 2);
+        let error = Server::read_hosts("//u@h1,127.0.0.1/d?sslmode=require").expect_err("no name");
+        assert!(error.contains("name of a host"), "{error}");
     }
 
     #[test]

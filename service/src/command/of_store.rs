@@ -1,0 +1,87 @@
+//! Options of a store that several machines share.
+
+use super::values::place;
+use crate::otlp::{Choice, Cumulative};
+use crate::service::OfStore as Settings;
+use crate::sinks::Address;
+use crate::slot::is_sender;
+use crate::store::postgres::{address, Copies, Server};
+use anyhow::{anyhow, bail};
+use clap::{value_parser, Args};
+
+#[derive(Args)]
+#[command(next_help_heading = "Options of a store that several machines share")]
+pub(super) struct OfStore {
+    /// Keeps all in PostgreSQL, postgres://USER@HOST:PORT/DB, made by `store init`, and shares it with other instances: --data has this machine's socket and record of acts alone. Given again where the store has several databases
+    #[arg(long = "store", id = "store", env = "TOTXEGUN_STORE", value_name = "ADDRESS", hide_env_values = true, value_delimiter = '\n', value_parser = address, requires_all = ["instance", "peer"])]
+    databases: Vec<Server>,
+    /// This instance's name, which no other has
+    #[arg(long, env = "TOTXEGUN_INSTANCE", value_name = "NAME", value_parser = name, requires = "store")]
+    instance: Option<String>,
+    /// Where other instances bring posts, HOST:PORT: nobody else may reach it, or read along
+    #[arg(long, env = "TOTXEGUN_PEER", value_name = "ADDRESS", value_parser = place, requires = "store")]
+    peer: Option<String>,
+    /// On how many servers of the store an answered post has to be: 1 takes a store without a synchronous standby too
+    #[arg(long, env = "TOTXEGUN_STORE_COPIES", value_name = "N", default_value_t = 2, value_parser = value_parser!(u8).range(1..=2))]
+    store_copies: u8,
+}
+
+fn name(text: &str) -> Result<String, String> {
+    match is_sender(text) {
+        true => Ok(text.into()),
+        false => Err("a name has 1 to 64 letters, digits, `.`, `_` and `-`".into()),
+    }
+}
+
+impl OfStore {
+    pub fn is_given(&self) -> bool {
+        !self.databases.is_empty()
+    }
+
+    /// None where a folder has all.
+    pub fn settings(self, reading: String, sink: &Address) -> anyhow::Result<Option<Settings>> {
+        let (Some(instance), Some(peer)) = (self.instance, self.peer) else {
+            return Ok(None);
+        };
+        if matches!(sink, Address::Sqlite(_)) {
+            bail!("a SQLite file is one machine's: give --sink postgres://.. or http://.. beside --store");
+        }
+        Ok(Some(Settings {
+            databases: self.databases,
+            copies: match self.store_copies {
+                1 => Copies::One,
+                _ => Copies::Two,
+            },
+            instance,
+            peer,
+            reading: format!("{reading} sink={}", sink.known()),
+        }))
+    }
+}
+
+/// What posts mean hangs on these, so all instances have to say the same.
+pub(super) fn likeness(
+    whole: &[Choice],
+    dropped: &[String],
+    sender_from: Option<&str>,
+    cumulative: Cumulative,
+    across: impl std::fmt::Debug,
+) -> String {
+    let choice = |choice: &Choice| match choice {
+        Choice::Auto => "auto".to_string(),
+        Choice::Off => "off".to_string(),
+        Choice::Rule(rule) => rule.to_string(),
+    };
+    let whole: Vec<String> = whole.iter().map(choice).collect();
+    format!(
+        "whole={} drop-attribute={} sender-from={} cumulative={cumulative:?} never-across={across:?}",
+        whole.join(","),
+        dropped.join(","),
+        sender_from.unwrap_or_default()
+    )
+}
+
+/// No folder is beside a store, in which a file could be the sink.
+pub(super) fn needs_sink() -> anyhow::Error {
+    anyhow!("--store has no sink of its own: give --sink postgres://.. or http://.. too")
+}

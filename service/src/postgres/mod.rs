@@ -1,0 +1,10 @@
+//! Connections to a PostgreSQL: what the sink and the store share.
+
+mod address;
+mod connection;
+mod said;
+mod tls;
+
+pub use address::Server;
+pub(crate) use connection::{connect, Connected, Driver, NotConnected};
+pub(crate) use said::shown;

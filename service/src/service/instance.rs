@@ -1,0 +1,223 @@
+//! One of several instances that share a store: its slots come and go, as the cluster decides.
+
+use super::parts::limits;
+use super::unit::Files;
+use super::units::Units;
+use super::{Ended, Settings};
+use crate::cluster::terms::{self, Doing, Unopened};
+use crate::cluster::{Beats, Cluster, Forward, Internal, Secret, Wire};
+use crate::files::drive::{self, Drive};
+use crate::files::Fault;
+use crate::intake::connections::{serve, Limits};
+use crate::intake::Intake;
+use crate::remarks::Remarks;
+use crate::slot::{Slot, Slots};
+use crate::store::postgres::{Copies, Member, PostgresDrive, PostgresStore, Server};
+use crate::work::blocking;
+use anyhow::{anyhow, Context};
+use std::collections::BTreeMap;
+use std::sync::{Arc, Mutex, MutexGuard, PoisonError};
+use tokio::net::TcpListener;
+use tokio::sync::watch;
+use tokio::task::JoinHandle;
+
+/// How many connections other instances have.
+const PEERS: usize = 256;
+
+/// What is shared with other instances.
+pub struct OfStore {
+    pub databases: Vec<Server>,
+    pub copies: Copies,
+    /// This instance's name, which no other has.
+    pub instance: String,
+    /// Where others bring posts.
+    pub peer: String,
+    /// What the meaning of posts hangs on: all say the same.
+    pub reading: String,
+}
+
+/// What takes the posts of slots that are here.
+type Here = Intake<Remarks<Slot>>;
+
+/// The store, and what is known of the others.
+pub(super) struct Joining {
+    pub store: Arc<PostgresStore>,
+    pub cluster: Arc<Cluster>,
+    pub forward: Arc<Forward<Here>>,
+    secret: Secret,
+    peer: TcpListener,
+}
+
+impl Joining {
+    /// Waits for the store, but not for ever.
+    pub async fn open(of: &OfStore, peer: TcpListener) -> Result<Joining, Ended> {
+        let (databases, copies, reading) = (of.databases.clone(), of.copies, of.reading.clone());
+        let opened = blocking(move || PostgresStore::open(&databases, copies, &reading)).await;
+        let store = opened.context("the store can't be used")?;
+        let secret =
+            Secret::new(&store.cluster.secret).ok_or_else(|| anyhow!("the store's secret is no head"))?;
+        let cluster = Cluster::new(&of.instance);
+        let forward = Arc::new(Forward::new(cluster.clone(), secret.clone(), Wire::Plain));
+        Ok(Joining {
+            store: Arc::new(store),
+            cluster,
+            forward,
+            secret,
+            peer,
+        })
+    }
+
+    /// Takes slots from now on.
+    pub fn join(self, settings: &Settings, of: &OfStore, units: Units, intake: &Arc<Here>) -> Joined {
+        self.forward.serve(intake.clone());
+        let (stop_peer, peer_stopped) = watch::channel(false);
+        let (stop_beats, beats_stopped) = watch::channel(false);
+        let internal = Internal::new(self.cluster.clone(), intake.clone(), self.secret);
+        let of_peers = Limits {
+            connections: PEERS,
+            ..limits(settings)
+        };
+        let peer = tokio::spawn(serve(self.peer, of_peers, internal, peer_stopped));
+        let member = Arc::new(Member::new(self.store.clone(), &of.instance, &of.peer));
+        let instance = Arc::new(Instance {
+            units,
+            store: self.store,
+            open: Mutex::default(),
+        });
+        let beats = Beats::new(self.cluster.clone(), member, instance.clone());
+        Joined {
+            cluster: self.cluster,
+            instance,
+            beats: tokio::spawn(beats.run(beats_stopped)),
+            peer,
+            stop_beats,
+            stop_peer,
+        }
+    }
+}
+
+/// This instance among the others.
+pub(super) struct Joined {
+    cluster: Arc<Cluster>,
+    instance: Arc<Instance>,
+    pub beats: JoinHandle<()>,
+    pub peer: JoinHandle<()>,
+    stop_beats: watch::Sender<bool>,
+    stop_peer: watch::Sender<bool>,
+}
+
+impl Joined {
+    pub fn cluster(&self) -> Arc<Cluster> {
+        self.cluster.clone()
+    }
+
+    /// A slot has ended alone: its writes found another owner.
+    pub fn lost(&self, slot: u16) {
+        if let Some(drive) = self.instance.forget(slot) {
+            self.instance.units.lose(slot);
+            self.cluster.lost(slot, drive.term());
+        }
+    }
+
+    /// All slots are handed over; posts for them go to their new owners meanwhile.
+    pub async fn leave(&mut self) {
+        self.stop_beats.send_replace(true);
+        let _ = (&mut self.beats).await; // it waits for a minute at most
+        self.stop_peer.send_replace(true);
+    }
+}
+
+impl Drop for Joined {
+    fn drop(&mut self) {
+        for task in [&self.beats, &self.peer] {
+            task.abort();
+        }
+    }
+}
+
+/// The slots of this process, as the cluster has them opened and ended.
+struct Instance {
+    units: Units,
+    store: Arc<PostgresStore>,
+    open: Mutex<BTreeMap<u16, Arc<PostgresDrive>>>,
+}
+
+impl Instance {
+    fn open(&self) -> MutexGuard<'_, BTreeMap<u16, Arc<PostgresDrive>>> {
+        self.open.lock().unwrap_or_else(PoisonError::into_inner) // a map is sound at any time
+    }
+
+    /// Nothing of it is written any more.
+    fn forget(&self, slot: u16) -> Option<Arc<PostgresDrive>> {
+        let drive = self.open().remove(&slot);
+        if let Some(drive) = &drive {
+            drive.lose();
+        }
+        drive
+    }
+
+    async fn begin(&self, slot: u16, term: u64) -> Result<(), Unopened> {
+        let store = self.store.clone();
+        let epoch = store.cluster.epoch.clone();
+        let read = blocking(move || {
+            let drive = store.drive(slot, term).map_err(Fault::Lost)?;
+            let files = drive::open(drive.clone() as Arc<dyn Drive>, &epoch)?;
+            Ok::<_, Fault>((drive, files))
+        });
+        let (drive, (journal, outbox, dead)) = read.await.map_err(unopened)?;
+        self.open().insert(slot, drive);
+        let files = Files {
+            number: slot,
+            journal,
+            outbox: Arc::new(outbox),
+            dead: Arc::new(dead),
+            former: Vec::new(),
+        };
+        let opened = self.units.open(files).await;
+        opened.map_err(|ended| {
+            self.forget(slot);
+            Unopened::Fault(ended.to_string())
+        })
+    }
+}
+
+fn unopened(fault: Fault) -> Unopened {
+    match fault {
+        Fault::Lost(_) => Unopened::Lost,
+        fault => Unopened::Fault(fault.to_string()),
+    }
+}
+
+impl terms::Units for Instance {
+    fn open(&self, slot: u16, term: u64) -> Doing<'_, Result<(), Unopened>> {
+        Box::pin(self.begin(slot, term))
+    }
+
+    fn hand_over(&self, slot: u16, _term: u64) -> Doing<'_, ()> {
+        Box::pin(async move {
+            if let Err(ended) = self.units.hand_over(slot).await {
+                let reason = ended.to_string();
+                tracing::warn!(
+                    slot,
+                    reason,
+                    "slot {slot}: its last checkpoint is left to its next owner: {reason}"
+                );
+            }
+            self.forget(slot);
+        })
+    }
+
+    fn drop_lost(&self, slot: u16, _term: u64) -> Doing<'_, ()> {
+        Box::pin(async move {
+            self.forget(slot);
+            self.units.lose(slot);
+        })
+    }
+}
+
+/// Where posts go, by the store's slots.
+pub(super) fn slots(joining: &Joining, settings: &Settings) -> Arc<Slots<Remarks<Slot>>> {
+    let reading = Arc::new(settings.reading.clone());
+    let resources = crate::otlp::Resources::new(joining.store.cluster.slots, reading);
+    Slots::several(resources, Some(joining.forward.clone()))
+}

@@ -1,0 +1,3 @@
+//! Where slots are kept that several machines share.
+
+pub mod postgres;

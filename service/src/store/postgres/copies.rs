@@ -1,0 +1,130 @@
+//! Whether a server can lose what it said is durable.
+
+use super::fault::StoreFault;
+use crate::postgres::Server;
+use tokio_postgres::{Client, Error};
+
+/// How many copies there have to be of what was answered.
+#[derive(Clone, Copy, Debug, PartialEq, Eq)]
+pub enum Copies {
+    /// One will do, and the server need not even bring it to its disk: by `--store-copies 1`.
+    One,
+    /// Each commit waits for a standby.
+    Two,
+}
+
+/// None where the server has no such setting: then it is no PostgreSQL, and only its operator knows.
+const SETTINGS: &str = "select current_setting('fsync', true), current_setting('synchronous_commit', true),
+    current_setting('synchronous_standby_names', true)";
+/// Who may not look at them sees no state.
+const STANDBYS: &str = "select count(*) filter (where sync_state in ('sync', 'quorum')),
+    count(*) filter (where sync_state is null) from pg_stat_replication";
+
+struct Settings {
+    fsync: Option<String>,
+    synchronous_commit: Option<String>,
+    standbys: Option<String>,
+}
+
+impl Settings {
+    /// Where standbys are named a commit waits for one, so it need not be looked for: without it no commit ends.
+    fn lose(&self) -> Option<String> {
+        let is = |setting: &Option<String>, good: &[&str]| {
+            setting
+                .as_ref()
+                .is_some_and(|found| good.contains(&found.as_str()))
+        };
+        if self.fsync.is_none() || self.standbys.is_none() {
+            return Some("it does not say whether it has fsync and synchronous_standby_names".into());
+        }
+        if !is(&self.fsync, &["on"]) {
+            return Some("fsync is off".into());
+        }
+        if !is(&self.synchronous_commit, &["on", "remote_apply"]) {
+            return Some("synchronous_commit is neither `on` nor `remote_apply`, although it was set".into());
+        }
+        let is_alone = self
+            .standbys
+            .as_deref()
+            .is_none_or(|names| names.trim().is_empty());
+        is_alone.then(|| "it has no synchronous standby (synchronous_standby_names is empty)".into())
+    }
+}
+
+/// `client` has the settings of our sessions.
+pub(super) async fn check(client: &Client, server: &Server, copies: Copies) -> Result<(), StoreFault> {
+    let row = client.query_one(SETTINGS, &[]).await;
+    let row = row.map_err(|error| StoreFault::of(server, error))?;
+    let settings = Settings {
+        fsync: row.get(0),
+        synchronous_commit: row.get(1),
+        standbys: row.get(2),
+    };
+    match (settings.lose(), copies) {
+        (None, _) => Ok(()),
+        (Some(why), Copies::One) => {
+            tracing::warn!("{server} can lose what it said is durable: {why}");
+            Ok(())
+        }
+        (Some(why), Copies::Two) => Err(StoreFault::Copies {
+            server: server.to_string(),
+            why,
+        }),
+    }
+}
+
+/// How many servers have what was committed just now; none where this role may not look (`pg_monitor` may).
+pub(super) async fn count(client: &Client) -> Result<Option<u64>, Error> {
+    let row = client.query_one(STANDBYS, &[]).await?;
+    let (synchronous, unknown): (i64, i64) = (row.get(0), row.get(1));
+    Ok((unknown == 0).then_some(1 + synchronous as u64))
+}
+
+#[cfg(test)]
+mod tests {
+    use super::*;
+
+    #[test]
+    fn each_setting_that_loses_is_named() {
+        let on = || Some("on".to_string());
+        for (fsync, commit, standbys, part) in [
+            (on(), on(), Some("*".into()), None),
+            (
+                on(),
+                Some("remote_apply".into()),
+                Some("ANY 1 (a, b)".into()),
+                None,
+            ),
+            (Some("off".into()), on(), Some("*".into()), Some("fsync is off")),
+            (
+                on(),
+                Some("local".into()),
+                Some("*".into()),
+                Some("synchronous_commit"),
+            ),
+            (
+                on(),
+                Some("remote_write".into()),
+                Some("*".into()),
+                Some("synchronous_commit"),
+            ),
+            (on(), on(), Some(" ".into()), Some("synchronous_standby_names")),
+            (on(), on(), None, Some("does not say")),
+            (None, on(), Some("*".into()), Some("does not say")),
+        ] {
+            let settings = Settings {
+                fsync,
+                synchronous_commit: commit,
+                standbys,
+            };
+            let why = settings.lose();
+            let is_named = why
+                .as_ref()
+                .is_some_and(|why| part.is_some_and(|part| why.contains(part)));
+            assert!(
+                is_named || why.is_none() && part.is_none(),
+                "{why:?} for {part:?}"
+            );
+        }
+    }
+}

@@ -1,0 +1,126 @@
+//! Why it is not known whether something was done, and what is done then.
+
+use crate::postgres::{shown, NotConnected};
+use std::time::Duration;
+use tokio_postgres::Error;
+
+/// After each of these a write is repeated, word for word, until an answer without a doubt has come: it locks the
+/// slot's row under the owner's term, so its own commit is the one behind which all of it is believed.
+#[derive(Debug, thiserror::Error)]
+pub enum Doubt {
+    #[error("no answer within {} s", .0.as_secs_f64())]
+    Silent(Duration),
+    /// As after `pg_cancel_backend` in the wait for a standby: then the server says that it is done, and it is on this
+    /// server alone.
+    #[error("the server warns: {0}")]
+    Warned(String),
+    #[error("{}", shown(.0))]
+    Said(#[from] Error),
+    #[error("{0}")]
+    NotConnected(String),
+}
+
+/// On which connection it is repeated.
+#[derive(Clone, Copy, Debug, PartialEq, Eq)]
+pub enum Next {
+    Same,
+    Another,
+}
+
+use Next::{Another, Same};
+
+/// What a server says (a SQLSTATE, or how it begins), and why it is repeated so. The first line that fits counts.
+const SAID: [(&str, Next, &str); 9] = [
+    ("40003", Another, "the server does not know whether it is done"),
+    (
+        "40",
+        Same,
+        "another transaction was in the way, so nothing was done",
+    ),
+    (
+        "55P03",
+        Same,
+        "the slot's row is locked, as by a write that waits for its standby",
+    ),
+    (
+        "57014",
+        Same,
+        "it was cancelled or took too long, so nothing was done",
+    ),
+    (
+        "53",
+        Same,
+        "disk, memory or connections are short, which may pass",
+    ),
+    ("57", Another, "the server is ending or starting"),
+    (
+        "25",
+        Another,
+        "the server reads alone: another is the primary now",
+    ),
+    ("08", Another, "the connection is broken"),
+    (
+        "",
+        Another,
+        "what else may be wrong is of this session or of this server",
+    ),
+];
+
+impl Doubt {
+    pub fn next(&self) -> Next {
+        match self {
+            Doubt::Warned(_) => Same,
+            Doubt::Silent(_) | Doubt::NotConnected(_) => Another,
+            Doubt::Said(error) if error.is_closed() => Another,
+            Doubt::Said(error) => after(error.code().map_or("", |state| state.code())),
+        }
+    }
+}
+
+fn after(code: &str) -> Next {
+    let fits = SAID.iter().find(|(begin, _, _)| code.starts_with(begin));
+    fits.map_or(Another, |(_, next, _)| *next)
+}
+
+impl From<NotConnected> for Doubt {
+    fn from(error: NotConnected) -> Doubt {
+        Doubt::NotConnected(error.to_string())
+    }
+}
+
+/// The first repeats come at once, as a rule, and later ones once a second.
+#[derive(Default)]
+pub struct Backoff(u32);
+
+impl Backoff {
+    pub async fn wait(&mut self) {
+        let pause = Duration::from_millis(10 << self.0.min(7)).min(Duration::from_secs(1));
+        self.0 += 1;
+        tokio::time::sleep(pause).await;
+    }
+}
+
+#[cfg(test)]
+mod tests {
+    use super::*;
+
+    #[test]
+    fn each_line_of_the_table_is_come_to() {
+        for (code, next) in [
+            ("40003", Another),
+            ("40001", Same),
+            ("40P01", Same),
+            ("55P03", Same),
+            ("57014", Same),
+            ("53100", Same),
+            ("57P01", Another),
+            ("25006", Another),
+            ("08006", Another),
+            ("26000", Another),
+            ("42P01", Another),
+            ("", Another),
+        ] {
+            assert_eq!(after(code), next, "{code}");
+        }
+    }
+}

@@ -1,0 +1,225 @@
+//! The files of a slot in a PostgreSQL.
+//!
+//! What is done is queued in memory; a sync brings all of it to the store in one transaction that locks the slot's row
+//! under the owner's term. What is queued is as much as the door lets in: posts are refused once a sync has waited for a
+//! second (`under_way`), whatever it waits for, a full disk of the server's among it.
+
+mod cache;
+mod extents;
+mod files;
+mod packed;
+#[cfg(test)]
+mod tests;
+mod turns;
+mod writer;
+
+pub(super) use files::Files;
+pub(super) use writer::Writer;
+
+use super::shared::{Shared, Stored};
+use crate::files::drive::{lost, Drive, Lost};
+use crate::switch::Switch;
+use cache::Cache;
+use files::{Bytes, Read};
+use packed::Packed;
+use std::collections::HashMap;
+use std::ffi::OsString;
+use std::future::Future;
+use std::io;
+use std::path::Path;
+use std::sync::{mpsc, Arc, Mutex, MutexGuard, PoisonError};
+use std::time::Duration;
+use tokio::runtime::Handle;
+use tokio::sync::watch;
+use turns::Turns;
+
+pub struct PostgresDrive {
+    slot: u16,
+    term: u64,
+    files: Mutex<Files>,
+    cache: Mutex<Cache>,
+    turns: Turns,
+    writer: Arc<tokio::sync::Mutex<Writer>>,
+    reader: Arc<Shared>,
+    runtime: Handle,
+    lost: watch::Sender<bool>,
+}
+
+fn lock<T>(mutex: &Mutex<T>) -> MutexGuard<'_, T> {
+    // Each change of what is in it is whole, or is of a process that ends.
+    mutex.lock().unwrap_or_else(PoisonError::into_inner)
+}
+
+impl PostgresDrive {
+    pub(super) fn new(writer: Writer, files: Files, reader: Arc<Shared>, runtime: Handle) -> PostgresDrive {
+        PostgresDrive {
+            slot: writer.slot as u16,
+            term: writer.term as u64,
+            files: Mutex::new(files),
+            cache: Mutex::default(),
+            turns: Turns::default(),
+            writer: Arc::new(tokio::sync::Mutex::new(writer)),
+            reader,
+            runtime,
+            lost: watch::channel(false).0,
+        }
+    }
+
+    pub fn slot(&self) -> u16 {
+        self.slot
+    }
+
+    pub fn term(&self) -> u64 {
+        self.term
+    }
+
+    /// Nothing is written any more, and who waits is told so: for who knows that another has the slot, gives it away, or
+    /// ends.
+    pub fn lose(&self) {
+        self.turns.lose();
+        self.lost.send_replace(true);
+    }
+
+    fn check(&self) -> io::Result<()> {
+        self.turns.check().map_err(|Lost| lost())
+    }
+
+    /// Waits for work on the store's own threads, whatever thread this is, until it is done or the slot is lost.
+    fn wait<T: Send + 'static>(
+        &self,
+        work: impl Future<Output = Result<T, Lost>> + Send + 'static,
+    ) -> Result<T, Lost> {
+        let (tell, told) = mpsc::sync_channel(1);
+        let mut is_lost = self.lost.subscribe();
+        self.runtime.spawn(async move {
+            let done = tokio::select! {
+                done = work => done,
+                () = is_lost.wait_true() => Err(Lost),
+            };
+            let _ = tell.send(done); // who waits is there
+        });
+        told.recv().unwrap_or(Err(Lost)) // the store has ended
+    }
+
+    fn commit(&self) -> Result<(), Lost> {
+        let batch = lock(&self.files).batch();
+        let packed = Packed::of(&batch);
+        let writer = self.writer.clone();
+        self.wait(async move { writer.lock().await.commit(&packed).await })?;
+        lock(&self.files).is_there(&batch);
+        let mut cache = lock(&self.cache);
+        for piece in batch.pieces {
+            cache.put(piece.number, piece.bytes);
+        }
+        Ok(())
+    }
+
+    /// Waits for the server where it is not there: for as long as the slot is this owner's. Those that are not found are
+    /// asked of the server that takes the writes: the other may have been left behind.
+    fn fetch(&self, file: u64, wanted: Vec<u64>) -> io::Result<HashMap<u64, Bytes>> {
+        let (reader, writer, slot) = (self.reader.clone(), self.writer.clone(), self.slot);
+        let rows = self.wait(async move {
+            let rows = reader.pieces(slot, file, &wanted).await;
+            match rows.len() < wanted.len() {
+                true => writer.lock().await.pieces(file, &wanted).await,
+                false => Ok(rows),
+            }
+        });
+        let mut found = HashMap::new();
+        for Stored {
+            number,
+            length,
+            bytes,
+        } in rows.map_err(|Lost| lost())?
+        {
+            let bytes: Bytes = packed::unpacked(&bytes, length)?.into();
+            lock(&self.cache).put(number, bytes.clone());
+            found.insert(number, bytes);
+        }
+        Ok(found)
+    }
+
+    /// What is there no more ends the slot, and not all that this process has.
+    fn vanished(&self, file: u64, pieces: &[u64]) -> io::Error {
+        let (slot, first) = (self.slot, pieces.first().copied().unwrap_or_default());
+        tracing::error!(
+            "slot {slot}: the store has lost piece {first} of file {file}, so the slot is not served"
+        );
+        self.lose();
+        lost()
+    }
+}
+
+impl Drive for PostgresDrive {
+    fn create(&self, name: &Path) -> io::Result<u64> {
+        self.check()?;
+        lock(&self.files).create(name)
+    }
+
+    fn open(&self, name: &Path) -> io::Result<u64> {
+        self.check()?;
+        lock(&self.files).open(name)
+    }
+
+    fn list(&self, folder: &Path) -> io::Result<Vec<OsString>> {
+        self.check()?;
+        Ok(lock(&self.files).list(folder))
+    }
+
+    fn length(&self, file: u64) -> io::Result<u64> {
+        self.check()?;
+        lock(&self.files).length(file)
+    }
+
+    fn read_at(&self, file: u64, bytes: &mut [u8], at: u64) -> io::Result<usize> {
+        let mut fetched = HashMap::new();
+        let mut asked = Vec::new();
+        loop {
+            self.check()?;
+            let known = |number| {
+                fetched
+                    .get(&number)
+                    .cloned()
+                    .or_else(|| lock(&self.cache).find(number))
+            };
+            let read = lock(&self.files).read(file, bytes, at, known)?;
+            match read {
+                Read::Done(length) => return Ok(length),
+                Read::Needs(numbers) if numbers == asked => return Err(self.vanished(file, &numbers)),
+                Read::Needs(numbers) => {
+                    asked.clone_from(&numbers);
+                    fetched.extend(self.fetch(file, numbers)?);
+                }
+            }
+        }
+    }
+
+    fn write_at(&self, file: u64, parts: &[&[u8]], at: u64) -> io::Result<()> {
+        self.check()?;
+        let mut files = lock(&self.files);
+        let mut next = at;
+        for part in parts {
+            files.write(file, part, next)?;
+            next += part.len() as u64;
+        }
+        Ok(())
+    }
+
+    fn rename(&self, from: &Path, to: &Path) -> io::Result<()> {
+        self.check()?;
+        lock(&self.files).rename(from, to)
+    }
+
+    fn remove(&self, name: &Path) -> io::Result<()> {
+        self.check()?;
+        lock(&self.files).remove(name)
+    }
+
+    fn sync(&self) -> io::Result<()> {
+        self.turns.ended(|| self.commit()).map_err(|Lost| lost())
+    }
+
+    fn under_way(&self) -> Duration {
+        self.turns.longest()
+    }
+}

@@ -1,0 +1,141 @@
+//! One sync at a time, and one for all that wait.
+
+use crate::files::drive::Lost;
+use std::sync::{Condvar, Mutex, MutexGuard, PoisonError};
+use std::time::{Duration, Instant};
+
+#[derive(Default)]
+pub struct Turns {
+    state: Mutex<State>,
+    changed: Condvar,
+}
+
+#[derive(Default)]
+struct State {
+    begun: u64,
+    ended: u64,
+    is_busy: bool,
+    is_lost: bool,
+    /// When those who wait began.
+    waiting: Vec<Instant>,
+}
+
+impl Turns {
+    fn state(&self) -> MutexGuard<'_, State> {
+        // Each change of it is one step.
+        self.state.lock().unwrap_or_else(PoisonError::into_inner)
+    }
+
+    /// Returns once a turn has ended that began after this call: by this thread or another.
+    pub fn ended(&self, turn: impl Fn() -> Result<(), Lost>) -> Result<(), Lost> {
+        let began = Instant::now();
+        let mut state = self.state();
+        state.waiting.push(began);
+        let wanted = state.begun + 1;
+        let ended = loop {
+            if state.is_lost {
+                break Err(Lost);
+            }
+            if state.ended >= wanted {
+                break Ok(());
+            }
+            if state.is_busy {
+                state = self.changed.wait(state).unwrap_or_else(PoisonError::into_inner);
+            } else {
+                state = self.take_turn(state, &turn);
+            }
+        };
+        if let Some(place) = state.waiting.iter().position(|other| *other == began) {
+            state.waiting.swap_remove(place);
+        }
+        ended
+    }
+
+    fn take_turn<'a>(
+        &'a self,
+        mut state: MutexGuard<'a, State>,
+        turn: impl Fn() -> Result<(), Lost>,
+    ) -> MutexGuard<'a, State> {
+        state.is_busy = true;
+        state.begun += 1;
+        let number = state.begun;
+        drop(state);
+        let done = turn();
+        let mut state = self.state();
+        state.is_busy = false;
+        match done {
+            Ok(()) => state.ended = number,
+            Err(Lost) => state.is_lost = true,
+        }
+        self.changed.notify_all();
+        state
+    }
+
+    pub fn lose(&self) {
+        self.state().is_lost = true;
+        self.changed.notify_all();
+    }
+
+    pub fn check(&self) -> Result<(), Lost> {
+        match self.state().is_lost {
+            true => Err(Lost),
+            false => Ok(()),
+        }
+    }
+
+    /// How long the one that began first has waited.
+    pub fn longest(&self) -> Duration {
+        let first = self.state().waiting.iter().min().copied();
+        first.map_or(Duration::ZERO, |first| first.elapsed())
+    }
+}
+
+#[cfg(test)]
+mod tests {
+    use super::*;
+    use std::sync::atomic::{AtomicU32, Ordering::SeqCst};
+    use std::sync::{mpsc, Arc};
+    use std::thread;
+
+    /// What it did may have come too late for that one.
+    #[test]
+    fn who_comes_while_a_turn_is_under_way_waits_for_the_next_and_shares_it() {
+        let (turns, count) = (Arc::<Turns>::default(), Arc::<AtomicU32>::default());
+        let (go, goes) = mpsc::channel::<()>();
+        let goes = Arc::new(Mutex::new(goes));
+        let come = || {
+            let (turns, count, goes) = (turns.clone(), count.clone(), goes.clone());
+            thread::spawn(move || {
+                turns.ended(|| {
+                    count.fetch_add(1, SeqCst);
+                    goes.lock().unwrap().recv().map_err(|_| Lost)
+                })
+            })
+        };
+        let until = |waiting: usize| {
+            while turns.state().waiting.len() < waiting || count.load(SeqCst) == 0 {
+                thread::sleep(Duration::from_millis(1));
+            }
+        };
+        let first = come();
+        until(1);
+        let others = [come(), come()];
+        until(3);
+        assert!(turns.longest() > Duration::ZERO);
+        go.send(()).unwrap();
+        first.join().unwrap().unwrap();
+        assert!(
+            others.iter().all(|other| !other.is_finished()),
+            "they wait for a turn of their own"
+        );
+        go.send(()).unwrap();
+        for other in others {
+            other.join().unwrap().unwrap();
+        }
+        assert_eq!((count.load(SeqCst), turns.longest()), (2, Duration::ZERO));
+        drop(go);
+        assert!(come().join().unwrap().is_err() && come().join().unwrap().is_err());
+        assert_eq!(count.load(SeqCst), 3, "nobody writes behind a loss");
+        assert!(turns.check().is_err());
+    }
+}

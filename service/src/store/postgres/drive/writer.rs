@@ -1,0 +1,265 @@
+//! Brings batches to the store, one behind the other, until each is known to be there.
+
+use super::files::{Batch, Files, Known};
+use super::packed::{Columns, Packed};
+use crate::files::drive::Lost;
+use crate::log::Seldom;
+use crate::postgres::Server;
+use crate::store::postgres::counts::Counts;
+use crate::store::postgres::doubt::{Backoff, Doubt, Next};
+use crate::store::postgres::session::{within, Session, SILENT};
+use crate::store::postgres::shared::Stored;
+use std::sync::Arc;
+use std::time::Duration;
+use tokio_postgres::types::ToSql;
+use tokio_postgres::{Error, Row};
+
+const LINK: &str = "select link from totxegun_store.slot where slot = $1 and term = $2";
+const RAISE: &str =
+    "update totxegun_store.slot set link = link + 1 where slot = $1 and term = $2 and link = $3";
+const IS_THERE: &str =
+    "select count(*) from totxegun_store.piece where slot = $1 and file = $2 and number = $3";
+
+const NAMES: &str = "select file, name from totxegun_store.file where slot = $1";
+/// In the order in which they were written.
+const PIECES: &str =
+    "select number, file, place, length from totxegun_store.piece where slot = $1 order by number";
+
+static IN_DOUBT: Seldom = Seldom::every(Duration::from_secs(10));
+
+/// Who writes a slot, under a term and, on each connection, a link.
+pub struct Writer {
+    pub server: Server,
+    pub slot: i32,
+    pub term: i64,
+    link: i64,
+    /// Taken out while it is used: one that was left half-way is closed.
+    session: Option<Session>,
+    /// File and number of the piece that came to be there last, of a file that still is.
+    last: Option<(i64, i64)>,
+    counts: Arc<Counts>,
+}
+
+impl Writer {
+    pub fn new(server: Server, slot: i32, term: i64, counts: Arc<Counts>) -> Writer {
+        Writer {
+            server,
+            slot,
+            term,
+            link: 0,
+            session: None,
+            last: None,
+            counts,
+        }
+    }
+
+    /// What is there, behind a committed write under the term.
+    pub async fn open(&mut self) -> Result<Files, Lost> {
+        let mut backoff = Backoff::default();
+        loop {
+            match self.try_open().await {
+                Ok(Some(files)) => return Ok(files),
+                Ok(None) => return Err(self.fenced()),
+                Err(doubt) => self.tell(&doubt),
+            }
+            backoff.wait().await;
+        }
+    }
+
+    /// Returns once the batch is there without a doubt.
+    pub async fn commit(&mut self, packed: &Packed) -> Result<(), Lost> {
+        let mut backoff = Backoff::default();
+        loop {
+            match self.try_once(packed).await {
+                Ok(true) => {
+                    self.note(packed);
+                    Counts::add(&self.counts.commits);
+                    return Ok(());
+                }
+                Ok(false) => return Err(self.fenced()),
+                Err(doubt) => self.tell(&doubt),
+            }
+            backoff.wait().await;
+        }
+    }
+
+    /// Those of these pieces that are there, on the server that takes the writes: none is behind a write that it has.
+    pub async fn pieces(&mut self, file: u64, numbers: &[u64]) -> Result<Vec<Stored>, Lost> {
+        let nothing = Packed::of(&Batch::default());
+        loop {
+            self.commit(&nothing).await?;
+            let Some(session) = &self.session else { continue };
+            match session.pieces(self.slot, file, numbers).await {
+                Ok(found) => return Ok(found),
+                Err(doubt) => self.tell(&doubt),
+            }
+            self.session = None;
+        }
+    }
+
+    fn fenced(&self) -> Lost {
+        Counts::add(&self.counts.fenced);
+        Lost
+    }
+
+    fn tell(&self, doubt: &Doubt) {
+        Counts::add(&self.counts.doubts);
+        if IN_DOUBT.is_due() {
+            let (slot, reason) = (self.slot, doubt.to_string());
+            tracing::warn!(
+                slot,
+                reason,
+                "slot {slot}: a write is repeated until it is known to be there: {reason}"
+            );
+        }
+    }
+
+    async fn try_open(&mut self) -> Result<Option<Files>, Doubt> {
+        let Some(session) = self.connect(&[]).await? else {
+            return Ok(None);
+        };
+        let names = within(SILENT, session.client.query(NAMES, &[&self.slot])).await?;
+        let name = |row: &Row| (row.get::<_, i64>(0) as u64, row.get(1));
+        let pieces = within(SILENT, session.client.query(PIECES, &[&self.slot])).await?;
+        let piece = |row: &Row| Known {
+            number: row.get::<_, i64>(0) as u64,
+            file: row.get::<_, i64>(1) as u64,
+            at: row.get::<_, i64>(2) as u64,
+            length: row.get::<_, i32>(3) as u64,
+        };
+        let names = names.iter().map(name).collect();
+        let files = Files::found(self.term as u64, names, pieces.iter().map(piece));
+        self.session = Some(session);
+        Ok(Some(files))
+    }
+
+    async fn try_once(&mut self, packed: &Packed) -> Result<bool, Doubt> {
+        let session = match self.session.take() {
+            Some(session) if !session.client.is_closed() => session,
+            _ => match self.connect(&packed.gone).await? {
+                Some(session) => session,
+                None => return Ok(false),
+            },
+        };
+        let done = session.written(self.put(&session, packed)).await;
+        let is_kept = match &done {
+            Ok(_) => true,
+            // A transaction of several statements may be open.
+            Err(doubt) => doubt.next() == Next::Same && packed.pieces.len() == 1,
+        };
+        if is_kept {
+            self.session = Some(session);
+        }
+        done
+    }
+
+    /// None where another has the slot. What an earlier connection may still bring finds another link then: it might
+    /// else be done behind what comes after it.
+    async fn connect(&mut self, gone: &[i64]) -> Result<Option<Session>, Doubt> {
+        let session = Session::open(&self.server).await?;
+        loop {
+            let key: [&(dyn ToSql + Sync); 2] = [&self.slot, &self.term];
+            let found = within(SILENT, session.client.query_opt(LINK, &key)).await?;
+            let Some(link) = found.map(|row| row.get::<_, i64>(0)) else {
+                return Ok(None);
+            };
+            let seen: [&(dyn ToSql + Sync); 3] = [&self.slot, &self.term, &link];
+            if session.written(session.client.execute(RAISE, &seen)).await? == 1 {
+                self.link = link + 1;
+                break;
+            }
+        }
+        let is_whole = self.is_whole(&session, gone).await?;
+        Ok(is_whole.then_some(session))
+    }
+
+    /// Whether the store still has what it said it has. Where it went over to a server that had not got all, that is
+    /// gone.
+    async fn is_whole(&self, session: &Session, gone: &[i64]) -> Result<bool, Doubt> {
+        let Some((file, number)) = self.last.filter(|(file, _)| !gone.contains(file)) else {
+            return Ok(true);
+        };
+        let key: [&(dyn ToSql + Sync); 3] = [&self.slot, &file, &number];
+        let found = within(SILENT, session.client.query_one(IS_THERE, &key)).await?;
+        let is_there = found.get::<_, i64>(0) == 1;
+        if !is_there {
+            Counts::add(&self.counts.vanished);
+            tracing::error!(
+                "slot {}: {} has lost what it said is durable: it went over to a standby that had not got all, or was put \
+                back from a copy",
+                self.slot,
+                self.server
+            );
+        }
+        Ok(is_there)
+    }
+
+    /// Whether the slot was this owner's.
+    async fn put(&self, session: &Session, packed: &Packed) -> Result<bool, Error> {
+        let [pieces] = &packed.pieces[..] else {
+            return self.put_parts(session, packed).await;
+        };
+        match packed.gone.is_empty() && packed.named.is_empty() {
+            true => self.append(session, pieces).await,
+            false => self.put_part(session, packed, pieces).await,
+        }
+    }
+
+    async fn put_parts(&self, session: &Session, packed: &Packed) -> Result<bool, Error> {
+        session.client.batch_execute("begin").await?;
+        for (number, pieces) in packed.pieces.iter().enumerate() {
+            let is_ours = match number {
+                0 => self.put_part(session, packed, pieces).await?,
+                _ => self.append(session, pieces).await?,
+            };
+            if !is_ours {
+                session.client.batch_execute("rollback").await?;
+                return Ok(false);
+            }
+        }
+        session.client.batch_execute("commit").await?;
+        Ok(true)
+    }
+
+    async fn put_part(&self, session: &Session, packed: &Packed, pieces: &Columns) -> Result<bool, Error> {
+        let bytes: Vec<&[u8]> = pieces.bytes.iter().map(|bytes| &bytes[..]).collect();
+        let values: [&(dyn ToSql + Sync); 11] = [
+            &self.slot,
+            &self.term,
+            &self.link,
+            &packed.gone,
+            &packed.named,
+            &packed.names,
+            &pieces.files,
+            &pieces.numbers,
+            &pieces.places,
+            &pieces.lengths,
+            &bytes,
+        ];
+        let row = session.client.query_one(&session.put, &values).await?;
+        Ok(row.get::<_, i64>(0) == 1)
+    }
+
+    async fn append(&self, session: &Session, pieces: &Columns) -> Result<bool, Error> {
+        let bytes: Vec<&[u8]> = pieces.bytes.iter().map(|bytes| &bytes[..]).collect();
+        let values: [&(dyn ToSql + Sync); 8] = [
+            &self.slot,
+            &self.term,
+            &self.link,
+            &pieces.files,
+            &pieces.numbers,
+            &pieces.places,
+            &pieces.lengths,
+            &bytes,
+        ];
+        let row = session.client.query_one(&session.append, &values).await?;
+        Ok(row.get::<_, i64>(0) == 1)
+    }
+
+    fn note(&mut self, packed: &Packed) {
+        self.last = self.last.filter(|(file, _)| !packed.gone.contains(file));
+        let last = packed.pieces.last();
+        let last = last.and_then(|pieces| Some((*pieces.files.last()?, *pieces.numbers.last()?)));
+        self.last = last.or(self.last);
+    }
+}

@@ -1,0 +1,62 @@
+//! An instance in a store: its beats, and what it takes and gives away.
+
+use super::{Doubt, PostgresStore};
+use crate::cluster::terms::{Doing, Row, Seen, Silence, Stay, Terms};
+use std::sync::Arc;
+
+pub struct Member {
+    store: Arc<PostgresStore>,
+    name: String,
+    /// Where others forward posts to.
+    address: String,
+}
+
+impl Member {
+    pub fn new(store: Arc<PostgresStore>, name: &str, address: &str) -> Member {
+        Member {
+            store,
+            name: name.into(),
+            address: address.into(),
+        }
+    }
+
+    async fn beat_and_see(&self, stay: Stay) -> Result<Seen, Doubt> {
+        let address = match stay {
+            Stay::Here => self.address.as_str(),
+            Stay::Leaves => "",
+        };
+        self.store.beat(&self.name, address).await?;
+        Ok(Seen {
+            instances: self.store.instances().await?,
+            slots: self.store.slots().await?,
+        })
+    }
+}
+
+impl From<Doubt> for Silence {
+    fn from(doubt: Doubt) -> Silence {
+        Silence(doubt.to_string())
+    }
+}
+
+impl Terms for Member {
+    fn beat(&self, stay: Stay) -> Doing<'_, Result<Seen, Silence>> {
+        Box::pin(async move { Ok(self.beat_and_see(stay).await?) })
+    }
+
+    fn slots(&self) -> Doing<'_, Result<Vec<Row>, Silence>> {
+        Box::pin(async move { Ok(self.store.slots().await?) })
+    }
+
+    fn take(&self, slot: u16, seen: u64) -> Doing<'_, Result<Option<u64>, Silence>> {
+        Box::pin(async move { Ok(self.store.take(slot, seen, &self.name).await?) })
+    }
+
+    fn release(&self, slot: u16, term: u64) -> Doing<'_, Result<(), Silence>> {
+        Box::pin(async move { Ok(self.store.release(slot, term).await?) })
+    }
+
+    fn leave(&self) -> Doing<'_, Result<(), Silence>> {
+        Box::pin(async move { Ok(self.store.leave(&self.name).await?) })
+    }
+}

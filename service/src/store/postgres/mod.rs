@@ -1,0 +1,245 @@
+//! A store in PostgreSQL: the files of slots, and who has which slot.
+//!
+//! Each write of a slot locks the slot's row where the owner's term is in it. Nothing else keeps two owners apart: no
+//! clock, no lease, no lock of a session. What is read is believed only behind a committed write of one's own, since a
+//! server shows, after a restart, what its standby does not have. The slots may be in several databases, slot S in
+//! database S mod k.
+
+mod copies;
+mod counts;
+mod doubt;
+mod drive;
+mod fault;
+mod member;
+mod schema;
+mod session;
+mod shared;
+mod terms;
+
+pub use crate::postgres::Server;
+pub use copies::Copies;
+pub use counts::Counts;
+pub use doubt::Doubt;
+pub use drive::PostgresDrive;
+pub use fault::StoreFault;
+pub use member::Member;
+pub use schema::{Cluster, MOST_SLOTS};
+
+use crate::cluster::terms::{Instance, Row};
+use crate::files::drive::Lost;
+use drive::Writer;
+use shared::Shared;
+use std::future::Future;
+use std::sync::{mpsc, Arc};
+use tokio::runtime::{Builder, Runtime};
+
+/// Connections live on these, so that a thread of the service that waits for the store never keeps the store waiting.
+const THREADS: usize = 2;
+
+pub struct PostgresStore {
+    pub cluster: Cluster,
+    databases: Vec<Database>,
+    counts: Arc<Counts>,
+    runtime: Threads,
+}
+
+struct Database {
+    /// For bytes, which may be long.
+    reader: Arc<Shared>,
+    /// For slots that are taken or given away, which may wait for who has the row.
+    taker: Arc<Shared>,
+    /// For beats, and for what is seen behind them: nothing else keeps them waiting.
+    beater: Arc<Shared>,
+}
+
+/// Ends without waiting, from wherever it is dropped.
+struct Threads(Option<Runtime>);
+
+impl Threads {
+    fn start() -> Result<Threads, StoreFault> {
+        let mut builder = Builder::new_multi_thread();
+        let runtime = builder
+            .worker_threads(THREADS)
+            .thread_name("store")
+            .enable_all()
+            .build()?;
+        Ok(Threads(Some(runtime)))
+    }
+
+    fn handle(&self) -> &tokio::runtime::Handle {
+        match &self.0 {
+            Some(runtime) => runtime.handle(),
+            None => unreachable!("it is taken away by the end alone"),
+        }
+    }
+
+    /// On the store's threads: this one only waits, whatever it is.
+    fn wait<T: Send + 'static>(&self, work: impl Future<Output = T> + Send + 'static) -> Option<T> {
+        let (tell, told) = mpsc::sync_channel(1);
+        self.handle().spawn(async move {
+            let _ = tell.send(work.await); // who waits is there
+        });
+        told.recv().ok()
+    }
+
+    async fn run<T: Send + 'static>(
+        &self,
+        work: impl Future<Output = Result<T, Doubt>> + Send + 'static,
+    ) -> Result<T, Doubt> {
+        let done = self.handle().spawn(work).await;
+        done.unwrap_or_else(|error| Err(Doubt::NotConnected(error.to_string())))
+    }
+}
+
+impl Drop for Threads {
+    fn drop(&mut self) {
+        if let Some(runtime) = self.0.take() {
+            runtime.shutdown_background();
+        }
+    }
+}
+
+/// Reads `postgres://..`, of one host or several that have the same database.
+pub fn address(text: &str) -> Result<Server, String> {
+    let (scheme, rest) = text.split_once(':').unwrap_or_default();
+    match scheme.eq_ignore_ascii_case("postgres") || scheme.eq_ignore_ascii_case("postgresql") {
+        true => Server::read_hosts(rest),
+        false => Err("a store is postgres://USER@HOST:PORT/DB, or postgres://USER@HOST1,HOST2/DB".into()),
+    }
+}
+
+fn ended() -> StoreFault {
+    StoreFault::System(std::io::Error::other("its threads have ended"))
+}
+
+impl PostgresStore {
+    /// Makes the tables of a store in these databases.
+    pub fn make(servers: &[Server], slots: u16) -> Result<Cluster, StoreFault> {
+        let servers = servers.to_vec();
+        let runtime = Threads::start()?;
+        runtime
+            .wait(async move { schema::make(&servers, slots).await })
+            .unwrap_or_else(|| Err(ended()))
+    }
+
+    /// `reading` is what the meaning of posts hangs on: all instances have to say the same.
+    pub fn open(servers: &[Server], copies: Copies, reading: &str) -> Result<PostgresStore, StoreFault> {
+        let runtime = Threads::start()?;
+        let (all, reading) = (servers.to_vec(), reading.to_string());
+        let checking = async move {
+            let cluster = schema::check(&all).await?;
+            for server in &all {
+                let (client, _driver) = session::connect(server).await?;
+                copies::check(&client, server, copies).await?;
+            }
+            schema::agree(&all, &reading).await?;
+            Ok(cluster)
+        };
+        let cluster = runtime.wait(checking).unwrap_or_else(|| Err(ended()))?;
+        let shared = |server: &Server| Arc::new(Shared::new(server.clone()));
+        let database = |server: &Server| Database {
+            reader: shared(server),
+            taker: shared(server),
+            beater: shared(server),
+        };
+        Ok(PostgresStore {
+            cluster,
+            databases: servers.iter().map(database).collect(),
+            counts: Arc::default(),
+            runtime,
+        })
+    }
+
+    pub fn counts(&self) -> &Counts {
+        &self.counts
+    }
+
+    fn database(&self, slot: u16) -> &Database {
+        &self.databases[usize::from(slot) % self.databases.len()]
+    }
+
+    /// The files of a slot that was taken under this term; none where another has it since. It asks until it knows.
+    pub fn drive(&self, slot: u16, term: u64) -> Result<Arc<PostgresDrive>, Lost> {
+        let database = self.database(slot);
+        let server = database.taker.server.clone();
+        let mut writer = Writer::new(server, slot.into(), term as i64, self.counts.clone());
+        let opening = async move {
+            let found = writer.open().await?;
+            Ok((writer, found))
+        };
+        let (writer, files) = self.runtime.wait(opening).unwrap_or(Err(Lost))?;
+        let (reader, runtime) = (database.reader.clone(), self.runtime.handle().clone());
+        Ok(Arc::new(PostgresDrive::new(writer, files, reader, runtime)))
+    }
+
+    /// Instances are in the first database.
+    fn first(&self) -> Arc<Shared> {
+        self.databases[0].beater.clone()
+    }
+
+    fn beaters(&self) -> Vec<Arc<Shared>> {
+        self.databases.iter().map(|one| one.beater.clone()).collect()
+    }
+
+    /// Adds one to this instance's beat, which is committed when this is `Ok`.
+    pub async fn beat(&self, name: &str, address: &str) -> Result<(), Doubt> {
+        let (beater, name, address) = (self.first(), name.to_string(), address.to_string());
+        let beating = async move { beater.beat(&name, &address, env!("CARGO_PKG_VERSION")).await };
+        self.runtime.run(beating).await
+    }
+
+    pub async fn instances(&self) -> Result<Vec<Instance>, Doubt> {
+        let beater = self.first();
+        self.runtime.run(async move { beater.instances().await }).await
+    }
+
+    pub async fn slots(&self) -> Result<Vec<Row>, Doubt> {
+        let beaters = self.beaters();
+        let reading = async move {
+            let mut slots = Vec::new();
+            for beater in beaters {
+                slots.extend(beater.slots().await?);
+            }
+            slots.sort_by_key(|row| row.slot);
+            Ok(slots)
+        };
+        self.runtime.run(reading).await
+    }
+
+    /// Writes the term behind the one that was seen: the new one, or none where another was first.
+    pub async fn take(&self, slot: u16, seen: u64, owner: &str) -> Result<Option<u64>, Doubt> {
+        let (taker, owner) = (self.database(slot).taker.clone(), owner.to_string());
+        self.runtime
+            .run(async move { taker.take(slot, seen, &owner).await })
+            .await
+    }
+
+    /// Says that nobody has the slot, where it has this term. The one who had it writes no more.
+    pub async fn release(&self, slot: u16, term: u64) -> Result<(), Doubt> {
+        let taker = self.database(slot).taker.clone();
+        self.runtime
+            .run(async move { taker.release(slot, term).await })
+            .await
+    }
+
+    pub async fn leave(&self, name: &str) -> Result<(), Doubt> {
+        let (beater, name) = (self.first(), name.to_string());
+        self.runtime.run(async move { beater.leave(&name).await }).await
+    }
+
+    /// On how many servers what is committed is now, at least; none where this role may not look.
+    pub async fn copies(&self) -> Result<Option<u64>, Doubt> {
+        let beaters = self.beaters();
+        let counting = async move {
+            let mut least = None;
+            for beater in beaters {
+                let Some(copies) = beater.copies().await? else {
+                    return Ok(None);
+                };
+                least = Some(least.map_or(copies, |least: u64| least.min(copies)));
+            }
+            Ok(least)
+        };
+        self.runtime.run(counting).await
+    }
+}

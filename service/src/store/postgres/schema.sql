@@ -1,0 +1,18 @@
+create schema if not exists totxegun_store;
+-- One row: what the store is, the same in each of its databases but for `place`.
+create table totxegun_store.cluster (
+    id text primary key, version int not null, slots int not null, databases int not null, place int not null,
+    epoch text not null, reading text not null, secret text not null);
+create table totxegun_store.instance (
+    name text primary key, address text not null, version text not null, beat bigint not null);
+-- The fence. Its rows are never deleted. What is written of a slot locks its row where term and link are as the writer
+-- knows them: the term is the owner's, the link the last connection of the owner's.
+create table totxegun_store.slot (
+    slot int primary key, term bigint not null, link bigint not null, owner text not null);
+create table totxegun_store.file (
+    slot int not null, file bigint not null, name text not null, primary key (slot, file));
+-- Bytes of a file from a place on. A later number counts where two overlap. Packed (raw deflate) where `bytes` has
+-- another length.
+create table totxegun_store.piece (
+    slot int not null, file bigint not null, number bigint not null, place bigint not null, length int not null,
+    bytes bytea not null, primary key (slot, file, number));

@@ -1,0 +1,82 @@
+//! A connection to a database that all slots share.
+
+use super::doubt::{Backoff, Doubt, Next};
+use super::session::Session;
+use crate::log::Seldom;
+use crate::postgres::Server;
+use std::sync::Arc;
+use std::time::Duration;
+use tokio::sync::Mutex;
+
+static NOT_READ: Seldom = Seldom::every(Duration::from_secs(10));
+
+/// It is made when it is needed, and anew after a fault.
+pub(super) struct Shared {
+    pub server: Server,
+    session: Mutex<Option<Arc<Session>>>,
+}
+
+/// A piece as it is in the store.
+pub(super) struct Stored {
+    pub number: u64,
+    /// Before it was packed.
+    pub length: usize,
+    pub bytes: Vec<u8>,
+}
+
+impl Shared {
+    pub fn new(server: Server) -> Shared {
+        Shared {
+            server,
+            session: Mutex::new(None),
+        }
+    }
+
+    pub async fn session(&self) -> Result<Arc<Session>, Doubt> {
+        let mut place = self.session.lock().await;
+        if let Some(session) = place.as_ref().filter(|session| !session.client.is_closed()) {
+            return Ok(session.clone());
+        }
+        let session = Arc::new(Session::open(&self.server).await?);
+        *place = Some(session.clone());
+        Ok(session)
+    }
+
+    /// Another connection is made where this one may be at fault.
+    pub async fn note(&self, session: &Arc<Session>, doubt: &Doubt) {
+        let mut place = self.session.lock().await;
+        let is_this = place.as_ref().is_some_and(|now| Arc::ptr_eq(now, session));
+        if is_this && doubt.next() == Next::Another {
+            *place = None;
+        }
+    }
+
+    /// Those of these pieces that are there. It asks until there is an answer.
+    pub async fn pieces(&self, slot: u16, file: u64, numbers: &[u64]) -> Vec<Stored> {
+        let mut backoff = Backoff::default();
+        loop {
+            match self.try_pieces(slot, file, numbers).await {
+                Ok(found) => return found,
+                Err(doubt) if NOT_READ.is_due() => {
+                    let reason = doubt.to_string();
+                    tracing::warn!(
+                        slot,
+                        reason,
+                        "slot {slot}: it can't be read, and is tried again: {reason}"
+                    );
+                }
+                Err(_) => {}
+            }
+            backoff.wait().await;
+        }
+    }
+
+    async fn try_pieces(&self, slot: u16, file: u64, numbers: &[u64]) -> Result<Vec<Stored>, Doubt> {
+        let session = self.session().await?;
+        let found = session.pieces(slot.into(), file, numbers).await;
+        if let Err(doubt) = &found {
+            self.note(&session, doubt).await;
+        }
+        found
+    }
+}

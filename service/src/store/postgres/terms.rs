@@ -1,0 +1,91 @@
+//! The rows of instances and slots: who beats, and who has which slot under which term.
+
+use super::copies;
+use super::doubt::Doubt;
+use super::session::{within, Session, SILENT};
+use super::shared::Shared;
+use crate::cluster::terms::{Instance, Row};
+use std::sync::Arc;
+use tokio_postgres::types::ToSql;
+use tokio_postgres::Row as Found;
+
+const BEAT: &str = "insert into totxegun_store.instance as i (name, address, version, beat) values ($1, $2, $3, 1)
+    on conflict (name) do update set beat = i.beat + 1, address = excluded.address, version = excluded.version";
+const INSTANCES: &str = "select name, address, beat from totxegun_store.instance";
+const SLOTS: &str = "select slot, term, owner from totxegun_store.slot";
+const TAKE: &str =
+    "update totxegun_store.slot set term = term + 1, link = 0, owner = $3 where slot = $1 and term = $2";
+const RELEASE: &str = "update totxegun_store.slot set owner = '' where slot = $1 and term = $2";
+const LEAVE: &str = "delete from totxegun_store.instance where name = $1";
+
+impl Shared {
+    /// A write that is done without a doubt, or an error: then it may be done, or be done later.
+    async fn write(&self, text: &str, values: &[&(dyn ToSql + Sync)]) -> Result<u64, Doubt> {
+        let session = self.session().await?;
+        let written = session.written(session.client.execute(text, values)).await;
+        self.heard(&session, written).await
+    }
+
+    async fn read<T>(&self, text: &str, each: impl Fn(&Found) -> T) -> Result<Vec<T>, Doubt> {
+        let session = self.session().await?;
+        let rows = within(SILENT, session.client.query(text, &[])).await;
+        let rows: Result<Vec<Found>, Doubt> = self.heard(&session, rows).await;
+        Ok(rows?.iter().map(each).collect())
+    }
+
+    async fn heard<T>(&self, session: &Arc<Session>, answer: Result<T, Doubt>) -> Result<T, Doubt> {
+        if let Err(doubt) = &answer {
+            self.note(session, doubt).await;
+        }
+        answer
+    }
+
+    /// Adds one to the instance's beat.
+    pub(super) async fn beat(&self, name: &str, address: &str, version: &str) -> Result<(), Doubt> {
+        self.write(BEAT, &[&name, &address, &version]).await.map(drop)
+    }
+
+    pub(super) async fn leave(&self, name: &str) -> Result<(), Doubt> {
+        self.write(LEAVE, &[&name]).await.map(drop)
+    }
+
+    pub(super) async fn instances(&self) -> Result<Vec<Instance>, Doubt> {
+        let instance = |row: &Found| Instance {
+            name: row.get(0),
+            address: row.get(1),
+            beat: row.get::<_, i64>(2) as u64,
+        };
+        self.read(INSTANCES, instance).await
+    }
+
+    pub(super) async fn slots(&self) -> Result<Vec<Row>, Doubt> {
+        let owned = |row: &Found| Row {
+            slot: row.get::<_, i32>(0) as u16,
+            term: row.get::<_, i64>(1) as u64,
+            owner: row.get(2),
+        };
+        self.read(SLOTS, owned).await
+    }
+
+    /// The term that was written; none where another was first. After a doubt nothing was taken: the next try sees which
+    /// term there is, and what comes late finds another.
+    pub(super) async fn take(&self, slot: u16, seen: u64, owner: &str) -> Result<Option<u64>, Doubt> {
+        let taken = self
+            .write(TAKE, &[&i32::from(slot), &(seen as i64), &owner])
+            .await?;
+        Ok((taken == 1).then_some(seen + 1))
+    }
+
+    pub(super) async fn release(&self, slot: u16, term: u64) -> Result<(), Doubt> {
+        self.write(RELEASE, &[&i32::from(slot), &(term as i64)])
+            .await
+            .map(drop)
+    }
+
+    /// How many servers have what is committed; none where this role may not look.
+    pub(super) async fn copies(&self) -> Result<Option<u64>, Doubt> {
+        let session = self.session().await?;
+        let counted = within(SILENT, copies::count(&session.client)).await;
+        self.heard(&session, counted).await
+    }
+}

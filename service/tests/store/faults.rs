@@ -1,0 +1,267 @@
+//! Servers that are killed, promoted, alone or in each other's way, while an owner works.
+
+use super::server::{wait_until, Server};
+use super::work::{contents, take, wait, Work};
+use super::{make, open, rounds};
+use nix::sys::signal::Signal;
+use std::sync::atomic::{AtomicBool, AtomicU64, Ordering::SeqCst};
+use std::sync::Arc;
+use std::thread::{self, sleep};
+use std::time::{Duration, Instant};
+use totxegun::store::postgres::{Copies, PostgresStore};
+
+const WAITS: &str = "pg_stat_activity where wait_event = 'SyncRep'";
+
+struct Pair {
+    servers: [Server; 2],
+    primary: usize,
+}
+
+impl Pair {
+    fn start() -> Option<Pair> {
+        let first = Server::start("")?;
+        let second = first.standby();
+        Some(Pair {
+            servers: [first, second],
+            primary: 0,
+        })
+    }
+
+    fn primary(&mut self) -> &mut Server {
+        &mut self.servers[self.primary]
+    }
+
+    fn standby(&mut self) -> &mut Server {
+        &mut self.servers[1 - self.primary]
+    }
+
+    fn address(&self) -> String {
+        let [first, second] = &self.servers;
+        format!(
+            "postgres://postgres@127.0.0.1:{},127.0.0.1:{}/postgres",
+            first.port, second.port
+        )
+    }
+
+    fn store(&self) -> PostgresStore {
+        make(&[&self.address()]);
+        open(&[&self.address()], Copies::Two)
+    }
+
+    /// The standby is the primary from now on, and the old one its standby.
+    fn go_over(&mut self) {
+        self.standby().promote();
+        self.primary = 1 - self.primary;
+        let [first, second] = &mut self.servers;
+        match self.primary {
+            0 => second.be_standby_of(first),
+            _ => first.be_standby_of(second),
+        }
+    }
+}
+
+/// What befalls the servers in a round.
+fn fault(pair: &mut Pair, round: u64) -> &'static str {
+    let backends = "from pg_stat_activity where application_name = 'totxegun'";
+    match round % 5 {
+        0 => {
+            pair.primary()
+                .ask(&format!("select pg_terminate_backend(pid) {backends}"));
+            "backends terminated"
+        }
+        1 => {
+            pair.standby().hold(Signal::SIGSTOP);
+            sleep(Duration::from_secs(2));
+            pair.standby().hold(Signal::SIGCONT);
+            "standby held"
+        }
+        2 => {
+            pair.standby().hold(Signal::SIGSTOP);
+            for _ in 0..3 {
+                sleep(Duration::from_millis(200));
+                pair.primary()
+                    .ask(&format!("select pg_cancel_backend(pid) from {WAITS}"));
+            }
+            pair.standby().hold(Signal::SIGCONT);
+            "waits cancelled"
+        }
+        3 => {
+            pair.primary().kill();
+            pair.primary().run();
+            "primary killed and started"
+        }
+        _ => {
+            pair.primary().kill();
+            pair.go_over();
+            "primary killed, standby promoted"
+        }
+    }
+}
+
+#[test]
+fn what_a_sync_said_yes_to_is_there_whatever_befalls_the_servers() {
+    let Some(mut pair) = Pair::start() else { return };
+    let store = pair.store();
+    let (stop, done) = (Arc::<AtomicBool>::default(), Arc::<AtomicU64>::default());
+    let (ends, count) = (stop.clone(), done.clone());
+    let mut work = Work::take(&store, 0, 1);
+    let working = thread::spawn(move || {
+        while !ends.load(SeqCst) {
+            assert!(work.round(), "nobody took the slot");
+            work.check();
+            count.store(work.syncs, SeqCst);
+        }
+        work
+    });
+    for round in 0..rounds(10) {
+        let before = done.load(SeqCst);
+        wait_until("it works", || {
+            done.load(SeqCst) > before + 3 || working.is_finished()
+        });
+        let begun = Instant::now();
+        let what = fault(&mut pair, round);
+        let before = done.load(SeqCst);
+        wait_until("it goes on", || {
+            done.load(SeqCst) > before + 1 || working.is_finished()
+        });
+        println!(
+            "round {round}: {what}, went on {:.1} s after its begin",
+            begun.elapsed().as_secs_f64()
+        );
+    }
+    stop.store(true, SeqCst);
+    let work = working.join().expect("it found what it wrote");
+    let (_, found) = take(&store, 0);
+    assert!(found == work.synced);
+    let counts = store.counts();
+    println!(
+        "{} faults, {} syncs, {} answers in doubt: nothing is lost",
+        rounds(10),
+        work.syncs,
+        counts.doubts.load(SeqCst)
+    );
+    assert_eq!(counts.vanished.load(SeqCst), 0);
+}
+
+/// PostgreSQL says then that it is done, and it is on one server alone.
+#[test]
+fn a_commit_that_was_cancelled_in_the_wait_for_its_standby_is_no_answer() {
+    let Some(mut pair) = Pair::start() else { return };
+    let store = pair.store();
+    for round in 0..rounds(2) {
+        let mut work = Work::take(&store, round as u16, round);
+        assert!(work.round());
+        pair.standby().kill();
+        let working = thread::spawn(move || {
+            assert!(work.round());
+            work
+        });
+        for _ in 0..2 {
+            let waits = format!("select count(*) from {WAITS}");
+            wait_until("it waits for the standby", || {
+                pair.primary().ask(&waits) == "1" || working.is_finished()
+            });
+            pair.primary()
+                .ask(&format!("select pg_cancel_backend(pid) from {WAITS}"));
+            sleep(Duration::from_millis(300));
+            assert!(
+                !working.is_finished(),
+                "a commit without its standby was answered"
+            );
+        }
+        pair.primary().kill();
+        pair.standby().run();
+        pair.go_over();
+        let work = working.join().unwrap();
+        assert!(take(&store, round as u16).1 == work.synced);
+    }
+    println!(
+        "{} commits cancelled in the wait: none was answered before a standby had it",
+        2 * rounds(2)
+    );
+}
+
+/// Else a taker would go by what is lost with the server.
+#[test]
+fn what_a_server_shows_after_a_restart_is_not_believed_without_its_standby() {
+    let Some(mut pair) = Pair::start() else { return };
+    let store = Arc::new(pair.store());
+    for round in 0..rounds(2) {
+        let slot = round as u16;
+        let mut first = Work::take(&store, slot, round);
+        assert!(first.round());
+        pair.standby().kill();
+        let working = thread::spawn(move || {
+            while first.round() {}
+            first
+        });
+        let waits = format!("select count(*) from {WAITS}");
+        wait_until("it waits for the standby", || pair.primary().ask(&waits) == "1");
+        pair.primary().kill();
+        pair.primary().run();
+        let taker = store.clone();
+        let taking = thread::spawn(move || take(&taker, slot));
+        sleep(Duration::from_secs(1));
+        assert!(!taking.is_finished(), "a slot was taken without a standby");
+        pair.standby().run();
+        let (_, found) = taking.join().unwrap();
+        let first = working.join().unwrap();
+        assert!(first.is_found(&found), "round {round}");
+    }
+    println!("{} takers waited for the standby", rounds(2));
+}
+
+/// It takes writes, and ends none: whoever is there is left for the one that was promoted, and not read any more.
+#[test]
+fn a_primary_on_the_wrong_side_answers_nobody_and_is_left() {
+    let Some(mut pair) = Pair::start() else { return };
+    let store = pair.store();
+    let mut work = Work::take(&store, 0, 5);
+    (0..3).for_each(|_| assert!(work.round()));
+    assert!(contents(&*work.drive) == work.now);
+    pair.standby().promote();
+    let third = pair.standby().standby();
+    let begun = Instant::now();
+    assert!(work.round());
+    println!("it was left after {:.0} s", begun.elapsed().as_secs_f64());
+    (0..20).for_each(|_| assert!(work.round()));
+    assert!(
+        contents(&*work.drive) == work.now,
+        "it was read where it was left behind"
+    );
+    pair.primary().kill();
+    assert!(take(&store, 0).1 == work.synced);
+    drop(third);
+}
+
+#[test]
+fn a_slot_waits_for_a_database_that_is_gone_and_no_longer_than_it_is_wanted() {
+    let Some(mut server) = Server::start("") else {
+        return;
+    };
+    make(&[&server.address()]);
+    let store = open(&[&server.address()], Copies::One);
+    let mut work = Work::take(&store, 0, 1);
+    assert!(work.round());
+    server.kill();
+    let drive = work.drive.clone();
+    let working = thread::spawn(move || {
+        assert!(work.round());
+        work
+    });
+    wait_until("it waits", || drive_waits(&drive));
+    assert!(wait(store.slots()).is_err() && wait(store.beat("a", "h")).is_err());
+    server.run();
+    let mut work = working.join().unwrap();
+    assert_eq!(totxegun::files::drive::Drive::under_way(&*drive), Duration::ZERO);
+    server.kill();
+    let drive = work.drive.clone();
+    let ending = thread::spawn(move || assert!(!work.sync(), "it is lost"));
+    wait_until("it waits", || drive_waits(&drive));
+    drive.lose();
+    ending.join().unwrap();
+}
+
+fn drive_waits(drive: &totxegun::store::postgres::PostgresDrive) -> bool {
+    totxegun::files::drive::Drive::under_way(drive) > Duration::from_millis(500)
+}

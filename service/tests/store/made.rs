@@ -1,0 +1,105 @@
+//! What a start refuses, and a store in several databases.
+
+use super::server::Server;
+use super::work::{take, wait, Work};
+use super::{make, open, SLOTS};
+use totxegun::store::postgres::{address, Copies, PostgresStore, StoreFault};
+
+fn refused(addresses: &[&str], copies: Copies, reading: &str, part: &str) {
+    let servers: Vec<_> = addresses.iter().map(|text| address(text).unwrap()).collect();
+    match PostgresStore::open(&servers, copies, reading) {
+        Ok(_) => panic!("it was opened: {part}"),
+        Err(fault) => assert!(fault.to_string().contains(part), "{part} in {fault}"),
+    }
+}
+
+#[test]
+fn a_start_refuses_what_is_no_store_or_another_or_can_lose() {
+    let Some(server) = Server::start("") else { return };
+    server.ask("create database other");
+    server.ask("create database third");
+    let [one, other, third] = ["postgres", "other", "third"].map(|name| server.address_of(name));
+    refused(&[&one], Copies::One, "a", "store init");
+    refused(
+        &["postgres://postgres@127.0.0.1:1/postgres"],
+        Copies::One,
+        "a",
+        "127.0.0.1:1",
+    );
+    make(&[&one, &other]);
+    make(&[&third]);
+    let again = PostgresStore::make(&[address(&one).unwrap(), address(&other).unwrap()], SLOTS);
+    assert!(matches!(again, Err(StoreFault::IsThere(_))));
+    refused(&[&one], Copies::One, "a", "the store has 2 databases");
+    refused(
+        &[&other, &one],
+        Copies::One,
+        "a",
+        "is database 1 of its store, not 0",
+    );
+    refused(&[&one, &third], Copies::One, "a", "1 databases");
+    refused(&[&one, &other], Copies::Two, "b", "no synchronous standby");
+    let servers = [address(&one).unwrap(), address(&other).unwrap()];
+    drop(PostgresStore::open(&servers, Copies::One, "a").unwrap());
+    refused(&[&one, &other], Copies::One, "b", "There: a");
+    server.ask("alter system set fsync = off");
+    server.ask("select pg_reload_conf()");
+    refused(&[&one, &other], Copies::Two, "a", "fsync is off");
+    server.ask("alter role postgres set synchronous_commit = 'local'");
+    server.ask("alter system set fsync = on");
+    server.ask("alter system set synchronous_standby_names = 'nobody'");
+    server.ask("set synchronous_commit = 'local'; update totxegun_store.cluster set version = 2");
+    server.ask("select pg_reload_conf()");
+    refused(&[&one, &other], Copies::Two, "a", "of another version");
+    server.ask("set synchronous_commit = 'local'; update totxegun_store.cluster set version = 1");
+    let servers = [address(&one).unwrap(), address(&other).unwrap()];
+    let store = PostgresStore::open(&servers, Copies::Two, "a").unwrap();
+    assert_eq!(
+        wait(store.copies()).unwrap(),
+        Some(1),
+        "nobody is there, so no commit ends"
+    );
+}
+
+#[test]
+fn who_may_not_look_at_standbys_does_not_know_how_many_copies_there_are() {
+    let Some(server) = Server::start("") else { return };
+    let standby = server.standby();
+    make(&[&server.address()]);
+    server.ask("create role plain login");
+    server.ask("grant usage on schema totxegun_store to plain");
+    server.ask("grant all on all tables in schema totxegun_store to plain");
+    let plain = server.address().replace("//postgres@", "//plain@");
+    assert_eq!(wait(open(&[&plain], Copies::Two).copies()).unwrap(), None);
+    assert_eq!(
+        wait(open(&[&server.address()], Copies::Two).copies()).unwrap(),
+        Some(2)
+    );
+    drop(standby);
+}
+
+/// As after a kill between two databases.
+#[test]
+fn a_store_that_was_made_in_part_is_made_whole() {
+    let Some(server) = Server::start("") else { return };
+    server.ask("create database other");
+    let [one, other] = ["postgres", "other"].map(|name| server.address_of(name));
+    let servers = [address(&one).unwrap(), address(&other).unwrap()];
+    let first = PostgresStore::make(&servers, 8).unwrap();
+    let drop_it = std::process::Command::new("psql")
+        .args(["-qX", "-d", &other, "-c", "drop schema totxegun_store cascade"])
+        .output()
+        .unwrap();
+    assert!(drop_it.status.success());
+    let second = PostgresStore::make(&servers, 8).unwrap();
+    assert!(first == second);
+    let store = PostgresStore::open(&servers, Copies::One, "a").unwrap();
+    assert_eq!((store.cluster.slots, wait(store.slots()).unwrap().len()), (8, 8));
+    for slot in [2, 3] {
+        let mut work = Work::take(&store, slot, slot.into());
+        (0..5).for_each(|_| assert!(work.round()));
+        assert!(take(&store, slot).1 == work.synced);
+    }
+    let even = "select coalesce(bool_and(slot % 2 = 0), true) from totxegun_store.piece";
+    assert_eq!(server.ask(even), "t");
+}

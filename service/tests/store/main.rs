@@ -1,0 +1,56 @@
+//! The store in PostgreSQL, against servers of its own. Without `initdb` nothing is tried, and a line says so.
+
+mod faults;
+mod made;
+mod owners;
+mod proxy;
+mod server;
+mod speed;
+mod work;
+
+use server::Server;
+use totxegun::files::drive::Drive;
+use totxegun::store::postgres::{address, Copies, PostgresStore};
+use work::{take, Work};
+
+const SLOTS: u16 = 64;
+
+/// So many rounds of each trial, or as many as STORE_ROUNDS says.
+fn rounds(usual: u64) -> u64 {
+    let said = std::env::var("STORE_ROUNDS").ok();
+    said.map_or(usual, |said| said.parse().expect("STORE_ROUNDS is a number"))
+}
+
+fn open(addresses: &[&str], copies: Copies) -> PostgresStore {
+    let servers: Vec<_> = addresses.iter().map(|text| address(text).unwrap()).collect();
+    PostgresStore::open(&servers, copies, "whole=auto").unwrap()
+}
+
+fn make(addresses: &[&str]) {
+    let servers: Vec<_> = addresses.iter().map(|text| address(text).unwrap()).collect();
+    PostgresStore::make(&servers, SLOTS).unwrap();
+}
+
+#[test]
+fn a_drive_is_as_a_map_has_it_and_the_next_owner_finds_what_was_synced() {
+    let Some(server) = Server::start("") else { return };
+    make(&[&server.address()]);
+    let store = open(&[&server.address()], Copies::One);
+    let (mut owners, mut syncs) = (0, 0);
+    for seed in 0..rounds(12) {
+        let slot = (seed % 3) as u16;
+        let mut work = Work::take(&store, slot, seed);
+        for _ in 0..12 {
+            assert!(work.round());
+            work.check();
+        }
+        work.step();
+        let (next, found) = take(&store, slot);
+        assert!(found == work.synced, "seed {seed}");
+        assert!(!work.sync(), "the slot is another's");
+        assert!(work.drive.create("journal/x".as_ref()).is_err());
+        (owners, syncs) = (owners + 1, syncs + work.syncs);
+        drop(next);
+    }
+    println!("{owners} owners, {syncs} syncs: all of it was found");
+}

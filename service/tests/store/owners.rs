@@ -1,0 +1,152 @@
+//! Who has a slot: one of several that take it, and nobody else writes from then on.
+
+use super::proxy::Proxy;
+use super::server::{wait_until, Server};
+use super::work::{contents, take, wait, Chance, Contents, Work};
+use super::{make, open, rounds};
+use std::sync::{Arc, Mutex};
+use std::thread;
+use totxegun::store::postgres::Copies;
+
+/// Works until the slot is lost or so many rounds are done, and says what it has said yes to.
+fn works(mut work: Work, most: u64, said: Arc<Mutex<Contents>>) -> thread::JoinHandle<Work> {
+    thread::spawn(move || {
+        for _ in 0..most {
+            if !work.round() {
+                break;
+            }
+            said.lock().unwrap().clone_from(&work.synced);
+        }
+        work
+    })
+}
+
+#[test]
+fn an_owner_that_is_stopped_in_any_step_writes_no_more_once_another_has_the_slot() {
+    let Some(server) = Server::start("") else { return };
+    let proxy = Proxy::start(server.port);
+    make(&[&server.address()]);
+    let (through, direct) = (
+        open(&[&proxy.address()], Copies::One),
+        open(&[&server.address()], Copies::One),
+    );
+    let (mut lost, mut later) = (0, 0);
+    for round in 0..rounds(40) {
+        let slot = (round % 8) as u16;
+        let first = Work::take(&through, slot, round);
+        let said = Arc::new(Mutex::new(first.synced.clone()));
+        proxy.stop_after(round % 13);
+        let works = works(first, 9, said.clone());
+        wait_until("it is stopped", || proxy.holds());
+        let said_before = said.lock().unwrap().clone();
+        let mut second = Work::take(&direct, slot, round + 1000);
+        let found = second.synced.clone();
+        (0..3).for_each(|_| assert!(second.round()));
+        proxy.go_on();
+        let first = works.join().unwrap();
+        assert!(!first.is_found(&Contents::new()) || first.synced.is_empty() || found.is_empty());
+        assert!(
+            first.synced == found,
+            "round {round}: it said yes to what the next owner has not, or the other way"
+        );
+        lost += u32::from(first.begun.is_some());
+        later += u32::from(first.synced != said_before);
+        let (_, now) = take(&direct, slot);
+        assert!(
+            now == second.synced,
+            "round {round}: who had lost the slot wrote to it"
+        );
+    }
+    println!(
+        "stopped in {} rounds: {lost} lost, {later} had been done and were told later",
+        rounds(40)
+    );
+    assert_eq!(u64::from(lost), rounds(40));
+}
+
+/// A statement that is still on its way when its connection breaks may be done at any time, under the owner's own term.
+#[test]
+fn what_comes_late_of_a_broken_connection_is_not_done() {
+    let Some(server) = Server::start("") else { return };
+    let proxy = Proxy::start(server.port);
+    make(&[&server.address()]);
+    let store = open(&[&proxy.address()], Copies::One);
+    let direct = open(
+        &[&format!("{}?application_name=direct", server.address())],
+        Copies::One,
+    );
+    let backends = "select coalesce(string_agg(pid::text, ','), '0') from pg_stat_activity where application_name = 'totxegun'";
+    let mut chance = Chance(7);
+    let mut held = 0;
+    for round in 0..rounds(40) {
+        let slot = (round % 8) as u16;
+        let mut work = Work::take(&store, slot, round);
+        assert!(work.round());
+        let before = server.ask(backends);
+        proxy.stop_after(chance.below(3));
+        let working = thread::spawn(move || {
+            assert!(work.round() && work.round());
+            work
+        });
+        wait_until("a statement is held", || proxy.holds());
+        proxy.cut();
+        let mut work = working.join().unwrap();
+        (0..chance.below(5)).for_each(|_| assert!(work.round()));
+        proxy.go_on();
+        let left = format!("select count(*) from pg_stat_activity where pid in ({before})");
+        wait_until("it is done", || server.ask(&left) == "0");
+        let (next, found) = take(&direct, slot);
+        assert!(found == work.synced, "round {round}: what came late was done");
+        assert!(contents(&*next) == found);
+        held += 1;
+    }
+    println!("{held} connections were cut, and what they held came late");
+}
+
+#[test]
+fn one_of_those_that_take_a_slot_has_it() {
+    let Some(server) = Server::start("") else { return };
+    make(&[&server.address()]);
+    let store = Arc::new(open(&[&server.address()], Copies::One));
+    for term in 0..rounds(20) {
+        let takers: Vec<_> = ["a", "b", "c", "d"]
+            .map(|name| {
+                let store = store.clone();
+                thread::spawn(move || (name, wait(store.take(5, term, name)).unwrap()))
+            })
+            .into();
+        let taken: Vec<_> = takers.into_iter().map(|taker| taker.join().unwrap()).collect();
+        let won: Vec<_> = taken.iter().filter(|(_, term)| term.is_some()).collect();
+        assert_eq!(won.len(), 1, "{taken:?}");
+        assert_eq!(won[0].1, Some(term + 1));
+        let slots = wait(store.slots()).unwrap();
+        assert_eq!((slots[5].term, &slots[5].owner[..]), (term + 1, won[0].0));
+    }
+}
+
+#[test]
+fn beats_go_up_and_a_slot_is_given_away() {
+    let Some(server) = Server::start("") else { return };
+    make(&[&server.address()]);
+    let store = open(&[&server.address()], Copies::One);
+    for _ in 0..3 {
+        wait(store.beat("a", "h1:1")).unwrap();
+    }
+    wait(store.beat("b", "h2:1")).unwrap();
+    let mut instances = wait(store.instances()).unwrap();
+    instances.sort_by(|one, other| one.name.cmp(&other.name));
+    let seen: Vec<_> = instances
+        .iter()
+        .map(|one| (&one.name[..], &one.address[..], one.beat))
+        .collect();
+    assert_eq!(seen, [("a", "h1:1", 3), ("b", "h2:1", 1)]);
+    wait(store.leave("b")).unwrap();
+    assert_eq!(wait(store.instances()).unwrap().len(), 1);
+    assert_eq!(wait(store.take(1, 0, "a")).unwrap(), Some(1));
+    wait(store.release(1, 0)).unwrap();
+    assert_eq!(wait(store.slots()).unwrap()[1].owner, "a", "of another term");
+    wait(store.release(1, 1)).unwrap();
+    let slot = wait(store.slots()).unwrap().swap_remove(1);
+    assert_eq!((slot.term, &slot.owner[..]), (1, ""));
+    assert!(store.drive(1, 0).is_err(), "it has another term");
+}

@@ -1,0 +1,116 @@
+//! Passes bytes on, stops after so many parts of them, cuts clients off, and brings what it held back to the server late.
+
+use std::io::{Read, Write};
+use std::net::{Shutdown, TcpListener, TcpStream};
+use std::sync::{Arc, Condvar, Mutex};
+use std::thread;
+
+pub struct Proxy {
+    pub port: u16,
+    gate: Arc<Gate>,
+}
+
+#[derive(Default)]
+struct Gate {
+    state: Mutex<State>,
+    changed: Condvar,
+}
+
+#[derive(Default)]
+struct State {
+    /// So many parts pass yet; none: all.
+    left: Option<u64>,
+    /// Connections up to this one were cut, and what they hold waits until it goes on.
+    cut: usize,
+    clients: Vec<TcpStream>,
+    held: u64,
+}
+
+impl Gate {
+    fn pass(&self, connection: usize) {
+        let mut state = self.state.lock().unwrap();
+        state.held += 1;
+        self.changed.notify_all();
+        while state.left == Some(0) || connection < state.cut {
+            state = self.changed.wait(state).unwrap();
+        }
+        state.held -= 1;
+        state.left = state.left.map(|left| left - 1);
+    }
+}
+
+impl Proxy {
+    pub fn start(to: u16) -> Proxy {
+        let listener = TcpListener::bind("127.0.0.1:0").unwrap();
+        let port = listener.local_addr().unwrap().port();
+        let gate = Arc::<Gate>::default();
+        let passing = gate.clone();
+        thread::spawn(move || {
+            for client in listener.incoming().flatten() {
+                let Ok(server) = TcpStream::connect(("127.0.0.1", to)) else {
+                    continue;
+                };
+                let mut state = passing.state.lock().unwrap();
+                let connection = state.clients.len();
+                state.clients.push(client.try_clone().unwrap());
+                let (up, down) = (
+                    (client.try_clone().unwrap(), server.try_clone().unwrap()),
+                    (server, client),
+                );
+                for (from, into) in [up, down] {
+                    let gate = passing.clone();
+                    thread::spawn(move || pass(from, into, &gate, connection));
+                }
+            }
+        });
+        Proxy { port, gate }
+    }
+
+    fn change(&self, change: impl FnOnce(&mut State)) {
+        change(&mut self.gate.state.lock().unwrap());
+        self.gate.changed.notify_all();
+    }
+
+    pub fn stop_after(&self, parts: u64) {
+        self.change(|state| state.left = Some(parts));
+    }
+
+    pub fn holds(&self) -> bool {
+        let state = self.gate.state.lock().unwrap();
+        state.held > 0 && (state.left == Some(0) || state.cut > 0)
+    }
+
+    /// All clients are cut off. Those that come anew are served; what was held back is held on.
+    pub fn cut(&self) {
+        self.change(|state| {
+            state.left = None;
+            for client in &state.clients[state.cut..] {
+                let _ = client.shutdown(Shutdown::Both);
+            }
+            state.cut = state.clients.len();
+        });
+    }
+
+    /// What was held back goes where it was to go.
+    pub fn go_on(&self) {
+        self.change(|state| {
+            state.left = None;
+            state.cut = 0;
+        });
+    }
+
+    pub fn address(&self) -> String {
+        format!("postgres://postgres@127.0.0.1:{}/postgres", self.port)
+    }
+}
+
+fn pass(mut from: TcpStream, mut into: TcpStream, gate: &Gate, connection: usize) {
+    let mut bytes = vec![0; 1 << 16];
+    while let Ok(count @ 1..) = from.read(&mut bytes) {
+        gate.pass(connection);
+        if into.write_all(&bytes[..count]).is_err() {
+            break;
+        }
+    }
+    let _ = into.shutdown(Shutdown::Write);
+}

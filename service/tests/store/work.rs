@@ -1,0 +1,207 @@
+//! Random work on a drive, beside a map: what a sync said yes to is what the next owner has to find.
+
+use std::collections::BTreeMap;
+use std::path::{Path, PathBuf};
+use std::sync::Arc;
+use totxegun::files::drive::{is_lost, Drive};
+use totxegun::store::postgres::{PostgresDrive, PostgresStore};
+
+pub type Contents = BTreeMap<PathBuf, Vec<u8>>;
+
+pub struct Chance(pub u64);
+
+impl Chance {
+    pub fn below(&mut self, end: u64) -> u64 {
+        self.0 = self
+            .0
+            .wrapping_mul(6364136223846793005)
+            .wrapping_add(1442695040888963407);
+        (self.0 >> 33) % end
+    }
+}
+
+/// An owner of a slot at work.
+pub struct Work {
+    pub drive: Arc<PostgresDrive>,
+    pub now: Contents,
+    /// What there was when the last sync that said yes began, and when one began that has not.
+    pub synced: Contents,
+    pub begun: Option<Contents>,
+    pub syncs: u64,
+    chance: Chance,
+}
+
+impl Work {
+    /// Of the next owner, which finds what is there.
+    pub fn take(store: &PostgresStore, slot: u16, seed: u64) -> Work {
+        let (drive, found) = take(store, slot);
+        Work {
+            drive,
+            now: found.clone(),
+            synced: found,
+            begun: None,
+            syncs: 0,
+            chance: Chance(seed),
+        }
+    }
+
+    fn name(&mut self) -> PathBuf {
+        let folder = ["journal", "outbox", "dead"][self.chance.below(3) as usize];
+        Path::new(folder).join(format!("{:012}.seg", self.chance.below(5)))
+    }
+
+    /// A call that changes something.
+    pub fn step(&mut self) {
+        let name = self.name();
+        match self.chance.below(10) {
+            0..=1 => {
+                let made = self.drive.create(&name);
+                assert!(made.is_ok() != self.now.contains_key(&name) || was_lost(made.err()));
+                self.now.entry(name).or_default();
+            }
+            2 => {
+                let removed = self.drive.remove(&name);
+                assert!(removed.is_ok() == self.now.remove(&name).is_some() || was_lost(removed.err()));
+            }
+            3 => {
+                let to = self.name();
+                let renamed = self.drive.rename(&name, &to);
+                let moved = self.now.remove(&name);
+                assert!(renamed.is_ok() == moved.is_some() || was_lost(renamed.err()));
+                moved.map(|bytes| self.now.insert(to, bytes));
+            }
+            _ => self.write(&name),
+        }
+    }
+
+    fn write(&mut self, name: &Path) {
+        let Some(there) = self.now.get_mut(name) else {
+            return;
+        };
+        let length = match self.chance.below(30) {
+            0 => self.chance.below(2 << 20),
+            _ => self.chance.below(3000),
+        } as usize;
+        let at = match self.chance.below(6) {
+            0 => self.chance.below(there.len() as u64 + 1) as usize,
+            _ => there.len(),
+        };
+        let (first, step) = (self.chance.below(256), self.chance.below(3) * 7919);
+        let bytes: Vec<u8> = (0..length as u64)
+            .map(|place| ((place * step) >> 3) as u8 ^ first as u8)
+            .collect();
+        there.resize(there.len().max(at + length), 0);
+        there[at..at + length].copy_from_slice(&bytes);
+        let (one, other) = bytes.split_at(length / 3);
+        let written = self
+            .drive
+            .open(name)
+            .and_then(|file| self.drive.write_at(file, &[one, other], at as u64));
+        assert!(written.is_ok() || was_lost(written.err()));
+    }
+
+    /// False where the slot is lost.
+    pub fn sync(&mut self) -> bool {
+        let begun = self.now.clone();
+        self.begun = Some(begun);
+        match self.drive.sync() {
+            Ok(()) => {
+                self.synced = self.begun.take().unwrap();
+                self.syncs += 1;
+                true
+            }
+            Err(error) => {
+                assert!(is_lost(&error), "{error}");
+                false
+            }
+        }
+    }
+
+    /// Some calls, and a sync.
+    pub fn round(&mut self) -> bool {
+        (0..1 + self.chance.below(8)).for_each(|_| self.step());
+        self.sync()
+    }
+
+    /// What a reader of the open files sees.
+    pub fn check(&mut self) {
+        let name = self.name();
+        let Some(there) = self.now.get(&name) else {
+            assert!(self.drive.open(&name).is_err());
+            return;
+        };
+        let file = self.drive.open(&name).unwrap();
+        assert_eq!(self.drive.length(file).unwrap(), there.len() as u64);
+        let at = self.chance.below(there.len() as u64 + 1);
+        let length = self.chance.below(100_000) as usize;
+        assert!(
+            read(&*self.drive, file, at, length)
+                == there[at as usize..][..length.min(there.len() - at as usize)]
+        );
+    }
+
+    /// Whether what the next owner found is what there was at the last sync that said yes, or at one that was under way.
+    pub fn is_found(&self, found: &Contents) -> bool {
+        *found == self.synced || self.begun.as_ref() == Some(found)
+    }
+}
+
+fn was_lost(error: Option<std::io::Error>) -> bool {
+    error.is_some_and(|error| is_lost(&error))
+}
+
+fn read(drive: &dyn Drive, file: u64, at: u64, length: usize) -> Vec<u8> {
+    let mut bytes = vec![0; length];
+    let mut done = 0;
+    loop {
+        match drive.read_at(file, &mut bytes[done..], at + done as u64).unwrap() {
+            0 => break,
+            more => done += more,
+        }
+    }
+    bytes.truncate(done);
+    bytes
+}
+
+pub fn contents(drive: &dyn Drive) -> Contents {
+    let mut all = Contents::new();
+    for folder in ["journal", "outbox", "dead"] {
+        for name in drive.list(Path::new(folder)).unwrap() {
+            let name = Path::new(folder).join(name);
+            let file = drive.open(&name).unwrap();
+            let length = drive.length(file).unwrap();
+            all.insert(name, read(drive, file, 0, length as usize));
+        }
+    }
+    all
+}
+
+/// The next owner, and what it finds.
+pub fn take(store: &PostgresStore, slot: u16) -> (Arc<PostgresDrive>, Contents) {
+    loop {
+        let term = term_of(store, slot);
+        if let Ok(Some(term)) = wait(store.take(slot, term, "next")) {
+            let drive = store.drive(slot, term).expect("nobody else takes it");
+            let found = contents(&*drive);
+            return (drive, found);
+        }
+        std::thread::sleep(std::time::Duration::from_millis(50));
+    }
+}
+
+fn term_of(store: &PostgresStore, slot: u16) -> u64 {
+    loop {
+        if let Ok(slots) = wait(store.slots()) {
+            return slots.iter().find(|owned| owned.slot == slot).unwrap().term;
+        }
+        std::thread::sleep(std::time::Duration::from_millis(50));
+    }
+}
+
+pub fn wait<T>(work: impl std::future::Future<Output = T>) -> T {
+    let runtime = tokio::runtime::Builder::new_current_thread()
+        .enable_all()
+        .build()
+        .unwrap();
+    runtime.block_on(work)
+}
