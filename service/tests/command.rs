@@ -65,6 +65,7 @@ fn help_names_each_command_and_option() {
         "correct",
         "export",
         "check",
+        "store",
         "version",
     ] {
         assert!(help.contains(command), "{command} in\n{help}");
@@ -77,6 +78,10 @@ fn help_names_each_command_and_option() {
         "operate-tokens",
         "sender-series",
         "sender-points",
+        "store",
+        "instance",
+        "peer",
+        "store-copies",
         "sink",
         "flush-every",
         "durable",
