@@ -356,7 +356,7 @@ def under_load(checks, folder, at, service, callers, seconds, token):
         checks.same(f"{poster.name}: the sink has them", poster.told[poster.name], found.get(poster.name))
     for number, (encoding, by) in enumerate(PROGRAMS):
         told = json.loads(read(f"{folder}/{number}.json"))
-        wanted, (in_sink, _, _) = told["totals"], sdk_go.found_of(f"{folder}/sink.db", number)
+        wanted, in_sink = told["totals"], sdk_go.found_of(sdk_go.File(folder), number)[0]["totals"]
         what = f"Go, {encoding} by {by}"
         checks.true(f"{what}: the sink has its totals", len(wanted) > 5 and wanted == in_sink, (wanted, in_sink))
         checks.same(f"{what}: each post was taken", set(), set(told["answers"]) - {"200", "OK"})
