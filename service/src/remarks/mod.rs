@@ -1,21 +1,23 @@
 //! What is told of posts that were not taken, or not wholly: in their answers, in the log, and to operators.
 //!
 //! It stands before what takes posts, and changes nothing of them but the text of their answers. Of a post with points
-//! that were not taken it reads the body once more, for the answer; `heard` is who has posted. For the log it reads
+//! that were not taken it reads the body once more, for the answer (`texts`); `heard` is who has posted. For the log it reads
 //! one post at a time and beside the runtime's threads; one that comes meanwhile is passed over, since its sender
 //! comes again.
 
 mod heard;
+mod texts;
 
 pub use heard::{Heard, OfReason, OfSender};
+pub(crate) use texts::SERIES_SHOWN;
 
 use crate::core;
 use crate::files::Outbox;
 use crate::intake::Taker;
-use crate::log::{all_shown, cut, shown};
+use crate::log::shown;
 use crate::metrics::Metrics;
 use crate::otlp::series::SeriesKey;
-use crate::otlp::{foreign_points, point_at, Cause, Causes, Explained, Original, Outcome, Profile, Reading};
+use crate::otlp::{foreign_points, point_at, Cause, Causes, Original, Outcome, Profile, Reading, NO_NAME};
 use crate::pass::Pass;
 use crate::slot::{ByNumber, Request, Source};
 use crate::work::blocking;
@@ -24,6 +26,7 @@ use std::collections::{HashMap, HashSet};
 use std::future::Future;
 use std::sync::atomic::{AtomicBool, Ordering::Relaxed};
 use std::sync::{Arc, Mutex, PoisonError};
+use texts::{of_late, of_other_writer, other_writer, place_of, reason};
 use tokio::sync::Semaphore;
 
 /// How many senders, series and refusals are remembered as told.
@@ -34,14 +37,7 @@ const SHORT: usize = 64 << 10;
 /// How many long bodies are read at a time: while it is read, one takes several times its length.
 const READERS: usize = 2;
 
-/// What an answer begins with to a post to another's series; the place of its point follows.
-const OTHER_WRITER: &str = "other writer: point ";
-
-/// How much of a metric's name is told, and of all that identifies a series, in characters.
-const NAME_SHOWN: usize = 100;
-pub(crate) const SERIES_SHOWN: usize = 2000;
-/// The same of a point's attributes in an answer, and of an answer in the log.
-const ATTRIBUTES_SHOWN: usize = 300;
+/// How much of an answer is in the log, in characters.
 const ANSWER_SHOWN: usize = 600;
 
 /// How many posts of a sender are read for reasons that are new.
@@ -166,6 +162,7 @@ impl<T: Taker> Remarks<T> {
             }
             Outcome::Refused { status, message } => {
                 let Some(place) = place_of(&message) else {
+                    let message = of_late(&message).map_or(message.clone(), |more| message + &more);
                     return Outcome::Refused { status, message };
                 };
                 let profile = self.telling.profile;
@@ -318,37 +315,6 @@ impl<T: Taker> Remarks<T> {
         tracing::warn!(sender, owner, series = shown(&series.0, SERIES_SHOWN), "{line}");
         self.told().series.insert(series);
     }
-}
-
-/// Why a point is foreign: one short line, whatever its sender wrote.
-fn reason(point: &Explained) -> String {
-    let name = cut(&point.metric, NAME_SHOWN);
-    let why = point.foreign.as_deref().unwrap_or_default();
-    all_shown(&format!("{} `{name}`: {why}", point.kind))
-}
-
-/// The place of the point that another's series is met by.
-fn place_of(message: &str) -> Option<u64> {
-    message.strip_prefix(OTHER_WRITER)?.parse().ok()
-}
-
-/// What the answer to a post to another's series says beside the place: that series and what to do.
-fn of_other_writer(body: &[u8], profile: Profile, place: u64) -> Option<String> {
-    let (point, _) = point_at(body, profile, place)?;
-    let name = shown(&point.metric, NAME_SHOWN);
-    let attributes = shown(&point.attributes, ATTRIBUTES_SHOWN);
-    Some(format!(
-        ": `{name}` {{{attributes}}} is another sender's: give each process its own service.instance.id"
-    ))
-}
-
-/// That a sender posts to another's series: one line as well.
-fn other_writer(sender: &str, owner: &str, series: &SeriesKey) -> String {
-    let series = shown(&series.0, SERIES_SHOWN);
-    format!(
-        "posts of {sender} are refused, since the series is {owner}'s: give each process a name and a \
-         service.instance.id of its own. The series is {series}"
-    )
 }
 
 impl<T: Taker> Taker for Remarks<T> {

@@ -260,6 +260,27 @@ async fn who_posts_to_another_s_series_is_told_which_it_is() {
     );
 }
 
+/// Nobody reads nanoseconds.
+#[tokio::test]
+async fn a_late_sender_is_told_the_time() {
+    let refused = |message: &str| {
+        let message = message.into();
+        remarks(
+            Outcome::Refused { status: 400, message },
+            None,
+            Telling::default(),
+        )
+    };
+    let late = "out of order: point 2, frontier 1795808400500000000";
+    let said = answered(&refused(late), GAUGES).await;
+    let begin = format!("{late}: the point begins before 2026-11-27T19:40:00.500000Z, ");
+    assert!(
+        said.starts_with(&begin) && said.contains("clock was set back"),
+        "{said}"
+    );
+    assert_eq!(answered(&refused("not JSON"), GAUGES).await, "not JSON");
+}
+
 /// What is expected is not told; and what is refused is noted, once for the log.
 #[tokio::test]
 async fn refusals_are_noted() {
