@@ -19,6 +19,7 @@ import http.client
 import importlib.util
 import json
 import os
+import re
 import shutil
 import signal
 import socket
@@ -398,6 +399,8 @@ def run(checks, program, seconds, folder):
         log = read(service.log)
         secret = [word for word in (token, clients.collector, clients.fleeting, go, "t0ken") if word in log]
         checks.same("the log has nothing of a token", [], secret)
+        checks.true("the log says who is refused, and why", re.search(r"a post of address \S+ is refused with 401: the token is not known", log),
+                    service.last_lines())
         checks.true("the log says that a file can't be used", "--tokens has changed, and can't be used" in log, service.last_lines())
         service.signal(signal.SIGTERM)
         checks.same("SIGTERM ends the service", 0, service.process.wait(60))

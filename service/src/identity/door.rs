@@ -1,12 +1,13 @@
 //! TLS and names at the senders' addresses.
 
-use super::who::Certified;
+use super::who::{By, Certified};
 use super::{Tokens, Who};
 use crate::metrics::Metrics;
 use crate::renewed::{Reader, Renewed};
 use crate::tls::{Files, Shaken, Tls, WithoutCertificate};
 use anyhow::Result;
 use std::fmt;
+use std::net::IpAddr;
 use std::path::PathBuf;
 use std::sync::Arc;
 
@@ -61,20 +62,21 @@ impl Door {
         })
     }
 
-    /// By whom the requests of a connection are, which may be behind a handshake.
-    pub fn who(&self, shaken: Option<&Shaken>) -> Who {
+    /// By whom the requests of a connection are, which may be behind a handshake, and comes from `peer`.
+    pub fn who(&self, shaken: Option<&Shaken>, peer: Option<IpAddr>) -> Who {
         let shown = shaken.and_then(Shaken::shown);
         match (&self.tls, shown, &self.tokens) {
             (Some(tls), Some((chain, contexts)), tokens) => {
-                Who::ByCertificate(Certified::new(chain, contexts, tls.clone(), tokens.clone()))
+                By::Certificate(Certified::new(chain, contexts, tls.clone(), tokens.clone()))
             }
-            (_, None, Some(tokens)) => Who::ByToken(tokens.clone()),
+            (_, None, Some(tokens)) => By::Token(tokens.clone()),
             // No handshake ends so. If one did, nobody would be believed.
             (Some(tls), None, None) if self.by_certificate => {
-                Who::ByCertificate(Certified::new(Vec::new(), tls.contexts(), tls.clone(), None))
+                By::Certificate(Certified::new(Vec::new(), tls.contexts(), tls.clone(), None))
             }
-            _ => Who::Believed,
-        }
+            _ => By::Believed,
+        };
+        Who::new(by, peer)
     }
 
     /// The file of `--tokens`.

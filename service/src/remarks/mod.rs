@@ -19,7 +19,7 @@ use crate::metrics::Metrics;
 use crate::otlp::series::SeriesKey;
 use crate::otlp::{foreign_points, point_at, Cause, Causes, Original, Outcome, Profile, Reading, NO_NAME};
 use crate::pass::Pass;
-use crate::slot::{ByNumber, Request, Source};
+use crate::slot::{is_sender, ByNumber, Request, Source};
 use crate::work::blocking;
 use bytes::Bytes;
 use std::collections::{HashMap, HashSet};
@@ -31,6 +31,8 @@ use tokio::sync::Semaphore;
 
 /// How many senders, series and refusals are remembered as told.
 const REMEMBERED: usize = 1000;
+/// How many addresses of strangers: further ones count as who names none, so that they hide no sender.
+const STRANGERS: usize = 100;
 
 /// A body up to this long is read in place, a longer one on a thread beside the runtime's: no short post waits for it.
 const SHORT: usize = 64 << 10;
@@ -85,6 +87,8 @@ struct Told {
     /// Senders whose clock is off.
     clocks: HashSet<String>,
     series: HashSet<SeriesKey>,
+    /// Addresses of who has no name.
+    strangers: HashSet<String>,
     refusals: usize,
 }
 
@@ -257,6 +261,15 @@ impl<T: Taker> Remarks<T> {
         self.told.lock().unwrap_or_else(PoisonError::into_inner) // sets are sound at any time
     }
 
+    /// Whether the address of who has no name is one of those that are remembered.
+    fn is_known_stranger(&self, address: &str) -> bool {
+        let mut told = self.told();
+        if told.strangers.len() < STRANGERS {
+            told.strangers.insert(address.to_string());
+        }
+        told.strangers.contains(address)
+    }
+
     fn may_tell_more(&self, sender: &str) -> bool {
         if self.telling.log_foreign == 0 {
             return false;
@@ -362,7 +375,10 @@ impl<T: Taker> Taker for Remarks<T> {
     }
 
     fn turned_away(&self, sender: &str, outcome: &Outcome) {
-        self.note(sender, outcome);
+        match is_sender(sender) || self.is_known_stranger(sender) {
+            true => self.note(sender, outcome),
+            false => self.note(NO_NAME, outcome),
+        }
     }
 }
 

@@ -318,6 +318,29 @@ async fn refusals_are_noted() {
     assert_eq!((of_a.taken, of_a.refused["out of order"].posts), (0, 2));
 }
 
+/// Else they would fill the log, and hide the refusals of senders.
+#[tokio::test]
+async fn so_many_strangers_are_told_of() {
+    let remarks = remarks(Outcome::taken(0), None, Telling::default());
+    let unknown = Outcome::Refused {
+        status: 401,
+        message: "the token is not known".into(),
+    };
+    for number in 0..5 * STRANGERS {
+        remarks.turned_away(
+            &format!("address 10.0.{}.{}", number / 256, number % 256),
+            &unknown,
+        );
+    }
+    remarks.turned_away("shop-1", &unknown);
+    assert_eq!(remarks.told().refusals, STRANGERS + 2);
+    let heard = remarks.heard.last(1000);
+    let of = |name: &str| heard.iter().find(|(heard, _)| heard == name).unwrap().1.clone();
+    let posts = |name: &str| of(name).refused["the token is not known"].posts;
+    assert_eq!((posts("address 10.0.0.7"), posts("shop-1")), (1, 1));
+    assert_eq!(posts(NO_NAME), 4 * STRANGERS as u64);
+}
+
 /// Cumulative points that are refused by name count, beside foreign ones and alone.
 #[tokio::test]
 async fn what_is_refused_of_runs_is_counted() {

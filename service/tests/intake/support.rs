@@ -25,6 +25,8 @@ const PATIENCE: Duration = Duration::from_secs(30);
 /// Keeps what it is given, and answers as it was told.
 pub struct Kept {
     pub posts: Mutex<Vec<(String, Bytes)>>,
+    /// Whose requests were answered without asking, and how.
+    pub turned: Mutex<Vec<(String, u16, String)>>,
     pub outcome: Outcome,
 }
 
@@ -33,6 +35,14 @@ impl Taker for Kept {
         let body = request.source().text().unwrap();
         self.posts.lock().unwrap().push((sender, body));
         std::future::ready(self.outcome.clone())
+    }
+
+    fn turned_away(&self, sender: &str, outcome: &Outcome) {
+        let text = outcome.refusal().unwrap_or_default().to_string();
+        self.turned
+            .lock()
+            .unwrap()
+            .push((sender.into(), outcome.status(), text));
     }
 }
 
@@ -101,6 +111,7 @@ impl Served {
     ) -> Served {
         let kept = Arc::new(Kept {
             posts: Mutex::new(Vec::new()),
+            turned: Mutex::new(Vec::new()),
             outcome,
         });
         let metrics = Arc::new(Metrics::new().unwrap());
