@@ -32,7 +32,7 @@ pub fn operators(path: PathBuf, metrics: &Metrics) -> Result<Arc<Renewed<Tokens>
         read: Box::new(|contents: &[Vec<u8>]| Tokens::read(&contents.concat())?.of_operators()),
         shut: Tokens::shut,
     };
-    Renewed::open("--operate-tokens", vec![path], reader, metrics)
+    Renewed::open(vec![("--operate-tokens", path)], reader, metrics)
 }
 
 impl Door {
@@ -51,7 +51,7 @@ impl Door {
             shut: Tokens::shut,
         };
         let tokens = options.tokens.as_ref();
-        let tokens = tokens.map(|path| Renewed::open("--tokens", vec![path.clone()], reader(), metrics));
+        let tokens = tokens.map(|path| Renewed::open(vec![("--tokens", path.clone())], reader(), metrics));
         Ok(Door {
             tls: tls.map(Arc::new),
             by_certificate: options
