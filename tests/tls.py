@@ -114,8 +114,9 @@ def refusals(checks, program, at):
     for what, words, status, why in (
             ("an open address", ["--listen", f"0.0.0.0:{port}"], 2, beyond),
             ("an open address of gRPC", ["--listen-grpc", f"[::]:{port}"], 2, beyond),
-            ("TLS that names nobody", ["--listen", f"0.0.0.0:{port}", *tls], 2, beyond),
-            ("tokens that anybody can read", ["--listen", f"0.0.0.0:{port}", "--tokens", f"{at}/tokens"], 2, beyond),
+            ("TLS that names nobody", ["--listen", f"0.0.0.0:{port}", *tls], 2, "post under any name: give --tokens"),
+            ("tokens that anybody can read", ["--listen", f"0.0.0.0:{port}", "--tokens", f"{at}/tokens"], 2,
+             "read along: give --tls-cert"),
             ("names by both", ["--tokens", f"{at}/tokens", "--sender-from", "service.name"], 2, "--sender-from"),
             ("a certificate without its key", tls[:2], 2, "--tls-key"),
             ("another's key", [*tls[:3], f"{at}/ca.key"], 1, "not that of the first certificate"),

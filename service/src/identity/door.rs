@@ -65,7 +65,7 @@ impl Door {
     /// By whom the requests of a connection are, which may be behind a handshake, and comes from `peer`.
     pub fn who(&self, shaken: Option<&Shaken>, peer: Option<IpAddr>) -> Who {
         let shown = shaken.and_then(Shaken::shown);
-        match (&self.tls, shown, &self.tokens) {
+        let by = match (&self.tls, shown, &self.tokens) {
             (Some(tls), Some((chain, contexts)), tokens) => {
                 By::Certificate(Certified::new(chain, contexts, tls.clone(), tokens.clone()))
             }
@@ -89,9 +89,14 @@ impl Door {
         self.by_certificate || self.tokens.is_some()
     }
 
+    /// Whether nobody can read along.
+    pub fn has_tls(&self) -> bool {
+        self.tls.is_some()
+    }
+
     /// Whether strangers can neither read along nor post.
     pub fn is_closed(&self) -> bool {
-        self.tls.is_some() && self.has_names()
+        self.has_tls() && self.has_names()
     }
 }
 
@@ -103,11 +108,7 @@ impl fmt::Display for Door {
             (false, Some(_)) => "by their token",
             (false, None) => "by their own word, the header x-sender",
         };
-        let over = if self.tls.is_some() {
-            "over TLS"
-        } else {
-            "without TLS"
-        };
+        let over = if self.has_tls() { "over TLS" } else { "without TLS" };
         write!(to, "senders are named {named}, {over}")
     }
 }
