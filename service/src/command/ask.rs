@@ -86,10 +86,30 @@ pub fn flush(at: &Address, path: &str) -> Result<Vec<u8>> {
     let read: serde_json::Value = serde_json::from_slice(&body).unwrap_or_default();
     let requests = read["requests"].as_u64();
     Ok(match requests.with_context(|| client::another(&at.place()))? {
-        0 => line("done: there was nothing to put into the outbox"),
+        0 => line(format_args!(
+            "done: there was nothing to put into the outbox{}",
+            waits(at)
+        )),
         requests => line(format_args!(
             "done: {} went into the outbox",
             counted(requests, "request")
         )),
     })
+}
+
+/// What waits there, which else looks lost.
+fn waits(at: &Address) -> String {
+    match client::status(at).map_or(0, |status| status.waiting()) {
+        0 => String::new(),
+        waiting => format!(
+            ", where {} for the sink: `totxegun status` shows how it goes on",
+            waiting_shown(waiting)
+        ),
+    }
+}
+
+/// `1 request waits`, `2 requests wait`.
+pub fn waiting_shown(waiting: u64) -> String {
+    let verb = if waiting == 1 { "waits" } else { "wait" };
+    format!("{} {verb}", counted(waiting, "request"))
 }

@@ -3,6 +3,7 @@
 use super::ask::Address;
 use super::values::SOCKET;
 use crate::log::all_shown;
+use crate::operate::Status;
 use anyhow::{anyhow, bail, Context, Result};
 use hyper::body::HttpBody;
 use hyper::client::conn;
@@ -26,7 +27,8 @@ const CONNECT: Duration = Duration::from_secs(5);
 const NO_PATH: &str = "no such path";
 
 /// Of an answer that is not as this program reads it.
-pub const OTHER_VERSION: &str = "the running service is of another version: ask it by its own totxegun";
+pub(super) const OTHER_VERSION: &str =
+    "the running service is of another version: ask it by its own totxegun";
 
 /// What is read of an answer at most.
 const MOST: usize = 256 << 20;
@@ -50,6 +52,12 @@ pub fn ask(at: &Address, method: Method, path: &str) -> Result<Vec<u8>> {
             said => bail!("the service at {place} answered {status}: {said}"),
         },
     }
+}
+
+/// How the service is.
+pub fn status(at: &Address) -> Result<Status> {
+    let body = ask(at, Method::GET, "/status")?;
+    serde_json::from_slice(&body).context(OTHER_VERSION)
 }
 
 fn reply(

@@ -2,13 +2,11 @@
 
 use super::ask::Address as Operate;
 use super::{client, values};
-use crate::operate::Status;
 use crate::sinks::export::Line;
 use crate::sinks::periods::{Closed, Period};
 use crate::sinks::{postgres, sqlite, Address};
 use anyhow::{bail, Context, Result};
 use clap::Args;
-use hyper::Method;
 use sha2::{Digest, Sha256};
 use std::borrow::Cow;
 use std::io::{BufWriter, Write};
@@ -89,8 +87,10 @@ impl Options {
         if let Some(sink) = &self.sink {
             return Ok(sink.clone());
         }
-        let body = client::ask(&self.at, Method::GET, "/status")?;
-        let status: Status = serde_json::from_slice(&body).context(client::OTHER_VERSION)?;
+        let status = client::status(&self.at).context(
+            "give the sink by --sink sqlite:PATH or --sink postgres://USER@HOST:PORT/DB: without it the running service is \
+             asked where it is",
+        )?;
         if let Some(path) = status.sink.strip_prefix("sqlite ") {
             return Ok(Address::Sqlite(path.into()));
         }
