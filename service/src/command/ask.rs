@@ -3,10 +3,10 @@
 use super::values::{counted, operator, orders_at, SOCKET};
 use super::{client, line, Form};
 use crate::slot::is_sender;
-use anyhow::{Context, Result};
+use anyhow::{bail, Context, Result};
 use clap::Args;
 use hyper::Method;
-use std::path::PathBuf;
+use std::path::{Path, PathBuf};
 
 /// Where the running service is asked.
 #[derive(Args, Clone, Debug)]
@@ -41,12 +41,21 @@ impl Address {
     }
 
     pub fn token(&self) -> Result<Option<String>> {
-        let read = |path: &PathBuf| {
-            let text = std::fs::read_to_string(path);
-            text.with_context(|| format!("--token {} can't be read", path.display()))
-        };
-        let text = self.token.as_ref().map(read).transpose()?;
-        Ok(text.map(|text| text.trim().to_string()))
+        self.token.as_deref().map(read_token).transpose()
+    }
+}
+
+/// What is wrong with a file says nothing of what it has.
+fn read_token(path: &Path) -> Result<String> {
+    let shown = path.display();
+    let text = std::fs::read_to_string(path).with_context(|| format!("--token {shown} can't be read"))?;
+    let token = text.trim();
+    match !token.is_empty() && token.bytes().all(|byte| byte.is_ascii_graphic()) {
+        true => Ok(token.to_string()),
+        false => bail!(
+            "--token {shown} has to have a token and nothing else: leave the one line that `totxegun token NAME` has shown \
+             behind `which nothing shows again`"
+        ),
     }
 }
 

@@ -43,10 +43,15 @@ struct Reply {
 /// Asks, and returns the answer's body where its status is 200, else its message. All that is asked for is JSON.
 pub fn ask(at: &Address, method: Method, path: &str) -> Result<Vec<u8>> {
     let place = at.place();
-    let reply = reply(&place, at.token()?, method, path, ANSWER)?;
+    let token = at.token()?;
+    let has_token = token.is_some();
+    let reply = reply(&place, token, method, path, ANSWER)?;
     match reply.status {
         _ if !reply.is_json => bail!(another(&place)),
         200 => Ok(reply.body),
+        401 if !has_token => bail!(
+            "the service at {place} takes this with an operator's token: give the file that has it by --token FILE"
+        ),
         status => match message(&reply.body) {
             said if said == NO_PATH => bail!(another(&place)),
             said => bail!("the service at {place} answered {status}: {said}"),
