@@ -287,7 +287,11 @@ mod tests {
             ("close 2026-13", "2026-13"),
             ("close 2026-11 --flush --anyway", "--anyway"),
             ("open november", "no period"),
-            ("correct 7 2026-11-05T13 1.5 x", "1.5"),
+            ("correct 7 2026-11-05T13 1.5 x", "'1.5'"),
+            (
+                "correct 7 2026-11-05T13 -2.5 x",
+                "write a whole number, in the unit",
+            ),
             ("correct 7 2026-11-05T13 -1", "<REASON>"),
             ("export --month 2026-11-05 --csv", "no month"),
             ("export --day 2026-11 --csv", "no day"),

@@ -41,12 +41,17 @@ pub struct Correct {
     /// The hour of UTC that it belongs to: 2026-11-05T13
     hour: Period,
     /// What is added to it, a whole number
-    #[arg(allow_negative_numbers = true)]
+    #[arg(allow_negative_numbers = true, value_parser = value)]
     value: i64,
     /// Why
     reason: String,
     #[command(flatten)]
     at: Address,
+}
+
+fn value(text: &str) -> Result<i64, String> {
+    let why = "write a whole number, in the unit that the sink has the series in: -25";
+    text.parse().map_err(|_| why.to_string())
 }
 
 impl Close {
