@@ -76,7 +76,7 @@ enum Command {
     Check(check::Options),
     /// Says of each point of a captured request whether it is taken, and why not
     Explain(explain::Options),
-    /// Makes a token for a sender: prints its line for the file of --tokens, and the token itself, once, on standard error
+    /// Makes a token for a sender or an operator: prints its line for the file of --tokens or --operate-tokens, and the token itself, once, on standard error
     Token(token::Options),
     /// Prints the version, and whether the book was proved
     Version,
