@@ -19,6 +19,7 @@ import http.client
 import importlib.util
 import json
 import os
+import re
 import shutil
 import signal
 import socket
@@ -113,8 +114,9 @@ def refusals(checks, program, at):
     for what, words, status, why in (
             ("an open address", ["--listen", f"0.0.0.0:{port}"], 2, beyond),
             ("an open address of gRPC", ["--listen-grpc", f"[::]:{port}"], 2, beyond),
-            ("TLS that names nobody", ["--listen", f"0.0.0.0:{port}", *tls], 2, beyond),
-            ("tokens that anybody can read", ["--listen", f"0.0.0.0:{port}", "--tokens", f"{at}/tokens"], 2, beyond),
+            ("TLS that names nobody", ["--listen", f"0.0.0.0:{port}", *tls], 2, "post under any name: give --tokens"),
+            ("tokens that anybody can read", ["--listen", f"0.0.0.0:{port}", "--tokens", f"{at}/tokens"], 2,
+             "read along: give --tls-cert"),
             ("names by both", ["--tokens", f"{at}/tokens", "--sender-from", "service.name"], 2, "--sender-from"),
             ("a certificate without its key", tls[:2], 2, "--tls-key"),
             ("another's key", [*tls[:3], f"{at}/ca.key"], 1, "not that of the first certificate"),
@@ -398,6 +400,8 @@ def run(checks, program, seconds, folder):
         log = read(service.log)
         secret = [word for word in (token, clients.collector, clients.fleeting, go, "t0ken") if word in log]
         checks.same("the log has nothing of a token", [], secret)
+        checks.true("the log says who is refused, and why", re.search(r"a post of address \S+ is refused with 401: the token is not known", log),
+                    service.last_lines())
         checks.true("the log says that a file can't be used", "--tokens has changed, and can't be used" in log, service.last_lines())
         service.signal(signal.SIGTERM)
         checks.same("SIGTERM ends the service", 0, service.process.wait(60))
