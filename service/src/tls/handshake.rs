@@ -103,7 +103,9 @@ async fn in_time<T>(shaking: impl Future<Output = T>, is_full: impl Fn() -> bool
 /// What a failed handshake means. A client says that it does not believe us by an alert, which openssl's sends in the clear
 /// where TLS 1.3 has it encrypted.
 fn why(error: &Error) -> String {
-    let of_tls = error.get_ref().and_then(|inner| inner.downcast_ref::<rustls::Error>());
+    let of_tls = error
+        .get_ref()
+        .and_then(|inner| inner.downcast_ref::<rustls::Error>());
     match of_tls {
         Some(
             rustls::Error::DecryptError
