@@ -15,7 +15,7 @@ import tempfile
 from checks import Checks
 
 ROOT = os.path.dirname(os.path.dirname(os.path.realpath(__file__)))
-DESCRIBED = "docs/pictures/{}.txt"
+DESCRIBED = "docs/pictures/{}.drawn"
 # What is wrong, in which file, a text there and what stands in its place, and what the tool says.
 PICTURES = (
     ("a picture that was changed by hand", "docs/pictures/life.svg", ">stored<", ">kept<", "docs/pictures/life.svg"),

@@ -1,7 +1,7 @@
 #!/usr/bin/env python3
 """Draws the pictures of docs/pictures, each from the description beside it, and gives their words to the pages.
 
-    tools/pictures.py             writes docs/pictures/NAME.svg of each NAME.txt, and its alt text wherever a page shows it
+    tools/pictures.py             writes docs/pictures/NAME.svg of each NAME.drawn, and its alt text wherever a page shows it
     tools/pictures.py --check     whether just that is there, and each picture is shown: a step of the gate
 
 A description has a line for each thing, `#` begins a comment, and `/` begins a new line of words:
@@ -47,7 +47,7 @@ class Description:
 
     def __init__(self, name):
         self.name = name
-        with open(f"{FOLDER}/{name}.txt", encoding="utf-8") as file:
+        with open(f"{FOLDER}/{name}.drawn", encoding="utf-8") as file:
             self.lines = [it.rstrip("\n") for it in file if it.strip() and not it.startswith("#")]
         self.alt = " ".join(self.all_of("alt"))
         self.notes = dict(it.split(" ", 1) for it in self.all_of("note"))
@@ -69,7 +69,7 @@ class Description:
     def draw(self):
         width, height = map(int, self.all_of("size")[0].split())
         self.picture = Picture(width, height, self.alt)
-        self.picture.drawn.append(f"<!-- tools/pictures.py has made this of {self.name}.txt -->")
+        self.picture.drawn.append(f"<!-- tools/pictures.py has made this of {self.name}.drawn -->")
         for line in self.lines:
             word, _, rest = line.partition(" ")
             how, _, text = (it.strip() for it in rest.partition("|"))
@@ -182,12 +182,12 @@ def direct(crate):
 def made():
     """What each file has to have, by its path."""
     files, alts = {}, {}
-    for name in sorted(it[:-4] for it in os.listdir(FOLDER) if it.endswith(".txt")):
+    for name in sorted(it.removesuffix(".drawn") for it in os.listdir(FOLDER) if it.endswith(".drawn")):
         it = Description(name)
         try:
             files[f"docs/pictures/{name}.svg"] = it.draw()
         except Wrong as why:
-            raise Wrong(f"docs/pictures/{name}.txt: {why}") from why
+            raise Wrong(f"docs/pictures/{name}.drawn: {why}") from why
         alts[name] = it.alt
     shown = set()
     for page in PAGES:
