@@ -39,6 +39,8 @@ PLACES = {
     "etc/totxegun/totxegun.env": 0o600,
     "usr/share/doc/totxegun/README.md": 0o644,
     "usr/share/doc/totxegun/OPERATING.md": 0o644,
+    "usr/share/doc/totxegun/QUERIES.md": 0o644,
+    "usr/share/doc/totxegun/SEVERAL_MACHINES.md": 0o644,
     "usr/share/doc/totxegun/FORMATS.md": 0o644,
     "usr/share/doc/totxegun/SECURITY.md": 0o644,
     "usr/share/doc/totxegun/examples/haproxy.cfg": 0o644,

@@ -94,8 +94,8 @@ class File:
 
     name = "SQLite"
 
-    def __init__(self, folder):
-        self.path = f"{folder}/sink.db"
+    def __init__(self, folder, file="sink.db"):
+        self.path = f"{folder}/{file}"
         self.address = f"sqlite:{self.path}"
 
     def rows(self, instance):

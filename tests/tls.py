@@ -19,6 +19,7 @@ import http.client
 import importlib.util
 import json
 import os
+import re
 import shutil
 import signal
 import socket
@@ -113,8 +114,9 @@ def refusals(checks, program, at):
     for what, words, status, why in (
             ("an open address", ["--listen", f"0.0.0.0:{port}"], 2, beyond),
             ("an open address of gRPC", ["--listen-grpc", f"[::]:{port}"], 2, beyond),
-            ("TLS that names nobody", ["--listen", f"0.0.0.0:{port}", *tls], 2, beyond),
-            ("tokens that anybody can read", ["--listen", f"0.0.0.0:{port}", "--tokens", f"{at}/tokens"], 2, beyond),
+            ("TLS that names nobody", ["--listen", f"0.0.0.0:{port}", *tls], 2, "post under any name: give --tokens"),
+            ("tokens that anybody can read", ["--listen", f"0.0.0.0:{port}", "--tokens", f"{at}/tokens"], 2,
+             "read along: give --tls-cert"),
             ("names by both", ["--tokens", f"{at}/tokens", "--sender-from", "service.name"], 2, "--sender-from"),
             ("a certificate without its key", tls[:2], 2, "--tls-key"),
             ("another's key", [*tls[:3], f"{at}/ca.key"], 1, "not that of the first certificate"),
@@ -356,7 +358,7 @@ def under_load(checks, folder, at, service, callers, seconds, token):
         checks.same(f"{poster.name}: the sink has them", poster.told[poster.name], found.get(poster.name))
     for number, (encoding, by) in enumerate(PROGRAMS):
         told = json.loads(read(f"{folder}/{number}.json"))
-        wanted, (in_sink, _, _) = told["totals"], sdk_go.found_of(f"{folder}/sink.db", number)
+        wanted, in_sink = told["totals"], sdk_go.found_of(sdk_go.File(folder), number)[0]["totals"]
         what = f"Go, {encoding} by {by}"
         checks.true(f"{what}: the sink has its totals", len(wanted) > 5 and wanted == in_sink, (wanted, in_sink))
         checks.same(f"{what}: each post was taken", set(), set(told["answers"]) - {"200", "OK"})
@@ -398,6 +400,8 @@ def run(checks, program, seconds, folder):
         log = read(service.log)
         secret = [word for word in (token, clients.collector, clients.fleeting, go, "t0ken") if word in log]
         checks.same("the log has nothing of a token", [], secret)
+        checks.true("the log says who is refused, and why", re.search(r"a post of address \S+ is refused with 401: the token is not known", log),
+                    service.last_lines())
         checks.true("the log says that a file can't be used", "--tokens has changed, and can't be used" in log, service.last_lines())
         service.signal(signal.SIGTERM)
         checks.same("SIGTERM ends the service", 0, service.process.wait(60))

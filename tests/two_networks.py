@@ -241,7 +241,7 @@ def run(checks, totxegun, seconds, folder, stack):
     for number, encoding in enumerate(("protobuf", "grpc")):
         with open(f"{folder}/{number}.json", encoding="utf-8") as file:
             counted = json.load(file)
-        found = sdk_go.found_of(f"{data}/metrics.db", number)[0]
+        found = sdk_go.found_of(sdk_go.File(data, "metrics.db"), number)[0]["totals"]
         checks.true(f"Go, {encoding} by a certificate: the sink has its totals", len(counted["totals"]) > 5 and counted["totals"] == found,
                     (counted, found))
     service.send_signal(signal.SIGTERM)

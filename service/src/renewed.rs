@@ -9,7 +9,7 @@ use prometheus::IntGauge;
 use sha2::{Digest, Sha256};
 use std::fs::File;
 use std::io::Read;
-use std::path::PathBuf;
+use std::path::{Path, PathBuf};
 use std::sync::{Arc, PoisonError, RwLock, Weak};
 use std::time::Duration;
 
@@ -45,26 +45,26 @@ impl<T> Reader<T> {
 pub struct Renewed<T>(RwLock<Arc<T>>);
 
 impl<T: Send + Sync + 'static> Renewed<T> {
-    /// Reads the files of an option, and goes on looking at them until what is returned is dropped.
+    /// Reads the files, each with its option, that are used together, and goes on looking at them until what is returned is
+    /// dropped. The first option stands for all.
     pub fn open(
-        option: &'static str,
-        paths: Vec<PathBuf>,
+        files: Vec<(&'static str, PathBuf)>,
         reader: Reader<T>,
         metrics: &Metrics,
     ) -> anyhow::Result<Arc<Renewed<T>>> {
+        let option = files.first().map_or("", |(option, _)| *option);
         let mut files = Files {
-            option,
-            paths,
+            files,
             reader,
-            judged: Err(String::new()),
-            seen: Err(String::new()),
+            judged: Vec::new(),
+            seen: Vec::new(),
             stale: metrics.stale_files.with_label_values(&[option]),
             into: Weak::new(),
         };
         let contents = files.contents();
         files.judged = digests(&contents);
         files.seen = files.judged.clone();
-        let first = contents.and_then(|contents| files.reader.at_start(&contents));
+        let first = all(contents).and_then(|contents| files.reader.at_start(&contents));
         let first = first.map_err(|why| anyhow!("{option} can't be used: {why}"))?;
         let renewed = Arc::new(Renewed(RwLock::new(Arc::new(first))));
         files.into = Arc::downgrade(&renewed);
@@ -84,14 +84,13 @@ impl<T: Send + Sync + 'static> Renewed<T> {
     }
 }
 
-type Contents = Result<Vec<Vec<u8>>, String>;
-/// The digest of each file, or why one can't be read.
-type Found = Result<Vec<[u8; 32]>, String>;
+/// Of each file, or why it can't be read.
+type Contents = Vec<Result<Vec<u8>, String>>;
+type Found = Vec<Result<[u8; 32], String>>;
 
-/// The files of an option.
+/// Files that are used together, each with its option.
 struct Files<T> {
-    option: &'static str,
-    paths: Vec<PathBuf>,
+    files: Vec<(&'static str, PathBuf)>,
     reader: Reader<T>,
     /// What was last used, or refused.
     judged: Found,
@@ -113,15 +112,23 @@ impl<T: Send + Sync + 'static> Files<T> {
             return false;
         };
         if is_settled && self.seen != self.judged {
+            let changed = self.changed();
             self.judged = self.seen.clone();
-            self.judge(contents, &into);
+            self.judge(contents, &changed, &into);
         }
         true
     }
 
-    fn judge(&self, contents: Contents, into: &Renewed<T>) {
-        let option = self.option;
-        match contents.and_then(|contents| (self.reader.read)(&contents)) {
+    /// The options whose files are otherwise than when they were last used, or refused.
+    fn changed(&self) -> String {
+        let found = self.files.iter().zip(self.seen.iter().zip(&self.judged));
+        let changed = found.filter(|(_, (seen, judged))| seen != judged);
+        let options: Vec<&str> = changed.map(|((option, _), _)| *option).collect();
+        options.join(", ")
+    }
+
+    fn judge(&self, contents: Contents, option: &str, into: &Renewed<T>) {
+        match all(contents).and_then(|contents| (self.reader.read)(&contents)) {
             Ok(new) => {
                 match (self.reader.shut)(&new) {
                     None => tracing::info!(option, "{option} has changed, and was read anew"),
@@ -146,11 +153,16 @@ impl<T: Send + Sync + 'static> Files<T> {
     }
 
     fn contents(&self) -> Contents {
-        self.paths.iter().map(contents).collect()
+        self.files.iter().map(|(_, path)| contents(path)).collect()
     }
 }
 
-fn contents(path: &PathBuf) -> Result<Vec<u8>, String> {
+/// All of them, or why the first can't be read that can't.
+fn all(contents: Contents) -> Result<Vec<Vec<u8>>, String> {
+    contents.into_iter().collect()
+}
+
+fn contents(path: &Path) -> Result<Vec<u8>, String> {
     let mut bytes = Vec::new();
     let read = File::open(path).and_then(|file| file.take(MOST + 1).read_to_end(&mut bytes));
     read.map_err(|error| format!("{} can't be read: {error}", path.display()))?;
@@ -164,17 +176,14 @@ fn contents(path: &PathBuf) -> Result<Vec<u8>, String> {
 }
 
 fn digests(contents: &Contents) -> Found {
-    let contents = contents.as_ref().map_err(String::clone)?;
-    Ok(contents
-        .iter()
-        .map(|bytes| Sha256::digest(bytes).into())
-        .collect())
+    let digest = |bytes: &Vec<u8>| Sha256::digest(bytes).into();
+    let one = |read: &Result<Vec<u8>, String>| read.as_ref().map(digest).map_err(String::clone);
+    contents.iter().map(one).collect()
 }
 
 #[cfg(test)]
 mod tests {
     use super::*;
-    use std::path::Path;
     use std::time::Instant;
 
     /// A file of a number.
@@ -187,7 +196,7 @@ mod tests {
             read: Box::new(read),
             shut: |number| (*number == 0).then_some("0 is none: write another number"),
         };
-        Renewed::open("--number", vec![path.into()], reader, metrics)
+        Renewed::open(vec![("--number", path.into())], reader, metrics)
     }
 
     fn is_within(time: Duration, is_so: impl Fn() -> bool) -> bool {
@@ -249,14 +258,13 @@ mod tests {
         let (path, metrics) = (at.path().join("number"), Metrics::new().unwrap());
         std::fs::write(&path, "1").unwrap();
         let mut files = Files {
-            option: "--number",
-            paths: vec![path.clone()],
+            files: vec![("--number", path.clone())],
             reader: Reader {
                 read: Box::new(|contents| Ok(contents[0].clone())),
                 shut: |_| None,
             },
-            judged: Ok(vec![]),
-            seen: Ok(vec![]),
+            judged: vec![],
+            seen: vec![],
             stale: metrics.stale_files.with_label_values(&["--number"]),
             into: Weak::new(),
         };
@@ -271,5 +279,46 @@ mod tests {
         assert_eq!(*renewed.now(), b"1234");
         drop(renewed);
         assert!(!files.look());
+    }
+
+    /// Else who renews a certificate is told that another file has changed.
+    #[test]
+    fn the_file_that_has_changed_is_named() {
+        let at = tempfile::tempdir().unwrap();
+        let metrics = Metrics::new().unwrap();
+        let options = ["--tls-cert", "--tls-key", "--client-ca"];
+        let files: Vec<_> = options.map(|option| (option, at.path().join(option))).into();
+        for (_, path) in &files {
+            std::fs::write(path, "1").unwrap();
+        }
+        let mut files = Files {
+            files,
+            reader: Reader {
+                read: Box::new(|contents| Ok(contents.concat())),
+                shut: |_| None,
+            },
+            judged: Vec::new(),
+            seen: Vec::new(),
+            stale: metrics.stale_files.with_label_values(&["--tls-cert"]),
+            into: Weak::new(),
+        };
+        files.judged = digests(&files.contents());
+        let mut changed = |what: &dyn Fn(&Path)| {
+            what(at.path());
+            files.seen = digests(&files.contents());
+            let changed = files.changed();
+            files.judged = files.seen.clone();
+            changed
+        };
+        let write = |at: &Path, name: &str| std::fs::write(at.join(name), "2").unwrap();
+        assert_eq!(changed(&|at| write(at, "--client-ca")), "--client-ca");
+        let pair = changed(&|at| {
+            ["--tls-cert", "--tls-key"]
+                .iter()
+                .for_each(|name| write(at, name))
+        });
+        assert_eq!(pair, "--tls-cert, --tls-key");
+        let gone = changed(&|at| std::fs::remove_file(at.join("--tls-key")).unwrap());
+        assert_eq!(gone, "--tls-key");
     }
 }

@@ -199,6 +199,54 @@ fn a_password_of_the_sink_is_not_shown() {
     }
 }
 
+/// Else half a file looks like a bill of no series.
+#[test]
+fn an_export_that_fails_prints_nothing() {
+    let export = ["export", "--month", "2026-11", "--csv"];
+    let nowhere = [&export[..], &["--sink", "postgres://u@127.0.0.1:1/d"]].concat();
+    let output = totxegun(&nowhere);
+    assert_eq!((output.status.code(), output.stdout), (Some(1), Vec::new()));
+    refused(
+        &[&export[..], &["--data", "/nowhere"]].concat(),
+        1,
+        "give the sink by --sink",
+    );
+}
+
+/// As `totxegun token NAME 2> FILE` makes one.
+#[test]
+fn a_file_of_more_than_a_token_is_refused_without_showing_it() {
+    let at = tempfile::tempdir().unwrap();
+    let file = at.path().join("token");
+    let words = [
+        "flush",
+        "--operate",
+        "127.0.0.1:1",
+        "--token",
+        file.to_str().unwrap(),
+    ];
+    for text in [
+        "the token of ann, which nothing shows again:\ns3cret\n",
+        "s3cret s3cret",
+        " \n",
+    ] {
+        std::fs::write(&file, text).unwrap();
+        let output = totxegun(&words);
+        let said = String::from_utf8_lossy(&output.stderr).into_owned();
+        let is_told = said.contains("a token and nothing else") && !said.contains("s3cret");
+        assert!(output.status.code() == Some(1) && is_told, "{said}");
+    }
+}
+
+#[test]
+fn a_token_is_also_an_operators() {
+    let help = String::from_utf8(totxegun(&["token", "--help"]).stdout).unwrap();
+    assert!(
+        help.contains("--tokens") && help.contains("--operate-tokens"),
+        "{help}"
+    );
+}
+
 /// Another server may answer 200 to everything.
 #[test]
 fn a_flush_is_done_once_somebody_says_so() {

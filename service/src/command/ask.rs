@@ -3,10 +3,10 @@
 use super::values::{counted, operator, orders_at, SOCKET};
 use super::{client, line, Form};
 use crate::slot::is_sender;
-use anyhow::{Context, Result};
+use anyhow::{bail, Context, Result};
 use clap::Args;
 use hyper::Method;
-use std::path::PathBuf;
+use std::path::{Path, PathBuf};
 
 /// Where the running service is asked.
 #[derive(Args, Clone, Debug)]
@@ -41,12 +41,21 @@ impl Address {
     }
 
     pub fn token(&self) -> Result<Option<String>> {
-        let read = |path: &PathBuf| {
-            let text = std::fs::read_to_string(path);
-            text.with_context(|| format!("--token {} can't be read", path.display()))
-        };
-        let text = self.token.as_ref().map(read).transpose()?;
-        Ok(text.map(|text| text.trim().to_string()))
+        self.token.as_deref().map(read_token).transpose()
+    }
+}
+
+/// What is wrong with a file says nothing of what it has.
+fn read_token(path: &Path) -> Result<String> {
+    let shown = path.display();
+    let text = std::fs::read_to_string(path).with_context(|| format!("--token {shown} can't be read"))?;
+    let token = text.trim();
+    match !token.is_empty() && token.bytes().all(|byte| byte.is_ascii_graphic()) {
+        true => Ok(token.to_string()),
+        false => bail!(
+            "--token {shown} has to have a token and nothing else: leave the one line that `totxegun token NAME` has shown \
+             behind `which nothing shows again`"
+        ),
     }
 }
 
@@ -86,10 +95,30 @@ pub fn flush(at: &Address, path: &str) -> Result<Vec<u8>> {
     let read: serde_json::Value = serde_json::from_slice(&body).unwrap_or_default();
     let requests = read["requests"].as_u64();
     Ok(match requests.with_context(|| client::another(&at.place()))? {
-        0 => line("done: there was nothing to put into the outbox"),
+        0 => line(format_args!(
+            "done: there was nothing to put into the outbox{}",
+            waits(at)
+        )),
         requests => line(format_args!(
             "done: {} went into the outbox",
             counted(requests, "request")
         )),
     })
+}
+
+/// What waits there, which else looks lost.
+fn waits(at: &Address) -> String {
+    match client::status(at).map_or(0, |status| status.waiting()) {
+        0 => String::new(),
+        waiting => format!(
+            ", where {} for the sink: `totxegun status` shows how it goes on",
+            waiting_shown(waiting)
+        ),
+    }
+}
+
+/// `1 request waits`, `2 requests wait`.
+pub fn waiting_shown(waiting: u64) -> String {
+    let verb = if waiting == 1 { "waits" } else { "wait" };
+    format!("{} {verb}", counted(waiting, "request"))
 }

@@ -3,6 +3,7 @@
 use super::ask::Address;
 use super::values::SOCKET;
 use crate::log::all_shown;
+use crate::operate::Status;
 use anyhow::{anyhow, bail, Context, Result};
 use hyper::body::HttpBody;
 use hyper::client::conn;
@@ -26,7 +27,8 @@ const CONNECT: Duration = Duration::from_secs(5);
 const NO_PATH: &str = "no such path";
 
 /// Of an answer that is not as this program reads it.
-pub const OTHER_VERSION: &str = "the running service is of another version: ask it by its own totxegun";
+pub(super) const OTHER_VERSION: &str =
+    "the running service is of another version: ask it by its own totxegun";
 
 /// What is read of an answer at most.
 const MOST: usize = 256 << 20;
@@ -41,15 +43,26 @@ struct Reply {
 /// Asks, and returns the answer's body where its status is 200, else its message. All that is asked for is JSON.
 pub fn ask(at: &Address, method: Method, path: &str) -> Result<Vec<u8>> {
     let place = at.place();
-    let reply = reply(&place, at.token()?, method, path, ANSWER)?;
+    let token = at.token()?;
+    let has_token = token.is_some();
+    let reply = reply(&place, token, method, path, ANSWER)?;
     match reply.status {
         _ if !reply.is_json => bail!(another(&place)),
         200 => Ok(reply.body),
+        401 if !has_token => bail!(
+            "the service at {place} takes this with an operator's token: give the file that has it by --token FILE"
+        ),
         status => match message(&reply.body) {
             said if said == NO_PATH => bail!(another(&place)),
             said => bail!("the service at {place} answered {status}: {said}"),
         },
     }
+}
+
+/// How the service is.
+pub fn status(at: &Address) -> Result<Status> {
+    let body = ask(at, Method::GET, "/status")?;
+    serde_json::from_slice(&body).context(OTHER_VERSION)
 }
 
 fn reply(

@@ -2,13 +2,11 @@
 
 use super::ask::Address as Operate;
 use super::{client, values};
-use crate::operate::Status;
 use crate::sinks::export::Line;
 use crate::sinks::periods::{Closed, Period};
 use crate::sinks::{postgres, sqlite, Address};
 use anyhow::{bail, Context, Result};
 use clap::Args;
-use hyper::Method;
 use sha2::{Digest, Sha256};
 use std::borrow::Cow;
 use std::io::{BufWriter, Write};
@@ -62,18 +60,13 @@ impl Options {
         };
         let mut out = Out {
             to: BufWriter::new(std::io::stdout().lock()),
+            head: self.csv.then(|| format!("{COLUMNS}\n")),
             digest: Sha256::new(),
             rows: 0,
         };
-        if self.csv {
-            out.put(&format!("{COLUMNS}\n"))?;
-        }
-        let mut each = |line: Line| {
-            out.rows += 1;
-            match self.csv {
-                true => out.put(&csv(&line)),
-                false => out.put(&(serde_json::to_string(&line)? + "\n")),
-            }
+        let mut each = |line: Line| match self.csv {
+            true => out.row(&csv(&line)),
+            false => out.row(&(serde_json::to_string(&line)? + "\n")),
         };
         let closed = match self.sink()? {
             Address::Sqlite(path) => sqlite::export::read(&path, period, &mut each)?,
@@ -89,8 +82,10 @@ impl Options {
         if let Some(sink) = &self.sink {
             return Ok(sink.clone());
         }
-        let body = client::ask(&self.at, Method::GET, "/status")?;
-        let status: Status = serde_json::from_slice(&body).context(client::OTHER_VERSION)?;
+        let status = client::status(&self.at).context(
+            "give the sink by --sink sqlite:PATH or --sink postgres://USER@HOST:PORT/DB: without it the running service is \
+             asked where it is",
+        )?;
         if let Some(path) = status.sink.strip_prefix("sqlite ") {
             return Ok(Address::Sqlite(path.into()));
         }
@@ -107,17 +102,31 @@ impl Options {
 /// Standard output, counted and digested.
 struct Out<To: Write> {
     to: BufWriter<To>,
+    /// Not before the first row, or the end: what fails before prints nothing.
+    head: Option<String>,
     digest: Sha256,
     rows: u64,
 }
 
 impl<To: Write> Out<To> {
+    fn row(&mut self, row: &str) -> Result<()> {
+        self.put_head()?;
+        self.rows += 1;
+        self.put(row)
+    }
+
+    fn put_head(&mut self) -> Result<()> {
+        let head = self.head.take();
+        head.map_or(Ok(()), |head| self.put(&head))
+    }
+
     fn put(&mut self, text: &str) -> Result<()> {
         self.digest.update(text.as_bytes());
         self.to.write_all(text.as_bytes()).context(UNWRITTEN)
     }
 
     fn end(mut self, period: &Period, closed: &Closed) -> Result<()> {
+        self.put_head()?;
         self.to.flush().context(UNWRITTEN)?;
         let digest = self.digest.finalize();
         let digest: String = digest.iter().map(|byte| format!("{byte:02x}")).collect();

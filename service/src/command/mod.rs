@@ -86,7 +86,7 @@ enum Command {
     /// Makes a store that several machines share
     #[command(subcommand)]
     Store(store::Command),
-    /// Makes a token for a sender: prints its line for the file of --tokens, and the token itself, once, on standard error
+    /// Makes a token for a sender or an operator: prints its line for the file of --tokens or --operate-tokens, and the token itself, once, on standard error
     Token(token::Options),
     /// Prints the version, and whether the book was proved
     Version,
@@ -312,7 +312,11 @@ mod tests {
             ("close 2026-13", "2026-13"),
             ("close 2026-11 --flush --anyway", "--anyway"),
             ("open november", "no period"),
-            ("correct 7 2026-11-05T13 1.5 x", "1.5"),
+            ("correct 7 2026-11-05T13 1.5 x", "'1.5'"),
+            (
+                "correct 7 2026-11-05T13 -2.5 x",
+                "write a whole number, in the unit",
+            ),
             ("correct 7 2026-11-05T13 -1", "<REASON>"),
             ("repair a --to yesterday", "--to"),
             ("repair a", "--to"),

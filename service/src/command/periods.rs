@@ -1,7 +1,7 @@
 //! `totxegun close`, `open` and `correct`: periods of the sink, by which it is billed.
 
-use super::{ask::Address, client, line, values};
-use crate::operate::{Status, ANYWAY};
+use super::{ask, ask::Address, client, line};
+use crate::operate::ANYWAY;
 use crate::sinks::periods::{Correction, Period};
 use anyhow::{anyhow, bail, Context, Result};
 use clap::Args;
@@ -41,12 +41,17 @@ pub struct Correct {
     /// The hour of UTC that it belongs to: 2026-11-05T13
     hour: Period,
     /// What is added to it, a whole number
-    #[arg(allow_negative_numbers = true)]
+    #[arg(allow_negative_numbers = true, value_parser = value)]
     value: i64,
     /// Why
     reason: String,
     #[command(flatten)]
     at: Address,
+}
+
+fn value(text: &str) -> Result<i64, String> {
+    let why = "write a whole number, in the unit that the sink has the series in: -25";
+    text.parse().map_err(|_| why.to_string())
 }
 
 impl Close {
@@ -104,9 +109,8 @@ fn deliver(at: &Address) -> Result<()> {
     client::ask(at, Method::POST, "/flush")?;
     let begun = Instant::now();
     loop {
-        let body = client::ask(at, Method::GET, "/status")?;
-        let status: Status = serde_json::from_slice(&body).context(client::OTHER_VERSION)?;
-        let waiting: u64 = status.slots.iter().map(|slot| slot.waiting).sum();
+        let status = client::status(at)?;
+        let waiting = status.waiting();
         if waiting == 0 {
             return Ok(());
         }
@@ -115,10 +119,7 @@ fn deliver(at: &Address) -> Result<()> {
             bail!(
                 "nothing was closed: after {} s {} for {} still: {}",
                 DELIVERED.as_secs(),
-                match waiting {
-                    1 => "1 request waits".to_string(),
-                    _ => format!("{} wait", values::counted(waiting, "request")),
-                },
+                ask::waiting_shown(waiting),
                 status.sink,
                 trouble.unwrap_or_else(|| "`totxegun status` shows how it goes on".into())
             );

@@ -92,7 +92,7 @@ fn held(held: &Held) -> String {
 fn books(status: &Status) -> String {
     let books = &status.books;
     format!(
-        "{} for {} series, {} of {}",
+        "{}, with room for {} series, {} of {}",
         books.count,
         books.most_series,
         values::bytes_shown(books.memory_bytes),
@@ -251,7 +251,7 @@ mod tests {
              posts get 503     the disk does not answer: look at the disk of /data\n",
         );
         let text = text(&told);
-        let books = "books             13 for 100000 series, 1.0 MiB of 1.0 GiB";
+        let books = "books             13, with room for 100000 series, 1.0 MiB of 1.0 GiB";
         assert!(text.lines().any(|line| line.trim_end() == books), "{text}");
     }
 

@@ -1,4 +1,4 @@
-//! `totxegun token`: makes a token of a sender.
+//! `totxegun token`: makes a token of a sender or an operator.
 
 use super::line;
 use crate::identity;
@@ -12,7 +12,7 @@ const BYTES: usize = 32;
 
 #[derive(Args)]
 pub struct Options {
-    /// Whose it is; NAME/PATTERN may post as others too: collector/shop-*
+    /// Whose it is; a sender NAME/PATTERN may post as others too: collector/shop-*
     #[arg(value_name = "NAME", value_parser = owner)]
     owner: String,
 }

@@ -15,6 +15,7 @@ pub use connections::Grpc;
 
 use crate::identity::Who;
 use crate::intake::head::{Head, Packing};
+use crate::intake::refusal::{Refusal, Turned};
 use crate::intake::sender::sender;
 use crate::intake::{Intake, Taker};
 use crate::otlp::{Encoding, Outcome};
@@ -44,7 +45,7 @@ async fn answer<T: Taker>(intake: Arc<Intake<T>>, who: &Who, request: Request<Bo
         return response;
     }
     let outcome = match call {
-        Err(refused) => refused,
+        Err(Turned { sender, refusal }) => intake.refused(&sender, &refusal),
         Ok(head) => {
             let taking = take(&intake, head, &mut body);
             match tokio::time::timeout(limit, taking).await {
@@ -77,17 +78,16 @@ fn is_grpc(headers: &HeaderMap) -> bool {
 }
 
 /// The head of a call that may have a message. Whether this is packed is said by its frame.
-fn call(parts: &Parts, who: &Who) -> Result<Head, Outcome> {
+fn call(parts: &Parts, who: &Who) -> Result<Head, Turned> {
     if parts.uri.path() != METHOD || parts.method != Method::POST {
-        return Err(refused(404, "no such method"));
+        return Err(Turned::new(who.unnamed(), Refusal::NoSuchMethod));
     }
     let of = |name: &str| parts.headers.get_all(name).iter().map(|value| value.as_bytes());
-    let sender =
-        sender(who, of("authorization"), of("x-sender")).map_err(|refusal| Outcome::from(&refusal))?;
+    let sender = sender(who, of("authorization"), of("x-sender"))?;
     let packing = match parts.headers.get(&ENCODING).map(|value| value.as_bytes()) {
         None | Some(b"identity") => Packing::Plain,
         Some(b"gzip") => Packing::Gzip,
-        Some(_) => return Err(refused(415, "only gzip or identity")),
+        Some(_) => return Err(Turned::new(sender, Refusal::ContentEncoding)),
     };
     Ok(Head {
         sender,
@@ -101,7 +101,8 @@ async fn take<T: Taker>(intake: &Arc<Intake<T>>, mut head: Head, body: &mut Body
     match message::receive(body, &mut hold).await {
         Err(refusal) => intake.refused(&head.sender, &refusal),
         Ok(message) if message.is_packed && head.packing == Packing::Plain => {
-            refused(400, "the message is packed, and grpc-encoding does not say how")
+            let why = "the message is packed, and grpc-encoding does not say how";
+            intake.refused(&head.sender, &Refusal::Unreadable(why.into()))
         }
         Ok(message) => {
             if !message.is_packed {

@@ -4,10 +4,10 @@ use super::reply::{code, RetryInfo, Status};
 use super::*;
 use crate::identity::{Door, Options};
 use crate::intake::connections::{spread, Limits, Shared};
-use crate::intake::{Budget, Threads};
+use crate::intake::{Budget, Hears, Threads};
 use crate::metrics::Metrics;
 use crate::otlp::{a_request_of_test, Reading};
-use crate::slot::Request as Posted;
+use crate::slot::{Request as Posted, Slots};
 use bytes::Bytes;
 use flate2::{write::GzEncoder, Compression};
 use hyper::body::HttpBody;
@@ -25,6 +25,8 @@ mod frames;
 /// Keeps what it is given, and answers as it was told, or never.
 struct Kept {
     posts: Mutex<Vec<(String, Bytes)>>,
+    /// Whose calls were answered without asking.
+    turned: Mutex<Vec<String>>,
     outcome: Option<Outcome>,
 }
 
@@ -38,6 +40,14 @@ impl Taker for Kept {
                 Some(outcome) => outcome,
                 None => std::future::pending().await,
             }
+        }
+    }
+}
+
+impl Hears for Kept {
+    fn answered(&self, sender: &str, outcome: &Outcome) {
+        if outcome.refusal().is_some() {
+            self.turned.lock().unwrap().push(sender.into());
         }
     }
 }
@@ -58,11 +68,18 @@ impl Served {
     async fn behind(door: Door, outcome: Option<Outcome>, most_bytes: usize) -> Served {
         let kept = Arc::new(Kept {
             posts: Mutex::new(Vec::new()),
+            turned: Mutex::new(Vec::new()),
             outcome,
         });
         let budget = Budget::new(most_bytes);
         let metrics = Arc::new(Metrics::new().unwrap());
-        let intake = Intake::new(kept.clone(), Reading::default(), budget.clone(), metrics);
+        let intake = Intake::of(
+            Slots::one(kept.clone()),
+            kept.clone(),
+            Arc::new(Reading::default()),
+            budget.clone(),
+            metrics,
+        );
         let listener = TcpListener::bind("127.0.0.1:0").await.unwrap();
         let address = listener.local_addr().unwrap();
         let limits = Limits {
@@ -306,6 +323,9 @@ async fn a_stranger_is_told_so() {
     let posts = served.kept.posts.lock().unwrap().clone();
     let senders: Vec<&str> = posts.iter().map(|post| post.0.as_str()).collect();
     assert_eq!(senders, ["shop-1", "shop-2"]);
+    let stranger = "address 127.0.0.1";
+    let turned = served.kept.turned.lock().unwrap().clone();
+    assert_eq!(turned, ["shop-1", "shop-1", stranger, stranger, stranger]);
 }
 
 #[tokio::test]
@@ -328,7 +348,7 @@ async fn headers_are_dropped_while_a_message_comes() {
     let are_there = Arc::downgrade(&with_headers);
     let request = Request::post(METHOD).header("content-type", "application/grpc");
     let request = request.extension(with_headers).body(body).unwrap();
-    let answering = tokio::spawn(async move { answer(Arc::new(intake), &Who::Believed, request).await });
+    let answering = tokio::spawn(async move { answer(Arc::new(intake), &Who::believed(), request).await });
     for _ in 0..500 {
         if are_there.upgrade().is_none() {
             break;

@@ -1,12 +1,13 @@
 //! TLS and names at the senders' addresses.
 
-use super::who::Certified;
+use super::who::{By, Certified};
 use super::{Tokens, Who};
 use crate::metrics::Metrics;
 use crate::renewed::{Reader, Renewed};
 use crate::tls::{Files, Shaken, Tls, WithoutCertificate};
 use anyhow::Result;
 use std::fmt;
+use std::net::IpAddr;
 use std::path::PathBuf;
 use std::sync::Arc;
 
@@ -31,7 +32,7 @@ pub fn operators(path: PathBuf, metrics: &Metrics) -> Result<Arc<Renewed<Tokens>
         read: Box::new(|contents: &[Vec<u8>]| Tokens::read(&contents.concat())?.of_operators()),
         shut: Tokens::shut,
     };
-    Renewed::open("--operate-tokens", vec![path], reader, metrics)
+    Renewed::open(vec![("--operate-tokens", path)], reader, metrics)
 }
 
 impl Door {
@@ -50,7 +51,7 @@ impl Door {
             shut: Tokens::shut,
         };
         let tokens = options.tokens.as_ref();
-        let tokens = tokens.map(|path| Renewed::open("--tokens", vec![path.clone()], reader(), metrics));
+        let tokens = tokens.map(|path| Renewed::open(vec![("--tokens", path.clone())], reader(), metrics));
         Ok(Door {
             tls: tls.map(Arc::new),
             by_certificate: options
@@ -61,20 +62,21 @@ impl Door {
         })
     }
 
-    /// By whom the requests of a connection are, which may be behind a handshake.
-    pub fn who(&self, shaken: Option<&Shaken>) -> Who {
+    /// By whom the requests of a connection are, which may be behind a handshake, and comes from `peer`.
+    pub fn who(&self, shaken: Option<&Shaken>, peer: Option<IpAddr>) -> Who {
         let shown = shaken.and_then(Shaken::shown);
-        match (&self.tls, shown, &self.tokens) {
+        let by = match (&self.tls, shown, &self.tokens) {
             (Some(tls), Some((chain, contexts)), tokens) => {
-                Who::ByCertificate(Certified::new(chain, contexts, tls.clone(), tokens.clone()))
+                By::Certificate(Certified::new(chain, contexts, tls.clone(), tokens.clone()))
             }
-            (_, None, Some(tokens)) => Who::ByToken(tokens.clone()),
+            (_, None, Some(tokens)) => By::Token(tokens.clone()),
             // No handshake ends so. If one did, nobody would be believed.
             (Some(tls), None, None) if self.by_certificate => {
-                Who::ByCertificate(Certified::new(Vec::new(), tls.contexts(), tls.clone(), None))
+                By::Certificate(Certified::new(Vec::new(), tls.contexts(), tls.clone(), None))
             }
-            _ => Who::Believed,
-        }
+            _ => By::Believed,
+        };
+        Who::new(by, peer)
     }
 
     /// The file of `--tokens`.
@@ -87,9 +89,14 @@ impl Door {
         self.by_certificate || self.tokens.is_some()
     }
 
+    /// Whether nobody can read along.
+    pub fn has_tls(&self) -> bool {
+        self.tls.is_some()
+    }
+
     /// Whether strangers can neither read along nor post.
     pub fn is_closed(&self) -> bool {
-        self.tls.is_some() && self.has_names()
+        self.has_tls() && self.has_names()
     }
 }
 
@@ -101,11 +108,7 @@ impl fmt::Display for Door {
             (false, Some(_)) => "by their token",
             (false, None) => "by their own word, the header x-sender",
         };
-        let over = if self.tls.is_some() {
-            "over TLS"
-        } else {
-            "without TLS"
-        };
+        let over = if self.has_tls() { "over TLS" } else { "without TLS" };
         write!(to, "senders are named {named}, {over}")
     }
 }

@@ -7,28 +7,49 @@ mod who;
 
 pub use door::{operators, Door, Options};
 pub use tokens::{line, Sender, Tokens};
-pub use who::{by_token, Proved, Who};
+pub use who::{by_token, Who};
+
+use crate::slot::is_sender;
 
 /// Why a request is refused for who sends it. The text never has anything of a token.
 #[derive(Debug, PartialEq, Eq, thiserror::Error)]
 pub enum Stranger {
     #[error("no token: send one header `Authorization: Bearer TOKEN`")]
     NoToken,
-    #[error("the token is not known")]
+    #[error(
+        "the token is not known: the file of tokens has no line of it, as `totxegun token NAME` prints one"
+    )]
     WrongToken,
-    #[error("the certificate has ended, or is not believed any more")]
+    #[error(
+        "the certificate has ended, or is not believed any more: renew it, or put its root into --client-ca"
+    )]
     NotBelieved,
     #[error("the certificate names nobody: it needs a DNS name or a URI in its subjectAltName, or a CN")]
     Nameless,
-    #[error("{name} may not post as {other}: leave x-sender out, or let it in the file of --tokens")]
+    #[error(
+        "{name} {MAY_NOT} {other}: leave x-sender out, or allow it by a line of --tokens, `{name}/{other} sha256:HEX` or \
+         `{name}/{other} certificate`"
+    )]
     OtherName { name: String, other: String },
+    /// The other name is somebody's token, which is shown nowhere.
+    #[error("{name} {MAY_NOT} a token: leave x-sender out")]
+    TokenAsName { name: String },
+}
+
+/// What stands between who posts and the name that it gives itself.
+const MAY_NOT: &str = "may not post as";
+
+/// Whether a text is that of a sender who gives itself another's name.
+pub fn is_other_name(message: &str) -> bool {
+    let named = message.split_once(' ');
+    named.is_some_and(|(name, rest)| is_sender(name) && rest.starts_with(MAY_NOT))
 }
 
 impl Stranger {
     /// That of HTTP.
     pub fn status(&self) -> u16 {
         match self {
-            Stranger::OtherName { .. } => 403,
+            Stranger::OtherName { .. } | Stranger::TokenAsName { .. } => 403,
             _ => 401,
         }
     }

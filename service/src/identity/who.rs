@@ -4,17 +4,24 @@ use super::{Sender, Stranger, Tokens};
 use crate::otlp::{self, NO_NAME};
 use crate::renewed::Renewed;
 use crate::tls::{Certificate, Contexts, Tls};
+use std::net::IpAddr;
 use std::sync::{Arc, Mutex, PoisonError};
 use std::time::{SystemTime, UNIX_EPOCH};
 
+/// Who posts on a connection.
+pub struct Who {
+    by: By,
+    peer: Option<IpAddr>,
+}
+
 /// By what the requests of a connection are named.
-pub enum Who {
+pub enum By {
     /// By their own word.
     Believed,
     /// By the token of each.
-    ByToken(Arc<Renewed<Tokens>>),
+    Token(Arc<Renewed<Tokens>>),
     /// By the certificate that the connection has shown.
-    ByCertificate(Certified),
+    Certificate(Certified),
 }
 
 /// Whose a request is.
@@ -26,17 +33,69 @@ pub enum Proved {
 }
 
 impl Who {
+    pub fn new(by: By, peer: Option<IpAddr>) -> Who {
+        Who { by, peer }
+    }
+
+    /// Whoever a request says.
+    pub fn believed() -> Who {
+        Who::new(By::Believed, None)
+    }
+
     /// Whose a request is that has these values of the header `Authorization`.
     pub fn proved<'h>(&self, authorization: impl Iterator<Item = &'h [u8]>) -> Result<Proved, Stranger> {
-        match self {
-            Who::Believed => Ok(Proved::Anybody),
-            Who::ByToken(tokens) => by_token(&tokens.now(), authorization).map(Proved::Sender),
-            Who::ByCertificate(certified) => certified.sender().map(Proved::Sender),
+        match &self.by {
+            By::Believed => Ok(Proved::Anybody),
+            By::Token(tokens) => by_token(&tokens.now(), authorization).map(Proved::Sender),
+            By::Certificate(certified) => certified.sender().map(Proved::Sender),
+        }
+    }
+
+    /// By what a request is known that is refused before its name is: where names are proved, by the certificate, else by
+    /// the address that it came from, which is no sender's name.
+    pub fn unnamed(&self) -> String {
+        let certified = match &self.by {
+            By::Believed => return NO_NAME.into(),
+            By::Token(_) => None,
+            By::Certificate(certified) => certified.sender.as_ref(),
+        };
+        match (certified, self.peer) {
+            (Some(sender), _) => sender.name.clone(),
+            (None, Some(peer)) => format!("{STRANGER}{}", peer.to_canonical()),
+            (None, None) => NO_NAME.into(),
+        }
+    }
+
+    /// The same refusal without a token in it: some senders give theirs as their name.
+    pub fn without_token(&self, stranger: Stranger) -> Stranger {
+        let tokens = match &self.by {
+            By::Believed => None,
+            By::Token(tokens) => Some(tokens),
+            By::Certificate(certified) => certified.tokens.as_ref(),
+        };
+        match stranger {
+            Stranger::OtherName { name, other }
+                if tokens.is_some_and(|tokens| tokens.now().owner(other.as_bytes()).is_some()) =>
+            {
+                Stranger::TokenAsName { name }
+            }
+            other => other,
         }
     }
 }
 
+/// What stands before the address of who has no name.
+const STRANGER: &str = "address ";
+
 impl Proved {
+    /// By what a request is known that is refused for another reason.
+    pub fn known(&self) -> &str {
+        match self {
+            Proved::Anybody => NO_NAME,
+            Proved::Sender(sender) => &sender.name,
+        }
+    }
+
     /// The name of a request's sender, which may name itself.
     pub fn name(&self, own: Option<&str>) -> Result<String, Stranger> {
         match (self, own) {

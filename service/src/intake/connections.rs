@@ -13,6 +13,7 @@ use hyper::service::service_fn;
 use hyper::{Body, Request, Response};
 use std::convert::Infallible;
 use std::future::{poll_fn, Future};
+use std::net::IpAddr;
 use std::sync::atomic::{AtomicBool, Ordering::Relaxed};
 use std::sync::Arc;
 use std::time::Duration;
@@ -187,18 +188,22 @@ pub async fn spread<P: Protocol, T: Taker>(
     let (room, stop) = (shared.room.clone(), shared.stop.clone());
     let begin = |open: &mut JoinSet<()>, stream: TcpStream, held: Held| {
         // Its thread's runtime takes it over from this one.
+        let peer = stream.peer_addr().ok().map(|peer| peer.ip());
         let Ok(stream) = stream.into_std() else { return };
         let (shared, threads) = (shared.clone(), threads.clone());
         match shared.door.tls.clone() {
             Some(tls) => {
                 let runtime = tls.runtime();
-                open.spawn_on(over_tls::<P, T>(stream, shared, threads, tls, held), &runtime);
+                open.spawn_on(
+                    over_tls::<P, T>(stream, peer, shared, threads, tls, held),
+                    &runtime,
+                );
             }
             None => {
                 let (thread, place) = threads.place();
                 let serving = async move {
                     if let Ok(stream) = TcpStream::from_std(stream) {
-                        let who = shared.door.who(None);
+                        let who = shared.door.who(None, peer);
                         P::connection(stream, shared, who).await;
                     }
                     drop((held, place));
@@ -213,6 +218,7 @@ pub async fn spread<P: Protocol, T: Taker>(
 /// A connection that begins with a handshake: this has its place too, and none of the threads that serve posts.
 async fn over_tls<P: Protocol, T: Taker>(
     stream: std::net::TcpStream,
+    peer: Option<IpAddr>,
     shared: Arc<Shared<T>>,
     threads: Arc<Threads>,
     tls: Arc<Tls>,
@@ -226,7 +232,7 @@ async fn over_tls<P: Protocol, T: Taker>(
     let Some(shaken) = shaken else { return };
     let (thread, place) = threads.place();
     let serving = thread.spawn(async move {
-        let who = shared.door.who(Some(&shaken));
+        let who = shared.door.who(Some(&shaken), peer);
         if let Ok(stream) = shaken.arrive() {
             P::connection(stream, shared, who).await;
         }

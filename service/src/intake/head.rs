@@ -1,6 +1,6 @@
 //! What the head of a request says: how its body is framed and written, who sends it, and what becomes of the connection.
 
-use super::refusal::Refusal;
+use super::refusal::{Refusal, Turned};
 use super::sender::sender;
 use super::wire::{Body, HEADERS, READ_AHEAD};
 use crate::identity::Who;
@@ -26,7 +26,7 @@ pub struct Head {
 /// A request, as far as its head says.
 #[derive(Debug)]
 pub struct Asked {
-    pub head: Result<Head, Refusal>,
+    pub head: Result<Head, Turned>,
     /// In which it is answered.
     pub encoding: Encoding,
     pub body: Body,
@@ -79,26 +79,34 @@ pub fn read(input: &[u8], who: &Who) -> Result<Option<(usize, Asked)>, Refusal> 
 
 impl Head {
     /// Looks at a head in order: the path, the method, the sender, the content.
-    fn read(request: &Request, who: &Who) -> Result<Head, Refusal> {
+    fn read(request: &Request, who: &Who) -> Result<Head, Turned> {
         if !request.path.is_some_and(is_of_metrics) {
-            return Err(Refusal::NoSuchPath);
+            return Err(Turned::new(who.unnamed(), Refusal::NoSuchPath));
         }
         if request.method != Some("POST") {
-            return Err(Refusal::WrongMethod);
+            return Err(Turned::new(who.unnamed(), Refusal::WrongMethod));
         }
         let of = |name| named(request.headers, name);
         let sender = sender(who, of("authorization"), of("x-sender"))?;
-        let encoding = encoding(request.headers).ok_or(Refusal::ContentType)?;
-        let packing = packing(request.headers)?;
-        // Such a body is empty, and an empty one of protobuf is a request of no points: what comes after would be lost.
-        if !has_length(request.headers) {
-            return Err(Refusal::NoLength);
+        match content(request.headers) {
+            Err(refusal) => Err(Turned { sender, refusal }),
+            Ok((encoding, packing)) => Ok(Head {
+                sender,
+                encoding,
+                packing,
+            }),
         }
-        Ok(Head {
-            sender,
-            encoding,
-            packing,
-        })
+    }
+}
+
+/// How a body is written and packed. One without a length is refused: it is empty, and an empty one of protobuf is a request
+/// of no points, so what comes after would be lost.
+fn content(headers: &[Header]) -> Result<(Encoding, Packing), Refusal> {
+    let encoding = encoding(headers).ok_or(Refusal::ContentType)?;
+    let packing = packing(headers)?;
+    match has_length(headers) {
+        true => Ok((encoding, packing)),
+        false => Err(Refusal::NoLength),
     }
 }
 

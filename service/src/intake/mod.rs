@@ -34,7 +34,7 @@ use crate::work::blocking;
 use bytes::Bytes;
 use head::{Head, Packing};
 use post::{Asked, AskedPart, Post};
-use refusal::Refusal;
+use refusal::{Refusal, Turned};
 use std::future::Future;
 use std::sync::Arc;
 use std::time::Duration;
@@ -163,15 +163,12 @@ impl<T: Taker> Intake<T> {
     /// Reads a request whose head is read, and says what becomes of it.
     async fn outcome<S: AsyncRead + AsyncWrite + Unpin>(
         &self,
-        head: Result<Head, Refusal>,
+        head: Result<Head, Turned>,
         wire: &mut Wire<S>,
     ) -> Outcome {
-        let sender = head
-            .as_ref()
-            .map_or_else(|_| otlp::NO_NAME.to_string(), |head| head.sender.clone());
-        let read = match head {
-            Ok(head) => self.read(head, wire).await,
-            Err(refusal) => Err(refusal),
+        let (sender, read) = match head {
+            Ok(head) => (head.sender.clone(), self.read(head, wire).await),
+            Err(Turned { sender, refusal }) => (sender, Err(refusal)),
         };
         let outcome = match read {
             Ok(post) => self.take(post).await,

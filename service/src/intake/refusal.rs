@@ -10,6 +10,9 @@ use crate::otlp::{Outcome, Refused};
 pub enum Refusal {
     #[error("no such path: metrics are posted to /v1/metrics, without a slash behind it")]
     NoSuchPath,
+    /// Of gRPC.
+    #[error("no such method")]
+    NoSuchMethod,
     #[error("wrong method")]
     WrongMethod,
     #[error("bad sender: x-sender is there once, with 1 to 64 bytes of A-Z a-z 0-9 . _ -")]
@@ -50,10 +53,24 @@ pub enum Refusal {
     Unreadable(String),
 }
 
+/// A refusal, and whose request it is, as far as that is known.
+#[derive(Debug)]
+pub struct Turned {
+    pub sender: String,
+    pub refusal: Refusal,
+}
+
+impl Turned {
+    pub fn new(sender: impl Into<String>, refusal: impl Into<Refusal>) -> Turned {
+        let (sender, refusal) = (sender.into(), refusal.into());
+        Turned { sender, refusal }
+    }
+}
+
 impl Refusal {
     pub fn status(&self) -> u16 {
         match self {
-            Refusal::NoSuchPath => 404,
+            Refusal::NoSuchPath | Refusal::NoSuchMethod => 404,
             Refusal::Stranger(stranger) => stranger.status(),
             Refusal::WrongMethod => 405,
             Refusal::ContentType | Refusal::ContentEncoding => 415,

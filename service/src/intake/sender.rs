@@ -1,6 +1,6 @@
 //! The name of a request's sender, by what it proves and by its header `x-sender`.
 
-use super::refusal::Refusal;
+use super::refusal::{Refusal, Turned};
 use crate::identity::Who;
 use crate::slot::is_sender;
 
@@ -9,14 +9,17 @@ pub fn sender<'h>(
     who: &Who,
     authorization: impl Iterator<Item = &'h [u8]>,
     mut names: impl Iterator<Item = &'h [u8]>,
-) -> Result<String, Refusal> {
-    let proved = who.proved(authorization)?;
+) -> Result<String, Turned> {
+    let proved = who.proved(authorization);
+    let proved = proved.map_err(|stranger| Turned::new(who.unnamed(), stranger))?;
+    let of_proved = |refusal| Turned::new(proved.known(), refusal);
     let own = match (names.next(), names.next()) {
         (None, _) => None,
-        (Some(name), None) => Some(legal(name).ok_or(Refusal::BadSender)?),
-        (Some(_), Some(_)) => return Err(Refusal::BadSender),
+        (Some(name), None) => Some(legal(name).ok_or_else(|| of_proved(Refusal::BadSender))?),
+        (Some(_), Some(_)) => return Err(of_proved(Refusal::BadSender)),
     };
-    Ok(proved.name(own)?)
+    let name = proved.name(own);
+    name.map_err(|stranger| of_proved(who.without_token(stranger).into()))
 }
 
 fn legal(name: &[u8]) -> Option<&str> {

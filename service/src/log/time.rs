@@ -15,6 +15,11 @@ pub fn utc(seconds: u64) -> String {
     written(Duration::from_secs(seconds))[..19].replace('T', " ")
 }
 
+/// So many nanoseconds after 1970, as RFC 3339 writes it, to the microsecond before.
+pub fn of_nanoseconds(nanoseconds: u64) -> String {
+    written(Duration::from_nanos(nanoseconds))
+}
+
 fn written(since_1970: Duration) -> String {
     let (seconds, micros) = (since_1970.as_secs(), since_1970.subsec_micros());
     let (year, month, day) = date(seconds / DAY);

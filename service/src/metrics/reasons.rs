@@ -1,12 +1,13 @@
 //! Why posts are refused, as it is counted: a label has one of these values, whatever an answer's text goes on with.
 
+use crate::identity::is_other_name;
 use crate::otlp::Outcome;
 
 /// Of texts that are not listed, as those of what can't be read.
 const UNREADABLE: &str = "unreadable";
 
 /// What an answer's text begins with, and what is to be done.
-const REASONS: [(&str, &str); 33] = [
+const REASONS: [(&str, &str); 38] = [
     (
         "out of order",
         "right for a repeat: it was taken before. If each post of a sender gets it, its clock was set back",
@@ -27,6 +28,26 @@ const REASONS: [(&str, &str); 33] = [
     (
         "bad sender",
         "OTEL_EXPORTER_OTLP_METRICS_HEADERS=x-sender=NAME, one name",
+    ),
+    (
+        "no token",
+        "OTEL_EXPORTER_OTLP_METRICS_HEADERS=Authorization=Bearer%20TOKEN, one token",
+    ),
+    (
+        "the token is not known",
+        "totxegun token NAME makes one: give it to the sender, and its line to the file of --tokens",
+    ),
+    (
+        "the certificate has ended, or is not believed any more",
+        "renew the sender's certificate, or put its root into the file of --client-ca",
+    ),
+    (
+        "the certificate names nobody",
+        "make the sender's certificate anew, with a DNS name in its subjectAltName",
+    ),
+    (
+        OTHER_NAME,
+        "the sender leaves x-sender out, or a line NAME/OTHER of --tokens allows it",
     ),
     (
         "no sender",
@@ -107,12 +128,17 @@ const REASONS: [(&str, &str); 33] = [
         "this ends by itself once what is being flushed is written",
     ),
 ];
+/// Its texts begin with the sender's name.
+const OTHER_NAME: &str = "another's name";
 const CONTENT: &str = "only application/json or application/x-protobuf";
 const PACKING: &str = "only gzip or identity";
 
 /// The reason of an answer: none where points were taken.
 pub fn of(outcome: &Outcome) -> Option<&'static str> {
     let message = outcome.refusal()?;
+    if is_other_name(message) {
+        return Some(OTHER_NAME);
+    }
     let found = REASONS.iter().find(|(reason, _)| begins(message, reason));
     Some(found.map_or(UNREADABLE, |(reason, _)| reason))
 }
@@ -136,6 +162,7 @@ pub fn to_do(reason: &str) -> &'static str {
 mod tests {
     use super::*;
     use crate::core::Refused;
+    use crate::identity::Stranger;
     use crate::intake::refusal::Refusal;
     use crate::slot::{MOVED, NO_ANSWER, NO_OWNER, NO_ROOM, NO_STORE};
 
@@ -163,6 +190,7 @@ mod tests {
         ];
         let of_intake = [
             Refusal::NoSuchPath,
+            Refusal::NoSuchMethod,
             Refusal::WrongMethod,
             Refusal::BadSender,
             Refusal::ContentType,
@@ -184,13 +212,30 @@ mod tests {
             "recovering",
             "stopping",
         ];
+        let other = |name: &str| Stranger::OtherName {
+            name: name.into(),
+            other: "shop-2".into(),
+        };
+        let of_strangers = [
+            Stranger::NoToken,
+            Stranger::WrongToken,
+            Stranger::NotBelieved,
+            Stranger::Nameless,
+            other("shop-1"),
+        ];
         let texts = of_book.iter().map(ToString::to_string);
         let texts = texts.chain(of_intake.iter().map(ToString::to_string));
+        let texts = texts.chain(of_strangers.iter().map(ToString::to_string));
         let texts: Vec<String> = texts.chain(of_slot.map(String::from)).collect();
         let reasons: std::collections::BTreeSet<_> = texts.iter().map(said).collect();
         assert_eq!(reasons.len(), texts.len(), "{reasons:?}");
         assert!(!reasons.contains(&Some(UNREADABLE)), "{reasons:?}");
         assert_eq!(said(Refused::BadSender), said(Refusal::BadSender));
+        let as_token = Stranger::TokenAsName { name: "full".into() };
+        assert_eq!(
+            (said(other("full")), said(as_token)),
+            (Some(OTHER_NAME), Some(OTHER_NAME))
+        );
         assert_eq!(said(Refusal::TooLongForMemory), said(Refusal::TooLong));
         assert_eq!(
             said(Refusal::Unreadable("resourceMetrics is twice".into())),

@@ -34,6 +34,13 @@ pub struct Status {
     pub cumulative: CumulativeStatus,
 }
 
+impl Status {
+    /// How many requests wait for the sink.
+    pub fn waiting(&self) -> u64 {
+        self.slots.iter().map(|slot| slot.waiting).sum()
+    }
+}
+
 /// Series whose points come cumulative.
 #[derive(Debug, Default, Serialize, Deserialize)]
 pub struct CumulativeStatus {

@@ -273,7 +273,7 @@ impl Cause {
             Cause::ClockBehind => "set the sender's clock, by NTP, or give a greater --most-behind",
             Cause::EarlierRun => "two processes send the same series: give each its own service.instance.id",
             Cause::WentDown => "a counter may not go down while its start stays: mend the sender, or serve with --reset count",
-            Cause::Mixed => "send a series with one temporality: it goes on once its sender starts anew",
+            Cause::Mixed => "send a series with one temporality: it goes on once its sender starts anew, or after totxegun forget SERIES",
             Cause::Forgotten => "it may have been counted: see --forget-series",
             Cause::Leap => "a sum may change by 2^63-1 between two points",
             Cause::NoValue | Cause::Other => "`totxegun explain FILE` says of each point of a captured body why",

@@ -1,46 +1,44 @@
 //! What is told of posts that were not taken, or not wholly: in their answers, in the log, and to operators.
 //!
 //! It stands before what takes a slot's posts, and changes nothing of them but the text of their answers. Of a post with
-//! points that were not taken it reads the body once more, for the answer. What was told is of all slots: `heard` is who has
+//! points that were not taken it reads the body once more, for the answer (`texts`). What was told is of all slots: `heard` is who has
 //! posted. For the log one post is read at a time and beside the runtime's threads; one that comes meanwhile is passed over,
 //! since its sender comes again.
 
 mod heard;
+mod texts;
 
 pub use heard::{Heard, OfReason, OfSender};
+pub(crate) use texts::SERIES_SHOWN;
 
 use crate::core;
 use crate::files::Outbox;
 use crate::intake::{Hears, Taker};
-use crate::log::{all_shown, cut, shown};
+use crate::log::shown;
 use crate::metrics::{reason_of, Metrics};
 use crate::otlp::series::SeriesKey;
-use crate::otlp::{foreign_points, point_at, Cause, Causes, Explained, Original, Outcome, Profile, Reading};
+use crate::otlp::{foreign_points, point_at, Cause, Causes, Original, Outcome, Profile, Reading, NO_NAME};
 use crate::pass::Pass;
-use crate::slot::{ByNumber, Request, Source};
+use crate::slot::{is_sender, ByNumber, Request, Source};
 use crate::work::blocking;
 use bytes::Bytes;
 use std::collections::{HashMap, HashSet};
 use std::sync::atomic::{AtomicBool, Ordering::Relaxed};
 use std::sync::{Arc, Mutex, PoisonError};
+use texts::{of_late, of_other_writer, other_writer, place_of, reason};
 use tokio::sync::Semaphore;
 
 /// How many senders, series and refusals are remembered as told.
 const REMEMBERED: usize = 1000;
+/// How many addresses of strangers: further ones count as who names none, so that they hide no sender.
+const STRANGERS: usize = 100;
 
 /// A body up to this long is read in place, a longer one on a thread beside the runtime's: no short post waits for it.
 const SHORT: usize = 64 << 10;
 /// How many long bodies are read at a time: while it is read, one takes several times its length.
 const READERS: usize = 2;
 
-/// What an answer begins with to a post to another's series; the place of its point follows.
-const OTHER_WRITER: &str = "other writer: point ";
-
-/// How much of a metric's name is told, and of all that identifies a series, in characters.
-const NAME_SHOWN: usize = 100;
-pub(crate) const SERIES_SHOWN: usize = 2000;
-/// The same of a point's attributes in an answer, and of an answer in the log.
-const ATTRIBUTES_SHOWN: usize = 300;
+/// How much of an answer is in the log, in characters.
 const ANSWER_SHOWN: usize = 600;
 
 /// How many posts of a sender are read for reasons that are new.
@@ -94,6 +92,8 @@ struct Told {
     /// Senders whose clock is off.
     clocks: HashSet<String>,
     series: HashSet<SeriesKey>,
+    /// Addresses of who has no name.
+    strangers: HashSet<String>,
     refusals: usize,
 }
 
@@ -189,6 +189,7 @@ impl Teller {
             }
             Outcome::Refused { status, message } => {
                 let Some(place) = place_of(&message) else {
+                    let message = of_late(&message).map_or(message.clone(), |more| message + &more);
                     return Outcome::Refused { status, message };
                 };
                 let profile = self.telling.profile;
@@ -284,6 +285,15 @@ impl Teller {
         self.told.lock().unwrap_or_else(PoisonError::into_inner) // sets are sound at any time
     }
 
+    /// Whether the address of who has no name is one of those that are remembered.
+    fn is_known_stranger(&self, address: &str) -> bool {
+        let mut told = self.told();
+        if told.strangers.len() < STRANGERS {
+            told.strangers.insert(address.to_string());
+        }
+        told.strangers.contains(address)
+    }
+
     fn may_tell_more(&self, sender: &str) -> bool {
         if self.telling.log_foreign == 0 {
             return false;
@@ -332,37 +342,6 @@ impl Teller {
     }
 }
 
-/// Why a point is foreign: one short line, whatever its sender wrote.
-fn reason(point: &Explained) -> String {
-    let name = cut(&point.metric, NAME_SHOWN);
-    let why = point.foreign.as_deref().unwrap_or_default();
-    all_shown(&format!("{} `{name}`: {why}", point.kind))
-}
-
-/// The place of the point that another's series is met by.
-fn place_of(message: &str) -> Option<u64> {
-    message.strip_prefix(OTHER_WRITER)?.parse().ok()
-}
-
-/// What the answer to a post to another's series says beside the place: that series and what to do.
-fn of_other_writer(body: &[u8], profile: Profile, place: u64) -> Option<String> {
-    let (point, _) = point_at(body, profile, place)?;
-    let name = shown(&point.metric, NAME_SHOWN);
-    let attributes = shown(&point.attributes, ATTRIBUTES_SHOWN);
-    Some(format!(
-        ": `{name}` {{{attributes}}} is another sender's: give each process its own service.instance.id"
-    ))
-}
-
-/// That a sender posts to another's series: one line as well.
-fn other_writer(sender: &str, owner: &str, series: &SeriesKey) -> String {
-    let series = shown(&series.0, SERIES_SHOWN);
-    format!(
-        "posts of {sender} are refused, since the series is {owner}'s: give each process a name and a \
-         service.instance.id of its own. The series is {series}"
-    )
-}
-
 impl<T: Taker> Taker for Remarks<T> {
     fn numbered(&self, body: &Bytes, reading: &Arc<Reading>) -> Option<ByNumber> {
         self.taker.numbered(body, reading)
@@ -408,7 +387,10 @@ impl<T: Taker> Taker for Remarks<T> {
 
 impl Hears for Teller {
     fn answered(&self, sender: &str, outcome: &Outcome) {
-        self.note(sender, outcome);
+        match is_sender(sender) || self.is_known_stranger(sender) {
+            true => self.note(sender, outcome),
+            false => self.note(NO_NAME, outcome),
+        }
     }
 
     fn part_refused(&self, sender: &str, outcome: &Outcome) {

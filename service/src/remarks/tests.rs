@@ -255,6 +255,27 @@ async fn who_posts_to_another_s_series_is_told_which_it_is() {
     );
 }
 
+/// Nobody reads nanoseconds.
+#[tokio::test]
+async fn a_late_sender_is_told_the_time() {
+    let refused = |message: &str| {
+        let message = message.into();
+        remarks(
+            Outcome::Refused { status: 400, message },
+            None,
+            Telling::default(),
+        )
+    };
+    let late = "out of order: point 2, frontier 1795808400500000000";
+    let said = answered(&refused(late), GAUGES).await;
+    let begin = format!("{late}: the point begins before 2026-11-27T19:40:00.500000Z, ");
+    assert!(
+        said.starts_with(&begin) && said.contains("clock was set back"),
+        "{said}"
+    );
+    assert_eq!(answered(&refused("not JSON"), GAUGES).await, "not JSON");
+}
+
 /// What is expected is not told; and what is refused is noted, once for the log.
 #[tokio::test]
 async fn refusals_are_noted() {
@@ -290,6 +311,29 @@ async fn refusals_are_noted() {
         .unwrap()
         .1;
     assert_eq!((of_a.taken, of_a.refused["out of order"].posts), (0, 2));
+}
+
+/// Else they would fill the log, and hide the refusals of senders.
+#[tokio::test]
+async fn so_many_strangers_are_told_of() {
+    let remarks = remarks(Outcome::taken(0), None, Telling::default());
+    let unknown = Outcome::Refused {
+        status: 401,
+        message: "the token is not known".into(),
+    };
+    for number in 0..5 * STRANGERS {
+        remarks.teller.answered(
+            &format!("address 10.0.{}.{}", number / 256, number % 256),
+            &unknown,
+        );
+    }
+    remarks.teller.answered("shop-1", &unknown);
+    assert_eq!(remarks.teller.told().refusals, STRANGERS + 2);
+    let heard = remarks.teller.heard.last(1000);
+    let of = |name: &str| heard.iter().find(|(heard, _)| heard == name).unwrap().1.clone();
+    let posts = |name: &str| of(name).refused["the token is not known"].posts;
+    assert_eq!((posts("address 10.0.0.7"), posts("shop-1")), (1, 1));
+    assert_eq!(posts(NO_NAME), 4 * STRANGERS as u64);
 }
 
 /// Cumulative points that are refused by name count, beside foreign ones and alone.

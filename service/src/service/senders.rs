@@ -35,10 +35,21 @@ async fn bind_closed(option: &str, address: &str, settings: &Settings) -> Result
     match is_local(&listener) || settings.behind_proxy || settings.door.is_closed() {
         true => Ok(listener),
         false => Err(Ended::Open(anyhow!(
-            "{option} {address} is open to other machines, where anybody could read along and post under any name: give \
-             --tls-cert and --tls-key, and --tokens or --client-ca; or --behind-proxy, if nobody but a proxy that has both \
-             reaches it"
+            "{option} {address} is open to other machines, where anybody could {}; or --behind-proxy, if nobody but a proxy \
+             that has TLS and names reaches it",
+            could(settings.door.has_tls(), settings.door.has_names())
         ))),
+    }
+}
+
+/// What a stranger could do, and what keeps it from that.
+fn could(has_tls: bool, has_names: bool) -> &'static str {
+    match (has_tls, has_names) {
+        (false, false) => {
+            "read along and post under any name: give --tls-cert and --tls-key, and --tokens or --client-ca"
+        }
+        (false, true) => "read along: give --tls-cert and --tls-key",
+        (true, _) => "post under any name: give --tokens or --client-ca",
     }
 }
 
@@ -88,5 +99,27 @@ impl Senders {
         };
         let senders = spread::<Http, _>(self.senders, shared(), threads.clone());
         tokio::join!(senders, callers);
+    }
+}
+
+#[cfg(test)]
+mod tests {
+    use super::could;
+
+    /// Else who has given the files is asked for them again.
+    #[test]
+    fn what_is_missing_is_asked_for() {
+        for (has_tls, has_names, has) in [
+            (false, false, [true, true]),
+            (false, true, [true, false]),
+            (true, false, [false, true]),
+        ] {
+            let text = could(has_tls, has_names);
+            assert_eq!(
+                ["--tls-cert", "--tokens"].map(|option| text.contains(option)),
+                has,
+                "{text}"
+            );
+        }
     }
 }

@@ -3,8 +3,9 @@
 use super::socket::Socket;
 use super::{Contexts, Protocol, Tls};
 use crate::log::Seldom;
+use rustls::internal::msgs::enums::AlertDescription::{BadCertificate, CertificateUnknown, UnknownCA};
 use std::future::Future;
-use std::io::Result;
+use std::io::{Error, Result};
 use std::pin::pin;
 use std::sync::Arc;
 use std::time::Duration;
@@ -64,7 +65,7 @@ impl Tls {
             Some(Ok(shaken)) => ("done", Some(shaken)),
             Some(Err(error)) => {
                 if TOLD.is_due() {
-                    let reason = error.to_string();
+                    let reason = why(&error);
                     tracing::warn!(peer, reason, "a TLS handshake with {peer} has failed: {reason}");
                 }
                 ("failed", None)
@@ -97,4 +98,75 @@ async fn in_time<T>(shaking: impl Future<Output = T>, is_full: impl Fn() -> bool
         }
     }
     None
+}
+
+/// What a failed handshake means. A client says that it does not believe us by an alert, which openssl's sends in the clear
+/// where TLS 1.3 has it encrypted.
+fn why(error: &Error) -> String {
+    let of_tls = error
+        .get_ref()
+        .and_then(|inner| inner.downcast_ref::<rustls::Error>());
+    match of_tls {
+        Some(
+            rustls::Error::DecryptError
+            | rustls::Error::AlertReceived(BadCertificate | CertificateUnknown | UnknownCA),
+        ) => "the client broke it off, most often since it does not trust the root of --tls-cert: give it that root, and the \
+              name that stands in the certificate"
+            .into(),
+        _ => error.to_string(),
+    }
+}
+
+#[cfg(test)]
+mod tests {
+    use super::*;
+    use crate::tls::tests::{certificate, folder, server, tls, Made};
+    use std::process::{Command, Stdio};
+
+    /// Why a handshake with a client of openssl fails.
+    async fn failed(at: &std::path::Path, words: &[&str]) -> String {
+        let listener = tokio::net::TcpListener::bind("127.0.0.1:0").await.unwrap();
+        let address = listener.local_addr().unwrap().to_string();
+        let mut client = Command::new("openssl")
+            .current_dir(at)
+            .args(["s_client", "-connect", &address])
+            .args(words)
+            .stdin(Stdio::null())
+            .stdout(Stdio::null())
+            .stderr(Stdio::null())
+            .spawn()
+            .unwrap();
+        let (stream, _) = listener.accept().await.unwrap();
+        let shaken = tls(at, None)
+            .shake(stream.into_std().unwrap(), Protocol::Http)
+            .await;
+        client.wait().unwrap();
+        why(&shaken.err().expect("it fails"))
+    }
+
+    /// Else who operates looks for a fault of the service.
+    #[tokio::test]
+    async fn a_client_that_does_not_trust_the_root_is_said_to() {
+        let at = folder();
+        server(at.path());
+        let (name, subject) = ("other", "/CN=other");
+        certificate(
+            at.path(),
+            Made {
+                name,
+                subject,
+                ..Made::default()
+            },
+        );
+        for version in ["-tls1_2", "-tls1_3"] {
+            let words = [version, "-verify_return_error", "-CAfile", "other.pem"];
+            let why = failed(at.path(), &words).await;
+            assert!(
+                why.contains("does not trust the root of --tls-cert"),
+                "{version}: {why}"
+            );
+        }
+        let old = failed(at.path(), &["-tls1_2", "-cipher", "AES128-SHA:@SECLEVEL=0"]).await;
+        assert!(!old.contains("trust"), "{old}");
+    }
 }

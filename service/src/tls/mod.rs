@@ -148,13 +148,16 @@ pub struct Tls {
 impl Tls {
     /// Reads the files. The error names what can't be used and says what to do.
     pub fn open(files: &Files, without: WithoutCertificate, metrics: Arc<Metrics>) -> anyhow::Result<Tls> {
-        let mut paths = vec![files.certificate.clone(), files.key.clone()];
-        paths.extend(files.client_ca.clone());
+        let mut paths = vec![
+            ("--tls-cert", files.certificate.clone()),
+            ("--tls-key", files.key.clone()),
+        ];
+        paths.extend(files.client_ca.clone().map(|path| ("--client-ca", path)));
         let reader = Reader {
             read: Box::new(move |contents: &[Vec<u8>]| Contexts::read(contents, without)),
             shut: Contexts::shut,
         };
-        let contexts = Renewed::open("--tls-cert", paths, reader, &metrics)?;
+        let contexts = Renewed::open(paths, reader, &metrics)?;
         expiry::register(&metrics, contexts.clone()).context("metrics")?;
         let threads = Threads::named("handshake", 1).context("no thread could be started")?;
         Ok(Tls {

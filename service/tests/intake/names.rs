@@ -166,6 +166,61 @@ async fn a_certificate_names_its_sender() {
     );
 }
 
+/// Else an operator is told of nobody, or of the first one alone.
+#[tokio::test]
+async fn who_is_refused_is_told_by_the_name_that_is_known() {
+    let at = folder();
+    signed(at.path(), "ca", "shop-1", "20");
+    tokens(at.path(), &format!("shop-2 {OF_2}\n"));
+    let served = Served::behind(door(at.path(), Some("ca.pem"), Some("tokens"))).await;
+    let shown = |name| served.secure(client(at.path(), "ca", name));
+    let (mut shop, mut without) = (shown(Some("shop-1")).await.unwrap(), shown(None).await.unwrap());
+    let mut wanted = Vec::new();
+    for (of_shop, headers, who, status) in [
+        (true, "x-sender: shop-9\r\n", "shop-1", 403),
+        (true, "x-sender: a b\r\n", "shop-1", 400),
+        (true, "x-sender: t0ken-2\r\n", "shop-1", 403),
+        (
+            false,
+            "Authorization: Bearer t0ken-2\r\nx-sender: shop-9\r\n",
+            "shop-2",
+            403,
+        ),
+        (
+            false,
+            "Authorization: Bearer t0ken-2\r\nContent-Encoding: br\r\n",
+            "shop-2",
+            415,
+        ),
+        (
+            false,
+            "Authorization: Bearer t0ken-3\r\nx-sender: shop-2\r\n",
+            "address 127.0.0.1",
+            401,
+        ),
+        (false, "x-sender: shop-2\r\n", "address 127.0.0.1", 401),
+    ] {
+        let of = if of_shop { &mut shop } else { &mut without };
+        assert_eq!(asked(of, headers).await.status, status, "{headers}");
+        wanted.push((who.to_string(), status));
+    }
+    let turned = served.kept.turned.lock().unwrap().clone();
+    let who: Vec<(String, u16)> = turned
+        .iter()
+        .map(|(who, status, _)| (who.clone(), *status))
+        .collect();
+    assert_eq!(who, wanted);
+    assert!(
+        !turned.iter().any(|(_, _, text)| text.contains("t0ken")),
+        "{turned:?}"
+    );
+    assert!(
+        turned[2].2.starts_with("shop-1 may not post as a token"),
+        "{turned:?}"
+    );
+    assert!(turned[0].2.contains("`shop-1/shop-9 sha256:HEX`"), "{turned:?}");
+}
+
 #[tokio::test]
 async fn certificates_of_strangers_end_the_handshake() {
     let at = folder();

@@ -12,10 +12,10 @@ use tokio::sync::watch;
 use totxegun::identity::Door;
 use totxegun::intake::connections::{spread, Shared};
 use totxegun::intake::front::Http;
-use totxegun::intake::{Budget, Intake, Limits, Taker, Threads};
+use totxegun::intake::{Budget, Hears, Intake, Limits, Taker, Threads};
 use totxegun::metrics::Metrics;
 use totxegun::otlp::{Outcome, Reading};
-use totxegun::slot::Request;
+use totxegun::slot::{Request, Slots};
 
 pub const BODY: &str = r#"{"resourceMetrics":[]}"#;
 /// For tests of what is late; all others have time, also on a busy machine.
@@ -25,6 +25,8 @@ const PATIENCE: Duration = Duration::from_secs(30);
 /// Keeps what it is given, and answers as it was told.
 pub struct Kept {
     pub posts: Mutex<Vec<(String, Bytes)>>,
+    /// Whose requests were answered without asking, and how.
+    pub turned: Mutex<Vec<(String, u16, String)>>,
     pub outcome: Outcome,
 }
 
@@ -33,6 +35,15 @@ impl Taker for Kept {
         let body = request.source().text().unwrap();
         self.posts.lock().unwrap().push((sender, body));
         std::future::ready(self.outcome.clone())
+    }
+}
+
+impl Hears for Kept {
+    fn answered(&self, sender: &str, outcome: &Outcome) {
+        if let Some(text) = outcome.refusal() {
+            let of_it = (sender.into(), outcome.status(), text.to_string());
+            self.turned.lock().unwrap().push(of_it);
+        }
     }
 }
 
@@ -101,12 +112,15 @@ impl Served {
     ) -> Served {
         let kept = Arc::new(Kept {
             posts: Mutex::new(Vec::new()),
+            turned: Mutex::new(Vec::new()),
             outcome,
         });
         let metrics = Arc::new(Metrics::new().unwrap());
         let budget = Budget::new(most_bytes);
-        let intake = Intake::new(kept.clone(), Reading::default(), budget.clone(), metrics.clone())
-            .with_patience(patience);
+        let slots = Slots::one(kept.clone());
+        let reading = Arc::new(Reading::default());
+        let intake =
+            Intake::of(slots, kept.clone(), reading, budget.clone(), metrics.clone()).with_patience(patience);
         let listener = TcpListener::bind("127.0.0.1:0").await.unwrap();
         let address = listener.local_addr().unwrap();
         let (stop, stopped) = watch::channel(false);

@@ -37,10 +37,9 @@ fn owners_and_frontiers_outlive_kills_and_other_numbers_of_books() {
         for sender in &senders {
             if run > 0 {
                 let late = service.post(sender, &points(&[sender], end - 10, 1)).unwrap();
-                assert_eq!(
-                    late,
-                    refused(&format!("out of order: point 0, frontier {}", end - 10))
-                );
+                let begin = refused(&format!("out of order: point 0, frontier {}: ", end - 10)).1;
+                let begin = begin.trim_end_matches("\"}");
+                assert!(late.0 == 400 && late.1.starts_with(begin), "{late:?}");
             }
             let taken = service.post(sender, &points(&[sender], end, 1)).unwrap();
             assert_eq!(taken, (200, "{}".into()), "{sender}");

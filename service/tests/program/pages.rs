@@ -1,6 +1,6 @@
 //! What programs may ask of the operator's address, and a web page may not.
 
-use crate::support::{points, Place, Service};
+use crate::support::{points, Place, Service, NO_SINK};
 use std::process::Command;
 
 /// All that changes something, or has something of the senders.
@@ -102,4 +102,17 @@ fn programs_ask_as_before() {
     }
     let said = service.said(&["flush"]);
     assert_eq!(said, "done: there was nothing to put into the outbox\n");
+}
+
+/// Else who flushes while the sink is away thinks that all is delivered, or lost.
+#[test]
+fn who_flushes_is_told_what_waits() {
+    let place = Place::new();
+    let service = place.serve_with(&["--sink", NO_SINK, "--flush-every", "1h"]);
+    assert_eq!(service.post("A", &points(&["a"], 100, 5)).unwrap().0, 200);
+    assert_eq!(service.said(&["flush"]), "done: 1 request went into the outbox\n");
+    let said = service.said(&["flush"]);
+    let begin = "done: there was nothing to put into the outbox, where 1 request waits for the sink: ";
+    assert!(said.starts_with(begin), "{said}");
+    assert_eq!(service.end(), Some(0));
 }

@@ -127,6 +127,11 @@ fn a_token_is_taken_over_tcp() {
             assert!(is_refused, "{path}: {answer}");
         }
     }
+    let without = text(&told(&["flush", "--operate", &service.operate], ""));
+    assert!(
+        without.contains("give the file that has it by --token FILE"),
+        "{without}"
+    );
     let both = ["--operate", &service.operate, "--token", &at("token")];
     let by_token = |words: &[&str]| text(&told(&[words, &both].concat(), ""));
     assert_eq!(by_token(&["quarantine", "A"]), "done\n");

@@ -53,7 +53,8 @@ fn an_operator_sees_the_books() {
     );
     let said = service.said(&["status"]);
     assert!(
-        said.lines().any(|line| line.contains(" 13 for 100000 series, ")),
+        said.lines()
+            .any(|line| line.contains(" 13, with room for 100000 series, ")),
         "{said}"
     );
     let page = service.metrics();

@@ -181,14 +181,22 @@ fn start(store: &Arc<Store>, name: &'static str) -> Node {
 
 const SOON: Duration = Duration::from_secs(20);
 
+async fn until(is_so: impl Fn() -> bool) {
+    let waiting = async {
+        while !is_so() {
+            sleep(Duration::from_millis(20)).await;
+        }
+    };
+    timeout(SOON, waiting).await.unwrap();
+}
+
 #[tokio::test(flavor = "multi_thread", worker_threads = 2)]
 async fn who_is_gone_is_followed_by_another_and_who_stops_hands_all_over() {
     let store = Store::new();
     let a = start(&store, "a");
     store.are_owners(|owner| owner == "a", SOON).await;
     let b = start(&store, "b");
-    sleep(BEAT * 2).await;
-    assert_eq!(b.cluster.status().instances, 2);
+    until(|| b.cluster.status().instances == 2 && b.cluster.whose(2) != Whose::Nobody).await;
     assert!(matches!(b.cluster.whose(2), Whose::There { address, term: 1, .. } if address == "a:1"));
     a.runs.abort();
     store.are_owners(|owner| owner == "b", SOON).await;
@@ -249,8 +257,7 @@ async fn a_store_that_is_silent_is_seen_at_the_door_and_moves_nothing() {
 async fn a_slot_that_was_lost_is_dropped_before_it_is_opened_again() {
     let store = Store::new();
     let a = start(&store, "a");
-    store.are_owners(|owner| owner == "a", SOON).await;
-    sleep(BEAT).await;
+    until(|| (0..SLOTS).all(|slot| a.cluster.whose(slot) == Whose::Here { term: 1 })).await;
     {
         let row = &mut store.rows.lock().unwrap().1[3];
         (row.term, row.owner) = (7, String::new());

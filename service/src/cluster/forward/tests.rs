@@ -89,7 +89,7 @@ async fn a_slot_without_an_owner_is_waited_for_three_seconds() {
     for whose in [Whose::Nobody, old.whose()] {
         let (forward, began) = (receiver(whose, secret("of all")), Instant::now());
         assert_eq!(posted(&forward, "{}").await, unavailable(MOVED));
-        assert!((LOOKED_FOR..LOOKED_FOR * 2).contains(&began.elapsed()));
+        assert!((LOOKED_FOR..LOOKED_FOR * 3).contains(&began.elapsed()));
     }
     assert_eq!(old.slots.count(), 0);
 }
@@ -179,13 +179,15 @@ async fn who_stalls_is_left_after_ten_seconds_and_said_and_holds_up_no_other() {
             tokio::spawn(async move { posted(&forward, "{}").await })
         })
         .collect();
-    sleep(Duration::from_millis(500)).await;
+    while count.load(SeqCst) < peer::POSTS && began.elapsed() < WITHIN / 2 {
+        sleep(Duration::from_millis(20)).await;
+    }
     let part = Original {
         encoding: Encoding::Json,
         body: Bytes::new(),
     };
     assert_eq!(forward.post(4, "web-1", part).await, Outcome::taken(0));
-    assert!(began.elapsed() < Duration::from_secs(5));
+    assert!(began.elapsed() < WITHIN);
     assert_eq!(forward.silent(), []);
     assert_eq!(count.load(SeqCst), peer::POSTS, "on their way at once");
     for one in many {

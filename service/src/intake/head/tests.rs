@@ -3,7 +3,7 @@
 use super::*;
 
 fn read(input: &[u8]) -> Result<Option<(usize, Asked)>, Refusal> {
-    super::read(input, &Who::Believed)
+    super::read(input, &Who::believed())
 }
 
 fn text(method: &str, path: &str, headers: &[(&str, &str)]) -> String {
@@ -18,7 +18,7 @@ fn head(method: &str, path: &str, headers: &[(&str, &str)]) -> Result<Head, u16>
     let text = text(method, path, headers);
     let (end, asked) = read(text.as_bytes()).unwrap().expect("a whole head");
     assert_eq!(end, text.len());
-    asked.head.map_err(|refusal| refusal.status())
+    asked.head.map_err(|turned| turned.refusal.status())
 }
 
 fn asked(text: &str) -> Result<Asked, u16> {

@@ -1,0 +1,59 @@
+//! What is said of points that are not taken, and of series that are another's.
+
+use crate::log::{all_shown, cut, of_nanoseconds, shown};
+use crate::otlp::series::SeriesKey;
+use crate::otlp::{point_at, Explained, Profile};
+
+/// What an answer begins with to a post to another's series; the place of its point follows.
+const OTHER_WRITER: &str = "other writer: point ";
+
+/// The same of a point that is too late; the end of what was taken of its series follows, in nanoseconds since 1970.
+const OUT_OF_ORDER: &str = "out of order: point ";
+const FRONTIER: &str = ", frontier ";
+
+/// How much of a metric's name is told, and of all that identifies a series, in characters.
+const NAME_SHOWN: usize = 100;
+pub(crate) const SERIES_SHOWN: usize = 2000;
+/// The same of a point's attributes in an answer.
+const ATTRIBUTES_SHOWN: usize = 300;
+
+/// Why a point is foreign: one short line, whatever its sender wrote.
+pub(super) fn reason(point: &Explained) -> String {
+    let name = cut(&point.metric, NAME_SHOWN);
+    let why = point.foreign.as_deref().unwrap_or_default();
+    all_shown(&format!("{} `{name}`: {why}", point.kind))
+}
+
+/// The place of the point that another's series is met by.
+pub(super) fn place_of(message: &str) -> Option<u64> {
+    message.strip_prefix(OTHER_WRITER)?.parse().ok()
+}
+
+/// What the answer to a post out of order says beside the place and the frontier: when that was, and what it means.
+pub(super) fn of_late(message: &str) -> Option<String> {
+    let (_, frontier) = message.strip_prefix(OUT_OF_ORDER)?.split_once(FRONTIER)?;
+    let time = of_nanoseconds(frontier.parse().ok()?);
+    Some(format!(
+        ": the point begins before {time}, up to where its series was taken: a repeat was taken before, so drop it; else the \
+         sender's clock was set back"
+    ))
+}
+
+/// What the answer to a post to another's series says beside the place: that series and what to do.
+pub(super) fn of_other_writer(body: &[u8], profile: Profile, place: u64) -> Option<String> {
+    let (point, _) = point_at(body, profile, place)?;
+    let name = shown(&point.metric, NAME_SHOWN);
+    let attributes = shown(&point.attributes, ATTRIBUTES_SHOWN);
+    Some(format!(
+        ": `{name}` {{{attributes}}} is another sender's: give each process its own service.instance.id"
+    ))
+}
+
+/// That a sender posts to another's series: one line as well.
+pub(super) fn other_writer(sender: &str, owner: &str, series: &SeriesKey) -> String {
+    let series = shown(&series.0, SERIES_SHOWN);
+    format!(
+        "posts of {sender} are refused, since the series is {owner}'s: give each process a name and a \
+         service.instance.id of its own. The series is {series}"
+    )
+}
