@@ -97,6 +97,13 @@ def go_on(service, clock, senders, seconds):
         time.sleep(seconds / 2) or True)
 
 
+def settled(senders):
+    """What was taken of each, once no post is under way that saw another clock."""
+    posts = [sender.posts for sender in senders]
+    wait_until(lambda: all(sender.posts > before + 1 for sender, before in zip(senders, posts)))
+    return [sum(sender.hours.values()) for sender in senders]
+
+
 def close(service, hour):
     """Closes an hour while posts go on: what the sink has not got yet comes late. What is told of it."""
     service.order("/flush")
@@ -129,7 +136,7 @@ def main(program, seconds=2.0):
         try:
             for ahead in TIMES:
                 clock.set(ahead)
-                taken = [sum(sender.hours.values()) for sender in senders]
+                taken = settled(senders)
                 went_on = go_on(service, clock, senders, seconds)
                 checks.true(f"it goes on with a clock that is {ahead // HOUR} hours ahead", went_on, service.last_lines())
                 more = [sum(sender.hours.values()) > was for sender, was in zip(senders, taken)]
