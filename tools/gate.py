@@ -88,6 +88,8 @@ SERVICE_STEPS = (
 # These run no program.
 WITHOUT_PROGRAM = ("service_model.py", "runs_model.py", "cluster_model.py", "releases.py", "drawn.py")
 STEP_LIMIT = 600
+# Of cargo's: they compile, and have all tests of the service in one step.
+CARGO_LIMIT = 1800
 # Which revision has passed here, wholly: tools/release.py asks.
 PASSED = f"{OUT}/passed"
 # A network of its own for each step, so that none takes another's port.
@@ -209,7 +211,7 @@ def cargo_steps():
         command = ["tools/cargo", *words]
 
         def work(step, command=command):
-            if step.run(command, limit=STEP_LIMIT) != 0:
+            if step.run(command, limit=CARGO_LIMIT) != 0:
                 raise Failed((end_of(step.log) or ["it printed nothing"])[-1])
             counts = [TESTED.match(line) for line in open(step.log, encoding="utf-8")]
             passed = sum(int(it.group(1)) for it in counts if it)
