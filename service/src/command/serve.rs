@@ -1,12 +1,13 @@
 //! `totxegun serve`: its options, and its run.
 
 use super::keeping::OfKeeping;
+use super::of_book::OfBook;
 use super::of_runs::OfRuns;
 use super::of_senders::OfSenders;
 use super::of_store::{needs_sink, OfStore};
 use super::reading::OfReading;
 use super::settings::Names;
-use super::values::{bytes_shown, operator, orders_at, place, size, time, time_or_never, MayBeNever, SOCKET};
+use super::values::{operator, orders_at, place, size, time, time_or_never, MayBeNever, SOCKET};
 use super::version::Versions;
 use super::Failure;
 use crate::core::{self, Across};
@@ -38,9 +39,6 @@ const OWN_FILES: u64 = 192;
 
 /// With less than this most posts would be refused as too long for good, and lost.
 const LEAST_BYTES: u64 = 1 << 20;
-
-/// With less there is hardly room for a request of 4 MiB while it is read.
-const LEAST_MEMORY: u64 = 64 << 20;
 
 #[derive(Args)]
 pub struct Options {
@@ -192,51 +190,11 @@ fn most_bytes(text: &str) -> Result<u64, String> {
     }
 }
 
-fn memory(text: &str) -> Result<u64, String> {
-    let bytes = size(text)?;
-    match bytes >= LEAST_MEMORY {
-        true => Ok(bytes),
-        false => Err("with less than 64MiB there is no room for a long request".to_string()),
-    }
-}
-
 fn header(text: &str) -> Result<(String, String), String> {
     let (name, value) = text.split_once(':').ok_or("write a name, a colon and a value")?;
     let (name, value) = (name.trim(), value.trim());
     header_of(name, value).map_err(|why| why.to_string())?;
     Ok((name.to_string(), value.to_string()))
-}
-
-#[derive(Args)]
-#[command(next_help_heading = "Options of the book")]
-struct OfBook {
-    /// How many series fit for sure
-    #[arg(long, env = "TOTXEGUN_MOST_SERIES", value_name = "N", default_value_t = 100_000, value_parser = value_parser!(u64).range(1..=core::MOST_SERIES as u64))]
-    most_series: u64,
-    /// The most memory of the book: posts get 503 before it is used up [default: half of what this process may have]
-    #[arg(long, env = "TOTXEGUN_BOOK_MEMORY", value_name = "BYTES", value_parser = memory)]
-    book_memory: Option<u64>,
-}
-
-impl OfBook {
-    fn memory(&self) -> u64 {
-        let most = self
-            .book_memory
-            .unwrap_or_else(|| (machine_memory() / 2).max(LEAST_MEMORY));
-        tracing::info!("the book has {} of memory at most", bytes_shown(most));
-        most
-    }
-}
-
-/// What the machine has, or what this process' group may have where that is less.
-fn machine_memory() -> u64 {
-    let total = nix::sys::sysinfo::sysinfo().map_or(LEAST_MEMORY, |machine| machine.ram_total());
-    let read = |path: &str| std::fs::read_to_string(path).unwrap_or_default();
-    let own = read("/proc/self/cgroup");
-    let group = own.lines().find_map(|line| line.strip_prefix("0::"));
-    let most = group.map(|group| read(&format!("/sys/fs/cgroup{group}/memory.max")));
-    let most = most.and_then(|most| most.trim().parse().ok());
-    total.min(most.unwrap_or(u64::MAX))
 }
 
 /// Refuses a setting that no option reads, and warns of those whose options are gone.

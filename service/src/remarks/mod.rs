@@ -7,6 +7,7 @@
 
 mod heard;
 mod texts;
+mod told;
 
 pub use heard::{Heard, OfReason, OfSender};
 pub(crate) use texts::SERIES_SHOWN;
@@ -22,11 +23,11 @@ use crate::pass::Pass;
 use crate::slot::{is_sender, ByNumber, Request, Source};
 use crate::work::blocking;
 use bytes::Bytes;
-use std::collections::{HashMap, HashSet};
 use std::sync::atomic::{AtomicBool, Ordering::Relaxed};
 use std::sync::{Arc, Mutex, PoisonError};
 use texts::{of_late, of_other_writer, other_writer, place_of, reason};
 use tokio::sync::Semaphore;
+use told::Told;
 
 /// How many senders, series and refusals are remembered as told.
 const REMEMBERED: usize = 1000;
@@ -83,24 +84,6 @@ impl Owners for Arc<Outbox> {
     fn owner(&self, series: &SeriesKey) -> Option<String> {
         Outbox::owner(self, series)
     }
-}
-
-/// What is in the log already.
-#[derive(Default)]
-struct Told {
-    foreign: HashMap<String, ToldOf>,
-    /// Senders whose clock is off.
-    clocks: HashSet<String>,
-    series: HashSet<SeriesKey>,
-    /// Addresses of who has no name.
-    strangers: HashSet<String>,
-    refusals: usize,
-}
-
-#[derive(Default)]
-struct ToldOf {
-    read: usize,
-    reasons: HashSet<String>,
 }
 
 /// A post that is worth a remark.

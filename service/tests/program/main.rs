@@ -7,6 +7,7 @@ mod held;
 mod instance;
 mod letters;
 mod lines;
+mod load;
 mod log;
 mod memory;
 mod numbers;
@@ -17,8 +18,9 @@ mod stuck;
 mod support;
 mod told;
 
+use load::Load;
 use std::time::Duration;
-use support::{points, Load, Place, NO_SINK};
+use support::{points, Place, NO_SINK};
 
 fn refused(why: &str) -> (u16, String) {
     (400, format!("{{\"code\":3,\"message\":\"{why}\"}}"))

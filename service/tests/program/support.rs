@@ -6,12 +6,10 @@ use std::net::{TcpListener, TcpStream};
 use std::os::unix::net::UnixStream;
 use std::path::PathBuf;
 use std::process::{Child, Command, Stdio};
-use std::sync::atomic::{AtomicBool, Ordering::Relaxed};
-use std::sync::{Arc, RwLock};
 use std::time::{Duration, Instant};
 
 pub const PROGRAM: &str = env!("CARGO_BIN_EXE_totxegun");
-const PATIENCE: Duration = Duration::from_secs(120);
+pub const PATIENCE: Duration = Duration::from_secs(120);
 /// Nobody listens there.
 pub const NO_SINK: &str = "http://127.0.0.1:9/v1/metrics";
 
@@ -278,7 +276,7 @@ pub fn signal(pid: u32, name: &str) {
         .status();
 }
 
-fn asked(address: &str, method: &str, path: &str, sender: &str, body: &str) -> Option<(u16, String)> {
+pub fn asked(address: &str, method: &str, path: &str, sender: &str, body: &str) -> Option<(u16, String)> {
     let stream = TcpStream::connect(address).ok()?;
     stream.set_read_timeout(Some(Duration::from_secs(20))).ok()?;
     answered(stream, method, path, sender, body)
@@ -335,68 +333,4 @@ pub fn points(names: &[&str], end: u64, value: i64) -> String {
         "{{\"resourceMetrics\":[{{\"scopeMetrics\":[{{\"metrics\":[{}]}}]}}]}}",
         metrics.join(",")
     )
-}
-
-/// Senders that repeat each post until it is answered, at whatever address the service has meanwhile.
-pub struct Load {
-    pub address: Arc<RwLock<String>>,
-    ends: Arc<AtomicBool>,
-    threads: Vec<std::thread::JoinHandle<(String, i64)>>,
-}
-
-impl Load {
-    pub fn begin(senders: usize, first: u64) -> Load {
-        let (address, ends) = (
-            Arc::new(RwLock::new(String::new())),
-            Arc::new(AtomicBool::new(false)),
-        );
-        let mut threads = Vec::new();
-        for sender in 0..senders {
-            let (address, ends) = (address.clone(), ends.clone());
-            threads.push(std::thread::spawn(move || {
-                post_all(&format!("s{sender}"), first, &address, &ends)
-            }));
-        }
-        Load {
-            address,
-            ends,
-            threads,
-        }
-    }
-
-    pub fn goes_to(&self, service: &Service) {
-        *self.address.write().unwrap() = service.listen.clone();
-    }
-
-    /// By series, what was answered as taken.
-    pub fn end(self) -> BTreeMap<String, i64> {
-        self.ends.store(true, Relaxed);
-        self.threads
-            .into_iter()
-            .map(|thread| thread.join().unwrap())
-            .collect()
-    }
-}
-
-fn post_all(sender: &str, first: u64, address: &RwLock<String>, ends: &AtomicBool) -> (String, i64) {
-    let (mut end, mut total) = (first, 0);
-    while !ends.load(Relaxed) {
-        end += 10;
-        let value = (end % 97) as i64;
-        let body = points(&[sender], end, value);
-        let begun = Instant::now();
-        for attempt in 0.. {
-            let to = address.read().unwrap().clone();
-            match asked(&to, "POST", "/v1/metrics", sender, &body) {
-                Some((200, text)) if text == "{}" => break,
-                Some((400, text)) if text.contains("out of order") && attempt > 0 => break,
-                Some((503, _)) | None => {}
-                Some(other) => panic!("{sender}, {end}, attempt {attempt}: {other:?}"),
-            }
-            assert!(begun.elapsed() < PATIENCE, "{sender}: no answer");
-            std::thread::sleep(Duration::from_millis(5));
-        }
-        total += value;
-    }
-    (sender.to_string(), total)
 }
