@@ -13,8 +13,9 @@ use crate::end_range::{EndRange, end_range};
 use crate::names::Names;
 use crate::part::Part;
 use crate::window::Window;
+use json_points::{Kept, read_request_with};
 use metric_events::sender_name::{NameFault, SenderName};
-use otlp_read::{IdentityCache, ReadFault, read_request_with};
+use otlp_read::ReadFault;
 use std::alloc::Global;
 use std::marker::Model;
 use std::mem;
@@ -36,7 +37,7 @@ pub enum PostFault {
 #[derive(Drop)]
 pub struct Reader {
     alloc: Global,
-    cache: IdentityCache,
+    kept: Kept,
     parts: Vec<Option<Part>>,
 }
 
@@ -89,7 +90,7 @@ impl Reader {
     {
         Reader {
             alloc,
-            cache: IdentityCache::new(alloc),
+            kept: Kept::new(alloc),
             parts: Vec::new(alloc),
         }
     }
@@ -114,7 +115,7 @@ impl Reader {
             Ok(sender) => sender,
             Err(fault) => return Err(sender_fault(fault)),
         };
-        let reading = match read_request_with(self.alloc, body, &mut self.cache) {
+        let reading = match read_request_with(self.alloc, body, &mut self.kept) {
             Ok(reading) => reading,
             Err(fault) => return Err(body_fault(fault)),
         };

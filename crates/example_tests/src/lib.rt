@@ -26,6 +26,8 @@ mod uses_gateway_serve;
 #[cfg(test)]
 mod uses_http_edge;
 #[cfg(test)]
+mod uses_json_points;
+#[cfg(test)]
 mod uses_metric_events;
 #[cfg(test)]
 mod uses_otlp_read;

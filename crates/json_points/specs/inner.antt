@@ -1,0 +1,5 @@
+pub mod Nodes
+pub mod Plain
+pub mod Slots
+pub mod RefViews
+pub mod StreamViews

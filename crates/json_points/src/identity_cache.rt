@@ -1,0 +1,160 @@
+//! The identities that a reader keeps from one body to the next.
+
+ghost use Rattle.std.specs.Prelude.{◌≡◌, ◌≤◌, [], length, IfOk, IfSome, None, Some};
+ghost use Rattle.json_points.specs.declared.identity_hash.TheConstants.{SLOTS};
+
+use crate::identity_hash::{IdentityHash, SLOTS};
+use series_id::{SeriesId, SharedId};
+use std::alloc::{AllocError, Global};
+use std::marker::Model;
+
+/// The identities of earlier points. A point whose identity is kept shares it, and no second one is
+/// made. Contracts see the slots: there are none before the first identity is kept, and a cache
+/// that keeps nothing is `None`.
+///
+/// What a body says does not depend on its reader's cache: an identity in a slot is compared in
+/// full. It is replaced by a later one that needs its slot, so there are never more than `SLOTS` of
+/// them. One of more than 4,096 bytes is not kept. If the memory for the slots can't be allocated,
+/// nothing is kept.
+#[derive(Drop)]
+pub struct IdentityCache {
+    slots: Option<Vec<Option<SharedId>>>,
+}
+
+impl Model for IdentityCache {
+    ghost use Rattle.std.specs.Prelude.{◌≤◌, length, IfSome, List, Option, option_map};
+    ghost use Rattle.json_points.specs.declared.identity_hash.TheConstants.{SLOTS};
+    ghost use Rattle.series_id.specs.Identity.{Identity};
+
+    ghost Value = { Option (List (Option Identity)) };
+
+    ghost view = { λ m. option_map (λ slots. slots.items) m.slots };
+
+    ghost invariant = { λ m. IfSome m.slots (λ slots. length slots.items ≤ SLOTS) };
+}
+
+impl IdentityCache {
+    /// A cache without an identity. Takes no memory until it keeps the first.
+    pub fn new(alloc: Global) -> IdentityCache
+        ensures { result ≡ Some [] }
+    {
+        IdentityCache {
+            slots: Some(Vec::new(alloc)),
+        }
+    }
+
+    /// A cache that never keeps an identity, for a reader of one body. Takes no memory.
+    pub fn without_slots() -> IdentityCache
+        ensures { result ≡ None }
+    {
+        IdentityCache { slots: None }
+    }
+
+    /// Whether there are no slots.
+    pub(crate) fn is_empty(&self) -> bool {
+        match &self.slots {
+            None => true,
+            Some(slots) => slots.is_empty(),
+        }
+    }
+
+    /// The identity in a slot, if there is one.
+    pub(crate) fn at(&self, slot: usize) -> Option<&SharedId> {
+        match &self.slots {
+            None => None,
+            Some(slots) => identity_at(slots.as_slice(), slot),
+        }
+    }
+
+    /// This identity, shared with the one in a slot if they are equal. Otherwise it is kept.
+    pub(crate) fn shared(
+        &mut self,
+        alloc: Global,
+        hash: IdentityHash,
+        series: SeriesId,
+    ) -> Result<SharedId, AllocError>
+        ensures same { IfOk result (λ shared. shared ≡ series) }
+        ensures without { self.old ≡ None → self.new ≡ None }
+    {
+        if let Some(shared) = self.share_same(hash.slot(), &series) {
+            return Ok(shared);
+        }
+        if let Some(shared) = self.share_same(hash.other_slot(), &series) {
+            return Ok(shared);
+        }
+        let shared = SharedId::new(alloc, series)?;
+        self.keep(alloc, hash, &shared);
+        Ok(shared)
+    }
+
+    /// A share of the identity in a slot, if it is this one.
+    fn share_same(&self, slot: usize, series: &SeriesId) -> Option<SharedId>
+        ensures { IfSome result (λ shared. shared ≡ series.now) }
+    {
+        let kept = self.at(slot)?;
+        if kept.as_series().is_same(series) {
+            kept.share().ok()
+        } else {
+            None
+        }
+    }
+
+    /// Keeps an identity, if it is small and there are slots or memory for them.
+    fn keep(&mut self, alloc: Global, hash: IdentityHash, series: &SharedId)
+        ensures { self.old ≡ None → self.new ≡ None }
+    {
+        if let Some(slots) = &mut self.slots
+            && hash.is_small()
+            && take_slots(alloc, slots).is_ok()
+        {
+            put(slots, hash, series);
+        }
+    }
+}
+
+/// The identity in one of these slots, if there is one.
+fn identity_at(slots: &[Option<SharedId>], slot: usize) -> Option<&SharedId> {
+    if slot < slots.len() {
+        slots[slot].as_ref()
+    } else {
+        None
+    }
+}
+
+/// Allocates the slots, unless they are there.
+fn take_slots(alloc: Global, slots: &mut Vec<Option<SharedId>>) -> Result<(), AllocError>
+    requires { length slots.old.items ≤ SLOTS }
+    ensures { length slots.new.items ≤ SLOTS }
+{
+    if slots.is_empty() {
+        *slots = free_slots(alloc)?;
+    }
+    Ok(())
+}
+
+/// Puts an identity into the first of its slots if that is free, else into the other one.
+fn put(slots: &mut Vec<Option<SharedId>>, hash: IdentityHash, series: &SharedId)
+    ensures { length slots.new.items ≡ length slots.old.items }
+{
+    let slot = if identity_at(slots.as_slice(), hash.slot()).is_none() {
+        hash.slot()
+    } else {
+        hash.other_slot()
+    };
+    if slot < slots.len()
+        && let Ok(shared) = series.share()
+    {
+        slots[slot] = Some(shared);
+    }
+}
+
+/// As many slots as a cache has, all free.
+fn free_slots(alloc: Global) -> Result<Vec<Option<SharedId>>, AllocError>
+    ensures { IfOk result (λ slots. length slots.items ≡ SLOTS) }
+{
+    let mut slots = Vec::with_capacity(alloc, SLOTS)?;
+    for _ in 0..SLOTS {
+        slots.push(None)?;
+    }
+    Ok(slots)
+}

@@ -1,0 +1,196 @@
+//! Looks an identity up in a cache, before anything of it is made.
+
+ghost use Rattle.std.specs.Prelude.{◌≡◌, ◌≤◌, IfSome, IsPermutation, IsTrue, List, Some};
+ghost use Rattle.std.specs.Prelude.{length, map, option_and_then, take};
+ghost use Rattle.serde_json.specs.Data.{Data};
+ghost use Rattle.series_id.specs.Identity.{IsIdentity};
+ghost use Rattle.series_id.specs.Sorting.{pair_of as pair_in};
+ghost use Rattle.otlp_read.specs.Lists.{all_of, list_in};
+ghost use Rattle.otlp_read.specs.Attributes.{pair_of, set_of};
+ghost use Rattle.otlp_read.specs.Streams.{identity_in, series_in, series_of};
+ghost use Rattle.json_points.specs.inner.Nodes.{AreItems};
+ghost use Rattle.json_points.specs.inner.Slots.{slot_data};
+ghost use Rattle.json_points.specs.inner.RefViews.{pair_data};
+ghost use Rattle.json_points.specs.inner.StreamViews.{scope_data, stream_data};
+
+use crate::attributes::pair_ref;
+use crate::identity_cache::IdentityCache;
+use crate::node::{Node, Nodes};
+use crate::scalar_ref::{PairRef, ScalarRef};
+use crate::streams::{Scope, Stream};
+use series_id::{AttrValue, Attribute, Kind, SeriesId, SharedId};
+
+/// The most attributes of a point that is looked up.
+const MOST_PAIRS: usize = 16;
+
+/// The series of a stream with this kind and these attributes, if the cache has it. Attributes in
+/// any order are found, but only up to `MOST_PAIRS` of them, each with a single value. Takes no
+/// memory.
+pub fn look_up(
+    cache: &IdentityCache,
+    stream: Stream<'_>,
+    kind: &Kind,
+    found: &Option<Node<'_, '_>>,
+) -> Option<SharedId>
+    ensures { IfSome result (λ s.
+        series_of (stream_data stream.entry) kind.now (slot_data found.now) ≡ Some s) }
+{
+    if cache.is_empty() {
+        return None;
+    }
+    let mut room = [PairRef {
+        key: "",
+        value: ScalarRef::Empty,
+    }; MOST_PAIRS];
+    let count = pairs_in(&mut room, found)?;
+    let pairs = &mut room[..count];
+    sort_pairs(pairs);
+    look_up_pairs(cache, stream, kind, pairs)
+}
+
+/// Puts the attributes of a field at the front of `room`: how many they are. `None` if there are
+/// more than there is room for, or if one has no single value.
+fn pairs_in<'a>(room: &mut [PairRef<'a>], found: &Option<Node<'_, 'a>>) -> Option<usize>
+    ensures pairs { IfSome result (λ n. list_in pair_of (slot_data found.now)
+        ≡ Some (map pair_data (take n room.new))) }
+    ensures within { IfSome result (λ n. n ≤ length room.new) }
+    ensures length { length room.new ≡ length room.old }
+{
+    let Some(node) = found else {
+        return Some(0);
+    };
+    put_pairs(room, node.items()?)
+}
+
+/// The same of a list.
+fn put_pairs<'a>(room: &mut [PairRef<'a>], nodes: Nodes<'_, 'a>) -> Option<usize>
+    ensures pairs { IfSome result (λ n. (ds : List Data) → AreItems nodes.entry ds
+        → all_of pair_of ds ≡ Some (map pair_data (take n room.new))) }
+    ensures within { IfSome result (λ n. n ≤ length room.new) }
+    ensures length { length room.new ≡ length room.old }
+{
+    let mut rest = nodes;
+    let mut count: usize = 0;
+    while let Some(node) = rest.next() {
+        if count >= room.len() {
+            return None;
+        }
+        room[count] = pair_ref(&node)?;
+        count += 1;
+    }
+    Some(count)
+}
+
+/// Sorts attributes by key.
+fn sort_pairs(pairs: &mut [PairRef<'_>])
+    ensures { IsPermutation pairs.old pairs.new }
+{
+    pairs.sort_unstable_by_key(|pair| pair.key);
+}
+
+/// The series of a stream with this kind and these attributes, which are in key order.
+fn look_up_pairs(
+    cache: &IdentityCache,
+    stream: Stream<'_>,
+    kind: &Kind,
+    pairs: &[PairRef<'_>],
+) -> Option<SharedId>
+    ensures { IfSome result (λ s.
+        option_and_then (series_in (stream_data stream.entry) kind.now)
+        (set_of (map pair_data pairs.now)) ≡ Some s) }
+{
+    let mut hash = stream.hash;
+    hash.add_kind(kind);
+    hash.add_pairs(pairs);
+    match share_at(cache, hash.slot(), stream, kind, pairs) {
+        Some(series) => Some(series),
+        None => share_at(cache, hash.other_slot(), stream, kind, pairs),
+    }
+}
+
+/// A share of the series in a slot, if it is that of the stream, the kind and the attributes.
+fn share_at(
+    cache: &IdentityCache,
+    slot: usize,
+    stream: Stream<'_>,
+    kind: &Kind,
+    pairs: &[PairRef<'_>],
+) -> Option<SharedId>
+    ensures { IfSome result (λ s.
+        option_and_then (series_in (stream_data stream.entry) kind.now)
+        (set_of (map pair_data pairs.now)) ≡ Some s) }
+{
+    let kept = cache.at(slot)?;
+    if is_series(kept.as_series(), stream, kind, pairs) {
+        kept.share().ok()
+    } else {
+        None
+    }
+}
+
+/// Whether a series is that of the stream, the kind and the attributes. The clause is of a series
+/// within its limits, as every `SharedId` is.
+fn is_series(series: &SeriesId, stream: Stream<'_>, kind: &Kind, pairs: &[PairRef<'_>]) -> bool
+    ensures only { IsIdentity series.now → IsTrue result →
+        option_and_then (series_in (stream_data stream.entry) kind.now)
+        (set_of (map pair_data pairs.now)) ≡ Some series.now }
+{
+    if !is_in_stream(series, stream) {
+        return false;
+    }
+    if !series.kind().is_same(kind) {
+        return false;
+    }
+    are_pairs(pairs, series.attrs().pairs())
+}
+
+/// Whether a series is one of the stream.
+fn is_in_stream(series: &SeriesId, stream: Stream<'_>) -> bool
+    ensures only { IsTrue result →
+        identity_in (stream_data stream.entry) series.now.kind series.now.attrs ≡ series.now }
+{
+    series.name().as_str() == stream.name
+        && series.unit().as_str() == stream.unit
+        && is_in_scope(series, stream.scope)
+}
+
+/// Whether a series is one of the scope.
+fn is_in_scope(series: &SeriesId, scope: Scope<'_>) -> bool
+    ensures only { IsTrue result → scope_data scope.entry ≡ record {
+      resource = series.now.resource;
+      name = series.now.scope_name;
+      version = series.now.scope_version;
+      attributes = series.now.scope_attrs;
+    } }
+{
+    series.scope_name().as_str() == scope.name
+        && series.scope_version().as_str() == scope.version
+        && series.scope_attrs().is_same(scope.attributes)
+        && series.resource().is_same(scope.resource)
+}
+
+/// Whether the attributes are those of a set, in its order.
+fn are_pairs(pairs: &[PairRef<'_>], its: &[Attribute]) -> bool
+    ensures only { IsTrue result → map pair_data pairs.now ≡ map pair_in its.now }
+{
+    if pairs.len() != its.len() {
+        return false;
+    }
+    for i in 0..pairs.len() {
+        if !is_pair(&pairs[i], &its[i]) {
+            return false;
+        }
+    }
+    true
+}
+
+fn is_pair(pair: &PairRef<'_>, its: &Attribute) -> bool
+    ensures only { IsTrue result → pair_data pair.now ≡ pair_in its.now }
+{
+    match &its.value {
+        AttrValue::One(scalar) => {
+            pair.key == its.key.as_str() && pair.value.is_same(ScalarRef::of(scalar))
+        }
+        AttrValue::Many(_) => false,
+    }
+}

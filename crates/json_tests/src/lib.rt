@@ -1,0 +1,5 @@
+//! Tests of two readers of JSON.
+#![tactic(auto)]
+
+#[cfg(test)]
+mod usual;
