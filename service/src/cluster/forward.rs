@@ -13,7 +13,7 @@ pub use head::Secret;
 pub use internal::Internal;
 pub use peer::SILENT_FOR;
 
-use super::beats::Cluster;
+use super::beats::{Cluster, Places, NO_STORE};
 use super::owners::Whose;
 use super::terms::Doing;
 use crate::log::Seldom;
@@ -29,6 +29,7 @@ use said::Said;
 use std::sync::atomic::{AtomicU64, Ordering::Relaxed};
 use std::sync::{Arc, OnceLock};
 use std::time::Duration;
+use tokio::sync::watch;
 use tokio::time::{timeout, timeout_at, Instant};
 
 /// Where posts of other instances come.
@@ -37,8 +38,11 @@ pub const PATH: &str = "/internal/post";
 const WITHIN: Duration = Duration::from_secs(10);
 /// So long an owner is looked for.
 const LOOKED_FOR: Duration = Duration::from_secs(3);
-/// Between two looks, where nothing changes.
-const PAUSE: Duration = Duration::from_millis(100);
+/// And so often instances are asked that say it is not theirs.
+const MOST_ASKED: u32 = 16;
+/// Between two looks, where the owner stays the same: the first come soon, since it may be opening the slot.
+const SHORTEST: Duration = Duration::from_millis(50);
+const LONGEST: Duration = Duration::from_millis(400);
 const CONNECT: Duration = Duration::from_secs(3);
 /// Shorter than an idle connection is kept at the other end.
 const IDLE: Duration = Duration::from_secs(20);
@@ -49,6 +53,8 @@ const BROKEN: &str = "the instance that has the slot of this post has given no a
 const MOVED: &str = "the slot of this post is being moved";
 
 static TOLD: Seldom = Seldom::every(Duration::from_secs(10));
+
+type Watched = watch::Receiver<Places>;
 
 /// The slots of this instance.
 pub trait Here: Send + Sync + 'static {
@@ -131,29 +137,43 @@ impl<H: Here> Forward<H> {
 
     /// Has its slot's owner take a part of a request: that owner's answer, or 503.
     pub async fn post(&self, slot: u16, sender: &str, part: Original) -> Outcome {
-        let began = Instant::now();
+        let (began, mut asked, mut pause) = (Instant::now(), 0, SHORTEST);
         let mut places = self.cluster.places();
         loop {
             places.borrow_and_update();
-            let said = match self.cluster.whose(slot) {
+            let whose = self.cluster.whose(slot);
+            let said = match &whose {
                 Whose::Nobody => None,
                 Whose::Here { term } => match self.here.get() {
-                    Some(here) => here.post(slot, term, sender, part.clone()).await,
+                    Some(here) => here.post(slot, *term, sender, part.clone()).await,
                     None => None,
                 },
                 Whose::There { address, term, .. } => {
-                    let head = Head::new(slot, term, sender, part.encoding);
-                    self.ask(&address, &head, &part, began + WITHIN).await
+                    asked += 1;
+                    let head = Head::new(slot, *term, sender, part.encoding);
+                    self.ask(address, &head, &part, began + WITHIN).await
                 }
             };
-            match said {
-                Some(outcome) => return outcome,
-                None if began.elapsed() >= LOOKED_FOR => return unavailable(MOVED),
-                None => {}
+            if let Some(outcome) = said {
+                return outcome;
+            }
+            if began.elapsed() >= LOOKED_FOR || asked >= MOST_ASKED {
+                return unavailable(MOVED);
             }
             self.cluster.look();
-            let _ = timeout(PAUSE, places.changed()).await;
+            pause = match self.has_moved(slot, &whose, &mut places, pause).await {
+                true => SHORTEST,
+                false => (2 * pause).min(LONGEST),
+            };
         }
+    }
+
+    /// Waits until another has the slot, as far as is known, and not longer than this.
+    async fn has_moved(&self, slot: u16, from: &Whose, places: &mut Watched, most: Duration) -> bool {
+        let moves = async {
+            while self.cluster.whose(slot) == *from && places.changed().await.is_ok() {}
+        };
+        timeout(most, moves).await.is_ok()
     }
 
     /// One that has not the slot says so: then none.
@@ -225,6 +245,10 @@ impl<H: Here> Forward<H> {
 }
 
 impl<H: Here> Elsewhere for Forward<H> {
+    fn unavailable(&self) -> Option<&'static str> {
+        self.cluster.is_stalled().then_some(NO_STORE)
+    }
+
     fn post<'a>(&'a self, slot: u16, sender: &'a str, part: Original) -> Doing<'a, Outcome> {
         Box::pin(Forward::post(self, slot, sender, part))
     }

@@ -119,6 +119,14 @@ impl Joined {
         }
     }
 
+    /// A slot has ended by a fault. Nothing else ends: another instance may have what this one lacks.
+    pub fn failed(&self, slot: u16, why: &Ended) {
+        if let Some(drive) = self.instance.forget(slot) {
+            self.instance.units.lose(slot);
+            self.cluster.failed(slot, drive.term(), &why.to_string());
+        }
+    }
+
     /// All slots are handed over; posts for them go to their new owners meanwhile.
     pub async fn leave(&mut self) {
         self.stop_beats.send_replace(true);

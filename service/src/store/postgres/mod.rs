@@ -25,7 +25,7 @@ pub use fault::StoreFault;
 pub use member::Member;
 pub use schema::{Cluster, MOST_SLOTS};
 
-use crate::cluster::terms::{Instance, Row};
+use crate::cluster::terms::{Instance, Refused, Row};
 use crate::files::drive::Lost;
 use drive::Writer;
 use shared::Shared;
@@ -182,9 +182,12 @@ impl PostgresStore {
     }
 
     /// Adds one to this instance's beat, which is committed when this is `Ok`.
-    pub async fn beat(&self, name: &str, address: &str) -> Result<(), Doubt> {
+    pub async fn beat(&self, name: &str, address: &str, refused: Refused) -> Result<(), Doubt> {
         let (beater, name, address) = (self.first(), name.to_string(), address.to_string());
-        let beating = async move { beater.beat(&name, &address, env!("CARGO_PKG_VERSION")).await };
+        let beating = async move {
+            let version = env!("CARGO_PKG_VERSION");
+            beater.beat(&name, &address, version, &refused).await
+        };
         self.runtime.run(beating).await
     }
 
