@@ -1,5 +1,6 @@
 //! Posts for slots of other instances: each goes to its slot's owner over kept connections, and that one's answer comes back
-//! as it said it. `internal` is the owner's side, `head` what a request says beside its body, `said` an answer on its way.
+//! as it said it. `internal` is the owner's side, `head` what a request says beside its body, `said` an answer on its way,
+//! `wire` what they speak.
 //!
 //! One that has not the slot has taken nothing, so another is asked then. Any other end may be behind a post that was taken:
 //! its sender is told 503, and its repeat finds out.
@@ -8,10 +9,12 @@ mod head;
 mod internal;
 mod peer;
 mod said;
+mod wire;
 
 pub use head::Secret;
 pub use internal::Internal;
 pub use peer::SILENT_FOR;
+pub use wire::Wire;
 
 use super::beats::{Cluster, Places, NO_STORE};
 use super::owners::Whose;
@@ -20,17 +23,15 @@ use crate::log::Seldom;
 use crate::otlp::{Original, Outcome};
 use crate::slot::Elsewhere;
 use head::Head;
-use hyper::client::HttpConnector;
 use hyper::{Body, Request};
-use hyper_rustls::HttpsConnector;
 use peer::{Peer, Peers};
-use rustls::ClientConfig;
 use said::Said;
 use std::sync::atomic::{AtomicU64, Ordering::Relaxed};
 use std::sync::{Arc, OnceLock};
 use std::time::Duration;
 use tokio::sync::watch;
 use tokio::time::{timeout, timeout_at, Instant};
+use wire::Connections;
 
 /// Where posts of other instances come.
 pub const PATH: &str = "/internal/post";
@@ -69,14 +70,6 @@ pub trait Here: Send + Sync + 'static {
     ) -> Doing<'a, Option<Outcome>>;
 }
 
-/// What instances speak with each other.
-#[derive(Clone)]
-pub enum Wire {
-    Plain,
-    /// By the roots that their certificates are believed by.
-    Tls(Arc<ClientConfig>),
-}
-
 /// How many posts for others' slots ended how.
 #[derive(Default)]
 struct Counts {
@@ -100,31 +93,18 @@ pub struct Forward<H> {
     /// None before posts are served.
     here: OnceLock<Arc<H>>,
     secret: Secret,
-    client: hyper::Client<HttpsConnector<HttpConnector>, Body>,
-    scheme: &'static str,
+    connections: Connections,
     peers: Peers,
     counts: Counts,
 }
 
 impl<H: Here> Forward<H> {
     pub fn new(cluster: Arc<Cluster>, secret: Secret, wire: Wire) -> Forward<H> {
-        let mut http = HttpConnector::new();
-        http.enforce_http(false);
-        http.set_nodelay(true);
-        http.set_connect_timeout(Some(CONNECT));
-        let (scheme, config) = match wire {
-            Wire::Plain => ("http", Arc::new(no_roots())),
-            Wire::Tls(config) => ("https", config),
-        };
-        let connector = HttpsConnector::from((http, config));
-        let mut client = hyper::Client::builder();
-        client.pool_idle_timeout(IDLE).pool_max_idle_per_host(peer::POSTS);
         Forward {
             cluster,
             here: OnceLock::new(),
             secret,
-            client: client.build(connector),
-            scheme,
+            connections: Connections::new(wire),
             peers: Peers::default(),
             counts: Counts::default(),
         }
@@ -221,13 +201,13 @@ impl<H: Here> Forward<H> {
         part: &Original,
     ) -> Result<Said, Broken> {
         let _room = peer.room(part.body.len()).await;
-        let uri = format!("{}://{address}{PATH}", self.scheme);
+        let uri = format!("{}://{address}{PATH}", self.connections.scheme());
         let request = head.put(Request::post(uri), &self.secret);
         let request = request
             .body(Body::from(part.body.clone()))
             .map_err(Broken::Address)?;
-        let response = self.client.request(request).await.map_err(Broken::Wire)?;
-        said::read(response).await
+        let response = self.connections.asks().request(request).await;
+        said::read(response.map_err(Broken::Wire)?).await
     }
 
     pub fn forwarded(&self) -> Forwarded {
@@ -274,14 +254,6 @@ fn unavailable(why: &str) -> Outcome {
         status: 503,
         message: why.into(),
     }
-}
-
-/// Nothing is asked over TLS by it.
-fn no_roots() -> ClientConfig {
-    ClientConfig::builder()
-        .with_safe_defaults()
-        .with_root_certificates(rustls::RootCertStore::empty())
-        .with_no_client_auth()
 }
 
 #[cfg(test)]

@@ -2,7 +2,9 @@ create schema if not exists totxegun_store;
 -- One row: what the store is, the same in each of its databases but for `place`.
 create table totxegun_store.cluster (
     id text primary key, version int not null, slots int not null, databases int not null, place int not null,
-    epoch text not null, reading text not null, secret text not null);
+    epoch text not null, reading text not null, secret text not null,
+    -- Where its instances deliver to, as the file `version` of a folder has it.
+    sink text not null default '');
 create table totxegun_store.instance (
     name text primary key, address text not null, version text not null, beat bigint not null,
     -- The slots that it can't open, and why, in JSON.
