@@ -190,17 +190,21 @@ impl Book {
     /// Of one book, where one is to be closed: what is over is forgotten, and sums begin at what they are.
     fn close_next_round(&mut self) {
         if let Some(book) = self.rounds.next() {
-            let is_closed = self.desk.close_round(book);
-            self.rounds.note(is_closed, || self.desk.series());
+            self.close_round(book);
         }
     }
 
     /// Of all books at once, since something finds no room.
     fn close_rounds(&mut self) {
         self.rounds.begin();
-        for _ in 0..self.books {
-            self.close_next_round();
+        while let Some(book) = self.rounds.being_closed() {
+            self.close_round(book);
         }
+    }
+
+    fn close_round(&mut self, book: usize) {
+        let is_closed = self.desk.close_round(book);
+        self.rounds.note(is_closed, || self.desk.series());
     }
 
     /// Takes all that may be forwarded, or nothing. Until it is settled no round can be closed.
