@@ -326,6 +326,10 @@ impl Teller {
 }
 
 impl<T: Taker> Taker for Remarks<T> {
+    fn reading<'r>(&'r self, of_all: &'r Arc<Reading>) -> &'r Arc<Reading> {
+        self.taker.reading(of_all)
+    }
+
     fn numbered(&self, body: &Bytes, reading: &Arc<Reading>) -> Option<ByNumber> {
         self.taker.numbered(body, reading)
     }

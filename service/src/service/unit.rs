@@ -61,7 +61,9 @@ pub(super) struct Unit {
 
 impl Opened {
     pub fn new(files: Files, settings: &Settings, shared: &Shared) -> Result<Opened, Ended> {
-        settings.reading.whole.know(&files.outbox, &files.journal)?;
+        let reading = settings.store.is_some().then(|| Arc::new(settings.reading.of_slot()));
+        let whole = &reading.as_deref().unwrap_or(&settings.reading).whole;
+        whole.know(&files.outbox, &files.journal)?;
         let core = Core::apart(settings.most_series, settings.across).with_context(|| {
             format!(
                 "a book for --most-series {} can't be made: give a greater --book-memory, or a smaller --most-series",
@@ -75,7 +77,7 @@ impl Opened {
             dead,
             former,
         } = files;
-        let slot = Slot::of(number, journal, outbox, core, shared);
+        let slot = Slot::reading_by(reading, number, journal, outbox, core, shared);
         slot.runs.set(settings.runs);
         let (keeper, orders) = Keeper::new(slot.clone(), settings.keeping());
         Ok(Opened {

@@ -1,7 +1,7 @@
 //! An instance in a store: its beats, and what it takes and gives away.
 
 use super::{Doubt, PostgresStore};
-use crate::cluster::terms::{Doing, Row, Seen, Silence, Stay, Terms};
+use crate::cluster::terms::{Doing, Refused, Row, Seen, Silence, Stay, Terms};
 use std::sync::Arc;
 
 pub struct Member {
@@ -20,12 +20,12 @@ impl Member {
         }
     }
 
-    async fn beat_and_see(&self, stay: Stay) -> Result<Seen, Doubt> {
+    async fn beat_and_see(&self, stay: Stay, refused: Refused) -> Result<Seen, Doubt> {
         let address = match stay {
             Stay::Here => self.address.as_str(),
             Stay::Leaves => "",
         };
-        self.store.beat(&self.name, address).await?;
+        self.store.beat(&self.name, address, refused).await?;
         Ok(Seen {
             instances: self.store.instances().await?,
             slots: self.store.slots().await?,
@@ -40,8 +40,8 @@ impl From<Doubt> for Silence {
 }
 
 impl Terms for Member {
-    fn beat(&self, stay: Stay) -> Doing<'_, Result<Seen, Silence>> {
-        Box::pin(async move { Ok(self.beat_and_see(stay).await?) })
+    fn beat(&self, stay: Stay, refused: Refused) -> Doing<'_, Result<Seen, Silence>> {
+        Box::pin(async move { Ok(self.beat_and_see(stay, refused).await?) })
     }
 
     fn slots(&self) -> Doing<'_, Result<Vec<Row>, Silence>> {

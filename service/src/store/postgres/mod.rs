@@ -25,10 +25,11 @@ pub use fault::StoreFault;
 pub use member::Member;
 pub use schema::{Cluster, MOST_SLOTS};
 
-use crate::cluster::terms::{Instance, Row};
+use crate::cluster::terms::{Instance, Refused, Row};
 use crate::files::drive::Lost;
 use drive::Writer;
 use shared::Shared;
+use std::collections::BTreeMap;
 use std::future::Future;
 use std::sync::{mpsc, Arc};
 use tokio::runtime::{Builder, Runtime};
@@ -150,6 +151,32 @@ impl PostgresStore {
         })
     }
 
+    fn waited<T: Send + 'static>(
+        &self,
+        work: impl Future<Output = Result<T, StoreFault>> + Send + 'static,
+    ) -> Result<T, StoreFault> {
+        self.runtime.wait(work).unwrap_or_else(|| Err(ended()))
+    }
+
+    /// Where instances deliver to, as the first that started has said; empty before.
+    pub fn sink(&self) -> Result<String, StoreFault> {
+        let server = self.first().server.clone();
+        self.waited(async move { schema::sink(&server).await })
+    }
+
+    /// Writes it where it is as before: what it is then.
+    pub fn set_sink(&self, before: &str, now: &str) -> Result<String, StoreFault> {
+        let (server, before, now) = (self.first().server.clone(), before.to_string(), now.to_string());
+        self.waited(async move { schema::set_sink(&server, &before, &now).await })
+    }
+
+    /// How often each instance has beaten.
+    pub fn beats(&self) -> Result<BTreeMap<String, u64>, StoreFault> {
+        let beater = self.first();
+        let instances = self.waited(async move { Ok(beater.instances().await?) })?;
+        Ok(instances.into_iter().map(|one| (one.name, one.beat)).collect())
+    }
+
     pub fn counts(&self) -> &Counts {
         &self.counts
     }
@@ -182,9 +209,12 @@ impl PostgresStore {
     }
 
     /// Adds one to this instance's beat, which is committed when this is `Ok`.
-    pub async fn beat(&self, name: &str, address: &str) -> Result<(), Doubt> {
+    pub async fn beat(&self, name: &str, address: &str, refused: Refused) -> Result<(), Doubt> {
         let (beater, name, address) = (self.first(), name.to_string(), address.to_string());
-        let beating = async move { beater.beat(&name, &address, env!("CARGO_PKG_VERSION")).await };
+        let beating = async move {
+            let version = env!("CARGO_PKG_VERSION");
+            beater.beat(&name, &address, version, &refused).await
+        };
         self.runtime.run(beating).await
     }
 

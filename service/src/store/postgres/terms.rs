@@ -4,14 +4,16 @@ use super::copies;
 use super::doubt::Doubt;
 use super::session::{within, Session, SILENT};
 use super::shared::Shared;
-use crate::cluster::terms::{Instance, Row};
+use crate::cluster::terms::{Instance, Refused, Row};
 use std::sync::Arc;
 use tokio_postgres::types::ToSql;
 use tokio_postgres::Row as Found;
 
-const BEAT: &str = "insert into totxegun_store.instance as i (name, address, version, beat) values ($1, $2, $3, 1)
-    on conflict (name) do update set beat = i.beat + 1, address = excluded.address, version = excluded.version";
-const INSTANCES: &str = "select name, address, beat from totxegun_store.instance";
+const BEAT: &str =
+    "insert into totxegun_store.instance as i (name, address, version, beat, refused) values ($1, $2, $3, 1, $4)
+    on conflict (name) do update set beat = i.beat + 1, address = excluded.address, version = excluded.version,
+    refused = excluded.refused";
+const INSTANCES: &str = "select name, address, beat, refused from totxegun_store.instance";
 const SLOTS: &str = "select slot, term, owner from totxegun_store.slot";
 const TAKE: &str =
     "update totxegun_store.slot set term = term + 1, link = 0, owner = $3 where slot = $1 and term = $2";
@@ -41,8 +43,17 @@ impl Shared {
     }
 
     /// Adds one to the instance's beat.
-    pub(super) async fn beat(&self, name: &str, address: &str, version: &str) -> Result<(), Doubt> {
-        self.write(BEAT, &[&name, &address, &version]).await.map(drop)
+    pub(super) async fn beat(
+        &self,
+        name: &str,
+        address: &str,
+        version: &str,
+        refused: &Refused,
+    ) -> Result<(), Doubt> {
+        let refused = serde_json::to_string(refused).unwrap_or_default(); // numbers and texts are always written
+        self.write(BEAT, &[&name, &address, &version, &refused])
+            .await
+            .map(drop)
     }
 
     pub(super) async fn leave(&self, name: &str) -> Result<(), Doubt> {
@@ -54,6 +65,7 @@ impl Shared {
             name: row.get(0),
             address: row.get(1),
             beat: row.get::<_, i64>(2) as u64,
+            refused: serde_json::from_str(row.get(3)).unwrap_or_default(), // a later version may say more
         };
         self.read(INSTANCES, instance).await
     }
