@@ -15,6 +15,8 @@ import own_network  # noqa: E402
 # Machine N has address N.2 of these networks, the router N.1; what is this process' own has an address that no link has.
 NETWORK = "10.77"
 OWN = f"{NETWORK}.0.1"
+# One that is led to a machine, now to this and now to that one.
+LED = f"{NETWORK}.250.1"
 # Of the router's rules: those that lose packets come before the one that finds its own addresses.
 CUT, LOCAL = 10, 1000
 
@@ -54,6 +56,11 @@ class Machine:
 
     def on(self, *words):
         return on(self.namespace, *words)
+
+    def be_led_to(self):
+        """From now on what is sent to LED comes here."""
+        ip("-n", self.namespace, "addr", "replace", f"{LED}/32", "dev", "lo")
+        ip("route", "replace", f"{LED}/32", "via", self.address)
 
     def processes(self):
         found = subprocess.run(["ip", "netns", "pids", self.namespace], capture_output=True, text=True, check=False, timeout=20)

@@ -76,7 +76,8 @@ class Server:
     def begin(self):
         if os.path.exists(f"{self.folder}/data/postmaster.pid"):
             os.unlink(f"{self.folder}/data/postmaster.pid")
-        words = [*self.before, f"{self.programs}/postgres", "-D", f"{self.folder}/data", "-k", self.folder, "-h", self.host, "-p",
+        hosts = "*" if self.machine else self.host
+        words = [*self.before, f"{self.programs}/postgres", "-D", f"{self.folder}/data", "-k", self.folder, "-h", hosts, "-p",
                  str(self.port)]
         with open(f"{self.folder}/log", "ab") as log:
             self.process = subprocess.Popen(words, cwd=self.folder, stdin=subprocess.DEVNULL, stdout=log, stderr=log)
@@ -126,8 +127,14 @@ class Pair:
         self.primary, self.standby = self.all
         self.primary.make(settings)
         self.primary.start()
+        self.lead()
         places = ",".join(f"{server.host}:{server.port}" for server in self.all)
         self.address = f"postgres://postgres@{places}/postgres"
+
+    def lead(self):
+        """Who asks at one address finds the one that writes."""
+        if self.primary.machine:
+            self.primary.machine.be_led_to()
 
     def make_standby(self):
         self.standby.be_standby_of(self.primary)
@@ -143,6 +150,7 @@ class Pair:
         """The standby writes from now on."""
         self.standby.run("pg_ctl", "promote", "-w", "-t", str(LIMIT), "-D", f"{self.standby.folder}/data")
         self.primary, self.standby = self.standby, self.primary
+        self.lead()
 
     def go_over(self):
         self.primary.kill()

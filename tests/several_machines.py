@@ -1,7 +1,7 @@
 #!/usr/bin/env python3
 """Three instances over a store, each on a machine of its own, while machines and what is between them fail.
 
-    tests/several_machines.py TOTXEGUN [SECONDS [SEED]] [--long] [--other TOTXEGUN]
+    tests/several_machines.py TOTXEGUN [SECONDS [SEED]] [--sink otlp|postgres] [--long] [--other TOTXEGUN]
 
 Machines are network namespaces: three instances, a primary and its synchronous standby, and haproxy, which shares posts out in
 turn. Senders post requests of two resources, and so for two slots, by way of haproxy or each to one instance for a while, and
@@ -15,8 +15,8 @@ repeat each post until it is answered. For SECONDS (60), and until each kind has
     two are cut off from each other; both are away
 
 The clocks of two instances are an hour ahead and an hour late, and instances are of two versions: TOTXEGUN, and a copy that says
-another version, or the program after --other. With --long what goes wrong lasts up to a minute, and the store is away for two;
-each four minutes it is looked what the sink has.
+another version, or the program after --other. The sink is one of OTLP, or the database that the store is in. With --long what goes
+wrong lasts up to a minute, and the store is away for two; each four minutes it is looked what the sink has.
 
 At the end the sink has, series by series and bucket by bucket, what senders were told; no spans overlap, and each key brought the
 same bytes. It needs root, for the machines, PostgreSQL, haproxy, ip and gcc; where one is missing a line says so, and the status is
@@ -25,6 +25,7 @@ same bytes. It needs root, for the machines, PostgreSQL, haproxy, ip and gcc; wh
 import argparse
 import collections
 import contextlib
+import json
 import os
 import random
 import shutil
@@ -36,7 +37,7 @@ import time
 
 from checks import Checks
 from clock_jumps import HOUR, Clock
-from machines import OWN, Router, may_have_machines
+from machines import LED, OWN, Router, may_have_machines
 from servers import LIMIT, Pair, initdb
 from service import OtlpSink, Service, add_points, differences, overlaps, told_to_all, wait_until
 from several_trouble import OfMachines, OfServers, befall
@@ -156,6 +157,30 @@ def other_version(program, folder):
     return copy
 
 
+class PostgresSink:
+    """The database that the store is in, at the address that is led to whatever server writes."""
+
+    SPANS = """select coalesce(json_agg(json_build_array(name, start_ns::text, end_ns::text, value::text, sum, buckets)), '[]')
+        from totxegun.span join totxegun.series on series.id = span.series"""
+
+    def __init__(self, store):
+        self.store, self.moods = store, []
+        self.address = f"postgres://postgres@{LED}/postgres"
+
+    def points(self):
+        return [(name, int(start), int(end), int(value) if buckets is None else (tuple(map(int, buckets)), total))
+                for name, start, end, value, total, buckets in json.loads(self.store.ask(self.SPANS) or "[]")]
+
+    def mood(self, moods):
+        """It has none."""
+
+    def wrong(self):
+        return []
+
+    def close(self):
+        pass
+
+
 class World:
     """All machines, and what runs there."""
 
@@ -163,10 +188,10 @@ class World:
         self.what, self.program = what, arguments.totxegun
         self.folder = stack.enter_context(tempfile.TemporaryDirectory(prefix="machines-"))
         self.router = Router(stack)
-        self.sink = OtlpSink(arguments.seed, OWN)
-        stack.callback(self.sink.close)
         self.store = store(*map(self.router.machine, machines))
         stack.callback(self.store.close)
+        self.sink = OtlpSink(arguments.seed, OWN) if arguments.sink == "otlp" else PostgresSink(self.store)
+        stack.callback(self.sink.close)
         programs = [self.program, arguments.other or other_version(self.program, self.folder)]
         self.instances = [self.instance(name, ahead, programs) for name, ahead in zip("abc", (0, HOUR, -HOUR))]
         self.balancer = Balancer(self.router.machine("balancer"), self.folder, self.instances)
@@ -279,6 +304,7 @@ def options(about, seconds=60):
     parser.add_argument("totxegun", type=os.path.abspath)
     parser.add_argument("seconds", type=float, nargs="?", default=seconds)
     parser.add_argument("seed", nargs="?", default="1")
+    parser.add_argument("--sink", choices=("otlp", "postgres"), default="otlp")
     parser.add_argument("--long", action="store_true")
     parser.add_argument("--other", type=os.path.abspath)
     return parser.parse_args()
