@@ -40,6 +40,7 @@ select * from (
     --filling select series, hour / 24 as day, points, total, count, without_sum, buckets, null from totxegun.hour_before
 ) as one where day is not null;
 
+-- An addition to each of a million rows takes longer than to see that there is nothing to add.
 create or replace view totxegun.by_hour as
 select
     to_timestamp(hour.hour * 3600::double precision) as hour,
@@ -57,7 +58,7 @@ select
     scope_attributes,
     series,
     coalesce(corrections, 0) as corrections,
-    total + coalesce(corrections, 0) as billed
+    case when corrections <> 0 then total + corrections else total end as billed
 from totxegun.hour join totxegun.series on series.id = hour.series;
 
 -- A day, or a month, of which an hour was deleted is left out.
