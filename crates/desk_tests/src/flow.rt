@@ -4,10 +4,10 @@ ghost use Rattle.std.specs.Prelude.{◌<◌};
 use crate::bodies::body_of;
 use book_desk::desk::{Desk, DeskFault, EndFault, TakeAllFault};
 use book_desk::end::End;
-use book_desk::flushes::{Flushes, TextFault};
+use book_desk::flushes::{Flushes, TextFault, Written};
 use book_desk::reader::{PostFault, Reader};
 use book_desk::window::Window;
-use delta_book::faults::AdmitFault;
+use delta_book::faults::{AdmitFault, QuarantineFault};
 use metric_events::sender_name::SenderName;
 use otlp_read::read_request;
 use std::alloc::Global;
@@ -17,45 +17,20 @@ use std::test::Fail;
 /// How many books the tests have.
 const BOOKS: usize = 7;
 
-/// Reads a post of the sender `A` with a point of each of these series, all from one start.
-fn read_range(
-    alloc: Global,
-    reader: &mut Reader,
-    series: (u64, u64),
-    start: u64,
-) -> Result<u64, Fail> {
-    let mut points = Vec::new(alloc);
-    for i in series.0..series.1 {
-        points.push((i, start))?;
-    }
-    let body = body_of(alloc, &points)?;
-    Ok(
-        reader
-            .read(b"A", body.as_bytes(), BOOKS, Window::ALL)?
-            .points,
-    )
+/// Reads a post of the sender `A`: how many points it has. As the reader's call, without its
+/// contract, and so are the next eight calls: a test reads no more than what they answer.
+fn read(reader: &mut Reader, body: &[u8]) -> Result<u64, PostFault> {
+    Ok(reader.read(b"A", body, BOOKS, Window::ALL)?.points)
 }
 
-/// How many points the texts of so many flushes have, read again.
-fn points_in_texts(
-    rt: &impl Abort,
-    alloc: Global,
-    flushes: &mut Flushes,
-    count: usize,
-) -> Result<usize, Fail> {
-    let mut found: usize = 0;
-    for i in 0..count {
-        let written = flushes.write_request(i)?;
-        let mut text = Vec::from_elem(alloc, 0u8, written.bytes)?;
-        assert!(rt; flushes.copy_text(&mut text));
-        let points = read_request(alloc, &text)?.points;
-        assert!(rt; points.as_slice().len() == written.series);
-        found = found.saturating_add(written.series);
-    }
-    Ok(found)
+fn write(flushes: &mut Flushes, i: usize) -> Result<Written, TextFault> {
+    flushes.write_request(i)
 }
 
-/// Admits what the reader has read. As the desk's call, without its contract, as the next three.
+fn report(desk: &Desk, flushes: &mut Flushes, i: usize) -> Result<usize, TextFault> {
+    desk.report(flushes, i)
+}
+
 fn admit(desk: &mut Desk, reader: &mut Reader) -> Result<(), DeskFault> {
     desk.admit(reader)
 }
@@ -68,8 +43,69 @@ fn end(desk: &mut Desk, flushes: &mut Flushes, end: End) -> Result<(), EndFault>
     desk.end(flushes, end)
 }
 
+fn hold(desk: &mut Desk, sender: &SenderName) -> Result<(), QuarantineFault> {
+    desk.quarantine(sender)
+}
+
+fn release(desk: &mut Desk, sender: &SenderName) -> bool {
+    desk.lift(sender)
+}
+
 fn close_round(desk: &mut Desk, book: usize, entries: usize) -> bool {
     desk.close_round(book, entries)
+}
+
+/// A body with a point of each of these series, all from one start.
+fn range_of(alloc: Global, series: (u64, u64), start: u64) -> Result<String, Fail> {
+    let mut points = Vec::new(alloc);
+    for i in series.0..series.1 {
+        points.push((i, start))?;
+    }
+    Ok(body_of(alloc, &points)?)
+}
+
+/// Reads a post of these series: how many points it has.
+fn read_range(
+    alloc: Global,
+    reader: &mut Reader,
+    series: (u64, u64),
+    start: u64,
+) -> Result<u64, Fail> {
+    let body = range_of(alloc, series, start)?;
+    Ok(read(reader, body.as_bytes())?)
+}
+
+/// How many points a text has, read again.
+fn points_of(alloc: Global, text: &[u8]) -> Result<usize, Fail> {
+    Ok(read_request(alloc, text)?.points.as_slice().len())
+}
+
+/// How many points the text of a flush has, read again.
+fn points_in_text(
+    rt: &impl Abort,
+    alloc: Global,
+    flushes: &mut Flushes,
+    i: usize,
+) -> Result<usize, Fail> {
+    let written = write(flushes, i)?;
+    let mut text = Vec::from_elem(alloc, 0u8, written.bytes)?;
+    assert!(rt; flushes.copy_text(&mut text));
+    assert!(rt; points_of(alloc, &text)? == written.series);
+    Ok(written.series)
+}
+
+/// The same of so many flushes.
+fn points_in_texts(
+    rt: &impl Abort,
+    alloc: Global,
+    flushes: &mut Flushes,
+    count: usize,
+) -> Result<usize, Fail> {
+    let mut found: usize = 0;
+    for i in 0..count {
+        found = found.saturating_add(points_in_text(rt, alloc, flushes, i)?);
+    }
+    Ok(found)
 }
 
 /// Reads a post of these series, and has it admitted.
@@ -101,11 +137,7 @@ fn take_and_give_back(
 }
 
 /// Flushes of at most five series are taken, and settled once.
-fn take_and_settle(
-    rt: &impl Abort,
-    desk: &mut Desk,
-    flushes: &mut Flushes,
-) -> Result<(), Fail> {
+fn take_and_settle(rt: &impl Abort, desk: &mut Desk, flushes: &mut Flushes) -> Result<(), Fail> {
     assert!(rt; desk.take(flushes, 5)? == BOOKS);
     end(desk, flushes, End::Settle)?;
     assert!(rt; end(desk, flushes, End::Settle) == Err(EndFault::Nothing));
@@ -180,14 +212,14 @@ fn hold_and_release(
     sender: &SenderName,
 ) -> Result<(), Fail> {
     post_range(alloc, reader, desk, (0, 20), 10)?;
-    desk.quarantine(sender)?;
+    hold(desk, sender)?;
     let taken = take(desk, &mut Flushes::new(alloc));
     assert!(rt; taken == Err(TakeAllFault::Nothing));
     let _ = read_range(alloc, reader, (0, 20), 20)?;
     let held = DeskFault::Refused(AdmitFault::Quarantined);
     assert!(rt; admit(desk, reader) == Err(held));
-    assert!(rt; desk.lift(sender));
-    assert!(rt; !desk.lift(sender));
+    assert!(rt; release(desk, sender));
+    assert!(rt; !release(desk, sender));
     post_range(alloc, reader, desk, (0, 20), 20)
 }
 
@@ -225,16 +257,38 @@ fn read_again(
     Ok(admit(desk, reader)?)
 }
 
-/// The report of the one book, which has two series, and texts that there are none of.
-fn report_two(rt: &impl Abort, alloc: Global, desk: &Desk) -> Result<(), Fail> {
-    let mut flushes = Flushes::new(alloc);
-    let bytes = desk.report(&mut flushes, 0)?;
+/// How many lines the text has that was written last, of so many bytes.
+fn lines(rt: &impl Abort, alloc: Global, flushes: &Flushes, bytes: usize) -> Result<usize, Fail> {
     let mut text = Vec::from_elem(alloc, 0u8, bytes)?;
     assert!(rt; flushes.copy_text(&mut text));
-    assert!(rt; text.iter().filter(|byte| **byte == b'\n').count() == 3);
-    assert!(rt; desk.report(&mut flushes, 1) == Err(TextFault::NoSuch));
-    assert!(rt; flushes.write_request(0).err() == Some(TextFault::NoSuch));
+    Ok(text.iter().filter(|byte| **byte == b'\n').count())
+}
+
+/// The report of the one book, which has two series, and texts that there are none of.
+fn report_two(
+    rt: &impl Abort,
+    alloc: Global,
+    desk: &Desk,
+    flushes: &mut Flushes,
+) -> Result<(), Fail> {
+    let bytes = report(desk, flushes, 0)?;
+    assert!(rt; lines(rt, alloc, flushes, bytes)? == 3);
+    assert!(rt; report(desk, flushes, 1) == Err(TextFault::NoSuch));
+    assert!(rt; write(flushes, 0).err() == Some(TextFault::NoSuch));
     Ok(())
+}
+
+/// Reads what can't be read, and what can, and reports it.
+fn read_and_report(
+    rt: &impl Abort,
+    alloc: Global,
+    desk: &mut Desk,
+    body: &[u8],
+) -> Result<(), Fail> {
+    let mut reader = Reader::new(alloc);
+    refuse_to_read(rt, &mut reader);
+    read_again(rt, &mut reader, desk, body)?;
+    report_two(rt, alloc, desk, &mut Flushes::new(alloc))
 }
 
 // What can't be read says why, and the reader has nothing then. A report has a line for each
@@ -243,9 +297,5 @@ fn report_two(rt: &impl Abort, alloc: Global, desk: &Desk) -> Result<(), Fail> {
 fn what_can_not_be_read_or_written(rt: HostRuntime) -> Result<(), Fail> {
     let alloc = rt.alloc();
     let body = body_of(alloc, &[(1, 10), (2, 10)])?;
-    let mut desk = Desk::new(alloc, 1)?;
-    let mut reader = Reader::new(alloc);
-    refuse_to_read(&rt, &mut reader);
-    read_again(&rt, &mut reader, &mut desk, body.as_bytes())?;
-    report_two(&rt, alloc, &desk)
+    read_and_report(&rt, alloc, &mut Desk::new(alloc, 1)?, body.as_bytes())
 }

@@ -66,10 +66,19 @@ enum Step {
 }
 
 /// What is kept of a post: its sender and its batch.
-#[derive(Drop)]
 struct Post {
     sent_by: usize,
     body: Batch,
+}
+
+// Written by hand, as the next one: a derived `drop` is proved again at each exit.
+impl Drop for Post {
+    fn drop(self) {
+        let Post {
+            sent_by: _,
+            body: _,
+        } = self;
+    }
 }
 
 impl Post {
@@ -85,12 +94,22 @@ impl Post {
 /// What is kept outside a book: the posts that were not sent, in order; where each series ends in
 /// what was posted, and in what was sent; which sender is quarantined. Series 0 and 3 are of sender
 /// 0, 1 and 4 of sender 1, 2 and 5 of sender 2.
-#[derive(Drop)]
 struct Kept {
     posts: Vec<Post>,
     posted: [u64; 6],
     sent: [u64; 6],
     held: [bool; 3],
+}
+
+impl Drop for Kept {
+    fn drop(self) {
+        let Kept {
+            posts: _,
+            posted: _,
+            sent: _,
+            held: _,
+        } = self;
+    }
 }
 
 /// A batch of this sender at this time.

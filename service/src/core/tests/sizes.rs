@@ -38,7 +38,8 @@ fn request(names: &[String], start: u64, count: u64) -> String {
 
 /// The same request, as long as one may be.
 fn at_its_longest(body: String) -> String {
-    format!("{body:<MOST_BYTES$}")
+    let spaces = " ".repeat(MOST_BYTES - body.len());
+    body + &spaces
 }
 
 /// The same request with a field that the reader without a tree does not go into.
