@@ -258,11 +258,11 @@ impl Book {
         self.end(taken, Desk::settle)
     }
 
-    fn end(&mut self, taken: Flushed, end: fn(&mut Desk, &mut Flushes) -> u32) -> Result<(), Refused> {
+    fn end(&mut self, taken: Flushed, end: fn(&mut Desk, &mut Flushes) -> Answer) -> Result<(), Refused> {
         // Each is ended, also after one that says no, which none does.
         let ended = taken.parts.into_iter().map(|(mut flushes, _)| {
-            let status = end(&mut self.desk, &mut flushes);
-            check(Answer::of_status(status)).map(drop)
+            let answer = end(&mut self.desk, &mut flushes);
+            check(answer).map(drop)
         });
         let ended = ended.fold(Ok(()), Result::and);
         self.rounds.count(0);
@@ -271,17 +271,17 @@ impl Book {
 
     pub fn quarantine(&mut self, sender: &str) -> Result<(), Refused> {
         let sender = sender.as_bytes();
-        let mut done = check(Answer::of_status(self.desk.quarantine(sender)));
+        let mut done = check(self.desk.quarantine(sender));
         if done.is_err_and(|refused| refused.may_be_cured_by_a_round()) {
             self.close_rounds();
-            done = check(Answer::of_status(self.desk.quarantine(sender)));
+            done = check(self.desk.quarantine(sender));
         }
         done.map(drop)
     }
 
     pub fn lift(&mut self, sender: &str) -> Result<(), Refused> {
         self.earlier.note(0); // of whatever stretch it has something
-        check(Answer::of_status(self.desk.lift(sender.as_bytes()))).map(drop)
+        check(self.desk.lift(sender.as_bytes())).map(drop)
     }
 
     /// How many series it has.
