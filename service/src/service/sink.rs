@@ -1,15 +1,61 @@
-//! The sink is the one that the folder remembers, or the operator says that it is a new one.
+//! The sink is the one that the folder, or the store, remembers, or the operator says that it is a new one.
 
 use super::Ended;
-use crate::files::{Fault, Folder, KnownSink, Outbox};
+use crate::files::{Folder, KnownSink, Outbox};
 use crate::operate::{Act, Actor, Acts};
 use crate::sinks::{self, Address, Keep, Memory, Sink};
+use crate::store::postgres::PostgresStore;
 use anyhow::{anyhow, Context};
 use std::sync::atomic::{AtomicBool, Ordering::Relaxed};
 use std::sync::Arc;
 
+/// What remembers it over starts.
+trait Place: Send + Sync {
+    /// As a refusal names it.
+    fn name(&self) -> &'static str;
+    fn sink(&self) -> Result<Option<KnownSink>, Ended>;
+    /// Durable, or not done, when this returns.
+    fn set_sink(&self, sink: KnownSink) -> Result<(), Ended>;
+    /// Of a store, which databases it is in.
+    fn databases(&self) -> Vec<Option<String>> {
+        Vec::new()
+    }
+}
+
+impl Place for Folder {
+    fn name(&self) -> &'static str {
+        "this folder"
+    }
+
+    fn sink(&self) -> Result<Option<KnownSink>, Ended> {
+        Ok(Folder::sink(self))
+    }
+
+    fn set_sink(&self, sink: KnownSink) -> Result<(), Ended> {
+        Ok(Folder::set_sink(self, sink)?)
+    }
+}
+
+impl Place for PostgresStore {
+    fn name(&self) -> &'static str {
+        "this store"
+    }
+
+    fn sink(&self) -> Result<Option<KnownSink>, Ended> {
+        Ok(PostgresStore::sink(self).context("the store can't be asked for its sink")?)
+    }
+
+    fn set_sink(&self, sink: KnownSink) -> Result<(), Ended> {
+        Ok(PostgresStore::set_sink(self, &sink).context("the store can't note its sink")?)
+    }
+
+    fn databases(&self) -> Vec<Option<String>> {
+        PostgresStore::databases(self)
+    }
+}
+
 struct Remembered {
-    folder: Arc<Folder>,
+    place: Arc<dyn Place>,
     /// The one of this start, so far without an id.
     now: KnownSink,
     /// Until it was taken.
@@ -27,8 +73,30 @@ pub(super) fn open(
     outboxes: Vec<Arc<Outbox>>,
     acts: Arc<Acts>,
 ) -> Result<Arc<dyn Sink>, Ended> {
+    opened(folder.clone(), address, keep, takes_new, outboxes, acts)
+}
+
+/// The same for all instances of a store.
+pub(super) fn of_store(
+    store: &Arc<PostgresStore>,
+    address: &Address,
+    keep: Keep,
+    takes_new: bool,
+    acts: Arc<Acts>,
+) -> Result<Arc<dyn Sink>, Ended> {
+    opened(store.clone(), address, keep, takes_new, Vec::new(), acts)
+}
+
+fn opened(
+    place: Arc<dyn Place>,
+    address: &Address,
+    keep: Keep,
+    takes_new: bool,
+    outboxes: Vec<Arc<Outbox>>,
+    acts: Arc<Acts>,
+) -> Result<Arc<dyn Sink>, Ended> {
     let memory = Arc::new(Remembered {
-        folder: folder.clone(),
+        place,
         now: address.known(),
         takes_new: AtomicBool::new(takes_new),
         outboxes,
@@ -43,7 +111,7 @@ pub(super) fn open(
 impl Remembered {
     /// Before anything is made in a place that is another kind's.
     fn look_at_kind(&self) -> Result<(), Ended> {
-        match self.folder.sink() {
+        match self.place.sink()? {
             Some(known) if known.kind != self.now.kind && !self.takes_new.load(Relaxed) => {
                 Err(anyhow!(self.refusal(&known, &self.now)).into())
             }
@@ -55,14 +123,14 @@ impl Remembered {
     /// was met is remembered by now.
     fn look_at_address(&self) -> Result<(), Ended> {
         let takes_new = self.takes_new.load(Relaxed);
-        match self.folder.sink() {
+        match self.place.sink()? {
             Some(known) if known == self.now || !takes_new && known.is_at(&self.now) => Ok(()),
             Some(known) if !takes_new => Err(anyhow!(self.refusal(&known, &self.now)).into()),
-            known => Ok(self.remember(known, self.now.clone())?),
+            known => self.remember(known, self.now.clone()),
         }
     }
 
-    fn remember(&self, before: Option<KnownSink>, now: KnownSink) -> Result<(), Fault> {
+    fn remember(&self, before: Option<KnownSink>, now: KnownSink) -> Result<(), Ended> {
         let left = before.filter(|before| self.takes_new.load(Relaxed) && !before.is(&now));
         let act = left.as_ref().map(|left| {
             Act::new(
@@ -74,7 +142,7 @@ impl Remembered {
         if let Some(act) = &act {
             self.acts.begins(act);
         }
-        self.folder.set_sink(now.clone())?;
+        self.place.set_sink(now.clone())?;
         if let (Some(act), Some(left)) = (act, left) {
             let waiting = self.waiting();
             tracing::warn!(
@@ -88,8 +156,15 @@ impl Remembered {
         Ok(())
     }
 
-    fn waiting(&self) -> u64 {
-        self.outboxes.iter().map(|outbox| outbox.waiting().0).sum()
+    /// How many requests; of a store other instances have some too.
+    fn waiting(&self) -> String {
+        match &self.outboxes[..] {
+            [] => "those of all slots".into(),
+            outboxes => {
+                let all: u64 = outboxes.iter().map(|outbox| outbox.waiting().0).sum();
+                all.to_string()
+            }
+        }
     }
 
     fn refusal(&self, known: &KnownSink, now: &KnownSink) -> String {
@@ -98,18 +173,23 @@ impl Remembered {
             _ => now.to_string(),
         };
         format!(
-            "this folder delivers to {known}, and the sink is now {found}; requests that wait: {}. Set --sink (or \
+            "{} delivers to {known}, and the sink is now {found}; requests that wait: {}. Set --sink (or \
              TOTXEGUN_SINK) to the old one, or put it back; or give --new-sink for one start: what waits, and all after \
              it, goes into the new one",
+            self.place.name(),
             self.waiting()
         )
     }
 }
 
 impl Memory for Remembered {
+    fn databases(&self) -> Vec<Option<String>> {
+        self.place.databases()
+    }
+
     fn admit(&self, id: Option<&str>, is_replaced: bool) -> Result<(), String> {
         let now = self.now.with_id(id);
-        let known = self.folder.sink();
+        let known = self.place.sink().map_err(|fault| fault.to_string())?;
         let may_be = is_replaced || self.takes_new.load(Relaxed);
         match known {
             Some(known) if known == now => {

@@ -52,12 +52,17 @@ impl KnownSink {
 
     /// As the file `version` has it.
     pub(super) fn line(&self) -> String {
-        let id = self.id.as_deref().unwrap_or("-");
-        format!("sink {id} {} {}\n", self.kind, self.address)
+        format!("sink {}\n", self.text())
     }
 
-    /// Of what follows `sink `.
-    pub(super) fn read(line: &str) -> Option<KnownSink> {
+    /// As a store has it.
+    pub(crate) fn text(&self) -> String {
+        let id = self.id.as_deref().unwrap_or("-");
+        format!("{id} {} {}", self.kind, self.address)
+    }
+
+    /// Of such a text.
+    pub(crate) fn read(line: &str) -> Option<KnownSink> {
         let (id, rest) = line.split_once(' ')?;
         let (kind, address) = rest.split_once(' ')?;
         let is_id = !id.is_empty() && id.bytes().all(|byte| byte.is_ascii_hexdigit());
