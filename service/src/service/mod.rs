@@ -16,7 +16,7 @@ mod unit;
 mod units;
 mod waiting;
 
-pub(crate) use adopt::slot_of;
+pub(crate) use adopt::{leave_others, move_held, slot_of};
 pub use instance::OfStore;
 pub use operators::Operate;
 
@@ -195,6 +195,7 @@ async fn of_folder(
     signals: &mut Signals,
 ) -> Result<Opened, Ended> {
     let folder = Arc::new(Folder::open(&settings.data, settings.durability)?);
+    folder.counts()?;
     let operators = readers.and_socket(&settings.operate).await?;
     let keeping = settings.keeping();
     let ending = async { tracing::info!("{}: ending", signals.received().await) };

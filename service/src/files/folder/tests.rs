@@ -211,8 +211,8 @@ fn a_later_or_missing_version_is_refused_by_name() {
     let version = place.path().join("version");
     let text = std::fs::read_to_string(&version).unwrap();
     let refused = || open(place.path()).err().unwrap().to_string();
-    std::fs::write(&version, text.replacen("totxegun 1", "totxegun 3", 1)).unwrap();
-    assert!(refused().contains("format version 3"), "{}", refused());
+    std::fs::write(&version, text.replacen("totxegun 1", "totxegun 4", 1)).unwrap();
+    assert!(refused().contains("format version 4"), "{}", refused());
     for wrong in [
         "",
         "totxegun\n",
