@@ -150,9 +150,7 @@ impl<H: Here> Forward<H> {
 
     /// Waits until another has the slot, as far as is known, and not longer than this.
     async fn has_moved(&self, slot: u16, from: &Whose, places: &mut Watched, most: Duration) -> bool {
-        let moves = async {
-            while self.cluster.whose(slot) == *from && places.changed().await.is_ok() {}
-        };
+        let moves = async { while self.cluster.whose(slot) == *from && places.changed().await.is_ok() {} };
         timeout(most, moves).await.is_ok()
     }
 

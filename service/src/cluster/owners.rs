@@ -97,7 +97,7 @@ impl Owners {
         (self.stay, self.refusals.told())
     }
 
-    /// What each that lives can't open.
+    /// What those that live can't open.
     pub fn all_refused(&self) -> Vec<Refusal> {
         refused::all(&self.living)
     }
@@ -195,8 +195,7 @@ impl Owners {
             return;
         }
         let place_of = |row: &Row| {
-            let may = living.iter().filter(|(_, refused)| !refused.contains_key(&row.slot));
-            let place = place(row.slot, may.map(|(name, _)| name.as_str()));
+            let place = place(row.slot, refused::may_have(row.slot, &living));
             (row.slot, place.map(String::from))
         };
         self.places = self.rows.iter().map(place_of).collect();
@@ -363,7 +362,9 @@ impl Owners {
             self.refusals.failed(slot, reason);
             self.left_alone.insert(slot, (term, 1));
         }
-        self.others.staying().any(|(_, refused)| !refused.contains_key(&slot))
+        self.others
+            .staying()
+            .any(|(_, refused)| !refused.contains_key(&slot))
     }
 
     /// Another has it: seen by what writes to it. False where it was no more open here under that term.

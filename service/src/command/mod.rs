@@ -290,7 +290,10 @@ mod tests {
             ("serve --data d --store postgres://u@h/d --instance a", "--peer"),
             ("serve --data d --instance a", "--store"),
             ("serve --data d --peer-plain", "--store"),
-            ("serve --data d --store postgres://u@h/d --instance a --peer h:1 --peer-cert c", "--peer-key"),
+            (
+                "serve --data d --store postgres://u@h/d --instance a --peer h:1 --peer-cert c",
+                "--peer-key",
+            ),
             (
                 "serve --data d --store postgres://u@h/d --instance a --peer h:1 --peer-ca c --peer-plain",
                 "--peer-plain",

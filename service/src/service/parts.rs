@@ -72,7 +72,7 @@ impl Parts {
             dead,
             former,
         };
-        let opened = Opened::new(files, settings, &shared)?;
+        let opened = Opened::new(files, 1, settings, &shared)?;
         Parts::of(Of::Folder(Box::new(opened)), settings, shared, acts, sink)
     }
 

@@ -76,7 +76,10 @@ mod tests {
             panic!("it is not refused");
         };
         let text = why.to_string();
-        assert!(text.contains("--peer-ca") && text.contains("--peer-plain"), "{text}");
+        assert!(
+            text.contains("--peer-ca") && text.contains("--peer-plain"),
+            "{text}"
+        );
         let folder = tests::folder();
         tests::server(folder.path());
         let files = Files {
@@ -85,9 +88,14 @@ mod tests {
             key: folder.path().join("server.key"),
             client_ca: Some(folder.path().join("ca.pem")),
         };
-        let peers = bound(at("localhost:0", false, Some(files.clone()))).await.unwrap();
+        let peers = bound(at("localhost:0", false, Some(files.clone())))
+            .await
+            .unwrap();
         assert!(matches!(peers.wire(), Wire::Tls(_)));
-        assert!(bound(at("127.0.0.1:0", false, Some(files))).await.is_err(), "no name");
+        assert!(
+            bound(at("127.0.0.1:0", false, Some(files))).await.is_err(),
+            "no name"
+        );
         tokio::task::block_in_place(|| drop(peers));
     }
 }

@@ -17,10 +17,10 @@ trait Remembers: Send + Sync + 'static {
     fn sink(&self) -> Option<KnownSink>;
 
     /// Durable, or not done, when this returns.
-    fn set_sink(&self, sink: KnownSink) -> Result<(), String>;
+    fn set_sink(&self, sink: KnownSink) -> Result<(), Ended>;
 
-    /// Why it may not be another one now.
-    fn may_change(&self) -> Result<(), String>;
+    /// The error is why it may not be another one now.
+    fn may_change(&self) -> Result<(), Ended>;
 
     /// How many requests wait, where that is known.
     fn waiting(&self) -> Option<u64>;
@@ -112,11 +112,11 @@ impl Remembered {
         match self.place.sink() {
             Some(known) if known == self.now || !takes_new && known.is_at(&self.now) => Ok(()),
             Some(known) if !takes_new => Err(anyhow!(self.refusal(&known, &self.now)).into()),
-            known => Ok(self.remember(known, self.now.clone()).map_err(|why| anyhow!(why))?),
+            known => self.remember(known, self.now.clone()),
         }
     }
 
-    fn remember(&self, before: Option<KnownSink>, now: KnownSink) -> Result<(), String> {
+    fn remember(&self, before: Option<KnownSink>, now: KnownSink) -> Result<(), Ended> {
         let left = before.filter(|before| self.takes_new.load(Relaxed) && !before.is(&now));
         if left.is_some() {
             self.place.may_change()?;
@@ -139,7 +139,9 @@ impl Remembered {
                 "--new-sink: from here on all goes into {now}, also the requests that wait{shown}; {left} keeps what it has \
                  taken"
             );
-            let waited = waiting.map_or(String::new(), |waiting| format!("; requests that waited: {waiting}"));
+            let waited = waiting.map_or(String::new(), |waiting| {
+                format!("; requests that waited: {waiting}")
+            });
             self.acts.ended(&act, &format!("done{waited}"));
         }
         self.takes_new.store(false, Relaxed);
@@ -160,12 +162,12 @@ impl Remembers for InFolder {
         self.folder.sink()
     }
 
-    fn set_sink(&self, sink: KnownSink) -> Result<(), String> {
-        self.folder.set_sink(sink).map_err(|fault| fault.to_string())
+    fn set_sink(&self, sink: KnownSink) -> Result<(), Ended> {
+        Ok(self.folder.set_sink(sink)?)
     }
 
     /// The folder is this process' own.
-    fn may_change(&self) -> Result<(), String> {
+    fn may_change(&self) -> Result<(), Ended> {
         Ok(())
     }
 
@@ -199,7 +201,7 @@ impl Memory for Remembered {
             }
             Some(known) if !may_be && !known.is(&now) => Err(self.refusal(&known, &now)),
             _ if id.is_none() => Ok(()), // one is made now
-            known => self.remember(known, now),
+            known => self.remember(known, now).map_err(|ended| ended.to_string()),
         }
     }
 }

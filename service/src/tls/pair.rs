@@ -40,7 +40,9 @@ impl Pair {
             .ends;
         let key = private_key(of_key, key)?;
         let signing = any_supported_type(&key).map_err(|_| {
-            format!("the key of {of_key} is no RSA key of 2048 bits or more, nor one of P-256, P-384 or Ed25519")
+            format!(
+                "the key of {of_key} is no RSA key of 2048 bits or more, nor one of P-256, P-384 or Ed25519"
+            )
         })?;
         match is_for(first, signing.as_ref()) {
             None => Err(format!(

@@ -146,7 +146,10 @@ pub(crate) mod tests {
             ("ca", "ca", "others would not ask this instance"),
         ] {
             let why = peer(at.path(), name, ca).err().expect(part).to_string();
-            assert!(why.starts_with("--peer-ca can't be used") && why.contains(part), "{why}");
+            assert!(
+                why.starts_with("--peer-ca can't be used") && why.contains(part),
+                "{why}"
+            );
         }
         let files = Files {
             named: NAMED,

@@ -205,7 +205,10 @@ fn what_nobody_can_open_is_tried_again_later_and_later() {
     let terms = world.store.rows[3].term;
     assert!((6..20).contains(&terms), "{terms} tries in 400 beats");
     world.rounds(400);
-    assert!(world.store.rows[3].term - terms <= 8, "each tries it once a minute");
+    assert!(
+        world.store.rows[3].term - terms <= 8,
+        "each tries it once a minute"
+    );
     world.broken.clear();
     world.rounds(150);
     assert!(world.is_settled());
@@ -215,13 +218,22 @@ fn what_nobody_can_open_is_tried_again_later_and_later() {
 fn what_fails_once_it_is_open_is_let_go_with_its_reason() {
     let mut world = World::of(23, &["a", "b"]);
     world.rounds(200);
-    let row = world.store.rows.iter().find(|row| row.owner == "a").unwrap().clone();
+    let row = world
+        .store
+        .rows
+        .iter()
+        .find(|row| row.owner == "a")
+        .unwrap()
+        .clone();
     assert!(world.nodes[0].owners.failed(row.slot, row.term, "no memory"));
     assert_eq!(world.nodes[0].owners.whose()[&row.slot], Whose::Nobody);
     world.rounds(4);
     assert_eq!(world.store.rows[usize::from(row.slot)].owner, "b");
     let refused = world.nodes[1].owners.all_refused();
-    let refused: Vec<_> = refused.iter().map(|one| (one.slot, &*one.instance, &*one.reason)).collect();
+    let refused: Vec<_> = refused
+        .iter()
+        .map(|one| (one.slot, &*one.instance, &*one.reason))
+        .collect();
     assert_eq!(refused, [(row.slot, "a", "no memory")]);
     assert!(!world.nodes[0].owners.failed(row.slot, row.term, "late") || refused.len() == 1);
 }

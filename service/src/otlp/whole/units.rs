@@ -278,7 +278,10 @@ mod tests {
         let back = slot();
         back.note("a", unit("s"));
         assert_eq!(decide(&back, "s", true), "s");
-        assert_eq!([decide(&one, "s", false), decide(&other, "s", true)], ["us", "us"]);
+        assert_eq!(
+            [decide(&one, "s", false), decide(&other, "s", true)],
+            ["us", "us"]
+        );
         // What another slot has since been found to have changes nothing of a slot that has decided.
         let late = slot();
         late.note("a", unit("ms"));

@@ -1,8 +1,10 @@
 //! The sink as a store remembers it, for all its instances.
 
+use super::super::Ended;
 use super::Remembers;
 use crate::files::KnownSink;
 use crate::store::postgres::PostgresStore;
+use anyhow::{anyhow, Context};
 use std::collections::BTreeMap;
 use std::sync::{Arc, Mutex, MutexGuard, PoisonError};
 use std::thread::sleep;
@@ -31,9 +33,8 @@ impl InStore {
         self.known.lock().unwrap_or_else(PoisonError::into_inner) // one value is sound at any time
     }
 
-    fn beats(&self) -> Result<BTreeMap<String, u64>, String> {
-        let beats = self.store.beats();
-        beats.map_err(|fault| format!("the store can't be read: {fault}"))
+    fn beats(&self) -> Result<BTreeMap<String, u64>, Ended> {
+        Ok(self.store.beats().context("the store can't be read")?)
     }
 }
 
@@ -43,24 +44,25 @@ impl Remembers for InStore {
     }
 
     /// All instances deliver to one, so the first that meets it says so for all.
-    fn set_sink(&self, sink: KnownSink) -> Result<(), String> {
+    fn set_sink(&self, sink: KnownSink) -> Result<(), Ended> {
         let mut known = self.known();
         let before = known.as_ref().map(KnownSink::line).unwrap_or_default();
         let line = sink.line();
         let there = block_in_place(|| self.store.set_sink(&before, &line));
-        let there = there.map_err(|fault| format!("the store can't be written: {fault}"))?;
+        let there = there.context("the store can't be written")?;
         *known = KnownSink::of_line(&there);
         match &*known {
             Some(there) if there.is(&sink) || sink.id.is_none() && there.is_at(&sink) => Ok(()),
             there => {
                 let there = there.as_ref().map_or("none".into(), KnownSink::to_string);
-                Err(format!("another instance delivers to {there}, and this one to {sink}"))
+                let why = anyhow!("another instance delivers to {there}, and this one to {sink}");
+                Err(why.into())
             }
         }
     }
 
     /// What one has under way would go into the former sink, and what is not acknowledged there into both.
-    fn may_change(&self) -> Result<(), String> {
+    fn may_change(&self) -> Result<(), Ended> {
         let before = self.beats()?;
         if before.is_empty() {
             return Ok(());
@@ -72,10 +74,10 @@ impl Remembers for InStore {
         let living: Vec<&str> = after.keys().filter(beats).map(String::as_str).collect();
         match living[..] {
             [] => Ok(()),
-            _ => Err(format!(
+            _ => Err(Ended::Other(anyhow!(
                 "--new-sink is for one start while no other instance runs, and {} do: stop all first",
                 living.join(", ")
-            )),
+            ))),
         }
     }
 

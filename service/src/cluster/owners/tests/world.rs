@@ -34,16 +34,19 @@ impl Store {
     pub fn beat(&mut self, name: &str, (stay, refused): (Stay, Refused)) -> Seen {
         let row = self.instances.entry(name.into()).or_default();
         *row = (row.0 + 1, Some(stay), refused);
-        let instances = self.instances.iter().map(|(name, (beat, stay, refused))| Instance {
-            name: name.clone(),
-            address: if *stay == Some(Stay::Here) {
-                format!("{name}:1")
-            } else {
-                String::new()
-            },
-            beat: *beat,
-            refused: refused.clone(),
-        });
+        let instances = self
+            .instances
+            .iter()
+            .map(|(name, (beat, stay, refused))| Instance {
+                name: name.clone(),
+                address: if *stay == Some(Stay::Here) {
+                    format!("{name}:1")
+                } else {
+                    String::new()
+                },
+                beat: *beat,
+                refused: refused.clone(),
+            });
         Seen {
             instances: instances.collect(),
             slots: self.rows.clone(),
