@@ -69,7 +69,7 @@ SERVICE_STEPS = (
     ("behind_proxies.py", [], 60),
     ("two_services.py", ["0", "1", "--sink", "one"], 40),
     ("store.py", ["60"], 120),
-    ("several_machines.py", ["60"], 200),
+    ("several_machines.py", ["90"], 240),
     ("under_patroni.py", [], 200),
     ("demo.py", ["25"], 60),
     ("alerts.py", [], 60),
