@@ -1,22 +1,24 @@
 #!/usr/bin/env python3
 """Three instances over a store, each on a machine of its own, while machines and what is between them fail.
 
-    tests/several_machines.py TOTXEGUN [SECONDS [SEED]] [--sink otlp|postgres] [--long] [--other TOTXEGUN]
+    tests/several_machines.py TOTXEGUN [SECONDS [SEED,..]] [--sink otlp|postgres] [--long] [--other TOTXEGUN]
 
 Machines are network namespaces: three instances, a primary and its synchronous standby, and haproxy, which shares posts out in
 turn. Senders post requests of two resources, and so for two slots, by way of haproxy or each to one instance for a while, and
-repeat each post until it is answered. For SECONDS (60), and until each kind has come once, it befalls machines, drawn by SEED (1):
+repeat each post until it is answered. For SECONDS (90) it befalls machines, drawn by SEED, each kind once before one comes again:
 
   - an instance is killed, with its folder or without; all are; one is stopped for a while and goes on; one is ended, and hands over
   - one is a zombie: it is stopped while it delivers, until others have its slots, and goes on with the sink's answers
   - what goes from one machine to another is lost: instance and servers, instance and instance, haproxy and instance, instance and
     sink, one way only too
-  - the primary is killed; it is lost, or cut off while it lives, and the standby is promoted; the standby goes and comes back; the
-    two are cut off from each other; both are away
+  - the primary is killed; it is lost, unplugged, or cut off while it lives, and the standby is promoted; its commits are cancelled
+    in the wait for the standby, and then it is lost; the standby goes and comes back; the two are cut off from each other; both are
+    away
 
 The clocks of two instances are an hour ahead and an hour late, and instances are of two versions: TOTXEGUN, and a copy that says
-another version, or the program after --other. The sink is one of OTLP, or the database that the store is in. With --long what goes
-wrong lasts up to a minute, and the store is away for two; each four minutes it is looked what the sink has.
+another version, or the program after --other. For half of the time the sink is one of OTLP, and then the database that the store is
+in, on other machines. With --long what goes wrong lasts up to a minute, and the store is away for two; each four minutes it is looked
+what the sink has.
 
 At the end the sink has, series by series and bucket by bucket, what senders were told; no spans overlap, and each key brought the
 same bytes. It needs root, for the machines, PostgreSQL, haproxy, ip and gcc; where one is missing a line says so, and the status is
@@ -25,6 +27,7 @@ same bytes. It needs root, for the machines, PostgreSQL, haproxy, ip and gcc; wh
 import argparse
 import collections
 import contextlib
+import itertools
 import json
 import os
 import random
@@ -46,6 +49,9 @@ from store import OfTwoSlots, post_while
 
 LISTEN, OPERATE, PEER = 4318, 4319, 4320
 SLOTS, SENDERS = "12", 8
+SINKS = ("otlp", "postgres")
+# Of each sink one. By these two each kind of trouble comes once, where either has most of a minute.
+SEEDS = "59,28"
 # By the balancer; the others stay with an instance for so many seconds.
 BALANCED = 5
 PATIENCE = [0, 1, 5, 15]
@@ -160,7 +166,7 @@ def other_version(program, folder):
 class PostgresSink:
     """The database that the store is in, at the address that is led to whatever server writes."""
 
-    SPANS = """select coalesce(json_agg(json_build_array(name, start_ns::text, end_ns::text, value::text, sum, buckets)), '[]')
+    SPANS = """select coalesce(json_agg(json_build_array(name, start_ns::text, end_ns::text, value::text, sum, buckets::bigint[])), '[]')
         from totxegun.span join totxegun.series on series.id = span.series"""
 
     def __init__(self, store):
@@ -184,19 +190,19 @@ class PostgresSink:
 class World:
     """All machines, and what runs there."""
 
-    def __init__(self, stack, what, arguments, store, machines):
-        self.what, self.program = what, arguments.totxegun
+    def __init__(self, stack, what, arguments, seed, store, machines, sink="otlp"):
+        self.what, self.program, self.has_others = what, arguments.totxegun, False
         self.folder = stack.enter_context(tempfile.TemporaryDirectory(prefix="machines-"))
         self.router = Router(stack)
         self.store = store(*map(self.router.machine, machines))
         stack.callback(self.store.close)
-        self.sink = OtlpSink(arguments.seed, OWN) if arguments.sink == "otlp" else PostgresSink(self.store)
+        self.sink = OtlpSink(seed, OWN) if sink == "otlp" else PostgresSink(self.store)
         stack.callback(self.sink.close)
         programs = [self.program, arguments.other or other_version(self.program, self.folder)]
         self.instances = [self.instance(name, ahead, programs) for name, ahead in zip("abc", (0, HOUR, -HOUR))]
         self.balancer = Balancer(self.router.machine("balancer"), self.folder, self.instances)
         doors = [[self.balancer]] * BALANCED + [self.instances] * (SENDERS - BALANCED)
-        self.senders = [OverMachines(these, number, arguments.seed) for number, these in enumerate(doors)]
+        self.senders = [OverMachines(these, number, seed) for number, these in enumerate(doors)]
 
     def instance(self, name, ahead, programs):
         os.mkdir(f"{self.folder}/clock-{name}")
@@ -207,10 +213,14 @@ class World:
     def ask(self, query):
         return self.store.ask(query)
 
+    def points(self):
+        """What the sink has of all that these senders alone have posted."""
+        return [point for point in self.sink.points() if not self.has_others or point[0].startswith("sender-")]
+
     def missing(self):
         """The series of which the sink has something else than senders were told."""
         found = {}
-        add_points(found, self.sink.points())
+        add_points(found, self.points())
         return differences(told_to_all(self.senders), found)
 
     def is_ready(self):
@@ -238,7 +248,7 @@ def compare(checks, world):
     checks.true(f"{world.what}: the sink has what senders were told", wait_for(lambda: not world.missing()),
                 [world.missing(), world.last_lines()])
     senders = world.senders
-    checks.same(f"{world.what}: no spans overlap", [], overlaps(world.sink.points()))
+    checks.same(f"{world.what}: no spans overlap", [], overlaps(world.points()))
     checks.same(f"{world.what}: a key brings the same bytes", [], world.sink.wrong())
     checks.same(f"{world.what}: no post was answered otherwise", [], [it for sender in senders for it in sender.surprises][:3])
     checks.same(f"{world.what}: the service found nothing wrong", [], [fault for one in world.instances for fault in one.faults()])
@@ -250,6 +260,7 @@ def phase(checks, world, troubles, seconds):
     world.sink.mood(MOODS)
     answered = post_while(world.senders, lambda: faults.extend(befall(world, troubles, seconds)), IN_THE_END)
     checks.same(f"{world.what}: what befell them was done", [], faults)
+    checks.same(f"{world.what}: posts are answered", [], [it for one in troubles for it in one.silences])
     checks.true(f"{world.what}: each post is answered", answered, world.last_lines())
     checks.true(f"{world.what}: all are ready", wait_for(world.is_ready), world.last_lines())
     compare(checks, world)
@@ -279,17 +290,22 @@ def serving(checks, world, seed):
     checks.same(f"{world.what}: all slots are handed over", "", owners)
 
 
-def work(checks, arguments, stack):
-    world = World(stack, "several machines", arguments, Pair, "ps")
-    with serving(checks, world, arguments.seed) as serves:
-        troubles = [of(world, arguments.seed, arguments.long) for of in (OfMachines, OfServers)]
-        until = time.monotonic() + arguments.seconds
+def run_over(checks, arguments, stack, sink, seed, seconds):
+    world = World(stack, f"several machines, {sink}", arguments, seed, Pair, "ps", sink)
+    troubles = [of(world, seed, arguments.long) for of in (OfMachines, OfServers)]
+    with serving(checks, world, seed) as serves:
+        until = time.monotonic() + seconds
         while serves and (left := until - time.monotonic()) > 0 and not checks.failed:
-            phase(checks, world, troubles, min(left, LONG_PHASE) if arguments.long else left)
-            # A short one is over with its first phase.
-            until = until if arguments.long else 0
+            phase(checks, world, troubles, min(left, LONG_PHASE))
     counts = collections.Counter(kind for one in troubles for kind in one.done)
     print("note: " + ", ".join(f"{kind} {count}" for kind, count in sorted(counts.items())), flush=True)
+
+
+def work(checks, arguments, _):
+    seeds = itertools.cycle(arguments.seed.split(","))
+    for sink, seed in zip(arguments.sink, seeds):
+        with contextlib.ExitStack() as of_it:
+            run_over(checks, arguments, of_it, sink, seed, arguments.seconds / len(arguments.sink))
 
 
 def missing(*more):
@@ -299,15 +315,17 @@ def missing(*more):
             *([] if may_have_machines() else ["network namespaces"])]
 
 
-def options(about, seconds=60):
+def options(about, seconds=90):
     parser = argparse.ArgumentParser(description=about.split("\n", maxsplit=1)[0])
     parser.add_argument("totxegun", type=os.path.abspath)
     parser.add_argument("seconds", type=float, nargs="?", default=seconds)
-    parser.add_argument("seed", nargs="?", default="1")
-    parser.add_argument("--sink", choices=("otlp", "postgres"), default="otlp")
+    parser.add_argument("seed", nargs="?", default=SEEDS)
+    parser.add_argument("--sink", choices=SINKS, action="append")
     parser.add_argument("--long", action="store_true")
     parser.add_argument("--other", type=os.path.abspath)
-    return parser.parse_args()
+    arguments = parser.parse_args()
+    arguments.sink = arguments.sink or SINKS
+    return arguments
 
 
 def run(what, work, arguments, *lacking):

@@ -10,6 +10,11 @@ from service import wait_until
 
 SHORT, LONG = [0.5, 1, 2, 4], [1, 2, 5, 10, 20, 40, 60]
 AWAY = {False: 6, True: 120}
+# Between two troubles.
+POSTS, POST_WITHIN = [0, 10, 50], 5
+# After a silence of what is unplugged, which takes half a minute to be noticed.
+ANSWERED_WITHIN = 150
+CANCEL = "select count(pg_cancel_backend(pid)) from pg_stat_activity where wait_event = 'SyncRep'"
 # Until others have a zombie's slots; it goes on anyway after that.
 TAKEN_WITHIN = 30
 
@@ -20,19 +25,24 @@ class Trouble:
     def __init__(self, world, seed, is_long):
         self.world, self.is_long = world, is_long
         self.chance = random.Random(f"{type(self).__name__} {seed}")
-        self.done, self.fault = [], None
+        self.left, self.done, self.fault, self.silences = [], [], None, []
 
     def go_on(self, until):
-        """Until then, and until each kind has come."""
-        kinds = self.kinds()
-        while True:
-            self.chance.shuffle(kinds)
-            for kind in kinds:
-                self.done.append(kind.__name__)
-                kind()
-                time.sleep(self.chance.choice([0, 0.5, 2]))
-            if time.monotonic() > until:
-                return
+        while time.monotonic() < until:
+            if not self.left:
+                self.left = self.kinds()
+                self.chance.shuffle(self.left)
+            kind = self.left.pop()
+            self.done.append(kind.__name__)
+            kind()
+            self.let_post(self.chance.choice(POSTS))
+
+    def let_post(self, count, seconds=POST_WITHIN):
+        """Whether so many posts more were answered within so many seconds."""
+        def posts():
+            return sum(sender.posts for sender in self.world.senders)
+        wanted = posts() + count
+        return wait_until(lambda: posts() >= wanted or time.sleep(0.1), seconds)
 
     def guarded(self, until):
         try:
@@ -125,7 +135,7 @@ class OfServers(Trouble):
     """To the servers: at the end of each kind one writes and the other is its synchronous standby."""
 
     def kinds(self):
-        return [self.restarted, self.lost, self.cut_off, self.standby_gone, self.apart, self.away]
+        return [self.restarted, self.lost, self.unplugged, self.cut_off, self.cancelled, self.standby_gone, self.apart, self.away]
 
     def restarted(self):
         self.world.store.restart()
@@ -136,6 +146,28 @@ class OfServers(Trouble):
         store.primary.kill()
         store.promote()
         self.wait()
+        store.make_standby()
+
+    def unplugged(self):
+        """No instance hears of it: it is silent from one moment to another, and the other server has a standby on its machine."""
+        store = self.world.store
+        with self.world.router.cut(*both_ways(store.primary.machine, *(one.machine for one in self.world.instances))):
+            store.primary.kill()
+            store.promote()
+            store.make_standby()
+            if not self.let_post(1 + len(self.world.senders), ANSWERED_WITHIN):
+                self.silences.append(f"no posts were answered {ANSWERED_WITHIN} s after a server was unplugged")
+
+    def cancelled(self):
+        """The standby is away, and who waits for it is told that his commit is done: then the primary is lost with that."""
+        store = self.world.store
+        with self.world.router.cut(*both_ways(store.primary.machine, store.standby.machine)):
+            self.wait()
+            for _ in range(3):
+                store.ask(CANCEL)
+                self.wait()
+            store.primary.kill()
+        store.promote()
         store.make_standby()
 
     def cut_off(self):

@@ -253,7 +253,7 @@ def is_postgres(pid):
 
 
 def work(checks, arguments, stack):
-    world = World(stack, WHAT, arguments, UnderPatroni, ("etcd", "p", "s"))
+    world = World(stack, WHAT, arguments, arguments.seed, UnderPatroni, ("etcd", "p", "s"))
     world.between = arguments.seconds
     world.store.make_standby()
     lacking = sdk_go.missing()
@@ -264,6 +264,7 @@ def work(checks, arguments, stack):
         if not serves:
             return
         if sdk and not sdk.fault:
+            world.has_others = True
             sdk.start()
         phase(checks, world, [OfPatroni(world, arguments.seed, False)], 0)
         if sdk and not sdk.fault:

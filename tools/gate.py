@@ -70,7 +70,7 @@ SERVICE_STEPS = (
     ("two_services.py", ["0", "1", "--sink", "one"], 40),
     ("store.py", ["60"], 120),
     ("store_peers.py", [], 150),
-    ("several_machines.py", ["60"], 200),
+    ("several_machines.py", ["90"], 240),
     ("under_patroni.py", [], 200),
     ("demo.py", ["25"], 60),
     ("alerts.py", [], 60),
