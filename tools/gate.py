@@ -69,6 +69,8 @@ SERVICE_STEPS = (
     ("behind_proxies.py", [], 60),
     ("two_services.py", ["0", "1", "--sink", "one"], 40),
     ("store.py", ["60"], 120),
+    ("store_move.py", ["29"], 240),
+    ("store_databases.py", [], 120),
     ("demo.py", ["25"], 60),
     ("alerts.py", [], 60),
     ("pages.py", [], 40),

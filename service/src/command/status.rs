@@ -223,6 +223,7 @@ mod tests {
                 most_memory_bytes: 1 << 30,
             },
             slots: vec![slot],
+            silent: Vec::new(),
             senders: Vec::new(),
             cumulative: CumulativeStatus::default(),
             rounded: Vec::new(),

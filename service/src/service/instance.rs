@@ -51,8 +51,8 @@ pub(super) struct Joining {
 impl Joining {
     /// Waits for the store, but not for ever.
     pub async fn open(of: &OfStore, peer: TcpListener) -> Result<Joining, Ended> {
-        let (databases, copies, reading) = (of.databases.clone(), of.copies, of.reading.clone());
-        let opened = blocking(move || PostgresStore::open(&databases, copies, &reading)).await;
+        let (databases, copies) = (of.databases.clone(), of.copies);
+        let opened = blocking(move || PostgresStore::join(&databases, copies)).await;
         let store = opened.context("the store can't be used")?;
         let secret =
             Secret::new(&store.cluster.secret).ok_or_else(|| anyhow!("the store's secret is no head"))?;

@@ -205,7 +205,11 @@ async fn of_store(settings: &Settings, of: &OfStore, readers: Readers) -> Result
     std::fs::create_dir_all(&settings.data).with_context(|| format!("the folder {folder} can't be made"))?;
     let operators = readers.and_socket(&settings.operate).await?;
     let joining = Joining::open(of, peer).await?;
-    Ok((Parts::of_store(joining, settings)?, operators))
+    let store = joining.store.clone();
+    let parts = Parts::of_store(joining, settings)?;
+    // An instance whose sink is refused says nothing to the others.
+    store.agree(&of.reading).context("the store can't be used")?;
+    Ok((parts, operators))
 }
 
 /// The signals that end the service.
