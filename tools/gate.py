@@ -72,6 +72,8 @@ SERVICE_STEPS = (
     ("store_peers.py", [], 150),
     ("several_machines.py", ["90"], 240),
     ("under_patroni.py", [], 200),
+    ("store_move.py", ["29"], 240),
+    ("store_databases.py", [], 120),
     ("demo.py", ["25"], 60),
     ("alerts.py", [], 60),
     ("pages.py", [], 40),

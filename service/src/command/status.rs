@@ -215,7 +215,6 @@ mod tests {
             listen: "127.0.0.1:4318".into(),
             data: "/data".into(),
             sink: "/data/metrics.db".into(),
-            silent: Vec::new(),
             dead: 0,
             books: BooksStatus {
                 count: 13,
@@ -224,6 +223,7 @@ mod tests {
                 most_memory_bytes: 1 << 30,
             },
             slots: vec![slot],
+            silent: Vec::new(),
             senders: Vec::new(),
             cumulative: CumulativeStatus::default(),
             rounded: Vec::new(),

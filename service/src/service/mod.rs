@@ -224,7 +224,11 @@ async fn of_store(
     match waiting::store(settings, of, before, ending).await? {
         Some(store) => {
             let joining = Joining::new(of, peers, store)?;
-            Ok(Some((Parts::of_store(joining, settings)?, senders, operators)))
+            let store = joining.store.clone();
+            let parts = Parts::of_store(joining, settings)?;
+            // An instance whose sink is refused says nothing to the others.
+            store.agree(&of.reading).context("the store can't be used")?;
+            Ok(Some((parts, senders, operators)))
         }
         None => Ok(None),
     }

@@ -105,12 +105,22 @@ impl Place {
     }
 }
 
-/// A number that no other move has.
-fn draw() -> Result<String, MoveFault> {
-    let mut drawn = [0; 8];
-    let read = File::open("/dev/urandom").and_then(|mut file| file.read_exact(&mut drawn));
-    read.map_err(StoreFault::System)?;
-    Ok(format!("{:016x}", u64::from_le_bytes(drawn)))
+impl Place {
+    /// A name of a move that no other has: that of the store, and a number.
+    fn draw(&self) -> Result<String, MoveFault> {
+        let mut drawn = [0; 8];
+        let read = File::open("/dev/urandom").and_then(|mut file| file.read_exact(&mut drawn));
+        read.map_err(StoreFault::System)?;
+        Ok(format!("{}{:016x}", self.store.cluster.id, u64::from_le_bytes(drawn)))
+    }
+
+    /// Another store knows nothing of the move, and what it has come to.
+    fn check_is_its(&self, folder: &Path, mark: &Mark) -> Result<(), MoveFault> {
+        match mark.id.starts_with(&self.store.cluster.id) {
+            true => Ok(()),
+            false => refused(format!("{} {}: {} is another store", folder.display(), mark.refusal(folder), self.address)),
+        }
+    }
 }
 
 fn absolute(folder: &Path) -> Result<PathBuf, MoveFault> {
@@ -132,13 +142,16 @@ pub fn from_folder(folder: &Path, servers: &[Server], copies: Copies) -> Result<
     }
     let folder = Folder::open(&path, Durability::Disk)?;
     let place = Place::open(servers, copies)?;
+    if let Some(mark) = folder.mark() {
+        place.check_is_its(&path, &mark)?;
+    }
     let id = match folder.mark() {
         Some(mark) if mark.way == Way::Left && place.store.standing()?.id == mark.id => return Ok(None),
         Some(mark) if mark.way != Way::Leaving => return refused(format!("{} {}", path.display(), mark.refusal(&path))),
         Some(mark) => mark.id,
         None => {
             place.check_unused()?;
-            let id = draw()?;
+            let id = place.draw()?;
             folder.set_mark(Some(place.mark(Way::Leaving, &id)))?;
             id
         }
@@ -196,7 +209,7 @@ fn fill_store(folder: &Folder, store: &PostgresStore, id: &str) -> Result<Moved,
             one.number + 1
         ));
     }
-    let mut moved = content.moved();
+    let (mut moved, dead) = (content.moved(), folder.dead()?);
     let numbers: Vec<u16> = (0..slots).collect();
     for some in numbers.chunks(SIDE_BY_SIDE) {
         let mut all = Vec::new();
@@ -219,11 +232,12 @@ fn fill_store(folder: &Folder, store: &PostgresStore, id: &str) -> Result<Moved,
                 }
             })?;
         }
-        if let Some((_, to)) = all.iter_mut().find(|(_, to)| to.number == 0) {
-            (moved.posts, moved.letters) = (posts.count, to.take_letters(&folder.dead()?)?);
-        }
+        moved.posts = posts.count;
         for (term, to) in all {
             let number = to.number;
+            // Operators look for a letter in the slot of its key.
+            let is_its = |slot| slot == number || number == 0 && slot >= slots;
+            moved.letters += to.take_letters(&dead, is_its)?;
             to.end()?;
             store.release_moved(number, term)?;
         }
@@ -243,26 +257,31 @@ pub fn to_folder(folder: &Path, servers: &[Server], copies: Copies) -> Result<Op
     let place = Place::open(servers, copies)?;
     let folder = Folder::open(&path, Durability::Disk)?;
     let seen = place.store.standing()?;
-    let id = match folder.mark() {
-        Some(mark) if mark.way != Way::Coming => return refused(format!("{} {}", path.display(), mark.refusal(&path))),
-        Some(mark) if mark.id == seen.id && seen.state == State::Gone => {
+    if let Some(mark) = folder.mark() {
+        place.check_is_its(&path, &mark)?;
+        if mark.way != Way::Coming {
+            return refused(format!("{} {}", path.display(), mark.refusal(&path)));
+        }
+        if mark.id == seen.id && seen.state == State::Gone {
             place.store.follow(&seen)?;
             folder.set_mark(None)?;
             return Ok(None);
         }
+    }
+    if !matches!(seen.state, State::Counts | State::Leaving) {
+        return refused(seen.refusal().unwrap_or_default());
+    }
+    let id = match folder.mark() {
         Some(mark) => mark.id,
         None if !folder.is_empty()? => {
             return refused(format!("{} has something already: give a folder that is new", path.display()));
         }
         None => {
-            let id = draw()?;
+            let id = place.draw()?;
             folder.set_mark(Some(place.mark(Way::Coming, &id)))?;
             id
         }
     };
-    if !matches!(seen.state, State::Counts | State::Leaving) {
-        return refused(seen.refusal().unwrap_or_default());
-    }
     let leaving = match seen.state == State::Leaving && seen.id == id {
         true => seen,
         false => {
@@ -293,7 +312,7 @@ fn fill_folder(store: &PostgresStore, folder: &Folder, id: &str) -> Result<Moved
         let term = store.take_to_move(number, id)?;
         let (from, dead) = From::slot(store, number, term)?;
         posts.each(&from, |_, post, names| to.put(post, names))?;
-        moved.letters += to.take_letters(&dead)?;
+        moved.letters += to.take_letters(&dead, |_| true)?;
         if number == 0 {
             to.begin(content.with(from).beginning(0, 1))?;
             let first = content.from.iter().find(|from| from.number == 0);
@@ -338,6 +357,7 @@ pub fn give_up(folder: Option<&Path>, servers: &[Server], copies: Copies) -> Res
     let Some(mark) = folder.mark().filter(|mark| mark.way == Way::Leaving) else {
         return refused(format!("{} is on its way into no store", path.display()));
     };
+    place.check_is_its(&path, &mark)?;
     if seen.id == mark.id && seen.state == State::Counts {
         return refused(format!("the store has all of {} already, and counts", path.display()));
     }
@@ -363,14 +383,14 @@ fn empty_store(store: &PostgresStore, id: &str) -> Result<(), MoveFault> {
 
 /// What a store says of a folder with a mark: whether the folder counts.
 pub fn folder_counts(mark: &Mark, servers: &[Server]) -> Result<bool, MoveFault> {
+    if mark.way == Way::Left {
+        return Ok(false);
+    }
     let standing = PostgresStore::look_into(servers, Copies::One)?.standing()?;
     let is_its = standing.id == mark.id;
     Ok(match mark.way {
         Way::Leaving => !(is_its && matches!(standing.state, State::Counts | State::Leaving | State::Gone)),
-        Way::Left => false,
+        Way::Left => false, // whatever became of the store
         Way::Coming => is_its && standing.state == State::Gone,
     })
 }
-
-#[cfg(test)]
-mod tests;

@@ -64,9 +64,14 @@ impl To {
         }
     }
 
-    pub fn take_letters(&self, from: &Dead) -> Result<u64, Fault> {
+    /// Takes the letters that are wanted, by the slot of their keys: how many.
+    pub fn take_letters(&self, from: &Dead, is_wanted: impl Fn(u16) -> bool) -> Result<u64, Fault> {
         let mut letters = 0;
         from.each(|key, bytes| {
+            let slot = key.split('-').next().and_then(|slot| slot.parse().ok());
+            if !is_wanted(slot.unwrap_or(0)) {
+                return Ok(());
+            }
             letters += 1;
             self.dead.put(key, &bytes)
         })?;

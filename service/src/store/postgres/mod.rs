@@ -136,12 +136,22 @@ impl PostgresStore {
 
     /// `reading` is what the meaning of posts hangs on: all instances have to say the same.
     pub fn open(servers: &[Server], copies: Copies, reading: &str) -> Result<PostgresStore, StoreFault> {
+        let store = PostgresStore::join(servers, copies)?;
+        store.agree(reading)?;
+        Ok(store)
+    }
+
+    /// The same before it is known whether the instance may start: it has not agreed yet.
+    pub fn join(servers: &[Server], copies: Copies) -> Result<PostgresStore, StoreFault> {
         let store = PostgresStore::look_into(servers, copies)?;
         store.admit()?;
-        let (all, reading) = (servers.to_vec(), reading.to_string());
-        let agreeing = async move { schema::agree(&all, &reading).await };
-        store.runtime.wait(agreeing).unwrap_or_else(|| Err(ended()))?;
         Ok(store)
+    }
+
+    pub fn agree(&self, reading: &str) -> Result<(), StoreFault> {
+        let (server, reading) = (self.databases[0].taker.server.clone(), reading.to_string());
+        let agreeing = async move { schema::agree(&server, &reading).await };
+        self.runtime.wait(agreeing).unwrap_or_else(|| Err(ended()))
     }
 
     /// The same where nothing is served, whether it counts or not.
