@@ -117,8 +117,7 @@ impl Taker for Slot {
     }
 
     fn post(self: &Arc<Self>, sender: String, request: Request) -> impl Future<Output = Outcome> + Send {
-        let slot = self.clone();
-        async move { slot.request(sender, request).await }
+        self.request(sender, request)
     }
 }
 

@@ -355,6 +355,9 @@ impl<T: Taker> Taker for Remarks<T> {
         let teller = &self.teller;
         let source = request.source();
         let outcome = self.taker.post(sender.into(), request).await;
+        if let Outcome::Taken { rejected: 0, .. } = outcome {
+            return outcome; // as nearly all are: nothing is to be said
+        }
         teller.note_clock(sender, &outcome);
         let remark = teller.remark(sender, &outcome);
         let outcome = teller.in_words(sender, &source, original, outcome).await;

@@ -16,7 +16,7 @@ mod unit;
 mod units;
 mod waiting;
 
-pub(crate) use adopt::slot_of;
+pub(crate) use adopt::{leave_others, move_held, slot_of};
 pub use instance::OfStore;
 pub use operators::Operate;
 
@@ -195,6 +195,7 @@ async fn of_folder(
     signals: &mut Signals,
 ) -> Result<Opened, Ended> {
     let folder = Arc::new(Folder::open(&settings.data, settings.durability)?);
+    folder.counts()?;
     let operators = readers.and_socket(&settings.operate).await?;
     let keeping = settings.keeping();
     let ending = async { tracing::info!("{}: ending", signals.received().await) };
@@ -223,7 +224,11 @@ async fn of_store(
     match waiting::store(settings, of, before, ending).await? {
         Some(store) => {
             let joining = Joining::new(of, peers, store)?;
-            Ok(Some((Parts::of_store(joining, settings)?, senders, operators)))
+            let store = joining.store.clone();
+            let parts = Parts::of_store(joining, settings)?;
+            // An instance whose sink is refused says nothing to the others.
+            store.agree(&of.reading).context("the store can't be used")?;
+            Ok(Some((parts, senders, operators)))
         }
         None => Ok(None),
     }

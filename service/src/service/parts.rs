@@ -145,6 +145,7 @@ impl Parts {
             metrics.clone(),
         );
         let intake = Arc::new(intake);
+        let store = joining.as_ref().map(|joining| joining.store.clone());
         let joined = joining.zip(settings.store.as_ref()).map(|(joining, of)| {
             let of_instance = Units {
                 settings: settings.clone(),
@@ -159,6 +160,7 @@ impl Parts {
         let desk = Desk {
             units,
             cluster: joined.as_ref().map(Joined::cluster),
+            store,
             shares: self.shared.shares.clone(),
             acts: self.acts,
             sink: self.sink,

@@ -26,6 +26,11 @@ trait Remembers: Send + Sync + 'static {
     fn waiting(&self) -> Option<u64>;
 
     fn refusal(&self, known: &KnownSink, found: &str) -> String;
+
+    /// Of a store, which databases it is in.
+    fn databases(&self) -> Vec<Option<String>> {
+        Vec::new()
+    }
 }
 
 struct InFolder {
@@ -181,6 +186,10 @@ impl Remembers for InFolder {
 }
 
 impl Memory for Remembered {
+    fn databases(&self) -> Vec<Option<String>> {
+        self.place.databases()
+    }
+
     fn admit(&self, id: Option<&str>, is_replaced: bool) -> Result<(), String> {
         let now = self.now.with_id(id);
         let known = self.place.sink();

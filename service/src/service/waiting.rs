@@ -34,8 +34,8 @@ static TOLD: Seldom = Seldom::every(Duration::from_secs(10));
 /// Tries until it answers, or says what waiting does not mend.
 async fn tried(of: &OfStore) -> Result<PostgresStore, Ended> {
     loop {
-        let (databases, copies, reading) = (of.databases.clone(), of.copies, of.reading.clone());
-        match blocking(move || PostgresStore::open(&databases, copies, &reading)).await {
+        let (databases, copies) = (of.databases.clone(), of.copies);
+        match blocking(move || PostgresStore::join(&databases, copies)).await {
             Err(fault) if fault.may_pass() => {
                 if TOLD.is_due() {
                     let reason = fault.to_string();

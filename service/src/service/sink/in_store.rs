@@ -85,6 +85,10 @@ impl Remembers for InStore {
         None
     }
 
+    fn databases(&self) -> Vec<Option<String>> {
+        self.store.databases()
+    }
+
     fn refusal(&self, known: &KnownSink, found: &str) -> String {
         format!(
             "the instances of this store deliver to {known}, and the sink is now {found}. Set --sink (or TOTXEGUN_SINK) to the \

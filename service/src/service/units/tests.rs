@@ -116,6 +116,7 @@ impl Service {
         );
         let desk = Arc::new(Desk {
             cluster: None,
+            store: None,
             units: of_desk,
             shares: shared.shares.clone(),
             acts: Arc::new(Acts::in_folder(&place)),

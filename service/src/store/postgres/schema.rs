@@ -212,9 +212,8 @@ pub(super) async fn set_sink(server: &Server, before: &str, now: &str) -> Result
 }
 
 /// The first instance that starts says how posts are read, and the others as it does.
-pub(super) async fn agree(servers: &[Server], reading: &str) -> Result<(), StoreFault> {
+pub(super) async fn agree(server: &Server, reading: &str) -> Result<(), StoreFault> {
     let first = "update totxegun_store.cluster set reading = $1 where reading = ''";
-    let server = servers.first().ok_or(StoreFault::Nowhere)?;
     let (client, _driver) = connect(server).await?;
     let agreeing = async {
         client.execute(first, &[&reading]).await?;

@@ -15,14 +15,16 @@ const BEAT: &str =
     refused = excluded.refused";
 const INSTANCES: &str = "select name, address, beat, refused from totxegun_store.instance";
 const SLOTS: &str = "select slot, term, owner from totxegun_store.slot";
+/// Not while what is in the store is being moved, or where it is gone.
 const TAKE: &str =
-    "update totxegun_store.slot set term = term + 1, link = 0, owner = $3 where slot = $1 and term = $2";
-const RELEASE: &str = "update totxegun_store.slot set owner = '' where slot = $1 and term = $2";
+    "update totxegun_store.slot set term = term + 1, link = 0, owner = $3 where slot = $1 and term = $2
+    and exists (select from totxegun_store.cluster where state = 'counts')";
+pub(super) const RELEASE: &str = "update totxegun_store.slot set owner = '' where slot = $1 and term = $2";
 const LEAVE: &str = "delete from totxegun_store.instance where name = $1";
 
 impl Shared {
     /// A write that is done without a doubt, or an error: then it may be done, or be done later.
-    async fn write(&self, text: &str, values: &[&(dyn ToSql + Sync)]) -> Result<u64, Doubt> {
+    pub(super) async fn write(&self, text: &str, values: &[&(dyn ToSql + Sync)]) -> Result<u64, Doubt> {
         let session = self.session().await?;
         let written = session.written(session.client.execute(text, values)).await;
         self.heard(&session, written).await
@@ -35,7 +37,7 @@ impl Shared {
         Ok(rows?.iter().map(each).collect())
     }
 
-    async fn heard<T>(&self, session: &Arc<Session>, answer: Result<T, Doubt>) -> Result<T, Doubt> {
+    pub(super) async fn heard<T>(&self, session: &Arc<Session>, answer: Result<T, Doubt>) -> Result<T, Doubt> {
         if let Err(doubt) = &answer {
             self.note(session, doubt).await;
         }
