@@ -1,7 +1,7 @@
 //! Each call that may say that there is no memory, at the sizes that are limits: with memory it does not say so, and does what
 //! it is asked. No contract can say that. `service/wrong` has a library for each that says so all the same.
 
-use super::book::Names as Numbers;
+use super::book::{Names as Numbers, Reader};
 use super::*;
 
 /// The longest request.
