@@ -285,7 +285,8 @@ def serving(checks, world, seed):
           f" {sum(one.starts for one in world.instances)} starts, versions {versions}", flush=True)
     for one in world.instances:
         one.is_wanted = False
-        checks.same(f"{world.what}: {one.machine.name} ends", 0, one.end(IN_THE_END)[0])
+        status, seconds = one.end(IN_THE_END)
+        checks.true(f"{world.what}: {one.machine.name} ends", status == 0, f"status {status} after {seconds:.0f} s: {one.last_lines()}")
     owners = world.ask("select string_agg(distinct owner, ',') from totxegun_store.slot")
     checks.same(f"{world.what}: all slots are handed over", "", owners)
 
