@@ -102,7 +102,8 @@ class Instance(Service):
     """On a machine of its own; what starts it anew where it has ended stands for its unit."""
 
     def __init__(self, machine, folder, store, sink, clock, programs):
-        options = ["--store", store.address, "--instance", machine.name, "--peer", f"{machine.address}:{PEER}", "--flush-every", "1s"]
+        options = ["--store", store.address, "--instance", machine.name, "--peer", f"{machine.address}:{PEER}", "--peer-plain"]
+        options += ["--flush-every", "1s"]
         super().__init__(programs[0], f"{folder}/{machine.name}", sink.address, *options, host=machine.address, ports=(LISTEN, OPERATE),
                          before=machine.on())
         self.machine, self.clock, self.programs = machine, clock, programs
