@@ -26,7 +26,7 @@ from checks import Checks  # noqa: E402
 from loopback import free_port  # noqa: E402
 from parts import initdb  # noqa: E402
 from service import DELTA, JSON, OtlpSink, Service, wait_until  # noqa: E402
-from store import Server  # noqa: E402
+from servers import Server  # noqa: E402
 
 SLOTS = 8
 SECOND = 1_000_000_000
