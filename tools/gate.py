@@ -69,6 +69,7 @@ SERVICE_STEPS = (
     ("behind_proxies.py", [], 60),
     ("two_services.py", ["0", "1", "--sink", "one"], 40),
     ("store.py", ["60"], 120),
+    ("orders_anywhere.py", [], 60),
     ("demo.py", ["25"], 60),
     ("alerts.py", [], 60),
     ("pages.py", [], 40),

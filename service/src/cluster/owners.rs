@@ -5,6 +5,7 @@
 //! that one of them was first.
 
 mod others;
+mod shown;
 mod step;
 
 pub use step::{Step, Whose};

@@ -10,6 +10,8 @@ use crate::files::drive::{self, Drive};
 use crate::files::Fault;
 use crate::intake::connections::{serve, Limits};
 use crate::intake::Intake;
+use crate::metrics::{Metrics, OfCluster};
+use crate::operate::{Databases, Desk, Others};
 use crate::remarks::Remarks;
 use crate::slot::{Slot, Slots};
 use crate::store::postgres::{Copies, Member, PostgresDrive, PostgresStore, Server};
@@ -46,11 +48,13 @@ pub(super) struct Joining {
     pub forward: Arc<Forward<Here>>,
     secret: Secret,
     peer: TcpListener,
+    /// Of who is shown the cluster.
+    metrics: Option<OfCluster>,
 }
 
 impl Joining {
     /// Waits for the store, but not for ever.
-    pub async fn open(of: &OfStore, peer: TcpListener) -> Result<Joining, Ended> {
+    pub async fn open(of: &OfStore, peer: TcpListener, metrics: &Metrics) -> Result<Joining, Ended> {
         let (databases, copies, reading) = (of.databases.clone(), of.copies, of.reading.clone());
         let opened = blocking(move || PostgresStore::open(&databases, copies, &reading)).await;
         let store = opened.context("the store can't be used")?;
@@ -64,15 +68,36 @@ impl Joining {
             forward,
             secret,
             peer,
+            metrics: Some(OfCluster::new(&metrics.registry).context("no metrics can be made")?),
+        })
+    }
+
+    /// How operators reach the other instances; once.
+    pub fn others(&mut self, of: &OfStore) -> Option<Others> {
+        Some(Others {
+            metrics: self.metrics.take()?,
+            cluster: self.cluster.clone(),
+            asks: self.forward.clone(),
+            databases: Databases::begin(&self.store, of.copies),
+            instance: of.instance.clone(),
+            address: of.peer.clone(),
         })
     }
 
     /// Takes slots from now on.
-    pub fn join(self, settings: &Settings, of: &OfStore, units: Units, intake: &Arc<Here>) -> Joined {
+    pub fn join(
+        self,
+        settings: &Settings,
+        of: &OfStore,
+        units: Units,
+        intake: &Arc<Here>,
+        desk: Arc<Desk>,
+    ) -> Joined {
         self.forward.serve(intake.clone());
         let (stop_peer, peer_stopped) = watch::channel(false);
         let (stop_beats, beats_stopped) = watch::channel(false);
         let internal = Internal::new(self.cluster.clone(), intake.clone(), self.secret);
+        internal.answers_by(desk);
         let of_peers = Limits {
             connections: PEERS,
             ..limits(settings)
@@ -107,10 +132,6 @@ pub(super) struct Joined {
 }
 
 impl Joined {
-    pub fn cluster(&self) -> Arc<Cluster> {
-        self.cluster.clone()
-    }
-
     /// A slot has ended alone: its writes found another owner.
     pub fn lost(&self, slot: u16) {
         if let Some(drive) = self.instance.forget(slot) {

@@ -203,7 +203,7 @@ async fn of_store(settings: &Settings, of: &OfStore, readers: Readers) -> Result
     let folder = settings.data.display();
     std::fs::create_dir_all(&settings.data).with_context(|| format!("the folder {folder} can't be made"))?;
     let operators = readers.and_socket(&settings.operate).await?;
-    let joining = Joining::open(of, peer).await?;
+    let joining = Joining::open(of, peer, &settings.metrics).await?;
     Ok((Parts::of_store(joining, settings)?, operators))
 }
 

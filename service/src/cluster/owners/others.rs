@@ -1,6 +1,7 @@
 //! The other instances: whose beats go on, counted in own beats.
 
 use super::{AFTER_SILENCE, GONE};
+use crate::cluster::status::OtherInstance;
 use crate::cluster::terms::Seen;
 use std::collections::BTreeMap;
 
@@ -13,6 +14,7 @@ struct Other {
     still: u32,
     /// The last one that it had: it has none while it leaves, and still has slots.
     address: String,
+    version: String,
     leaves: bool,
 }
 
@@ -37,26 +39,30 @@ impl Others {
 
     /// What was read behind an own beat.
     pub fn note(&mut self, seen: &Seen) {
-        let mut there: BTreeMap<&str, (Option<u64>, &str)> = BTreeMap::new();
+        let mut there: BTreeMap<&str, (Option<u64>, &str, &str)> = BTreeMap::new();
         // An owner without a row beats no more, whoever took that away.
         let owners = seen.slots.iter().map(|row| row.owner.as_str());
         there.extend(
             owners
                 .filter(|owner| !owner.is_empty())
-                .map(|owner| (owner, (None, ""))),
+                .map(|owner| (owner, (None, "", ""))),
         );
         let instances = seen.instances.iter();
-        there.extend(instances.map(|one| (one.name.as_str(), (Some(one.beat), one.address.as_str()))));
+        there.extend(instances.map(|one| {
+            let says = (Some(one.beat), one.address.as_str(), one.version.as_str());
+            (one.name.as_str(), says)
+        }));
         there.remove(self.me.as_str());
         self.since_silence = self.since_silence.saturating_add(1);
         let counts = self.uncounted == 0;
         self.uncounted = self.uncounted.saturating_sub(1);
         self.by_name.retain(|name, _| there.contains_key(name.as_str()));
-        for (name, (beat, address)) in there {
+        for (name, (beat, address, version)) in there {
             let other = self.by_name.entry(name.into()).or_insert(Other {
                 beat: None,
                 still: 0,
                 address: String::new(),
+                version: String::new(),
                 leaves: false,
             });
             other.still = match other.beat == beat {
@@ -67,6 +73,7 @@ impl Others {
             if !other.leaves {
                 other.address = address.into();
             }
+            other.version = version.into();
         }
     }
 
@@ -96,6 +103,18 @@ impl Others {
         let stays = |other: &Other| other.still < GONE && !other.leaves;
         let others = self.by_name.iter().filter(move |(_, other)| stays(other));
         others.map(|(name, _)| name.as_str())
+    }
+
+    /// Each as it is shown.
+    pub fn shown(&self) -> impl Iterator<Item = OtherInstance> + '_ {
+        self.by_name.iter().map(|(name, other)| OtherInstance {
+            name: name.clone(),
+            address: other.address.clone(),
+            version: other.version.clone(),
+            still: other.still,
+            is_gone: other.still >= GONE,
+            leaves: other.leaves,
+        })
     }
 
     /// Where one is reached, if that is known.

@@ -11,7 +11,7 @@ use tokio_postgres::Row as Found;
 
 const BEAT: &str = "insert into totxegun_store.instance as i (name, address, version, beat) values ($1, $2, $3, 1)
     on conflict (name) do update set beat = i.beat + 1, address = excluded.address, version = excluded.version";
-const INSTANCES: &str = "select name, address, beat from totxegun_store.instance";
+const INSTANCES: &str = "select name, address, version, beat from totxegun_store.instance";
 const SLOTS: &str = "select slot, term, owner from totxegun_store.slot";
 const TAKE: &str =
     "update totxegun_store.slot set term = term + 1, link = 0, owner = $3 where slot = $1 and term = $2";
@@ -53,7 +53,8 @@ impl Shared {
         let instance = |row: &Found| Instance {
             name: row.get(0),
             address: row.get(1),
-            beat: row.get::<_, i64>(2) as u64,
+            version: row.get(2),
+            beat: row.get::<_, i64>(3) as u64,
         };
         self.read(INSTANCES, instance).await
     }

@@ -41,6 +41,7 @@ impl Store {
             } else {
                 String::new()
             },
+            version: "1".into(),
             beat: *beat,
         });
         Seen {

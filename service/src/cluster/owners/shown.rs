@@ -1,0 +1,26 @@
+//! What is shown of instances and slots.
+
+use super::{Owners, Whose};
+use crate::cluster::status::{OtherInstance, OwnedSlot};
+
+impl Owners {
+    pub fn name(&self) -> &str {
+        &self.me
+    }
+
+    /// The other instances, by their names.
+    pub fn others(&self) -> Vec<OtherInstance> {
+        self.others.shown().collect()
+    }
+
+    /// All slots of the store, ascending.
+    pub fn slots(&self) -> Vec<OwnedSlot> {
+        let slots = self.rows.iter().map(|row| OwnedSlot {
+            slot: row.slot,
+            term: row.term,
+            owner: row.owner.clone(),
+            is_served: self.whose_is(row) != Whose::Nobody && !self.others.is_gone(&row.owner),
+        });
+        slots.collect()
+    }
+}
