@@ -19,7 +19,11 @@ impl Owners {
             slot: row.slot,
             term: row.term,
             owner: row.owner.clone(),
-            is_served: self.whose_is(row) != Whose::Nobody && !self.others.is_gone(&row.owner),
+            is_served: match self.whose_is(row) {
+                Whose::Here { .. } => true,
+                Whose::There { name, .. } => !self.others.is_gone(&name),
+                Whose::Nobody => false,
+            },
         });
         slots.collect()
     }
