@@ -29,8 +29,8 @@ POINTS, LEAST_REQUESTS = 6000, 40
 WORDS = ["--durable", "process", "--first", "count", "--flush-every", "1h", "--threads", "2"]
 
 
-def count(arguments, kind, points, encoding):
-    """The instructions of a post."""
+def profiled(arguments, kind, points, encoding):
+    """What a load takes, and how many posts it has."""
     requests = max(POINTS // points // SENDERS, LEAST_REQUESTS) * SENDERS
     with tempfile.TemporaryDirectory() as folder:
         traced = ["valgrind", "--tool=callgrind", f"--callgrind-out-file={folder}/out", "--quiet"]
@@ -48,7 +48,13 @@ def count(arguments, kind, points, encoding):
             one.kill()
         if loaded.failed:
             raise SystemExit(f"{loaded.failed} requests failed")
-        return Profile(f"{folder}/out.1").whole() / loaded.requests
+        return Profile(f"{folder}/out.1"), loaded.requests
+
+
+def count(arguments, kind, points, encoding):
+    """The instructions of a post."""
+    profile, posts = profiled(arguments, kind, points, encoding)
+    return profile.whole() / posts
 
 
 def snapshot(arguments, kind):

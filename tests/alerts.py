@@ -29,9 +29,9 @@ sys.path.insert(1, f"{ROOT}/demo")
 from checks import Checks
 from loopback import free_port
 from parts import initdb
+from servers import Pair
 from service import JSON, OtlpSink, Service, ask, in_json, wait_until
 from shipped import own_disk
-from store import Store
 
 HERE = os.path.dirname(os.path.abspath(__file__))
 OPERATE = os.path.join(os.path.dirname(HERE), "operate")
@@ -290,7 +290,7 @@ def promtool(checks, what, *words, given=b"", folder=OPERATE):
 
 def instance_of_store(program, folder, sink, closing):
     """An instance over a store with a standby, and the store."""
-    store = Store()
+    store = Pair()
     closing.callback(store.close)
     subprocess.run([program, "store", "init", store.address, "--slots", "4"], check=True, capture_output=True)
     store.standby.be_standby_of(store.primary)

@@ -208,6 +208,7 @@ mod tests {
             terms: terms.iter().copied().collect::<BTreeMap<_, _>>(),
             beat_age: Some(Duration::from_millis(250)),
             has_namesake: false,
+            refused: Vec::new(),
             counted: Counted {
                 takeovers,
                 hand_overs: 1,

@@ -35,6 +35,7 @@ pub use tcp::AtTcp;
 pub use totals::Totals;
 pub use units::{Left, Unit, Units};
 
+use crate::store::postgres::PostgresStore;
 use crate::intake::connections::Handler;
 use crate::intake::user::User;
 use crate::intake::Budget;
@@ -59,6 +60,8 @@ pub struct Desk {
     pub units: Arc<Units>,
     /// Where there are other instances.
     pub others: Option<Others>,
+    /// Where a store has the slots.
+    pub store: Option<Arc<PostgresStore>>,
     pub shares: Arc<Shares>,
     pub acts: Arc<Acts>,
     pub sink: Arc<dyn Sink>,

@@ -2,6 +2,7 @@
 
 use super::{BooksStatus, CumulativeStatus, Desk, InstanceStatus, RoundedStatus, SlotStatus, Status};
 use crate::cluster::status::{OtherInstance, OwnedSlot};
+use crate::cluster::Refusal;
 use crate::metrics::SHOWN_OF_RULE;
 use crate::operate::reach::{Others, Question};
 use crate::shares;
@@ -25,7 +26,7 @@ impl Desk {
         let Some(others) = &self.others else { return status };
         let seen = others.cluster.status();
         let said = self.ask_each(seen.others).await;
-        status.add(said, &seen.slots);
+        status.add(said, &seen.slots, &seen.refused);
         status
     }
 
@@ -60,7 +61,7 @@ impl Others {
 
 impl Status {
     /// What others say, and what the store says of slots of which nobody says more.
-    fn add(&mut self, said: Vec<Said>, slots: &[OwnedSlot]) {
+    fn add(&mut self, said: Vec<Said>, slots: &[OwnedSlot], refused: &[Refusal]) {
         let mut silent = BTreeMap::new();
         for (other, said) in said {
             let mut shown = shown(&other, slots);
@@ -74,7 +75,7 @@ impl Status {
             let instances = self.cluster.iter_mut().map(|cluster| &mut cluster.instances);
             instances.for_each(|instances| instances.push(std::mem::take(&mut shown)));
         }
-        self.add_unknown(slots, &silent);
+        self.add_unknown(slots, &silent, refused);
     }
 
     fn add_one(&mut self, other: Status, shown: &mut InstanceStatus) {
@@ -119,24 +120,27 @@ impl Status {
     }
 
     /// In the order of the slots. Of two that say they have one the later term counts.
-    fn add_unknown(&mut self, slots: &[OwnedSlot], silent: &BTreeMap<String, String>) {
-        self.slots
-            .sort_by_key(|slot| (slot.slot, std::cmp::Reverse(slot.term)));
+    fn add_unknown(
+        &mut self,
+        slots: &[OwnedSlot],
+        silent: &BTreeMap<String, String>,
+        refused: &[Refusal],
+    ) {
+        self.slots.sort_by_key(|slot| (slot.slot, std::cmp::Reverse(slot.term)));
         self.slots.dedup_by_key(|slot| slot.slot);
-        for OwnedSlot {
-            slot, term, owner, ..
-        } in slots
-        {
-            let Err(place) = self.slots.binary_search_by_key(slot, |slot| slot.slot) else {
+        for of in slots {
+            let Err(place) = self.slots.binary_search_by_key(&of.slot, |slot| slot.slot) else {
                 continue;
             };
-            let why = match silent.get(owner) {
-                _ if owner.is_empty() => "no instance has it".to_string(),
-                Some(why) => format!("instance {owner}: {why}"),
-                None => "it is being moved".to_string(),
+            let refusal = refused.iter().find(|refusal| refusal.slot == of.slot);
+            let why = match (silent.get(&of.owner), refusal) {
+                (Some(why), _) => format!("instance {}: {why}", of.owner),
+                (None, Some(one)) => format!("instance {} can't open it: {}", one.instance, one.reason),
+                (None, None) if of.owner.is_empty() => "no instance has it".to_string(),
+                (None, None) => "it is being moved".to_string(),
             };
             self.slots
-                .insert(place, SlotStatus::unknown(*slot, owner, *term, why));
+                .insert(place, SlotStatus::unknown(of.slot, &of.owner, of.term, why));
         }
     }
 }
@@ -234,17 +238,23 @@ mod tests {
             owned(3, "", 9),
             owned(4, "a", 3),
             owned(5, "b", 1),
+            owned(6, "", 8),
         ];
         // Slot 1 has just come to b; slot 5 is on its way there.
         let b = status("b", vec![slot(0, "b", 7, 2), slot(1, "b", 3, 1)]);
         let c = Err("its beats have stopped".to_string());
-        all.add(vec![(other("b", 0), Ok(b)), (other("c", 9), c)], &rows);
+        let refusal = Refusal {
+            slot: 6,
+            instance: "a".into(),
+            reason: "1.seg was changed".into(),
+        };
+        all.add(vec![(other("b", 0), Ok(b)), (other("c", 9), c)], &rows, &[refusal]);
         let seen: Vec<_> = all
             .slots
             .iter()
             .map(|slot| (slot.slot, slot.term.unwrap()))
             .collect();
-        assert_eq!(seen, [(0, 7), (1, 3), (2, 1), (3, 9), (4, 3), (5, 1)]);
+        assert_eq!(seen, [(0, 7), (1, 3), (2, 1), (3, 9), (4, 3), (5, 1), (6, 8)]);
         assert_eq!((all.waiting(), all.dead), (2 + 1 + 5, 2));
         let unknown: Vec<_> = all.slots.iter().map(|slot| slot.unknown.as_deref()).collect();
         let wanted = [
@@ -254,6 +264,7 @@ mod tests {
             Some("no instance has it"),
             None,
             Some("it is being moved"),
+            Some("instance a can't open it: 1.seg was changed"),
         ];
         assert_eq!(unknown, wanted);
         assert_eq!(all.unknown(), Some((2, "instance c: its beats have stopped")));

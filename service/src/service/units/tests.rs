@@ -1,6 +1,7 @@
 //! Slots with their files in folders of their own, which come and go while posts go on.
 
 mod reach;
+mod whole;
 
 use super::super::operators::Operate;
 use super::super::unit::tests::{no_disk, unit};
@@ -93,13 +94,14 @@ struct Service {
 
 impl Service {
     fn new(place: &Path) -> Service {
-        Service::among(place, None)
+        Service::of(settings(place), None)
     }
 
     /// With other instances.
-    fn among(place: &Path, others: Option<Others>) -> Service {
-        let settings = Arc::new(settings(place));
-        let (metrics, reading) = (settings.metrics.clone(), Arc::<Reading>::default());
+    fn of(settings: Settings, others: Option<Others>) -> Service {
+        let settings = Arc::new(settings);
+        let (metrics, reading) = (settings.metrics.clone(), Arc::new(settings.reading.clone()));
+        let place = settings.data.clone();
         let shared = Arc::new(Shared::new(metrics.clone(), settings.clock));
         let sink = Arc::<Taken>::default();
         let teller = Teller::new(settings.telling.clone(), metrics.clone(), Arc::default(), None);
@@ -116,9 +118,10 @@ impl Service {
         );
         let desk = Arc::new(Desk {
             others,
+            store: None,
             units: of_desk,
             shares: shared.shares.clone(),
-            acts: Arc::new(Acts::in_folder(place)),
+            acts: Arc::new(Acts::in_folder(&place)),
             sink: sink.clone(),
             totals: None,
             pulse: Pulse::begin(metrics.clone()),
@@ -141,7 +144,7 @@ impl Service {
             at_work,
         };
         Service {
-            place: place.into(),
+            place,
             sink,
             units,
             ends,

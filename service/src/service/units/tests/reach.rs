@@ -1,7 +1,7 @@
 //! Instances that share slots: what an operator asks at one of them is done in all slots, or it is said in which it is not.
 
 use super::*;
-use crate::cluster::terms::{Doing, Instance, Row, Seen};
+use crate::cluster::terms::{Doing, Instance, Refused, Row, Seen};
 use crate::cluster::{Answers, Asks, Cluster, Forwarded as Brought, Whose};
 use crate::metrics::OfCluster;
 use crate::operate::Databases;
@@ -88,7 +88,7 @@ fn instance(name: &str, place: &Path, net: &Arc<Net>) -> (Service, Arc<Cluster>)
         instance: name.into(),
         address: name.into(),
     };
-    let service = Service::among(place, Some(others));
+    let service = Service::of(settings(place), Some(others));
     let at = (service.desk.clone(), Mood::Well);
     net.0.lock().unwrap().insert(name.into(), at);
     (service, cluster)
@@ -101,6 +101,7 @@ fn seen() -> Seen {
         address: name.into(),
         version: "1".into(),
         beat: 1,
+        refused: Refused::new(),
     };
     let row = |(slot, owner): (u16, &str)| Row {
         slot,
