@@ -129,7 +129,8 @@ fn lock(data: &Path) -> anyhow::Result<File> {
     if let Some(place) = in_store(data) {
         bail!(
             "{place} has no folder of slots to read: an instance has them in its --store, and checks each when it takes it. \
-             `totxegun status` shows them, and its log what is wrong with one. Without --store a start would begin anew there"
+             `totxegun status` shows them, its log what is wrong with one, and `totxegun store check` whether a store counts. \
+             Without --store a start would begin anew there"
         );
     }
     Folder::look_at(data)?;
