@@ -35,7 +35,6 @@ pub use tcp::AtTcp;
 pub use totals::Totals;
 pub use units::{Left, Unit, Units};
 
-use crate::store::postgres::PostgresStore;
 use crate::intake::connections::Handler;
 use crate::intake::user::User;
 use crate::intake::Budget;
@@ -43,6 +42,7 @@ use crate::metrics::Metrics;
 use crate::remarks::Heard;
 use crate::shares::Shares;
 use crate::sinks::Sink;
+use crate::store::postgres::PostgresStore;
 use hyper::header::{HeaderValue, ALLOW, CONTENT_TYPE};
 use hyper::{Body, Method, Request, Response, StatusCode};
 use pages::Page;

@@ -120,13 +120,9 @@ impl Status {
     }
 
     /// In the order of the slots. Of two that say they have one the later term counts.
-    fn add_unknown(
-        &mut self,
-        slots: &[OwnedSlot],
-        silent: &BTreeMap<String, String>,
-        refused: &[Refusal],
-    ) {
-        self.slots.sort_by_key(|slot| (slot.slot, std::cmp::Reverse(slot.term)));
+    fn add_unknown(&mut self, slots: &[OwnedSlot], silent: &BTreeMap<String, String>, refused: &[Refusal]) {
+        self.slots
+            .sort_by_key(|slot| (slot.slot, std::cmp::Reverse(slot.term)));
         self.slots.dedup_by_key(|slot| slot.slot);
         for of in slots {
             let Err(place) = self.slots.binary_search_by_key(&of.slot, |slot| slot.slot) else {
@@ -248,7 +244,11 @@ mod tests {
             instance: "a".into(),
             reason: "1.seg was changed".into(),
         };
-        all.add(vec![(other("b", 0), Ok(b)), (other("c", 9), c)], &rows, &[refusal]);
+        all.add(
+            vec![(other("b", 0), Ok(b)), (other("c", 9), c)],
+            &rows,
+            &[refusal],
+        );
         let seen: Vec<_> = all
             .slots
             .iter()
