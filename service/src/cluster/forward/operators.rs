@@ -55,10 +55,10 @@ impl<H: Here> Asks for Forward<H> {
 
 impl<H: Here> Forward<H> {
     async fn answer_of(&self, address: &str, question: Vec<u8>) -> Result<Bytes, Broken> {
-        let uri = format!("{}://{address}{PATH}", self.scheme);
+        let uri = format!("{}://{address}{PATH}", self.connections.scheme());
         let request = self.secret.put(Request::post(uri));
         let request = request.body(Body::from(question)).map_err(Broken::Address)?;
-        let response = self.client.request(request).await.map_err(Broken::Wire)?;
+        let response = self.connections.asks().request(request).await.map_err(Broken::Wire)?;
         said::read_bytes(response, MOST).await
     }
 }
