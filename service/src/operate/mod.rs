@@ -31,7 +31,6 @@ pub use totals::Totals;
 pub use units::{Left, Unit, Units};
 
 use crate::cluster::Cluster;
-use crate::store::postgres::PostgresStore;
 use crate::intake::connections::Handler;
 use crate::intake::user::User;
 use crate::intake::Budget;
@@ -41,6 +40,7 @@ use crate::otlp::{Encoding, Outcome};
 use crate::remarks::Heard;
 use crate::shares::Shares;
 use crate::sinks::Sink;
+use crate::store::postgres::PostgresStore;
 use hyper::header::{HeaderValue, ALLOW, CONTENT_TYPE};
 use hyper::{Body, Method, Request, Response, StatusCode};
 use pages::Page;

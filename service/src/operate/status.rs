@@ -152,7 +152,11 @@ impl Desk {
             dead: self.units.dead(),
             books: self.books_status(),
             slots,
-            silent: self.store.as_ref().map(|store| store.silent()).unwrap_or_default(),
+            silent: self
+                .store
+                .as_ref()
+                .map(|store| store.silent())
+                .unwrap_or_default(),
             senders: self.shares.nearest(),
             rounded: self.rounded_status(),
             cumulative: CumulativeStatus {

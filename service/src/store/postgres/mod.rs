@@ -32,8 +32,8 @@ use crate::cluster::terms::{Instance, Row};
 use crate::files::drive::Lost;
 use crate::postgres::identity;
 use drive::Writer;
-use several::{Heard, Several};
 use session::{within, SILENT};
+use several::{Heard, Several};
 use shared::Shared;
 use std::future::Future;
 use std::sync::{mpsc, Arc, OnceLock};
@@ -214,7 +214,8 @@ impl PostgresStore {
     /// From now on it is heard for this instance.
     pub(super) fn be_member(&self, name: &str) {
         if self.databases.len() > 1 {
-            self.several.get_or_init(|| Several::new(name, self.databases.len()));
+            self.several
+                .get_or_init(|| Several::new(name, self.databases.len()));
         }
     }
 

@@ -35,7 +35,11 @@ impl Shared {
         Ok(rows?.iter().map(each).collect())
     }
 
-    pub(super) async fn heard<T>(&self, session: &Arc<Session>, answer: Result<T, Doubt>) -> Result<T, Doubt> {
+    pub(super) async fn heard<T>(
+        &self,
+        session: &Arc<Session>,
+        answer: Result<T, Doubt>,
+    ) -> Result<T, Doubt> {
         if let Err(doubt) = &answer {
             self.note(session, doubt).await;
         }
