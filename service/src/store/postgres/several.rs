@@ -174,6 +174,7 @@ impl Known {
             name: me.into(),
             address: address.into(),
             beat: self.own,
+            version: env!("CARGO_PKG_VERSION").into(),
             refused: Refused::new(),
         });
         Some(Seen {
@@ -272,6 +273,7 @@ mod tests {
             name: name.to_string(),
             address: format!("{name}:1"),
             beat: *beat,
+            version: "0".into(),
             refused: Refused::new(),
         };
         Answer::Heard(Heard {
