@@ -1,7 +1,7 @@
 #!/usr/bin/env python3
 """Prints what the service takes for a post beside the bare gateway, and beside an earlier service, in one run.
 
-    bench/service.py [--totxegun FILE] [--gateway FILE] [--earlier FOLDER] [--senders N,..] [--series N] [--rows NAME,..]
+    bench/service.py [--totxegun FILE] [--gateway FILE] [--earlier FOLDER] [--other FILE] [--senders N,..] [--series N] [--rows NAME,..]
                      [--parties NAME,..] [--connections kept|each] [--runs N] [--seconds N] [--share N] [--data DIR] [--options WORDS]
                      [--set NAME=VALUE]* [--sink sqlite|postgres]
 
@@ -12,7 +12,8 @@ the bare one, process and disk, which are the service with this durability and a
 of a server that runs beside, whose processor time is not counted; `--set TOTXEGUN_FLUSH_EVERY=250ms` has each run deliver. More
 options of it are in WORDS, and --set sets more of its environment than the shipped unit does, such as LD_PRELOAD. process-tls and disk-tls are the
 same over TLS 1.3, on connections that shake hands wholly, and their ratios are to those without. FOLDER has totxegun and
-gateway of a revision whose service starts a gateway (1383c49c): it is measured as earlier-process and earlier-disk too. The bare
+gateway of a revision whose service starts a gateway (1383c49c): it is measured as earlier-process and earlier-disk too. The other
+FILE is a totxegun of another revision, measured as other-process and so on. The bare
 gateway has four receivers, tcmalloc where that is installed, a connection a request, over TCP, and protobuf's points as JSON: it
 reads no other. The services get kept connections, a sender each, or with `each` one for each post, but for gRPC. The folder of a service is made in DIR, which is out/bench
 where none is named: the disk that `disk` waits for.
@@ -23,6 +24,7 @@ Figures are medians over the runs, with the least and the most in brackets; a ra
 run beside it. Processor time is all of a service's, an earlier one's gateway counted, with what flushing, journal and outbox
 take meanwhile.
 """
+import argparse
 import contextlib
 import os
 import subprocess
@@ -47,6 +49,7 @@ ROWS = {"json-1": ("json", 1, 4000), "json-20": ("json", 20, 1000), "protobuf-10
 SERVICE = ["process", "disk"]
 PARTIES = ["gateway", *SERVICE]
 EARLIER = "earlier-"
+OTHER = "other-"
 OVER_TLS = "-tls"
 # Of the bare gateway.
 RECEIVERS = ["--receivers", "4"]
@@ -112,12 +115,16 @@ def run(party, arguments, row, clients, requests, period):
             pids, encoding, connections = [gateway.pid], "json", "each"
         else:
             grpc = free_port()
-            words = ["--durable", party.removeprefix(EARLIER).removesuffix(OVER_TLS), "--listen-grpc", f"127.0.0.1:{grpc}"]
+            durability = party.removeprefix(EARLIER).removeprefix(OTHER).removesuffix(OVER_TLS)
+            words = ["--durable", durability, "--listen-grpc", f"127.0.0.1:{grpc}"]
             if party.endswith(OVER_TLS):
                 words += certificate(arguments.data)
                 connections += OVER_TLS
+            its = arguments
+            if party.startswith(OTHER):
+                its = argparse.Namespace(**vars(arguments) | {"totxegun": arguments.other})
             sink = arguments.databases and arguments.databases.fresh()
-            one = stack.enter_context(serving(arguments, *words, sink=sink, is_earlier=party.startswith(EARLIER)))
+            one = stack.enter_context(serving(its, *words, sink=sink, is_earlier=party.startswith(EARLIER)))
             port, pids = grpc if encoding == "grpc" else one.listen, processes(one)
         kind = "cumulative-sum" if row == CUMULATIVE else "sum"
         posts = Posts(kind, points, arguments.series, encoding, connections)
@@ -142,8 +149,8 @@ def print_row(arguments, row, clients):
     print(f"\n{row}, {clients} senders", flush=True)
     for party, all_of_it in runs.items():
         print_party(party, all_of_it)
-        for other in ("gateway", EARLIER + party, party.removesuffix(OVER_TLS)):
-            if party not in ("gateway", other) and other in runs and not party.startswith(EARLIER):
+        for other in ("gateway", EARLIER + party, OTHER + party, party.removesuffix(OVER_TLS)):
+            if party not in ("gateway", other) and other in runs and not party.startswith((EARLIER, OTHER)):
                 print_ratios(other, runs[other], all_of_it)
 
 
@@ -167,6 +174,7 @@ def print_ratios(name, others, runs):
 
 def main():
     parser = options(__doc__.split("\n", maxsplit=1)[0])
+    parser.add_argument("--other", type=os.path.abspath)
     parser.add_argument("--senders", type=numbers, default=[8, 64])
     parser.add_argument("--series", type=int, default=800)
     parser.add_argument("--rows", type=lambda text: text.split(","), default=[row for row in ROWS if row != CUMULATIVE])
@@ -179,6 +187,8 @@ def main():
     arguments = parser.parse_args()
     if arguments.earlier:
         arguments.parties += [EARLIER + party for party in arguments.parties if party in SERVICE]
+    if arguments.other:
+        arguments.parties += [OTHER + party for party in arguments.parties if not party.startswith(("gateway", EARLIER))]
     loading.build()
     os.makedirs(arguments.data, exist_ok=True)
     print(f"{arguments.totxegun}, {arguments.gateway}, {len(os.sched_getaffinity(0))} processors, {arguments.runs} runs in turn, the"

@@ -3,7 +3,7 @@
 use super::owners::{Owners, Step, Whose};
 use super::status::{Counts, Status};
 use super::terms::{Silence, Terms, Units, Unopened};
-use crate::log::Seldom;
+use crate::log::{shown, Seldom};
 use crate::switch::Switch;
 use std::collections::{BTreeMap, HashMap};
 use std::sync::{Arc, Mutex, MutexGuard, PoisonError};
@@ -22,6 +22,8 @@ pub const NO_STORE: &str = "the store does not answer";
 const LOOKS: Duration = Duration::from_millis(50);
 /// Who leaves waits so long for its slots to be handed over.
 const LEAVES_WITHIN: Duration = Duration::from_secs(60);
+/// How much of a reason the others are told, in characters.
+const REASON_SHOWN: usize = 500;
 /// Steps that follow from what was done: one at a time, as one slot is handed over at a time.
 const FOLLOWING: usize = 16;
 
@@ -76,6 +78,21 @@ impl Cluster {
         beaten.map(|beaten| beaten.elapsed())
     }
 
+    /// A slot could not be opened here, or has ended by a fault.
+    pub fn failed(&self, slot: u16, term: u64, reason: &str) {
+        let reason = shown(reason, REASON_SHOWN);
+        let then = match self.owners().failed(slot, term, &reason) {
+            true => "another instance takes it",
+            false => "no other instance is left that could, so it is tried again",
+        };
+        tracing::error!(
+            slot,
+            reason,
+            "slot {slot} can't be kept open here, {then}: {reason}"
+        );
+        self.publish();
+    }
+
     /// What a slot's writer tells once it has found another's term.
     pub fn lost(&self, slot: u16, term: u64) {
         if self.owners().lost(slot, term) {
@@ -90,6 +107,7 @@ impl Cluster {
         Status {
             instances: owners.instances(),
             has_namesake: owners.has_namesake(),
+            refused: owners.all_refused(),
             without_owner: places.values().filter(|whose| **whose == Whose::Nobody).count(),
             terms: owners.terms(),
             beat_age: self.beat_age(),
@@ -202,8 +220,8 @@ impl<T: Terms + 'static, U: Units + 'static> Beats<T, U> {
 
     async fn beat(&mut self) {
         let (work, began) = (self.work.clone(), Instant::now());
-        let stay = work.cluster.owners().stay();
-        let seen = match work.terms.beat(stay).await {
+        let (stay, refused) = work.cluster.owners().told();
+        let seen = match work.terms.beat(stay, refused).await {
             Ok(seen) => seen,
             Err(silence) => {
                 work.cluster.owners().unanswered();
@@ -290,14 +308,7 @@ impl<T: Terms, U: Units> Work<T, U> {
                 }
             }
             Err(Unopened::Lost) => self.cluster.lost(slot, term),
-            Err(Unopened::Fault(reason)) => {
-                tracing::error!(
-                    slot,
-                    reason,
-                    "slot {slot} can't be opened, and is tried again: {reason}"
-                );
-                self.cluster.owners().failed(slot, term);
-            }
+            Err(Unopened::Fault(reason)) => self.cluster.failed(slot, term, &reason),
         }
         self.cluster.publish();
     }

@@ -13,7 +13,7 @@ pub mod terms;
 
 pub use beats::{Beats, Cluster, NO_STORE};
 pub use forward::{Forward, Here, Internal, Secret, Wire};
-pub use owners::Whose;
+pub use owners::{Refusal, Whose};
 pub use status::Status;
 
 #[cfg(test)]

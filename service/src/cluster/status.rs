@@ -1,5 +1,6 @@
 //! What is shown of an instance among others.
 
+use super::owners::Refusal;
 use std::collections::BTreeMap;
 use std::sync::atomic::{AtomicU64, Ordering::Relaxed};
 use std::time::Duration;
@@ -16,6 +17,8 @@ pub struct Status {
     pub beat_age: Option<Duration>,
     /// Another process beats under this name.
     pub has_namesake: bool,
+    /// Slots that instances could not open: another has them, or nobody.
+    pub refused: Vec<Refusal>,
     pub counted: Counted,
 }
 

@@ -7,8 +7,10 @@ mod posts;
 
 use super::table::Table;
 use super::{json, values, Failure, Form};
-use crate::files::{Dropped, Durability, Fault, Folder, FolderFault, Journal, Outbox, Replayed};
+use crate::files::{Dropped, Durability, Fault, Folder, FolderFault, Journal, Mark, Outbox, Replayed};
 use crate::service::slot_of;
+use crate::store::moving::folder_counts;
+use crate::store::postgres::{address, Server};
 use anyhow::{bail, Context};
 use clap::Args;
 use copy::{interrupts, remove_at, Copy};
@@ -43,6 +45,10 @@ pub struct Options {
 #[derive(Debug, Default, PartialEq, Eq, Serialize)]
 struct Found {
     slots: u16,
+    /// Whether it counts, and no store does in its place; none where the store that decides can't be asked.
+    counts: Option<bool>,
+    /// Why no service starts on it.
+    moved: Option<String>,
     /// Where it delivers to, as the last start has met it.
     sink: Option<String>,
     segments: u64,
@@ -67,6 +73,8 @@ struct Found {
     dropped: Vec<String>,
     /// Of each request that was changed: the delivery of its slot stops there, and all else goes on.
     faults: Vec<String>,
+    #[serde(skip)]
+    mark: Option<Mark>,
 }
 
 impl Options {
@@ -89,6 +97,9 @@ impl Options {
 /// What is printed. Where a request was changed, that is, and the first fault ends the command.
 fn show_found(mut found: Found, copy: &Path, data: &Path, form: Form) -> Result<Vec<u8>, Failure> {
     found.new_epoch = Folder::is_moved(data);
+    if let Some(mark) = &found.mark {
+        (found.counts, found.moved) = (said_by_store(mark), Some(mark.refusal(data)));
+    }
     let (inner, outer) = (copy.display().to_string(), data.display().to_string());
     for text in found.dropped.iter_mut().chain(&mut found.faults) {
         *text = text.replace(&inner, &outer);
@@ -104,6 +115,12 @@ fn show_found(mut found: Found, copy: &Path, data: &Path, form: Form) -> Result<
             Err(Failure::Changed(first.clone()))
         }
     }
+}
+
+/// Whether a folder counts that was on its way into a store, or out of one.
+fn said_by_store(mark: &Mark) -> Option<bool> {
+    let servers: Result<Vec<Server>, String> = mark.store.split(' ').map(address).collect();
+    folder_counts(mark, &servers.ok()?).ok()
 }
 
 /// Keeps a service from starting on the folder while it is copied. Nothing is written: a lock that was deleted is not
@@ -154,6 +171,8 @@ fn found(copy: &Path) -> Result<Found, Failure> {
     let folder = opened(copy)?;
     let mut found = Found {
         slots: folder.slots(),
+        counts: Some(true),
+        mark: folder.mark(),
         sink: folder.sink().map(|sink| sink.to_string()),
         dead: folder.dead()?.count(),
         ..Found::default()
@@ -246,6 +265,15 @@ fn text(found: &Found, data: &Path) -> String {
     let mut table = Table::new(&["folder".to_string(), data.display().to_string()]);
     let mut row = |name: &str, text: String| table.row(&[name, text.as_str()]);
     let (bytes, counted) = (values::bytes_shown, values::counted);
+    if let Some(moved) = &found.moved {
+        let counts = match found.counts {
+            Some(true) => "yes, as yet",
+            Some(false) => "no",
+            None => "as the store says, which does not answer",
+        };
+        row("counts", counts.into());
+        row("no service starts", format!("it {moved}"));
+    }
     row("slots", found.slots.to_string());
     row("sink", found.sink.clone().unwrap_or_else(|| "none yet".into()));
     row(

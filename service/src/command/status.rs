@@ -27,6 +27,9 @@ fn text(status: &Status) -> String {
     if let Some(why) = unavailable(status) {
         lines.row(&["posts get 503", &why]);
     }
+    for silent in &status.silent {
+        lines.row(&["its slots get 503", silent]);
+    }
     lines.row(&["senders post to", status.listen.as_str()]);
     lines.row(&["data", status.data.as_str()]);
     lines.row(&["sink", status.sink.as_str()]);
@@ -220,6 +223,7 @@ mod tests {
                 most_memory_bytes: 1 << 30,
             },
             slots: vec![slot],
+            silent: Vec::new(),
             senders: Vec::new(),
             cumulative: CumulativeStatus::default(),
             rounded: Vec::new(),

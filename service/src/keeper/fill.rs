@@ -112,7 +112,7 @@ impl<S: Fn() -> bool> Filling<'_, S> {
             }
             ended.is_ok() && !(self.stops)()
         })?;
-        ended.and_then(|()| self.put_ahead(admit))
+        ended.and_then(|()| self.put_rest(admit))
     }
 
     /// A post is read by what numbers stand for now, and a text with those that come next.
@@ -123,7 +123,7 @@ impl<S: Fn() -> bool> Filling<'_, S> {
             Body::Points(_) => {
                 let mut read = self.numbers.read(&post);
                 if read.as_ref().is_err_and(|refused| refused.status() == 503) {
-                    self.put_ahead(admit)?;
+                    self.put_rest(admit)?;
                     self.make_room()?;
                     read = self.numbers.read(&post);
                 }
@@ -139,13 +139,19 @@ impl<S: Fn() -> bool> Filling<'_, S> {
         }
     }
 
-    /// Puts in what waits for its turn.
+    /// Puts in what was read, while what waits is read.
     fn put_ahead(&mut self, admit: Admit) -> Result<(), Trouble> {
-        let core = self.slot.core.clone();
-        self.ahead
-            .take(&core)
-            .into_iter()
+        let read = self.ahead.turn(&self.slot.core);
+        read.into_iter()
             .try_for_each(|coming| self.replay_one(coming, admit))
+    }
+
+    /// Puts in all that waits.
+    fn put_rest(&mut self, admit: Admit) -> Result<(), Trouble> {
+        while !self.ahead.is_empty() {
+            self.put_ahead(admit)?;
+        }
+        Ok(())
     }
 
     /// A post that a limit refuses is put after a flush.

@@ -31,6 +31,7 @@ pub use totals::Totals;
 pub use units::{Left, Unit, Units};
 
 use crate::cluster::Cluster;
+use crate::store::postgres::PostgresStore;
 use crate::intake::connections::Handler;
 use crate::intake::user::User;
 use crate::intake::Budget;
@@ -56,6 +57,8 @@ pub struct Desk {
     pub units: Arc<Units>,
     /// Where there are other instances.
     pub cluster: Option<Arc<Cluster>>,
+    /// Where a store has the slots.
+    pub store: Option<Arc<PostgresStore>>,
     pub shares: Arc<Shares>,
     pub acts: Arc<Acts>,
     pub sink: Arc<dyn Sink>,

@@ -24,6 +24,9 @@ pub struct Status {
     #[serde(default)]
     pub books: BooksStatus,
     pub slots: Vec<SlotStatus>,
+    /// Databases of the store that do not answer, and why not: posts of their slots get 503.
+    #[serde(default)]
+    pub silent: Vec<String>,
     /// Those that are nearest to their share, the nearest first.
     #[serde(default)]
     pub senders: Vec<Used>,
@@ -149,6 +152,7 @@ impl Desk {
             dead: self.units.dead(),
             books: self.books_status(),
             slots,
+            silent: self.store.as_ref().map(|store| store.silent()).unwrap_or_default(),
             senders: self.shares.nearest(),
             rounded: self.rounded_status(),
             cumulative: CumulativeStatus {

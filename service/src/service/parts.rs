@@ -14,7 +14,7 @@ use crate::intake::{Budget, Intake, Threads};
 use crate::operate::{self, Acts, Desk, Pulse, Totals};
 use crate::remarks::{Heard, Remarks, Teller};
 use crate::shares::Rules;
-use crate::sinks::{self, Sink};
+use crate::sinks::Sink;
 use crate::slot::{Shared, Slot, Slots};
 use anyhow::Context;
 use std::sync::Arc;
@@ -72,15 +72,20 @@ impl Parts {
             dead,
             former,
         };
-        let opened = Opened::new(files, settings, &shared)?;
+        let opened = Opened::new(files, 1, settings, &shared)?;
         Parts::of(Of::Folder(Box::new(opened)), settings, shared, acts, sink)
     }
 
-    /// The slots of a store are opened once they are taken. All instances name the same sink, so none is remembered.
+    /// The slots of a store are opened once they are taken.
     pub fn of_store(joining: Joining, settings: &Settings) -> Result<Parts, Ended> {
         let acts = Arc::new(Acts::in_folder(&settings.data));
-        let sink = sinks::open(&settings.sink, settings.keep, Arc::new(()));
-        let sink = sink.context("the sink can't be opened")?;
+        let sink = super::sink::open_of_store(
+            &joining.store,
+            &settings.sink,
+            settings.keep,
+            settings.new_sink,
+            acts.clone(),
+        )?;
         let shared = Arc::new(Shared::new(settings.metrics.clone(), settings.clock));
         Parts::of(Of::Store(joining), settings, shared, acts, sink)
     }
@@ -140,6 +145,7 @@ impl Parts {
             metrics.clone(),
         );
         let intake = Arc::new(intake);
+        let store = joining.as_ref().map(|joining| joining.store.clone());
         let joined = joining.zip(settings.store.as_ref()).map(|(joining, of)| {
             let of_instance = Units {
                 settings: settings.clone(),
@@ -154,6 +160,7 @@ impl Parts {
         let desk = Desk {
             units,
             cluster: joined.as_ref().map(Joined::cluster),
+            store,
             shares: self.shared.shares.clone(),
             acts: self.acts,
             sink: self.sink,

@@ -1,5 +1,7 @@
 //! Slots with their files in folders of their own, which come and go while posts go on.
 
+mod whole;
+
 use super::super::operators::Operate;
 use super::super::unit::tests::{no_disk, unit};
 use super::*;
@@ -91,8 +93,13 @@ struct Service {
 
 impl Service {
     fn new(place: &Path) -> Service {
-        let settings = Arc::new(settings(place));
-        let (metrics, reading) = (settings.metrics.clone(), Arc::<Reading>::default());
+        Service::of(settings(place))
+    }
+
+    fn of(settings: Settings) -> Service {
+        let settings = Arc::new(settings);
+        let (metrics, reading) = (settings.metrics.clone(), Arc::new(settings.reading.clone()));
+        let place = settings.data.clone();
         let shared = Arc::new(Shared::new(metrics.clone(), settings.clock));
         let sink = Arc::<Taken>::default();
         let teller = Teller::new(settings.telling.clone(), metrics.clone(), Arc::default(), None);
@@ -109,9 +116,10 @@ impl Service {
         );
         let desk = Arc::new(Desk {
             cluster: None,
+            store: None,
             units: of_desk,
             shares: shared.shares.clone(),
-            acts: Arc::new(Acts::in_folder(place)),
+            acts: Arc::new(Acts::in_folder(&place)),
             sink: sink.clone(),
             totals: None,
             pulse: Pulse::begin(metrics.clone()),
@@ -134,7 +142,7 @@ impl Service {
             at_work,
         };
         Service {
-            place: place.into(),
+            place,
             sink,
             units,
             ends,
