@@ -19,8 +19,10 @@ The sink is one of OTLP, in this process. What is printed says what was measured
 """
 import contextlib
 import os
+import signal
 import statistics
 import subprocess
+import sys
 import tempfile
 import threading
 import time
@@ -252,6 +254,7 @@ def main():
     tempfile.tempdir = arguments.data
     print(f"{arguments.totxegun}, {len(os.sched_getaffinity(0))} processors, {arguments.runs} runs in turn, {SLOTS} slots, all on"
           f" {file_system(arguments.data)}", flush=True)
+    signal.signal(signal.SIGTERM, lambda *_: sys.exit(1))
     measures = {"posts": measure_posts, "takeover": measure_takeover, "size": measure_size}
     with contextlib.ExitStack() as stack:
         sink = OtlpSink()

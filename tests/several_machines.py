@@ -102,7 +102,8 @@ class Instance(Service):
     """On a machine of its own; what starts it anew where it has ended stands for its unit."""
 
     def __init__(self, machine, folder, store, sink, clock, programs):
-        options = ["--store", store.address, "--instance", machine.name, "--peer", f"{machine.address}:{PEER}", "--flush-every", "1s"]
+        options = ["--store", store.address, "--instance", machine.name, "--peer", f"{machine.address}:{PEER}", "--peer-plain"]
+        options += ["--flush-every", "1s"]
         super().__init__(programs[0], f"{folder}/{machine.name}", sink.address, *options, host=machine.address, ports=(LISTEN, OPERATE),
                          before=machine.on())
         self.machine, self.clock, self.programs = machine, clock, programs
@@ -285,7 +286,8 @@ def serving(checks, world, seed):
           f" {sum(one.starts for one in world.instances)} starts, versions {versions}", flush=True)
     for one in world.instances:
         one.is_wanted = False
-        checks.same(f"{world.what}: {one.machine.name} ends", 0, one.end(IN_THE_END)[0])
+        status, seconds = one.end(IN_THE_END)
+        checks.true(f"{world.what}: {one.machine.name} ends", status == 0, f"status {status} after {seconds:.0f} s: {one.last_lines()}")
     owners = world.ask("select string_agg(distinct owner, ',') from totxegun_store.slot")
     checks.same(f"{world.what}: all slots are handed over", "", owners)
 
