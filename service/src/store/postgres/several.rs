@@ -169,6 +169,7 @@ impl Known {
         instances.push(Instance {
             name: me.into(),
             address: address.into(),
+            version: env!("CARGO_PKG_VERSION").into(),
             beat: self.own,
             refused: Refused::new(),
         });
@@ -257,6 +258,7 @@ mod tests {
         let instance = |(name, beat): &(&str, u64)| Instance {
             name: name.to_string(),
             address: format!("{name}:1"),
+            version: "1".into(),
             beat: *beat,
             refused: Refused::new(),
         };
