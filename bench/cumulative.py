@@ -29,16 +29,16 @@ POINTS, LEAST_REQUESTS = 6000, 40
 WORDS = ["--durable", "process", "--first", "count", "--flush-every", "1h", "--threads", "2"]
 
 
-def profiled(arguments, kind, points, encoding):
-    """What a load takes, and how many posts it has."""
-    requests = max(POINTS // points // SENDERS, LEAST_REQUESTS) * SENDERS
+def profiled(arguments, kind, points, encoding, all_points=POINTS, series=SERIES):
+    """What a load of about so many points takes, and how many posts it has."""
+    requests = max(all_points // points // SENDERS, LEAST_REQUESTS) * SENDERS
     with tempfile.TemporaryDirectory() as folder:
         traced = ["valgrind", "--tool=callgrind", f"--callgrind-out-file={folder}/out", "--quiet"]
         one = Service(arguments.totxegun, f"{folder}/data", f"sqlite:{folder}/sink.db", *WORDS, before=traced)
         one.environment = {}
         try:
             start(one)
-            senders = Senders(one.listen, SENDERS, Posts(kind, points, SERIES, encoding, "kept"))
+            senders = Senders(one.listen, SENDERS, Posts(kind, points, series, encoding, "kept"))
             senders.make_series()
             senders.load(requests)
             order(one.process, "--zero")

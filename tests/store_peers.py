@@ -112,7 +112,7 @@ def of_tls(folder, name, by="ca"):
 
 def settled(store, *names):
     """Each slot has an owner of these, and each of these has some."""
-    return wait_until(lambda: set(store.owners()) == set(names), 60)
+    return wait_until(lambda: set(store.owners()) == set(names), 120)
 
 
 def ended(checks, what, *instances):
@@ -261,7 +261,8 @@ def try_units(checks, program, folder, store, sink):
     # The one that takes over has taken the name in whole seconds, in a slot of its own.
     checks.same("whole numbers come first at the one", 200, other.post(homes["b"], 7, "whole", "s")[0])
     body = request(homes["a"], 0.25, "whole", "s")
-    checks.same("and doubles at the other", (200, "{}"), post(one.listen, body))
+    status, text = post(one.listen, body)
+    checks.true("and doubles at the other", status == 200 and "rejected" not in text, (status, text))
     one.kill()
     checks.true("it takes over", settled(store, "b") and wait_until(other.is_ready), other.last_lines())
     status, text = post(other.listen, body)
@@ -279,14 +280,14 @@ def try_sink(checks, program, folder, store, sink):
         for words, part in (([], "--new-sink"), (["--new-sink"], "stop all first")):
             wrong = Instance(program, folder, "b", store, second.address, *words)
             wrong.start()
-            checks.true("another sink is refused by name", wait_until(lambda: not wrong.is_running(), 40)
+            checks.true("another sink is refused by name", wait_until(lambda: not wrong.is_running(), 90)
                         and part in wrong.last_lines(20), wrong.last_lines())
         ended(checks, "with the former sink", one)
         new = Instance(program, folder, "b", store, second.address, "--new-sink")
         new.start()
         checks.true("it is taken while nobody runs", settled(store, "b") and new.wait_ready(), new.last_lines())
         other.start()
-        checks.true("the former one is refused from then on", wait_until(lambda: not other.is_running(), 40),
+        checks.true("the former one is refused from then on", wait_until(lambda: not other.is_running(), 90),
                     other.last_lines())
         ended(checks, "with the new sink", new)
     finally:

@@ -1,6 +1,6 @@
 //! What a cache of identities shares, and that a body is read with it as without one.
 
-use crate::reading::{first, letters, read, sum_about};
+use crate::reading::{first, letters, read, sum_about, sum_of};
 use metric_events::point::Point;
 use otlp_read::{IdentityCache, ReadFault, Reading, read_request_with};
 use std::alloc::{AllocError, Global};
@@ -246,6 +246,46 @@ fn a_cache_keeps_no_large_series(rt: HostRuntime) -> Result<(), Fail> {
     for (length, owners) in [(3900, 2), (4096, 1)] {
         let reading = read_key(&rt, length, &mut cache)?;
         expect_owners(&rt, &reading, owners, "a long key")?;
+    }
+    Ok(())
+}
+
+/// A request of a sum with a point of each of a thousand series.
+fn thousand_of(alloc: Global, part: u32) -> Result<String, AllocError> {
+    let mut points = String::new(alloc);
+    for number in 0..1000u32 {
+        let comma = if number > 0 { "," } else { "" };
+        write!(
+            points,
+            r#"{comma}{{"startTimeUnixNano":10,"timeUnixNano":20,"asInt":1,"attributes":[{{"key":"{part} {number}"}}]}}"#
+        )?;
+    }
+    sum_of(alloc, points.as_str())
+}
+
+/// Reads a thousand series by a cache.
+fn read_thousand<R: Abort + AllocGlobal>(
+    rt: &R,
+    part: u32,
+    cache: &mut IdentityCache,
+) -> Result<(), Fail> {
+    let body = thousand_of(rt.alloc(), part)?;
+    let reading = read_with(rt.alloc(), body.as_str(), cache)?;
+    assert_eq!(rt; reading.points.as_slice().len(), 1000);
+    Ok(())
+}
+
+/// Once each slot has an identity, a new one takes the place of another.
+#[test]
+fn a_cache_takes_in_what_is_new(rt: HostRuntime) -> Result<(), Fail> {
+    let mut cache = IdentityCache::new(rt.alloc());
+    for part in 0..100u32 {
+        read_thousand(&rt, part, &mut cache)?;
+    }
+    for key in ["a", "b", "c", "d", "e", "f", "g", "h"] {
+        let pair = format!(in rt.alloc(); r#"{{"key":"{key}"}}"#)?;
+        let reading = read_about(&rt, pair.as_str(), &mut cache)?;
+        expect_owners(&rt, &reading, 2, key)?;
     }
     Ok(())
 }

@@ -13,7 +13,7 @@ fn request_of(alloc: Global, metrics: &str) -> Result<String, AllocError> {
 }
 
 /// A request of one sum with these data points.
-fn sum_of(alloc: Global, points: &str) -> Result<String, AllocError> {
+pub fn sum_of(alloc: Global, points: &str) -> Result<String, AllocError> {
     let metric = format!(in alloc;
         r#"{{"name":"a","sum":{{"aggregationTemporality":1,"dataPoints":[{points}]}}}}"#
     )?;

@@ -40,7 +40,11 @@ fn make(server: &Server, database: &str, version: usize) {
 /// Of one of version 5, whose spans are all in hours or not, one of version 6, as it was before anything was closed.
 fn bring_to_6(server: &Server, database: &str, is_filling: bool) {
     let views = include_str!("../../src/sinks/postgres/views.sql");
-    let views = if is_filling { views.replace("--filling ", "") } else { views.into() };
+    let views = if is_filling {
+        views.replace("--filling ", "")
+    } else {
+        views.into()
+    };
     let step = include_str!("../../src/sinks/postgres/version6.sql");
     let version = "update totxegun.version set version = 6;";
     server.run_file(database, &format!("begin;\n{step}\n{views}\n{version}\ncommit;"));
@@ -141,7 +145,13 @@ async fn spans_of_version_6_stay() {
     let ask = |query: &str| server.ask_of("version6", query);
     let sink = open(&server.by_socket("version6"));
     refused(&*sink, 1, histogram("h", 150, 160, None, [1, 0, 0]), "overlaps").await;
-    refused(&*sink, 2, histogram("h", 86_400_000_000_000, 86_400_000_000_101, None, [1, 0, 0]), "overlaps").await;
+    refused(
+        &*sink,
+        2,
+        histogram("h", 86_400_000_000_000, 86_400_000_000_101, None, [1, 0, 0]),
+        "overlaps",
+    )
+    .await;
     taken(&*sink, 3, histogram("h", 200, 300, Some(4), [1, 0, 0])).await;
     assert_eq!(ask("select version from totxegun.version"), "7");
     assert_eq!(
@@ -152,7 +162,10 @@ async fn spans_of_version_6_stay() {
         ask("select extract(epoch from hour)::int, points, total, count, buckets from totxegun.by_hour order by 1"),
         "0|2|34|9|{6,0,3}\n86400|1|0|9|{9,0,0}"
     );
-    assert_eq!(ask("select series, points, total, count from totxegun.totals"), "1|3|34|18");
+    assert_eq!(
+        ask("select series, points, total, count from totxegun.totals"),
+        "1|3|34|18"
+    );
 }
 
 /// What version 4 had written of 40 series, half of them histograms: of each 1,500 spans of 37 s, and one in the year 2540.

@@ -16,14 +16,17 @@ fn instance(place: &Path) -> Service {
         peer_plain: false,
         reading: String::new(),
     };
-    Service::of(Settings {
-        store: Some(store),
-        reading: Reading {
-            whole: Whole::of([Choice::Auto]).unwrap(),
-            ..Reading::default()
+    Service::of(
+        Settings {
+            store: Some(store),
+            reading: Reading {
+                whole: Whole::of([Choice::Auto]).unwrap(),
+                ..Reading::default()
+            },
+            ..settings(place)
         },
-        ..settings(place)
-    })
+        None,
+    )
 }
 
 /// A point of seconds of a slot's process.
@@ -66,13 +69,18 @@ async fn what_one_instance_has_decided_is_so_at_the_next() {
     assert_eq!(post(&one, 2, whole).await, Outcome::taken(0));
     assert_eq!(one.ask("POST", "/flush").await.0, 503, "it has not all slots");
     one.taken().await;
-    let came = one.sink.came.lock().unwrap();
-    let of_second = came.iter().filter(|request| request.slot == 2);
-    let points: Vec<_> = of_second
-        .flat_map(|request| forwarded(&request.body).unwrap())
-        .collect();
+    let points = {
+        let came = one.sink.came.lock().unwrap();
+        let of_second = came.iter().filter(|request| request.slot == 2);
+        let points = of_second.flat_map(|request| forwarded(&request.body).unwrap());
+        points.collect::<Vec<_>>()
+    };
     assert!(
         matches!(points[..], [ref point] if point.value == Value::Sum(7_000_000)),
         "{points:?}"
     );
+    // Nothing is written any more when the folder goes.
+    for (service, slot) in [(&one, 1), (&one, 2), (&other, 0)] {
+        assert!(service.units.hand_over(slot).await.unwrap(), "in time");
+    }
 }
