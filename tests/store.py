@@ -198,7 +198,8 @@ def load(checks, program, store, folder, seconds, seed):
         terms = store.primary.ask("select sum(term) from totxegun_store.slot")
         print(f"{posts} posts, {repeats} repeats, {terms} terms; {', '.join(done)}", flush=True)
         for one in (first, second):
-            checks.same("it ends", 0, one.end()[0])
+            status = one.end()[0]
+            checks.true("it ends", status == 0, f"status {status}: {one.last_lines(30)}")
         owners = store.primary.ask("select string_agg(distinct owner, ',') from totxegun_store.slot")
         checks.same("all slots are handed over", "", owners)
     finally:

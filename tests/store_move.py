@@ -17,6 +17,7 @@ Each line is one check; the last line counts those that passed and failed, and t
 """
 import concurrent.futures
 import contextlib
+import itertools
 import json
 import os
 import shutil
@@ -44,6 +45,8 @@ SLOTS = "4"
 SENDERS = 4
 ONE_COPY = ("--store-copies", "1")
 CUMULATIVE = 2
+# Of databases: each move has its own.
+NUMBERS = itertools.count(1)
 # What a copy of a folder does not have.
 LEFT = shutil.ignore_patterns("lock", "operate")
 
@@ -149,7 +152,9 @@ class Filled:
         for sender in self.senders:
             sender.close()
             sender.connection, sender.service = None, instance
-        checks.same(f"{what}: a quarantined sender stays so", 403, self.held.try_once(*self.held.encoded(self.held.next_points()))[0])
+        body, headers = self.held.encoded(self.held.next_points())
+        wait_until(lambda: self.held.try_once(body, headers)[0] != 503)  # until its slot is taken
+        checks.same(f"{what}: a quarantined sender stays so", 403, self.held.try_once(body, headers)[0])
         post_all([sender for sender in self.senders if sender is not self.held], 2)
 
     def compare(self, checks, what, instance, held_too):
@@ -301,16 +306,13 @@ class Moves:
         self.program, self.server, self.folder, self.base, self.checks = program, server, folder, base, checks
         self.library = build(folder)
         self.wanted = content(program, base)
-        self.lock, self.number = threading.Lock(), 0
 
     def address(self, name, port=None):
         return f"postgres://postgres@127.0.0.1:{port or self.server.port}/{name}"
 
     def database(self):
-        with self.lock:
-            self.number += 1
-            name = f"m{self.number}"
-            self.server.ask(f"create database {name}")
+        name = f"m{next(NUMBERS)}"
+        self.server.ask(f"create database {name}")
         status, text = run(self.program, "store", "init", self.address(name), "--slots", SLOTS)
         if status:
             raise Failed(text)

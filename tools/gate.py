@@ -69,6 +69,7 @@ SERVICE_STEPS = (
     ("behind_proxies.py", [], 60),
     ("two_services.py", ["0", "1", "--sink", "one"], 40),
     ("store.py", ["60"], 120),
+    ("orders_anywhere.py", [], 60),
     ("store_peers.py", [], 150),
     ("several_machines.py", ["90"], 240),
     ("under_patroni.py", [], 200),

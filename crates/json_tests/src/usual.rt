@@ -162,10 +162,10 @@ fn owners_of_first(
 fn what_is_new_is_kept(rt: HostRuntime) -> Result<(), Fail> {
     let alloc = rt.alloc();
     let mut kept = Kept::new(alloc);
-    for part in 0..200u32 {
+    for part in 0..100u32 {
         owners_of_first(&rt, alloc, &mut kept, part, 1000)?;
     }
-    for part in 200..208u32 {
+    for part in 100..108u32 {
         assert!(rt; owners_of_first(&rt, alloc, &mut kept, part, 1)? == 2);
     }
     Ok(())

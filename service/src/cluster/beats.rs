@@ -1,7 +1,7 @@
 //! The loop of an instance: it beats, takes slots and hands them over as `owners` says, and tells who has which.
 
 use super::owners::{Owners, Step, Whose};
-use super::status::{Counts, Status};
+use super::status::{Counts, Status, Unserved};
 use super::terms::{Silence, Terms, Units, Unopened};
 use crate::log::{shown, Seldom};
 use crate::switch::Switch;
@@ -39,6 +39,7 @@ pub struct Cluster {
     look: Notify,
     /// When the last own beat that is committed was sent; none before the first.
     beaten: Mutex<Option<Instant>>,
+    unserved: Mutex<Unserved>,
     counts: Counts,
 }
 
@@ -50,6 +51,7 @@ impl Cluster {
             places: watch::channel(Places::default()).0,
             look: Notify::new(),
             beaten: Mutex::default(),
+            unserved: Mutex::default(),
             counts: Counts::default(),
         })
     }
@@ -102,13 +104,21 @@ impl Cluster {
     }
 
     pub fn status(&self) -> Status {
-        let places = self.places.borrow().clone();
         let owners = self.owners();
+        let unserved = self.unserved.lock().unwrap_or_else(PoisonError::into_inner); // it is changed whole
         Status {
+            name: owners.name().into(),
             instances: owners.instances(),
+            others: owners.others(),
+            slots: owners.slots(),
             has_namesake: owners.has_namesake(),
             refused: owners.all_refused(),
-            without_owner: places.values().filter(|whose| **whose == Whose::Nobody).count(),
+            without_owner: unserved.count(),
+            // Who has no answer of the store knows nothing of now.
+            longest_without_owner: match self.is_stalled() {
+                true => Duration::ZERO,
+                false => unserved.longest(Instant::now()),
+            },
             terms: owners.terms(),
             beat_age: self.beat_age(),
             counted: self.counts.counted(),
@@ -117,10 +127,16 @@ impl Cluster {
 
     /// What a beat would have found, and its answer counts for an hour: a test may be slow.
     #[cfg(test)]
-    pub(super) fn knows(&self, places: &[(u16, Whose)]) {
+    pub(crate) fn knows(&self, places: &[(u16, Whose)]) {
         *self.beaten.lock().unwrap() = Some(Instant::now() + Duration::from_secs(3600));
         self.places
             .send_replace(Arc::new(places.iter().cloned().collect()));
+    }
+
+    /// A beat of a test's, by which nothing is done.
+    #[cfg(test)]
+    pub(crate) fn has_seen(&self, seen: super::terms::Seen) {
+        self.owners().beat(seen);
     }
 
     /// It is changed whole under the lock.
@@ -131,7 +147,13 @@ impl Cluster {
     /// Says who has which slot, where that is new. It is found under the lock of what is said, so the last word is the latest.
     fn publish(&self) {
         self.places.send_if_modified(|said| {
-            let places = Arc::new(self.owners().whose());
+            let (places, slots) = {
+                let owners = self.owners();
+                (Arc::new(owners.whose()), owners.slots())
+            };
+            let mut unserved = self.unserved.lock().unwrap_or_else(PoisonError::into_inner);
+            unserved.note(&slots, Instant::now());
+            drop(unserved);
             let is_new = *said != places;
             *said = places;
             is_new

@@ -1,18 +1,20 @@
 //! Posts for slots of other instances: each goes to its slot's owner over kept connections, and that one's answer comes back
 //! as it said it. `internal` is the owner's side, `head` what a request says beside its body, `said` an answer on its way,
-//! `wire` what they speak.
+//! `wire` what they speak. `operators` are questions that come the same way.
 //!
 //! One that has not the slot has taken nothing, so another is asked then. Any other end may be behind a post that was taken:
 //! its sender is told 503, and its repeat finds out.
 
 mod head;
 mod internal;
+mod operators;
 mod peer;
 mod said;
 mod wire;
 
 pub use head::Secret;
 pub use internal::Internal;
+pub use operators::{Answers, Asks};
 pub use peer::SILENT_FOR;
 pub use wire::Wire;
 
@@ -245,6 +247,8 @@ enum Broken {
     Secret,
     #[error("what answers there is no instance, or of another version: it says {0}")]
     Strange(u16),
+    #[error("its answer is longer than {0} bytes: ask it by itself")]
+    Long(usize),
 }
 
 fn unavailable(why: &str) -> Outcome {

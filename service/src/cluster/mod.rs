@@ -12,7 +12,7 @@ pub mod status;
 pub mod terms;
 
 pub use beats::{Beats, Cluster, NO_STORE};
-pub use forward::{Forward, Here, Internal, Secret, Wire};
+pub use forward::{Answers, Asks, Forward, Forwarded, Here, Internal, Secret, Wire};
 pub use owners::{Refusal, Whose};
 pub use status::Status;
 

@@ -7,6 +7,7 @@
 mod namesake;
 mod others;
 mod refused;
+mod shown;
 mod step;
 
 pub use refused::Refusal;

@@ -15,6 +15,8 @@ pub struct Instance {
     pub name: String,
     /// Where others forward posts to; empty where it leaves.
     pub address: String,
+    /// Of its program.
+    pub version: String,
     pub beat: u64,
     pub refused: Refused,
 }

@@ -124,7 +124,10 @@ impl Check {
         let databases = shown(&self.databases);
         Ok(line(match standing.refusal() {
             None if standing.id.is_empty() => format!("the store in {databases} counts"),
-            None => format!("the store in {databases} counts: it has all of the folder {}", standing.folder),
+            None => format!(
+                "the store in {databases} counts: it has all of the folder {}",
+                standing.folder
+            ),
             Some(why) => format!("no service starts on the store in {databases}: {why}"),
         }))
     }

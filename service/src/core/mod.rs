@@ -19,7 +19,7 @@ mod stretch;
 
 pub use memory::used as memory_used;
 pub use names::Names;
-pub use read::Read;
+pub use read::{free_spare_readers, Read};
 pub use refusal::Refused;
 pub use stretch::Across;
 

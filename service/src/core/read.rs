@@ -5,15 +5,20 @@ use super::refusal::{check, Refused};
 use super::{Across, Core, Names};
 use crate::files::{self, Body, NoNames, Points, Post};
 use std::cell::RefCell;
-use std::sync::Arc;
+use std::sync::{Arc, Mutex, MutexGuard, PoisonError};
 
 /// So many readers a thread keeps: a post has one no longer than its thread reads it and puts it in, unless it has to wait.
 const KEPT: usize = 2;
+/// As many as a start reads at once, and a little more.
+const MOST_SPARE: usize = 160;
 
 thread_local! {
     /// Those that nobody has: no post waits for another thread's.
     static READERS: RefCell<Vec<Reader>> = const { RefCell::new(Vec::new()) };
 }
+
+/// Those that a thread has no place for. A start reads posts on threads that come and go, and they know identities by now.
+static SPARE: Mutex<Vec<Reader>> = Mutex::new(Vec::new());
 
 /// A post that was read, and is in no book yet. Its reader is another's once this is dropped.
 pub struct Read {
@@ -140,8 +145,9 @@ impl Drop for Read {
         // A thread that ends keeps none.
         let _ = READERS.try_with(|kept| {
             let mut kept = kept.borrow_mut();
-            if kept.len() < KEPT {
-                kept.push(reader);
+            match kept.len() < KEPT {
+                true => kept.push(reader),
+                false => keep_spare(reader),
             }
         });
     }
@@ -149,5 +155,23 @@ impl Drop for Read {
 
 fn reader() -> Result<Reader, Refused> {
     let kept = READERS.try_with(|kept| kept.borrow_mut().pop()).ok().flatten();
-    kept.or_else(Reader::new).ok_or(Refused::NoMemory)
+    kept.or_else(|| spare().pop())
+        .or_else(Reader::new)
+        .ok_or(Refused::NoMemory)
+}
+
+fn keep_spare(reader: Reader) {
+    let mut spare = spare();
+    if spare.len() < MOST_SPARE {
+        spare.push(reader);
+    }
+}
+
+/// Gives back the memory of all readers that no thread keeps.
+pub fn free_spare_readers() {
+    spare().clear();
+}
+
+fn spare() -> MutexGuard<'static, Vec<Reader>> {
+    SPARE.lock().unwrap_or_else(PoisonError::into_inner) // a list is sound at any time
 }

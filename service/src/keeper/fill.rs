@@ -9,7 +9,7 @@
 use super::ahead::{Ahead, Coming};
 use super::numbers::Numbers;
 use super::Trouble;
-use crate::core::{Book, Read, Refused};
+use crate::core::{free_spare_readers, Book, Read, Refused};
 use crate::files::{Body, Outbox, Post};
 use crate::otlp::series::{zeros, NotForwarded, SeriesKey};
 use crate::runs::State;
@@ -63,6 +63,7 @@ pub(super) fn fill(
         filling.replay(|post| held.contains(&post.sender), Book::admit_held)?;
     }
     filling.quarantine(&held)?;
+    free_spare_readers();
     let stopped = (filling.stops)();
     Ok((!stopped).then_some(filling.filled))
 }

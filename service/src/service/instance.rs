@@ -11,12 +11,14 @@ use crate::files::drive::{self, Drive};
 use crate::files::Fault;
 use crate::intake::connections::{serve_over, Limits};
 use crate::intake::Intake;
+use crate::metrics::{Metrics, OfCluster};
+use crate::operate::{Databases, Desk, Others};
 use crate::remarks::Remarks;
 use crate::slot::{Slot, Slots};
 use crate::store::postgres::{Copies, Member, PostgresDrive, PostgresStore, Server};
 use crate::tls;
 use crate::work::blocking;
-use anyhow::anyhow;
+use anyhow::{anyhow, Context};
 use std::collections::BTreeMap;
 use std::sync::{Arc, Mutex, MutexGuard, PoisonError};
 use tokio::sync::watch;
@@ -51,10 +53,17 @@ pub(super) struct Joining {
     pub forward: Arc<Forward<Here>>,
     secret: Secret,
     peers: Peers,
+    /// Of who is shown the cluster.
+    metrics: Option<OfCluster>,
 }
 
 impl Joining {
-    pub fn new(of: &OfStore, peers: Peers, store: PostgresStore) -> Result<Joining, Ended> {
+    pub fn new(
+        of: &OfStore,
+        peers: Peers,
+        store: PostgresStore,
+        metrics: &Metrics,
+    ) -> Result<Joining, Ended> {
         let secret =
             Secret::new(&store.cluster.secret).ok_or_else(|| anyhow!("the store's secret is no head"))?;
         let cluster = Cluster::new(&of.instance);
@@ -65,15 +74,36 @@ impl Joining {
             forward,
             secret,
             peers,
+            metrics: Some(OfCluster::new(&metrics.registry).context("no metrics can be made")?),
+        })
+    }
+
+    /// How operators reach the other instances; once.
+    pub fn others(&mut self, of: &OfStore) -> Option<Others> {
+        Some(Others {
+            metrics: self.metrics.take()?,
+            cluster: self.cluster.clone(),
+            asks: self.forward.clone(),
+            databases: Databases::begin(&self.store, of.copies),
+            instance: of.instance.clone(),
+            address: of.peer.clone(),
         })
     }
 
     /// Takes slots from now on.
-    pub fn join(self, settings: &Settings, of: &OfStore, units: Units, intake: &Arc<Here>) -> Joined {
+    pub fn join(
+        self,
+        settings: &Settings,
+        of: &OfStore,
+        units: Units,
+        intake: &Arc<Here>,
+        desk: Arc<Desk>,
+    ) -> Joined {
         self.forward.serve(intake.clone());
         let (stop_peer, peer_stopped) = watch::channel(false);
         let (stop_beats, beats_stopped) = watch::channel(false);
         let internal = Internal::new(self.cluster.clone(), intake.clone(), self.secret);
+        internal.answers_by(desk);
         let of_peers = Limits {
             connections: PEERS,
             ..limits(settings)
@@ -109,10 +139,6 @@ pub(super) struct Joined {
 }
 
 impl Joined {
-    pub fn cluster(&self) -> Arc<Cluster> {
-        self.cluster.clone()
-    }
-
     /// A slot has ended alone: its writes found another owner.
     pub fn lost(&self, slot: u16) {
         if let Some(drive) = self.instance.forget(slot) {

@@ -223,7 +223,7 @@ async fn of_store(
     let ending = async { tracing::info!("{}: ending", signals.received().await) };
     match waiting::store(settings, of, before, ending).await? {
         Some(store) => {
-            let joining = Joining::new(of, peers, store)?;
+            let joining = Joining::new(of, peers, store, &settings.metrics)?;
             let store = joining.store.clone();
             let parts = Parts::of_store(joining, settings)?;
             // An instance whose sink is refused says nothing to the others.

@@ -10,12 +10,14 @@
 //! stay in a slot N, whose requests go on from their numbers.
 
 mod content;
+mod ended;
 mod posts;
 mod target;
 
 use super::postgres::{Copies, PostgresStore, Server, Standing, State, StoreFault};
 use crate::files::{Durability, Fault, Folder, FolderFault, KnownSink, Mark, Way};
 use content::{Content, From};
+pub use ended::{folder_counts, give_up};
 use posts::Posts;
 use std::fs::File;
 use std::io::Read;
@@ -58,7 +60,10 @@ struct Place {
 
 impl Place {
     fn open(servers: &[Server], copies: Copies) -> Result<Place, MoveFault> {
-        let addresses: Vec<String> = servers.iter().map(|server| format!("postgres://{server}")).collect();
+        let addresses: Vec<String> = servers
+            .iter()
+            .map(|server| format!("postgres://{server}"))
+            .collect();
         Ok(Place {
             store: PostgresStore::look_into(servers, copies)?,
             address: addresses.join(" "),
@@ -100,7 +105,10 @@ impl Place {
         if !self.store.all_say(seen)? {
             return Err(StoreFault::Meanwhile.into());
         }
-        let to = Standing { state, ..seen.clone() };
+        let to = Standing {
+            state,
+            ..seen.clone()
+        };
         self.go(seen, to).map(drop)
     }
 }
@@ -111,14 +119,23 @@ impl Place {
         let mut drawn = [0; 8];
         let read = File::open("/dev/urandom").and_then(|mut file| file.read_exact(&mut drawn));
         read.map_err(StoreFault::System)?;
-        Ok(format!("{}{:016x}", self.store.cluster.id, u64::from_le_bytes(drawn)))
+        Ok(format!(
+            "{}{:016x}",
+            self.store.cluster.id,
+            u64::from_le_bytes(drawn)
+        ))
     }
 
     /// Another store knows nothing of the move, and what it has come to.
     fn check_is_its(&self, folder: &Path, mark: &Mark) -> Result<(), MoveFault> {
         match mark.id.starts_with(&self.store.cluster.id) {
             true => Ok(()),
-            false => refused(format!("{} {}: {} is another store", folder.display(), mark.refusal(folder), self.address)),
+            false => refused(format!(
+                "{} {}: {} is another store",
+                folder.display(),
+                mark.refusal(folder),
+                self.address
+            )),
         }
     }
 }
@@ -138,7 +155,10 @@ fn absolute(folder: &Path) -> Result<PathBuf, MoveFault> {
 pub fn from_folder(folder: &Path, servers: &[Server], copies: Copies) -> Result<Option<Moved>, MoveFault> {
     let path = absolute(folder)?;
     if !path.join("version").exists() {
-        return refused(format!("{} is no folder of totxegun: it has no file `version`", path.display()));
+        return refused(format!(
+            "{} is no folder of totxegun: it has no file `version`",
+            path.display()
+        ));
     }
     let folder = Folder::open(&path, Durability::Disk)?;
     let place = Place::open(servers, copies)?;
@@ -147,7 +167,9 @@ pub fn from_folder(folder: &Path, servers: &[Server], copies: Copies) -> Result<
     }
     let id = match folder.mark() {
         Some(mark) if mark.way == Way::Left && place.store.standing()?.id == mark.id => return Ok(None),
-        Some(mark) if mark.way != Way::Leaving => return refused(format!("{} {}", path.display(), mark.refusal(&path))),
+        Some(mark) if mark.way != Way::Leaving => {
+            return refused(format!("{} {}", path.display(), mark.refusal(&path)))
+        }
         Some(mark) => mark.id,
         None => {
             place.check_unused()?;
@@ -274,7 +296,10 @@ pub fn to_folder(folder: &Path, servers: &[Server], copies: Copies) -> Result<Op
     let id = match folder.mark() {
         Some(mark) => mark.id,
         None if !folder.is_empty()? => {
-            return refused(format!("{} has something already: give a folder that is new", path.display()));
+            return refused(format!(
+                "{} has something already: give a folder that is new",
+                path.display()
+            ));
         }
         None => {
             let id = place.draw()?;
@@ -331,66 +356,4 @@ fn fill_folder(store: &PostgresStore, folder: &Folder, id: &str) -> Result<Moved
     }
     (moved.posts, moved.series) = (posts.count, content.moved().series);
     Ok(moved)
-}
-
-// --------------------------------------------------------------------------------------------------------------------
-// Given up
-
-/// Gives up a move that has not come to its end: the one counts that counted before.
-pub fn give_up(folder: Option<&Path>, servers: &[Server], copies: Copies) -> Result<(), MoveFault> {
-    let place = Place::open(servers, copies)?;
-    let seen = place.store.standing()?;
-    let none = Standing {
-        state: State::Counts,
-        id: String::new(),
-        folder: String::new(),
-    };
-    let Some(folder) = folder else {
-        return match seen.state {
-            State::Leaving => place.go(&seen, none).map(drop),
-            State::Filling => refused(format!("a folder is on its way into this store: name it, by --from {}", seen.folder)),
-            State::Counts | State::Gone => refused("no move of this store is under way"),
-        };
-    };
-    let path = absolute(folder)?;
-    let folder = Folder::open(&path, Durability::Disk)?;
-    let Some(mark) = folder.mark().filter(|mark| mark.way == Way::Leaving) else {
-        return refused(format!("{} is on its way into no store", path.display()));
-    };
-    place.check_is_its(&path, &mark)?;
-    if seen.id == mark.id && seen.state == State::Counts {
-        return refused(format!("the store has all of {} already, and counts", path.display()));
-    }
-    if seen.id == mark.id && seen.state == State::Filling {
-        place.check_idle()?;
-        empty_store(&place.store, &mark.id)?;
-        place.go(&seen, none)?;
-    }
-    Ok(folder.set_mark(None)?)
-}
-
-fn empty_store(store: &PostgresStore, id: &str) -> Result<(), MoveFault> {
-    for number in 0..store.cluster.slots {
-        let term = store.take_to_move(number, id)?;
-        target::wipe(&store.drive(number, term).map_err(Fault::from)?)?;
-        store.release_moved(number, term)?;
-    }
-    Ok(())
-}
-
-// --------------------------------------------------------------------------------------------------------------------
-// Which of both counts
-
-/// What a store says of a folder with a mark: whether the folder counts.
-pub fn folder_counts(mark: &Mark, servers: &[Server]) -> Result<bool, MoveFault> {
-    if mark.way == Way::Left {
-        return Ok(false);
-    }
-    let standing = PostgresStore::look_into(servers, Copies::One)?.standing()?;
-    let is_its = standing.id == mark.id;
-    Ok(match mark.way {
-        Way::Leaving => !(is_its && matches!(standing.state, State::Counts | State::Leaving | State::Gone)),
-        Way::Left => false, // whatever became of the store
-        Way::Coming => is_its && standing.state == State::Gone,
-    })
 }

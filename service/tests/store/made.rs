@@ -56,7 +56,7 @@ fn a_start_refuses_what_is_no_store_or_another_or_can_lose() {
     let servers = [address(&one).unwrap(), address(&other).unwrap()];
     let store = PostgresStore::open(&servers, Copies::Two, "a").unwrap();
     assert_eq!(
-        wait(store.copies()).unwrap(),
+        wait(store.copies(0)).unwrap(),
         Some(1),
         "nobody is there, so no commit ends"
     );
@@ -71,9 +71,9 @@ fn who_may_not_look_at_standbys_does_not_know_how_many_copies_there_are() {
     server.ask("grant usage on schema totxegun_store to plain");
     server.ask("grant all on all tables in schema totxegun_store to plain");
     let plain = server.address().replace("//postgres@", "//plain@");
-    assert_eq!(wait(open(&[&plain], Copies::Two).copies()).unwrap(), None);
+    assert_eq!(wait(open(&[&plain], Copies::Two).copies(0)).unwrap(), None);
     assert_eq!(
-        wait(open(&[&server.address()], Copies::Two).copies()).unwrap(),
+        wait(open(&[&server.address()], Copies::Two).copies(0)).unwrap(),
         Some(2)
     );
     drop(standby);

@@ -62,6 +62,7 @@ impl Terms for Of {
             let new = Instance {
                 name: self.1.into(),
                 address: String::new(),
+                version: "1".into(),
                 beat: 0,
                 refused: Refused::new(),
             };

@@ -303,3 +303,41 @@ async fn without_beats_a_post_is_turned_away_at_the_door() {
     forward.cluster.knows(&[]);
     assert_eq!(post().await, unavailable(MOVED), "it is looked for");
 }
+
+struct Echoes;
+
+impl Answers for Echoes {
+    fn answer_question(self: Arc<Self>, question: Bytes) -> Doing<'static, Option<Vec<u8>>> {
+        Box::pin(async move { (question != "another version").then(|| [b"said ", &question[..]].concat()) })
+    }
+}
+
+#[tokio::test]
+async fn a_question_of_operators_goes_to_who_has_the_secret_and_its_answer_comes_back() {
+    let peer = Peer::here().await;
+    let ask = |of: &str, question: &str| {
+        let forward = receiver(peer.whose(), secret(of));
+        let (question, address) = (question.as_bytes().to_vec(), peer.address.clone());
+        async move { forward.put_question(&address, question, WITHIN).await }
+    };
+    let starting = ask("of all", "x").await.unwrap_err();
+    assert!(starting.contains("503"), "{starting}");
+    peer.internal.answers_by(Arc::new(Echoes));
+    let long = "x".repeat(1 << 20);
+    assert_eq!(ask("of all", &long).await.unwrap(), format!("said {long}"));
+    let refused = ask("of others", "x").await.unwrap_err();
+    assert!(refused.contains("secret"), "{refused}");
+    let strange = ask("of all", "another version").await.unwrap_err();
+    assert!(strange.contains("another version"), "{strange}");
+    let (address, _) = strange_to_all().await;
+    let forward = receiver(peer.whose(), secret("of all"));
+    let late = forward
+        .put_question(&address, Vec::new(), Duration::from_millis(200))
+        .await;
+    assert!(late.unwrap_err().contains("in time"));
+}
+
+/// One that never answers.
+async fn strange_to_all() -> (String, Arc<std::sync::atomic::AtomicUsize>) {
+    strange(b"", true).await
+}

@@ -1,6 +1,7 @@
 //! The other instances: whose beats go on, counted in own beats.
 
 use super::{AFTER_SILENCE, GONE};
+use crate::cluster::status::OtherInstance;
 use crate::cluster::terms::{Refused, Seen};
 use std::collections::BTreeMap;
 
@@ -13,12 +14,19 @@ struct Other {
     still: u32,
     /// The last one that it had: it has none while it leaves, and still has slots.
     address: String,
+    version: String,
     leaves: bool,
     refused: Refused,
 }
 
 /// What is read of one; an owner may have no row.
-type Read<'s> = (Option<u64>, &'s str, Option<&'s Refused>);
+#[derive(Default)]
+struct Read<'s> {
+    beat: Option<u64>,
+    address: &'s str,
+    version: &'s str,
+    refused: Option<&'s Refused>,
+}
 
 pub(super) struct Others {
     me: String,
@@ -47,10 +55,15 @@ impl Others {
         there.extend(
             owners
                 .filter(|owner| !owner.is_empty())
-                .map(|owner| (owner, (None, "", None))),
+                .map(|owner| (owner, Read::default())),
         );
         for one in &seen.instances {
-            let read = (Some(one.beat), one.address.as_str(), Some(&one.refused));
+            let read = Read {
+                beat: Some(one.beat),
+                address: &one.address,
+                version: &one.version,
+                refused: Some(&one.refused),
+            };
             there.insert(&one.name, read);
         }
         there.remove(self.me.as_str());
@@ -58,11 +71,13 @@ impl Others {
         let counts = self.uncounted == 0;
         self.uncounted = self.uncounted.saturating_sub(1);
         self.by_name.retain(|name, _| there.contains_key(name.as_str()));
-        for (name, (beat, address, refused)) in there {
+        for (name, read) in there {
+            let (beat, address, version, refused) = (read.beat, read.address, read.version, read.refused);
             let other = self.by_name.entry(name.into()).or_insert(Other {
                 beat: None,
                 still: 0,
                 address: String::new(),
+                version: String::new(),
                 leaves: false,
                 refused: Refused::new(),
             });
@@ -75,6 +90,7 @@ impl Others {
             if !other.leaves {
                 other.address = address.into();
             }
+            other.version = version.into();
         }
     }
 
@@ -104,6 +120,18 @@ impl Others {
         let stays = |other: &Other| other.still < GONE && !other.leaves;
         let others = self.by_name.iter().filter(move |(_, other)| stays(other));
         others.map(|(name, other)| (name.as_str(), &other.refused))
+    }
+
+    /// Each as it is shown.
+    pub fn shown(&self) -> impl Iterator<Item = OtherInstance> + '_ {
+        self.by_name.iter().map(|(name, other)| OtherInstance {
+            name: name.clone(),
+            address: other.address.clone(),
+            version: other.version.clone(),
+            still: other.still,
+            is_gone: other.still >= GONE,
+            leaves: other.leaves,
+        })
     }
 
     /// Where one is reached, if that is known.

@@ -291,7 +291,11 @@ fn a_folder_with_a_mark_is_read_by_no_earlier_totxegun_and_no_service_starts_on_
         id: "0123456789abcdef".into(),
         store: "postgres://u@h:1/d postgres://u@h:2/d".into(),
     };
-    for (way, part) in [(Way::Leaving, "on its way into the store"), (Way::Left, "was moved into"), (Way::Coming, "out of the store")] {
+    for (way, part) in [
+        (Way::Leaving, "on its way into the store"),
+        (Way::Left, "was moved into"),
+        (Way::Coming, "out of the store"),
+    ] {
         mark.way = way;
         folder.set_mark(Some(mark.clone())).unwrap();
         assert!(version().starts_with("totxegun 3\n"), "{}", version());
@@ -305,8 +309,14 @@ fn a_folder_with_a_mark_is_read_by_no_earlier_totxegun_and_no_service_starts_on_
     folder.counts().unwrap();
     assert_eq!(version().lines().nth(1), plain.lines().nth(1));
     for wrong in ["move gone 12 s\n", "move left xy s\n", "move left 12\n", ""] {
-        let text = plain.replacen("totxegun 1", "totxegun 3", 1).replace("lock ", "slots 1\nlock ");
-        let text = format!("{}{wrong}", text.replacen("slots 1\n", "", 1).replacen("\nborn", "\nslots 1\nborn", 1));
+        let text = plain
+            .replacen("totxegun 1", "totxegun 3", 1)
+            .replace("lock ", "slots 1\nlock ");
+        let text = format!(
+            "{}{wrong}",
+            text.replacen("slots 1\n", "", 1)
+                .replacen("\nborn", "\nslots 1\nborn", 1)
+        );
         std::fs::write(place.path().join("version"), text).unwrap();
         assert!(Version::read(place.path()).is_err(), "{wrong}");
     }

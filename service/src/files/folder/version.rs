@@ -70,7 +70,10 @@ impl Version {
             (None, None) => 1,
         };
         let slots = (number > 1).then(|| format!("slots {}\n", slots.unwrap_or(1)));
-        let text = format!("totxegun {number}\nepoch {epoch}\nlock {inode}\n{}", slots.unwrap_or_default());
+        let text = format!(
+            "totxegun {number}\nepoch {epoch}\nlock {inode}\n{}",
+            slots.unwrap_or_default()
+        );
         // The last lines: an earlier totxegun passes over them.
         let born = lock.born.map(|born| format!("born {born}\n"));
         let begun: Vec<String> = begun

@@ -9,6 +9,7 @@ use std::collections::BTreeMap;
 use std::sync::{Arc, Mutex, MutexGuard, PoisonError};
 use std::thread::sleep;
 use std::time::Duration;
+use tokio::runtime::{Handle, RuntimeFlavor};
 use tokio::task::block_in_place;
 
 /// So long an instance that lives beats once at least; and one that stood still delivers nothing any more.
@@ -48,7 +49,7 @@ impl Remembers for InStore {
         let mut known = self.known();
         let before = known.as_ref().map(KnownSink::line).unwrap_or_default();
         let line = sink.line();
-        let there = block_in_place(|| self.store.set_sink(&before, &line));
+        let there = in_place(|| self.store.set_sink(&before, &line));
         let there = there.context("the store can't be written")?;
         *known = KnownSink::of_line(&there);
         match &*known {
@@ -68,7 +69,7 @@ impl Remembers for InStore {
             return Ok(());
         }
         tracing::info!("--new-sink: it is looked for {STILL:?} whether another instance runs");
-        block_in_place(|| sleep(STILL));
+        in_place(|| sleep(STILL));
         let after = self.beats()?;
         let beats = |name: &&String| before.get(*name) != after.get(*name);
         let living: Vec<&str> = after.keys().filter(beats).map(String::as_str).collect();
@@ -95,5 +96,28 @@ impl Remembers for InStore {
              old one, or put it back; or stop all instances, and give --new-sink for one start of one: what waits, and all \
              after it, goes into the new one"
         )
+    }
+}
+
+/// Waits here. The thread that asks PostgreSQL has a runtime of its own, and nothing else to do.
+fn in_place<T>(work: impl FnOnce() -> T) -> T {
+    match Handle::try_current().map(|handle| handle.runtime_flavor()) {
+        Ok(RuntimeFlavor::MultiThread) => block_in_place(work),
+        _ => work(),
+    }
+}
+
+#[cfg(test)]
+mod tests {
+    use super::in_place;
+    use tokio::runtime::Builder;
+
+    #[test]
+    fn it_is_waited_for_on_every_runtime() {
+        for mut builder in [Builder::new_current_thread(), Builder::new_multi_thread()] {
+            let runtime = builder.build().unwrap();
+            assert_eq!(runtime.block_on(async { in_place(|| 1) }), 1);
+        }
+        assert_eq!(in_place(|| 1), 1);
     }
 }

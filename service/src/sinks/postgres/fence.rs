@@ -62,7 +62,9 @@ impl Writing<'_> {
         match rows.is_empty() {
             false => Ok(()),
             true => {
-                let why = format!("slot {slot} was taken by another instance: this one delivers nothing more of it");
+                let why = format!(
+                    "slot {slot} was taken by another instance: this one delivers nothing more of it"
+                );
                 Err(PostgresFault::told(self.server, why).into())
             }
         }

@@ -63,6 +63,9 @@ comment on table totxegun.span_row is 'The rows of span, in a table for each day
 comment on column totxegun.span_row.count is 'Of a histogram, where it is not what counts come to';
 comment on column totxegun.span_row.buckets is 'Of a histogram that version 6 has written, as a text';
 comment on column totxegun.span_row.counts is 'Of a histogram: each bucket in as few bytes as hold it (bucket_counts)';
+comment on column totxegun.span_other.count is 'Of a histogram, where it is not what counts come to';
+comment on column totxegun.span_other.buckets is 'Of a histogram that version 6 has written, as a text';
+comment on column totxegun.span_other.counts is 'Of a histogram: each bucket in as few bytes as hold it (bucket_counts)';
 comment on view totxegun.span is 'A row for each point: what was counted from its start to its end; kept for --keep-spans';
 comment on column totxegun.span.series is 'Whose it is';
 comment on column totxegun.span.start_ns is 'Nanoseconds since 1970: what was counted after then; from 2262 on less 2^64';

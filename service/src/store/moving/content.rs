@@ -37,7 +37,8 @@ impl From {
     fn opened(number: u16, journal: Journal, outbox: Outbox) -> Result<From, MoveFault> {
         let no_book = |why| MoveFault::Refused(format!("there is no book: {why}"));
         let core = Core::new(1).map_err(no_book)?;
-        let metrics = Metrics::new().map_err(|why| MoveFault::Refused(format!("there are no metrics: {why}")))?;
+        let metrics =
+            Metrics::new().map_err(|why| MoveFault::Refused(format!("there are no metrics: {why}")))?;
         let slot = Slot::new(number, journal, Arc::new(outbox), Arc::new(metrics), core);
         keeper::settle(&slot)?;
         Ok(From {
@@ -97,7 +98,10 @@ impl Content {
     /// The same, where the slot itself is let go.
     pub fn with_known(&mut self, from: &From) {
         for (key, series) in from.outbox.series() {
-            let is_known = self.series.get(&key).is_some_and(|known| known.frontier >= series.frontier);
+            let is_known = self
+                .series
+                .get(&key)
+                .is_some_and(|known| known.frontier >= series.frontier);
             if !is_known {
                 self.series.insert(key, series);
             }
@@ -122,7 +126,9 @@ impl Content {
         let own = self.from.iter().find(|from| from.number == number);
         Beginning {
             next: own.map_or(1, |from| from.outbox.first_number()),
-            series: series.map(|(key, series)| (key.clone(), series.clone())).collect(),
+            series: series
+                .map(|(key, series)| (key.clone(), series.clone()))
+                .collect(),
             quarantined: self.quarantined.clone(),
             since: self.since,
         }

@@ -30,7 +30,10 @@ impl Names for Named {
     }
 
     fn text(&self, number: u64) -> Bytes {
-        self.texts.get(&number).map(|(text, _)| text.clone()).unwrap_or_default()
+        self.texts
+            .get(&number)
+            .map(|(text, _)| text.clone())
+            .unwrap_or_default()
     }
 }
 
@@ -41,7 +44,9 @@ impl Named {
     }
 
     fn note(&mut self, number: u64, text: Bytes, slots: u16) {
-        let slot = only(&text).and_then(|key| slot_of_series(&key, slots)).unwrap_or(0);
+        let slot = only(&text)
+            .and_then(|key| slot_of_series(&key, slots))
+            .unwrap_or(0);
         let before = self.texts.insert(number, (text.clone(), slot));
         self.generation += u64::from(before.is_some_and(|(before, _)| before != text));
     }
@@ -71,13 +76,17 @@ impl Posts {
         from: &From,
         mut each: impl FnMut(u16, &Post, &dyn Names) -> Result<(), Fault>,
     ) -> Result<(), MoveFault> {
-        let Some(journal) = &from.journal else { return Ok(()) };
+        let Some(journal) = &from.journal else {
+            return Ok(());
+        };
         self.named.forget();
         let mut ended = Ok(());
         journal.posts(from.outbox.journal(), u64::MAX, |read| {
             self.count += 1;
             let parts = self.parts(read);
-            ended = parts.iter().try_for_each(|(slot, post)| each(*slot, post, &self.named));
+            ended = parts
+                .iter()
+                .try_for_each(|(slot, post)| each(*slot, post, &self.named));
             ended.is_ok()
         })?;
         Ok(ended?)

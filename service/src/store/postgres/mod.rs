@@ -32,8 +32,8 @@ use crate::cluster::terms::{Instance, Refused, Row};
 use crate::files::drive::Lost;
 use crate::postgres::identity;
 use drive::Writer;
-use several::{Heard, Several};
 use session::{within, SILENT};
+use several::{Heard, Several};
 use shared::Shared;
 use std::collections::BTreeMap;
 use std::future::Future;
@@ -216,7 +216,7 @@ impl PostgresStore {
         self.identities.clone()
     }
 
-    pub fn counts(&self) -> &Counts {
+    pub fn counts(&self) -> &Arc<Counts> {
         &self.counts
     }
 
@@ -241,7 +241,8 @@ impl PostgresStore {
     /// From now on it is heard for this instance.
     pub(super) fn be_member(&self, name: &str) {
         if self.databases.len() > 1 {
-            self.several.get_or_init(|| Several::new(name, self.databases.len()));
+            self.several
+                .get_or_init(|| Several::new(name, self.databases.len()));
         }
     }
 
@@ -354,19 +355,16 @@ impl PostgresStore {
         self.runtime.run(leaving).await
     }
 
-    /// On how many servers what is committed is now, at least; none where this role may not look.
-    pub async fn copies(&self) -> Result<Option<u64>, Doubt> {
-        let beaters = self.beaters();
-        let counting = async move {
-            let mut least = None;
-            for beater in beaters {
-                let Some(copies) = beater.copies().await? else {
-                    return Ok(None);
-                };
-                least = Some(least.map_or(copies, |least: u64| least.min(copies)));
-            }
-            Ok(least)
-        };
-        self.runtime.run(counting).await
+    /// On how many servers what is committed in a database is now; none where this role may not look. Its writes may wait
+    /// meanwhile.
+    pub async fn copies(&self, database: usize) -> Result<Option<u64>, Doubt> {
+        let reader = self.databases[database].reader.clone();
+        self.runtime.run(async move { reader.copies().await }).await
+    }
+
+    /// The databases, in their order.
+    pub fn names(&self) -> Vec<String> {
+        let servers = self.databases.iter().map(|one| one.reader.server.to_string());
+        servers.collect()
     }
 }

@@ -148,7 +148,11 @@ impl Known {
     }
 
     fn rows(&self) -> Vec<Row> {
-        let mut rows: Vec<Row> = self.databases.iter().flat_map(|one| one.rows.iter().cloned()).collect();
+        let mut rows: Vec<Row> = self
+            .databases
+            .iter()
+            .flat_map(|one| one.rows.iter().cloned())
+            .collect();
         rows.sort_by_key(|row| row.slot);
         rows
     }
@@ -170,6 +174,7 @@ impl Known {
             name: me.into(),
             address: address.into(),
             beat: self.own,
+            version: env!("CARGO_PKG_VERSION").into(),
             refused: Refused::new(),
         });
         Some(Seen {
@@ -189,7 +194,10 @@ impl Known {
         let mut names: BTreeSet<String> = heard.iter().flat_map(named).collect();
         names.remove(me);
         self.beats.retain(|name, _| names.contains(name));
-        names.into_iter().filter_map(|name| self.other(name, heard, &counts)).collect()
+        names
+            .into_iter()
+            .filter_map(|name| self.other(name, heard, &counts))
+            .collect()
     }
 
     fn other(&mut self, name: String, heard: &[usize], counts: &[usize]) -> Option<Instance> {
@@ -199,7 +207,9 @@ impl Known {
             heard.iter().for_each(|place| self.databases[*place].count(&name));
         }
         let beat = *self.beats.entry(name.clone()).or_default();
-        let there = heard.iter().find_map(|place| self.databases[*place].instances.get(&name))?;
+        let there = heard
+            .iter()
+            .find_map(|place| self.databases[*place].instances.get(&name))?;
         Some(Instance {
             name,
             beat,
@@ -219,12 +229,17 @@ impl Database {
             }
             Answer::Late => {
                 let why = self.silent.clone();
-                return self.be_silent(why.unwrap_or_else(|| format!("no answer within {} s", PATIENCE.as_secs())));
+                return self
+                    .be_silent(why.unwrap_or_else(|| format!("no answer within {} s", PATIENCE.as_secs())));
             }
         };
         (self.silent, self.answered) = (None, self.answered.saturating_add(1));
         self.rows = heard.slots;
-        self.instances = heard.instances.into_iter().map(|one| (one.name.clone(), one)).collect();
+        self.instances = heard
+            .instances
+            .into_iter()
+            .map(|one| (one.name.clone(), one))
+            .collect();
         let own = self.instances.get(me).map_or(0, |own| own.beat);
         let most = self.own.map_or(own, |before| before + 1 + self.doubts);
         (self.own, self.doubts) = (Some(own), 0);
@@ -258,6 +273,7 @@ mod tests {
             name: name.to_string(),
             address: format!("{name}:1"),
             beat: *beat,
+            version: "0".into(),
             refused: Refused::new(),
         };
         Answer::Heard(Heard {
@@ -276,7 +292,10 @@ mod tests {
 
     /// Beats as they are told, by name.
     fn beats(seen: &Seen) -> BTreeMap<&str, u64> {
-        seen.instances.iter().map(|one| (one.name.as_str(), one.beat)).collect()
+        seen.instances
+            .iter()
+            .map(|one| (one.name.as_str(), one.beat))
+            .collect()
     }
 
     fn at(known: &mut Known, first: Answer, second: Answer) -> Option<Seen> {
@@ -294,7 +313,11 @@ mod tests {
             let seen = at(&mut known, silent(), heard(&own(2 + beat, 9 + beat), 1, "a")).unwrap();
             (own_beat, other) = (own_beat + 1, other + 1);
             assert_eq!(beats(&seen), [("a", own_beat), ("b", other)].into());
-            let slots: Vec<_> = seen.slots.iter().map(|row| (row.slot, row.owner.as_str())).collect();
+            let slots: Vec<_> = seen
+                .slots
+                .iter()
+                .map(|row| (row.slot, row.owner.as_str()))
+                .collect();
             assert_eq!(slots, [(0, "b"), (1, "a")], "as it was read last");
         }
         assert!(known.databases[0].silent.is_some() && known.databases[1].silent.is_none());
@@ -318,7 +341,12 @@ mod tests {
         at(&mut known, silent(), heard(&[("b", 2)], 1, "")).unwrap();
         let mut last = 2;
         for beat in 0..u64::from(AFTER_SILENCE) {
-            let seen = at(&mut known, heard(&[("b", 1)], 0, ""), heard(&[("b", 3 + beat)], 1, "")).unwrap();
+            let seen = at(
+                &mut known,
+                heard(&[("b", 1)], 0, ""),
+                heard(&[("b", 3 + beat)], 1, ""),
+            )
+            .unwrap();
             assert_eq!(beats(&seen)["b"], last + 1);
             last += 1;
         }

@@ -45,8 +45,7 @@ pub struct Standing {
 }
 
 /// A write, so that what it reads is there for good.
-const STANDING: &str =
-    "update totxegun_store.cluster set place = place returning state, move, folder";
+const STANDING: &str = "update totxegun_store.cluster set place = place returning state, move, folder";
 const CHANGE: &str = "update totxegun_store.cluster set state = $1, move = $2, folder = $3
     where state = $4 and move = $5";
 const FILES: &str = "select count(*) from totxegun_store.file";
@@ -227,8 +226,7 @@ impl PostgresStore {
                 let taker = &databases[place];
                 let rows = taker.slots().await?;
                 let seen = rows.iter().find(|row| row.slot == slot).map_or(0, |row| row.term);
-                let values: [&(dyn ToSql + Sync); 4] =
-                    [&i32::from(slot), &(seen as i64), &MOVER, &id];
+                let values: [&(dyn ToSql + Sync); 4] = [&i32::from(slot), &(seen as i64), &MOVER, &id];
                 let taken = taker.write(TAKE, &values).await?;
                 Ok((taken == 1).then_some(seen + 1))
             }

@@ -13,7 +13,7 @@ const BEAT: &str =
     "insert into totxegun_store.instance as i (name, address, version, beat, refused) values ($1, $2, $3, 1, $4)
     on conflict (name) do update set beat = i.beat + 1, address = excluded.address, version = excluded.version,
     refused = excluded.refused";
-const INSTANCES: &str = "select name, address, beat, refused from totxegun_store.instance";
+const INSTANCES: &str = "select name, address, version, beat, refused from totxegun_store.instance";
 const SLOTS: &str = "select slot, term, owner from totxegun_store.slot";
 /// Not while what is in the store is being moved, or where it is gone.
 const TAKE: &str =
@@ -37,7 +37,11 @@ impl Shared {
         Ok(rows?.iter().map(each).collect())
     }
 
-    pub(super) async fn heard<T>(&self, session: &Arc<Session>, answer: Result<T, Doubt>) -> Result<T, Doubt> {
+    pub(super) async fn heard<T>(
+        &self,
+        session: &Arc<Session>,
+        answer: Result<T, Doubt>,
+    ) -> Result<T, Doubt> {
         if let Err(doubt) = &answer {
             self.note(session, doubt).await;
         }
@@ -66,8 +70,9 @@ impl Shared {
         let instance = |row: &Found| Instance {
             name: row.get(0),
             address: row.get(1),
-            beat: row.get::<_, i64>(2) as u64,
-            refused: serde_json::from_str(row.get(3)).unwrap_or_default(), // a later version may say more
+            version: row.get(2),
+            beat: row.get::<_, i64>(3) as u64,
+            refused: serde_json::from_str(row.get(4)).unwrap_or_default(), // a later version may say more
         };
         self.read(INSTANCES, instance).await
     }

@@ -44,6 +44,7 @@ impl Store {
                 } else {
                     String::new()
                 },
+                version: "1".into(),
                 beat: *beat,
                 refused: refused.clone(),
             });

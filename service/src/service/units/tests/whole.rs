@@ -16,14 +16,17 @@ fn instance(place: &Path) -> Service {
         peer_plain: false,
         reading: String::new(),
     };
-    Service::of(Settings {
-        store: Some(store),
-        reading: Reading {
-            whole: Whole::of([Choice::Auto]).unwrap(),
-            ..Reading::default()
+    Service::of(
+        Settings {
+            store: Some(store),
+            reading: Reading {
+                whole: Whole::of([Choice::Auto]).unwrap(),
+                ..Reading::default()
+            },
+            ..settings(place)
         },
-        ..settings(place)
-    })
+        None,
+    )
 }
 
 /// A point of seconds of a slot's process.
