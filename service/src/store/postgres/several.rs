@@ -175,7 +175,6 @@ impl Known {
             address: address.into(),
             version: env!("CARGO_PKG_VERSION").into(),
             beat: self.own,
-            version: env!("CARGO_PKG_VERSION").into(),
             refused: Refused::new(),
         });
         Some(Seen {
@@ -275,7 +274,6 @@ mod tests {
             address: format!("{name}:1"),
             version: "1".into(),
             beat: *beat,
-            version: "0".into(),
             refused: Refused::new(),
         };
         Answer::Heard(Heard {

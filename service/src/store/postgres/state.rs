@@ -134,7 +134,7 @@ impl PostgresStore {
     }
 
     pub fn standing(&self) -> Result<Standing, StoreFault> {
-        self.tried(|databases| async move { Ok(databases[0].standing().await?) })
+        self.tried(|databases| async move { databases[0].standing().await })
     }
 
     /// Passes where the store counts. Databases that a move which was killed has not told so are told now.
@@ -153,7 +153,7 @@ impl PostgresStore {
             let (seen, to) = (seen.clone(), to.clone());
             async move {
                 databases[0].change(&seen, &to).await?;
-                Ok(databases[0].standing().await?)
+                databases[0].standing().await
             }
         })
     }
