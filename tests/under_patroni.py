@@ -256,6 +256,9 @@ def is_postgres(pid):
 def work(checks, arguments, stack):
     world = World(stack, WHAT, arguments, arguments.seed, UnderPatroni, ("etcd", "p", "s"))
     world.between = arguments.seconds
+    # The SDK's points end now: an instance whose clock is late leaves them out.
+    for one in world.instances:
+        one.clock.set(0)
     world.store.make_standby()
     lacking = sdk_go.missing()
     sdk = Sdk(world.folder, world.balancer) if checks.has("the SDK for Go", *lacking) else None
