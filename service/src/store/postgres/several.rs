@@ -175,7 +175,6 @@ impl Known {
             address: address.into(),
             version: env!("CARGO_PKG_VERSION").into(),
             beat: self.own,
-            version: env!("CARGO_PKG_VERSION").into(),
             refused: Refused::new(),
         });
         Some(Seen {
