@@ -39,7 +39,7 @@ from parts import initdb  # noqa: E402
 from service import (JSON, PROTOBUF, OtlpSink, Sender, Service, add_points, ask, differences, field, fixed, in_json,  # noqa: E402
                      in_protobuf, overlaps, told_to_all, wait_until)
 from service_interrupted import THREE_SLOTS, build  # noqa: E402
-from store import Server  # noqa: E402
+from servers import Server  # noqa: E402
 
 SLOTS = "4"
 SENDERS = 4

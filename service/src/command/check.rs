@@ -126,6 +126,13 @@ fn said_by_store(mark: &Mark) -> Option<bool> {
 /// Keeps a service from starting on the folder while it is copied. Nothing is written: a lock that was deleted is not
 /// made, and the folder itself is locked in its place.
 fn lock(data: &Path) -> anyhow::Result<File> {
+    if let Some(place) = in_store(data) {
+        bail!(
+            "{place} has no folder of slots to read: an instance has them in its --store, and checks each when it takes it. \
+             `totxegun status` shows them, its log what is wrong with one, and `totxegun store check` whether a store counts. \
+             Without --store a start would begin anew there"
+        );
+    }
     Folder::look_at(data)?;
     let is_none = |name: &str| !data.join(name).exists();
     if is_none("version") && is_none("dead") && !has_slot(data) {
@@ -153,6 +160,18 @@ fn lock(data: &Path) -> anyhow::Result<File> {
         );
     }
     Ok(file)
+}
+
+/// A store, or the folder of an instance, which has no more than its socket and its acts.
+fn in_store(data: &Path) -> Option<String> {
+    let text = data.to_string_lossy().to_ascii_lowercase();
+    if text.starts_with("postgres:") || text.starts_with("postgresql:") {
+        return Some("a store".into()); // its address may have a password
+    }
+    let has = |name: &str| data.join(name).exists();
+    let is_of_instance =
+        (has("acts.jsonl") || has("operate")) && !has("version") && !has("dead") && !has_slot(data);
+    is_of_instance.then(|| data.display().to_string())
 }
 
 fn has_slot(data: &Path) -> bool {

@@ -1,4 +1,6 @@
-//! The sink is the one that the folder, or the store, remembers, or the operator says that it is a new one.
+//! The sink is the one that the folder or the store (`in_store`) remembers, or the operator says that it is a new one.
+
+mod in_store;
 
 use super::Ended;
 use crate::files::{Folder, KnownSink, Outbox};
@@ -6,62 +8,55 @@ use crate::operate::{Act, Actor, Acts};
 use crate::sinks::{self, Address, Keep, Memory, Sink};
 use crate::store::postgres::PostgresStore;
 use anyhow::{anyhow, Context};
+use in_store::InStore;
 use std::sync::atomic::{AtomicBool, Ordering::Relaxed};
 use std::sync::Arc;
 
-/// What remembers it over starts.
-trait Place: Send + Sync {
-    /// As a refusal names it.
-    fn name(&self) -> &'static str;
-    fn sink(&self) -> Result<Option<KnownSink>, Ended>;
+/// Where the sink is remembered.
+trait Remembers: Send + Sync + 'static {
+    fn sink(&self) -> Option<KnownSink>;
+
     /// Durable, or not done, when this returns.
     fn set_sink(&self, sink: KnownSink) -> Result<(), Ended>;
+
+    /// The error is why it may not be another one now.
+    fn may_change(&self) -> Result<(), Ended>;
+
+    /// How many requests wait, where that is known.
+    fn waiting(&self) -> Option<u64>;
+
+    fn refusal(&self, known: &KnownSink, found: &str) -> String;
+
     /// Of a store, which databases it is in.
     fn databases(&self) -> Vec<Option<String>> {
         Vec::new()
     }
 }
 
-impl Place for Folder {
-    fn name(&self) -> &'static str {
-        "this folder"
-    }
-
-    fn sink(&self) -> Result<Option<KnownSink>, Ended> {
-        Ok(Folder::sink(self))
-    }
-
-    fn set_sink(&self, sink: KnownSink) -> Result<(), Ended> {
-        Ok(Folder::set_sink(self, sink)?)
-    }
-}
-
-impl Place for PostgresStore {
-    fn name(&self) -> &'static str {
-        "this store"
-    }
-
-    fn sink(&self) -> Result<Option<KnownSink>, Ended> {
-        Ok(PostgresStore::sink(self).context("the store can't be asked for its sink")?)
-    }
-
-    fn set_sink(&self, sink: KnownSink) -> Result<(), Ended> {
-        Ok(PostgresStore::set_sink(self, &sink).context("the store can't note its sink")?)
-    }
-
-    fn databases(&self) -> Vec<Option<String>> {
-        PostgresStore::databases(self)
-    }
+struct InFolder {
+    folder: Arc<Folder>,
+    outboxes: Vec<Arc<Outbox>>,
 }
 
 struct Remembered {
-    place: Arc<dyn Place>,
+    place: Box<dyn Remembers>,
     /// The one of this start, so far without an id.
     now: KnownSink,
     /// Until it was taken.
     takes_new: AtomicBool,
-    outboxes: Vec<Arc<Outbox>>,
     acts: Arc<Acts>,
+}
+
+/// Opens the sink of a store's instances.
+pub(super) fn open_of_store(
+    store: &Arc<PostgresStore>,
+    address: &Address,
+    keep: Keep,
+    takes_new: bool,
+    acts: Arc<Acts>,
+) -> Result<Arc<dyn Sink>, Ended> {
+    let place = InStore::open(store.clone()).context("the store can't be used")?;
+    opened(Box::new(place), address, keep, takes_new, acts)
 }
 
 /// Opens the sink. What waits in these outboxes goes into it.
@@ -73,33 +68,24 @@ pub(super) fn open(
     outboxes: Vec<Arc<Outbox>>,
     acts: Arc<Acts>,
 ) -> Result<Arc<dyn Sink>, Ended> {
-    opened(folder.clone(), address, keep, takes_new, outboxes, acts)
-}
-
-/// The same for all instances of a store.
-pub(super) fn of_store(
-    store: &Arc<PostgresStore>,
-    address: &Address,
-    keep: Keep,
-    takes_new: bool,
-    acts: Arc<Acts>,
-) -> Result<Arc<dyn Sink>, Ended> {
-    opened(store.clone(), address, keep, takes_new, Vec::new(), acts)
+    let place = InFolder {
+        folder: folder.clone(),
+        outboxes,
+    };
+    opened(Box::new(place), address, keep, takes_new, acts)
 }
 
 fn opened(
-    place: Arc<dyn Place>,
+    place: Box<dyn Remembers>,
     address: &Address,
     keep: Keep,
     takes_new: bool,
-    outboxes: Vec<Arc<Outbox>>,
     acts: Arc<Acts>,
 ) -> Result<Arc<dyn Sink>, Ended> {
     let memory = Arc::new(Remembered {
         place,
         now: address.known(),
         takes_new: AtomicBool::new(takes_new),
-        outboxes,
         acts,
     });
     memory.look_at_kind()?;
@@ -111,7 +97,7 @@ fn opened(
 impl Remembered {
     /// Before anything is made in a place that is another kind's.
     fn look_at_kind(&self) -> Result<(), Ended> {
-        match self.place.sink()? {
+        match self.place.sink() {
             Some(known) if known.kind != self.now.kind && !self.takes_new.load(Relaxed) => {
                 Err(anyhow!(self.refusal(&known, &self.now)).into())
             }
@@ -123,7 +109,7 @@ impl Remembered {
     /// was met is remembered by now.
     fn look_at_address(&self) -> Result<(), Ended> {
         let takes_new = self.takes_new.load(Relaxed);
-        match self.place.sink()? {
+        match self.place.sink() {
             Some(known) if known == self.now || !takes_new && known.is_at(&self.now) => Ok(()),
             Some(known) if !takes_new => Err(anyhow!(self.refusal(&known, &self.now)).into()),
             known => self.remember(known, self.now.clone()),
@@ -132,6 +118,9 @@ impl Remembered {
 
     fn remember(&self, before: Option<KnownSink>, now: KnownSink) -> Result<(), Ended> {
         let left = before.filter(|before| self.takes_new.load(Relaxed) && !before.is(&now));
+        if left.is_some() {
+            self.place.may_change()?;
+        }
         let act = left.as_ref().map(|left| {
             Act::new(
                 Actor::User(None),
@@ -144,27 +133,19 @@ impl Remembered {
         }
         self.place.set_sink(now.clone())?;
         if let (Some(act), Some(left)) = (act, left) {
-            let waiting = self.waiting();
+            let waiting = self.place.waiting();
+            let shown = waiting.map_or(String::new(), |waiting| format!(" ({waiting})"));
             tracing::warn!(
-                "--new-sink: from here on all goes into {now}, also the requests that wait ({waiting}); {left} keeps what it \
-                 has taken"
+                "--new-sink: from here on all goes into {now}, also the requests that wait{shown}; {left} keeps what it has \
+                 taken"
             );
-            self.acts
-                .ended(&act, &format!("done; requests that waited: {waiting}"));
+            let waited = waiting.map_or(String::new(), |waiting| {
+                format!("; requests that waited: {waiting}")
+            });
+            self.acts.ended(&act, &format!("done{waited}"));
         }
         self.takes_new.store(false, Relaxed);
         Ok(())
-    }
-
-    /// How many requests; of a store other instances have some too.
-    fn waiting(&self) -> String {
-        match &self.outboxes[..] {
-            [] => "those of all slots".into(),
-            outboxes => {
-                let all: u64 = outboxes.iter().map(|outbox| outbox.waiting().0).sum();
-                all.to_string()
-            }
-        }
     }
 
     fn refusal(&self, known: &KnownSink, now: &KnownSink) -> String {
@@ -172,12 +153,34 @@ impl Remembered {
             (Some(_), None) if known.is_at(now) => format!("{now}, which is empty or an older one"),
             _ => now.to_string(),
         };
+        self.place.refusal(known, &found)
+    }
+}
+
+impl Remembers for InFolder {
+    fn sink(&self) -> Option<KnownSink> {
+        self.folder.sink()
+    }
+
+    fn set_sink(&self, sink: KnownSink) -> Result<(), Ended> {
+        Ok(self.folder.set_sink(sink)?)
+    }
+
+    /// The folder is this process' own.
+    fn may_change(&self) -> Result<(), Ended> {
+        Ok(())
+    }
+
+    fn waiting(&self) -> Option<u64> {
+        Some(self.outboxes.iter().map(|outbox| outbox.waiting().0).sum())
+    }
+
+    fn refusal(&self, known: &KnownSink, found: &str) -> String {
         format!(
-            "{} delivers to {known}, and the sink is now {found}; requests that wait: {}. Set --sink (or \
+            "this folder delivers to {known}, and the sink is now {found}; requests that wait: {}. Set --sink (or \
              TOTXEGUN_SINK) to the old one, or put it back; or give --new-sink for one start: what waits, and all after \
              it, goes into the new one",
-            self.place.name(),
-            self.waiting()
+            self.waiting().unwrap_or_default()
         )
     }
 }
@@ -189,7 +192,7 @@ impl Memory for Remembered {
 
     fn admit(&self, id: Option<&str>, is_replaced: bool) -> Result<(), String> {
         let now = self.now.with_id(id);
-        let known = self.place.sink().map_err(|fault| fault.to_string())?;
+        let known = self.place.sink();
         let may_be = is_replaced || self.takes_new.load(Relaxed);
         match known {
             Some(known) if known == now => {
@@ -198,7 +201,7 @@ impl Memory for Remembered {
             }
             Some(known) if !may_be && !known.is(&now) => Err(self.refusal(&known, &now)),
             _ if id.is_none() => Ok(()), // one is made now
-            known => self.remember(known, now).map_err(|fault| fault.to_string()),
+            known => self.remember(known, now).map_err(|ended| ended.to_string()),
         }
     }
 }

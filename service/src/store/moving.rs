@@ -15,7 +15,7 @@ mod posts;
 mod target;
 
 use super::postgres::{Copies, PostgresStore, Server, Standing, State, StoreFault};
-use crate::files::{Durability, Fault, Folder, FolderFault, Mark, Way};
+use crate::files::{Durability, Fault, Folder, FolderFault, KnownSink, Mark, Way};
 use content::{Content, From};
 pub use ended::{folder_counts, give_up};
 use posts::Posts;
@@ -265,7 +265,7 @@ fn fill_store(folder: &Folder, store: &PostgresStore, id: &str) -> Result<Moved,
         }
     }
     if let Some(sink) = folder.sink() {
-        store.set_sink(&sink)?;
+        store.set_sink(&store.sink()?, &sink.line())?;
     }
     Ok(moved)
 }
@@ -351,7 +351,7 @@ fn fill_folder(store: &PostgresStore, folder: &Folder, id: &str) -> Result<Moved
         store.release_moved(number, term)?;
     }
     to.end()?;
-    if let Some(sink) = store.sink()? {
+    if let Some(sink) = KnownSink::of_line(&store.sink()?) {
         folder.set_sink(sink)?;
     }
     (moved.posts, moved.series) = (posts.count, content.moved().series);

@@ -50,19 +50,19 @@ impl KnownSink {
         }
     }
 
-    /// As the file `version` has it.
-    pub(super) fn line(&self) -> String {
-        format!("sink {}\n", self.text())
-    }
-
-    /// As a store has it.
-    pub(crate) fn text(&self) -> String {
+    /// As the file `version`, and a store, has it.
+    pub(crate) fn line(&self) -> String {
         let id = self.id.as_deref().unwrap_or("-");
-        format!("{id} {} {}", self.kind, self.address)
+        format!("sink {id} {} {}\n", self.kind, self.address)
     }
 
-    /// Of such a text.
-    pub(crate) fn read(line: &str) -> Option<KnownSink> {
+    /// Of such a line.
+    pub(crate) fn of_line(line: &str) -> Option<KnownSink> {
+        KnownSink::read(line.strip_prefix("sink ")?.strip_suffix('\n')?)
+    }
+
+    /// Of what follows `sink `.
+    pub(super) fn read(line: &str) -> Option<KnownSink> {
         let (id, rest) = line.split_once(' ')?;
         let (kind, address) = rest.split_once(' ')?;
         let is_id = !id.is_empty() && id.bytes().all(|byte| byte.is_ascii_hexdigit());

@@ -43,6 +43,14 @@ pub enum StoreFault {
 }
 
 impl StoreFault {
+    /// Whether it may be otherwise later, without anybody's help.
+    pub fn may_pass(&self) -> bool {
+        match self {
+            StoreFault::Doubt(source) | StoreFault::Server { source, .. } => source.may_pass(),
+            _ => false,
+        }
+    }
+
     pub(super) fn of(server: impl ToString, source: impl Into<Doubt>) -> StoreFault {
         StoreFault::Server {
             server: server.to_string(),

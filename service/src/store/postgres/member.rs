@@ -1,7 +1,7 @@
 //! An instance in a store: its beats, and what it takes and gives away.
 
 use super::{Doubt, PostgresStore};
-use crate::cluster::terms::{Doing, Row, Seen, Silence, Stay, Terms};
+use crate::cluster::terms::{Doing, Refused, Row, Seen, Silence, Stay, Terms};
 use std::sync::Arc;
 
 pub struct Member {
@@ -21,16 +21,16 @@ impl Member {
         }
     }
 
-    async fn beat_and_see(&self, stay: Stay) -> Result<Seen, Silence> {
+    async fn beat_and_see(&self, stay: Stay, refused: Refused) -> Result<Seen, Silence> {
         let address = match stay {
             Stay::Here => self.address.as_str(),
             Stay::Leaves => "",
         };
         if let Some(several) = self.store.several() {
-            let seen = several.beat(&self.store, address).await;
+            let seen = several.beat(&self.store, address, &refused).await;
             return seen.ok_or_else(|| Silence(self.store.silent().join("; ")));
         }
-        self.store.beat(&self.name, address).await?;
+        self.store.beat(&self.name, address, refused).await?;
         Ok(Seen {
             instances: self.store.instances().await?,
             slots: self.store.slots().await?,
@@ -60,8 +60,8 @@ impl From<Doubt> for Silence {
 }
 
 impl Terms for Member {
-    fn beat(&self, stay: Stay) -> Doing<'_, Result<Seen, Silence>> {
-        Box::pin(self.beat_and_see(stay))
+    fn beat(&self, stay: Stay, refused: Refused) -> Doing<'_, Result<Seen, Silence>> {
+        Box::pin(self.beat_and_see(stay, refused))
     }
 
     fn slots(&self) -> Doing<'_, Result<Vec<Row>, Silence>> {

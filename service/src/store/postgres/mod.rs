@@ -28,13 +28,14 @@ pub use member::Member;
 pub use schema::{Cluster, MOST_SLOTS};
 pub use state::{Standing, State};
 
-use crate::cluster::terms::{Instance, Row};
+use crate::cluster::terms::{Instance, Refused, Row};
 use crate::files::drive::Lost;
 use crate::postgres::identity;
 use drive::Writer;
 use session::{within, SILENT};
 use several::{Heard, Several};
 use shared::Shared;
+use std::collections::BTreeMap;
 use std::future::Future;
 use std::sync::{mpsc, Arc, OnceLock};
 use tokio::runtime::{Builder, Runtime};
@@ -184,12 +185,38 @@ impl PostgresStore {
         })
     }
 
+    fn waited<T: Send + 'static>(
+        &self,
+        work: impl Future<Output = Result<T, StoreFault>> + Send + 'static,
+    ) -> Result<T, StoreFault> {
+        self.runtime.wait(work).unwrap_or_else(|| Err(ended()))
+    }
+
+    /// Where instances deliver to, as the first that started has said; empty before.
+    pub fn sink(&self) -> Result<String, StoreFault> {
+        let server = self.first().server.clone();
+        self.waited(async move { schema::sink(&server).await })
+    }
+
+    /// Writes it where it is as before: what it is then.
+    pub fn set_sink(&self, before: &str, now: &str) -> Result<String, StoreFault> {
+        let (server, before, now) = (self.first().server.clone(), before.to_string(), now.to_string());
+        self.waited(async move { schema::set_sink(&server, &before, &now).await })
+    }
+
+    /// How often each instance has beaten.
+    pub fn beats(&self) -> Result<BTreeMap<String, u64>, StoreFault> {
+        let beater = self.first();
+        let instances = self.waited(async move { Ok(beater.instances().await?) })?;
+        Ok(instances.into_iter().map(|one| (one.name, one.beat)).collect())
+    }
+
     /// Of each database, which one it is, where it says so.
     pub fn databases(&self) -> Vec<Option<String>> {
         self.identities.clone()
     }
 
-    pub fn counts(&self) -> &Counts {
+    pub fn counts(&self) -> &Arc<Counts> {
         &self.counts
     }
 
@@ -238,11 +265,18 @@ impl PostgresStore {
     }
 
     /// Beats in one of several databases, and reads what is there behind it.
-    fn beats_in(&self, place: usize, name: &str, address: &str) -> JoinHandle<Result<Heard, Doubt>> {
+    fn beats_in(
+        &self,
+        place: usize,
+        name: &str,
+        address: &str,
+        refused: &Refused,
+    ) -> JoinHandle<Result<Heard, Doubt>> {
         let beater = self.databases[place].beater.clone();
-        let (name, address) = (name.to_string(), address.to_string());
+        let (name, address, refused) = (name.to_string(), address.to_string(), refused.clone());
         self.runtime.handle().spawn(async move {
-            beater.beat(&name, &address, env!("CARGO_PKG_VERSION")).await?;
+            let version = env!("CARGO_PKG_VERSION");
+            beater.beat(&name, &address, version, &refused).await?;
             Ok(Heard {
                 instances: beater.instances().await?,
                 slots: beater.slots().await?,
@@ -265,9 +299,12 @@ impl PostgresStore {
     }
 
     /// Adds one to this instance's beat, which is committed when this is `Ok`.
-    pub async fn beat(&self, name: &str, address: &str) -> Result<(), Doubt> {
+    pub async fn beat(&self, name: &str, address: &str, refused: Refused) -> Result<(), Doubt> {
         let (beater, name, address) = (self.first(), name.to_string(), address.to_string());
-        let beating = async move { beater.beat(&name, &address, env!("CARGO_PKG_VERSION")).await };
+        let beating = async move {
+            let version = env!("CARGO_PKG_VERSION");
+            beater.beat(&name, &address, version, &refused).await
+        };
         self.runtime.run(beating).await
     }
 
@@ -318,19 +355,16 @@ impl PostgresStore {
         self.runtime.run(leaving).await
     }
 
-    /// On how many servers what is committed is now, at least; none where this role may not look.
-    pub async fn copies(&self) -> Result<Option<u64>, Doubt> {
-        let beaters = self.beaters();
-        let counting = async move {
-            let mut least = None;
-            for beater in beaters {
-                let Some(copies) = beater.copies().await? else {
-                    return Ok(None);
-                };
-                least = Some(least.map_or(copies, |least: u64| least.min(copies)));
-            }
-            Ok(least)
-        };
-        self.runtime.run(counting).await
+    /// On how many servers what is committed in a database is now; none where this role may not look. Its writes may wait
+    /// meanwhile.
+    pub async fn copies(&self, database: usize) -> Result<Option<u64>, Doubt> {
+        let reader = self.databases[database].reader.clone();
+        self.runtime.run(async move { reader.copies().await }).await
+    }
+
+    /// The databases, in their order.
+    pub fn names(&self) -> Vec<String> {
+        let servers = self.databases.iter().map(|one| one.reader.server.to_string());
+        servers.collect()
     }
 }

@@ -7,7 +7,7 @@
 use super::doubt::Doubt;
 use super::PostgresStore;
 use crate::cluster::owners::AFTER_SILENCE;
-use crate::cluster::terms::{Instance, Row, Seen};
+use crate::cluster::terms::{Instance, Refused, Row, Seen};
 use std::collections::{BTreeMap, BTreeSet};
 use std::sync::{Mutex, MutexGuard, PoisonError};
 use std::time::Duration;
@@ -79,10 +79,10 @@ impl Several {
     }
 
     /// None where no database has answered.
-    pub async fn beat(&self, store: &PostgresStore, address: &str) -> Option<Seen> {
+    pub async fn beat(&self, store: &PostgresStore, address: &str, refused: &Refused) -> Option<Seen> {
         let mut asked = self.asked.lock().await;
         for (place, one) in asked.iter_mut().enumerate() {
-            one.get_or_insert_with(|| store.beats_in(place, &self.me, address));
+            one.get_or_insert_with(|| store.beats_in(place, &self.me, address, refused));
         }
         let until = Instant::now() + PATIENCE;
         let mut answers = Vec::new();
@@ -93,7 +93,11 @@ impl Several {
             };
             answers.push(answer(one, until).await);
         }
-        self.known().note(&self.me, address, answers)
+        let mut seen = self.known().note(&self.me, address, answers)?;
+        if let Some(own) = seen.instances.iter_mut().find(|one| one.name == self.me) {
+            own.refused = refused.clone();
+        }
+        Some(seen)
     }
 
     /// The slots as they are now, where a database answers.
@@ -170,6 +174,8 @@ impl Known {
             name: me.into(),
             address: address.into(),
             beat: self.own,
+            version: env!("CARGO_PKG_VERSION").into(),
+            refused: Refused::new(),
         });
         Some(Seen {
             instances,
@@ -204,8 +210,11 @@ impl Known {
         let there = heard
             .iter()
             .find_map(|place| self.databases[*place].instances.get(&name))?;
-        let address = there.address.clone();
-        Some(Instance { name, address, beat })
+        Some(Instance {
+            name,
+            beat,
+            ..there.clone()
+        })
     }
 }
 
@@ -264,6 +273,8 @@ mod tests {
             name: name.to_string(),
             address: format!("{name}:1"),
             beat: *beat,
+            version: "0".into(),
+            refused: Refused::new(),
         };
         Answer::Heard(Heard {
             instances: beats.iter().map(instance).collect(),

@@ -8,7 +8,6 @@ use super::shared::Shared;
 use super::terms::RELEASE;
 use super::PostgresStore;
 use crate::cluster::terms::Instance;
-use crate::files::KnownSink;
 use std::future::Future;
 use std::sync::Arc;
 use std::time::Duration;
@@ -46,10 +45,9 @@ pub struct Standing {
 }
 
 /// A write, so that what it reads is there for good.
-const STANDING: &str = "update totxegun_store.cluster set place = place returning state, move, folder, sink";
+const STANDING: &str = "update totxegun_store.cluster set place = place returning state, move, folder";
 const CHANGE: &str = "update totxegun_store.cluster set state = $1, move = $2, folder = $3
     where state = $4 and move = $5";
-const SET_SINK: &str = "update totxegun_store.cluster set sink = $1";
 const FILES: &str = "select count(*) from totxegun_store.file";
 const TAKE: &str = "update totxegun_store.slot set term = term + 1, link = 0, owner = $3
     where slot = $1 and term = $2
@@ -85,19 +83,18 @@ impl Standing {
 }
 
 impl Shared {
-    async fn standing(&self) -> Result<(Standing, String), Doubt> {
+    async fn standing(&self) -> Result<Standing, Doubt> {
         let session = self.session().await?;
         let row = session.written(session.client.query_one(STANDING, &[])).await;
         let row = self.heard(&session, row).await?;
         let name: &str = row.get(0);
         let state = STATES.iter().find(|(_, known)| *known == name);
-        let standing = Standing {
+        Ok(Standing {
             // What is not known here is of a later version: it must not be served.
             state: state.map_or(State::Gone, |(state, _)| *state),
             id: row.get(1),
             folder: row.get(2),
-        };
-        Ok((standing, row.get(3)))
+        })
     }
 
     async fn change(&self, seen: &Standing, to: &Standing) -> Result<(), Doubt> {
@@ -137,7 +134,7 @@ impl PostgresStore {
     }
 
     pub fn standing(&self) -> Result<Standing, StoreFault> {
-        self.tried(|databases| async move { Ok(databases[0].standing().await?.0) })
+        self.tried(|databases| async move { Ok(databases[0].standing().await?) })
     }
 
     /// Passes where the store counts. Databases that a move which was killed has not told so are told now.
@@ -156,7 +153,7 @@ impl PostgresStore {
             let (seen, to) = (seen.clone(), to.clone());
             async move {
                 databases[0].change(&seen, &to).await?;
-                Ok(databases[0].standing().await?.0)
+                Ok(databases[0].standing().await?)
             }
         })
     }
@@ -168,7 +165,7 @@ impl PostgresStore {
             let standing = standing.clone();
             async move {
                 for database in &databases[1..] {
-                    let there = database.standing().await?.0;
+                    let there = database.standing().await?;
                     if there != standing {
                         database.change(&there, &standing).await?;
                     }
@@ -185,7 +182,7 @@ impl PostgresStore {
             let standing = standing.clone();
             async move {
                 for database in &databases {
-                    if database.standing().await?.0 != standing {
+                    if database.standing().await? != standing {
                         return Ok(false);
                     }
                 }
@@ -248,19 +245,5 @@ impl PostgresStore {
             1 => Ok(()),
             _ => Err(StoreFault::Meanwhile),
         }
-    }
-
-    /// Where all goes, once an instance has met it.
-    pub fn sink(&self) -> Result<Option<KnownSink>, StoreFault> {
-        let text = self.tried(|databases| async move { Ok(databases[0].standing().await?.1) })?;
-        Ok(KnownSink::read(&text))
-    }
-
-    pub fn set_sink(&self, sink: &KnownSink) -> Result<(), StoreFault> {
-        let text = sink.text();
-        self.tried(move |databases| {
-            let text = text.clone();
-            async move { databases[0].write(SET_SINK, &[&text]).await.map(drop) }
-        })
     }
 }

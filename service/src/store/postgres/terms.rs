@@ -4,14 +4,16 @@ use super::copies;
 use super::doubt::Doubt;
 use super::session::{within, Session, SILENT};
 use super::shared::Shared;
-use crate::cluster::terms::{Instance, Row};
+use crate::cluster::terms::{Instance, Refused, Row};
 use std::sync::Arc;
 use tokio_postgres::types::ToSql;
 use tokio_postgres::Row as Found;
 
-const BEAT: &str = "insert into totxegun_store.instance as i (name, address, version, beat) values ($1, $2, $3, 1)
-    on conflict (name) do update set beat = i.beat + 1, address = excluded.address, version = excluded.version";
-const INSTANCES: &str = "select name, address, beat from totxegun_store.instance";
+const BEAT: &str =
+    "insert into totxegun_store.instance as i (name, address, version, beat, refused) values ($1, $2, $3, 1, $4)
+    on conflict (name) do update set beat = i.beat + 1, address = excluded.address, version = excluded.version,
+    refused = excluded.refused";
+const INSTANCES: &str = "select name, address, version, beat, refused from totxegun_store.instance";
 const SLOTS: &str = "select slot, term, owner from totxegun_store.slot";
 /// Not while what is in the store is being moved, or where it is gone.
 const TAKE: &str =
@@ -47,8 +49,17 @@ impl Shared {
     }
 
     /// Adds one to the instance's beat.
-    pub(super) async fn beat(&self, name: &str, address: &str, version: &str) -> Result<(), Doubt> {
-        self.write(BEAT, &[&name, &address, &version]).await.map(drop)
+    pub(super) async fn beat(
+        &self,
+        name: &str,
+        address: &str,
+        version: &str,
+        refused: &Refused,
+    ) -> Result<(), Doubt> {
+        let refused = serde_json::to_string(refused).unwrap_or_default(); // numbers and texts are always written
+        self.write(BEAT, &[&name, &address, &version, &refused])
+            .await
+            .map(drop)
     }
 
     pub(super) async fn leave(&self, name: &str) -> Result<(), Doubt> {
@@ -59,7 +70,9 @@ impl Shared {
         let instance = |row: &Found| Instance {
             name: row.get(0),
             address: row.get(1),
-            beat: row.get::<_, i64>(2) as u64,
+            version: row.get(2),
+            beat: row.get::<_, i64>(3) as u64,
+            refused: serde_json::from_str(row.get(4)).unwrap_or_default(), // a later version may say more
         };
         self.read(INSTANCES, instance).await
     }

@@ -1,4 +1,4 @@
-use Rattle.thread_tests.proofs.scripts.batches_that_are_refused.Given as goal
+use Rattle.thread_tests.proofs.scripts.in_a_new_book.Given as goal
 
 abbrev pub ghosts-one_seat-L-Ledger : goal.ghosts-one_seat-L-Ledger
 ghosts-one_seat-L-Ledger g a = record { name = a.blank.name; parts = a.blank.parts }
