@@ -1,0 +1,3 @@
+pub mod WireLemmas
+pub mod CheckLemmas
+pub mod Texts
