@@ -1,3 +1,6 @@
 pub mod WireLemmas
 pub mod CheckLemmas
 pub mod Texts
+pub mod PointLemmas
+pub mod ValueLemmas
+pub mod ListLemmas

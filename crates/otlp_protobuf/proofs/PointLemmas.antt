@@ -1,9 +1,11 @@
 -- The members of a point, found again.
-use Rattle.std.proofs.Common.{◌≡◌, ℕ, ℤ, pos, negsuc, List, Option, Some, None, option_map, refl, ap, true, w64}
-use Rattle.std.specs.Prelude.{codes, is_some, FitsSigned}
+use Rattle.std.proofs.Common.{◌≡◌, ℕ, suc, List, Option, Some, None, option_map, refl, true, w64, arith}
+use Rattle.std.proofs.lemmas.Bool.{le-leb}
+use Rattle.std.proofs.lemmas.Int.{ints}
+use Rattle.std.specs.Prelude.{ℤ, pos, negsuc, codes, is_some, nat_le, FitsSigned}
 use Rattle.serde_json.specs.Data.{Data}
 use Rattle.otlp_read.specs.Fields.{field, present}
-use Rattle.otlp_read.specs.Integers.{signed_in}
+use Rattle.otlp_read.specs.Integers.{signed_in, signed_64}
 use Rattle.otlp_read.specs.Sums.{number_in, is_whole_value, sum_fields}
 use Rattle.otlp_protobuf.specs.declared.number_point.NumberPoint.{NumberPoint}
 use Rattle.otlp_protobuf.specs.Doubles.{whole_double}
@@ -20,7 +22,7 @@ signed_shown None = refl
 signed_shown (Some (pos n)) = refl
 signed_shown (Some (negsuc n)) = refl
 
-whole_there : (bits : ℕ) (z : Option ℤ) → is_some (present (Some (number_data bits z))) ≡ true
+pub whole_there : (bits : ℕ) (z : Option ℤ) → is_some (present (Some (number_data bits z))) ≡ true
 whole_there bits None = refl
 whole_there bits (Some z) = refl
 
@@ -52,8 +54,18 @@ pub sum_fields_are : (p : NumberPoint) (attributes : List Data) → sum_fields (
 unfolding sum_fields is_whole_value
 sum_fields_are p attributes = rw (start_of p attributes, end_of p attributes, int_of p attributes, flags_of p attributes, double_of p attributes) refl
 
+small : (n : ℕ) → FitsSigned w64 (pos n) → nat_le n 9223372036854775807 ≡ true
+small n f = le-leb n 9223372036854775807 (omega (arith, ints))
+
+low : (n : ℕ) → FitsSigned w64 (negsuc n) → nat_le (suc n) 9223372036854775808 ≡ true
+low n f = le-leb (suc n) 9223372036854775808 (omega (arith, ints))
+
 -- a number of 64 bits is read
+pub signed_read : (z : ℤ) → FitsSigned w64 z → signed_64 (signed_data z) ≡ Some z
+unfolding signed_in
+signed_read (pos n) f = rw (small n f) refl
+signed_read (negsuc n) f = rw (low n f) refl
+
 pub number_read : (z : ℤ) → FitsSigned w64 z → number_in (Some (signed_data z)) ≡ Some z
-unfolding number_in signed_in
-number_read (pos n) f = ?
-number_read (negsuc n) f = ?
+unfolding number_in
+number_read z f = signed_read z f

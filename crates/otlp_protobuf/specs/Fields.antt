@@ -1,6 +1,6 @@
 -- What the fields of one number say: the last value of a number or a text, the contents of a list
 -- of messages, and the message that comes in parts.
-use Rattle.std.specs.Prelude.{ℕ, ◌==◌, if◌then◌else◌, List, [], ◌∷◌, ◌++◌, Option, Some, None}
+use Rattle.std.specs.Prelude.{ℕ, ◌%◌, ◌^◌, ◌==◌, if◌then◌else◌, List, [], ◌∷◌, ◌++◌, Option, Some, None}
 use Rattle.std.specs.Prelude.{option_and_then}
 use Rattle.std.specs.Str.{is_utf8}
 use Rattle.otlp_protobuf.specs.Wire.{Value, varint_value, fixed64_value, bytes_value, group_value}
@@ -19,10 +19,10 @@ newer n found f = if f.number == n then Some f.value else found
 abbrev pub last : ℕ → List ℕ → Option Value
 last n bytes = gathered (newer n) None (fields bytes)
 
--- the bits of a number
+-- the bits of a number, of which there are 64
 abbrev pub bits : Value → ℕ
-bits (varint_value n) = n
-bits (fixed64_value n) = n
+bits (varint_value n) = n % 2 ^ 64
+bits (fixed64_value n) = n % 2 ^ 64
 bits v = 0
 
 -- the bytes of a text, a message or of packed numbers

@@ -2,4 +2,8 @@ pub mod Wire
 pub mod Schema
 pub mod Checks
 pub mod Fields
+pub mod Doubles
+pub mod Members
+pub mod Points
+pub mod Values
 pub mod inner

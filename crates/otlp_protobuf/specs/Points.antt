@@ -3,7 +3,9 @@ use Rattle.std.specs.Prelude.{ℕ, ◌%◌, ◌^◌, ◌==◌, if◌then◌else�
 use Rattle.std.specs.Prelude.{codes}
 use Rattle.std.specs.Int.{w64, cast_signed}
 use Rattle.serde_json.specs.Data.{Data, object, member, no_members}
+use Rattle.otlp_read.specs.Sums.{SumFields}
 use Rattle.otlp_protobuf.specs.declared.number_point.NumberPoint.{NumberPoint}
+use Rattle.otlp_protobuf.specs.declared.sums.SumFields.{SumFields as Read}
 use Rattle.otlp_protobuf.specs.Wire.{Field, fields}
 use Rattle.otlp_protobuf.specs.Fields.{bits, gathered}
 use Rattle.otlp_protobuf.specs.Members.{or_null, unsigned_data, signed_data, double_data, list_data}
@@ -34,3 +36,7 @@ number_point_data p attributes = object (
     member (codes "asInt") (or_null (option_map signed_data p.int)) (
     member (codes "attributes") (list_data attributes) (
     member (codes "flags") (or_null (option_map unsigned_data p.flags)) no_members))))))
+
+-- start, end and value of a point
+abbrev pub sum_fields_data : Read → SumFields
+sum_fields_data f = record { start = f.start; end = f.end; value = f.value }

@@ -1,10 +1,23 @@
 //! Reads the protobuf body of an OTLP metrics request with the results of `otlp_read`: a message
-//! means what its JSON mapping means.
+//! means what its JSON mapping means. So far: which bytes are a request, what a sum's point says,
+//! and attribute sets.
 #![tactic(auto)]
 
-pub mod checks;
-pub mod fields;
-pub mod malformed;
-pub mod scan;
-pub mod schema;
-pub mod wire;
+mod attributes;
+mod checks;
+mod fields;
+mod lists;
+mod malformed;
+mod number_point;
+mod scalar_ref;
+mod scan;
+mod schema;
+mod sums;
+mod values;
+mod wire;
+
+pub use attributes::attributes_in;
+pub use checks::checked;
+pub use malformed::Malformed;
+pub use schema::Message;
+pub use sums::{SumFields, sum_fields};

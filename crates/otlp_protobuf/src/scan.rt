@@ -77,6 +77,16 @@ pub fn content(payload: Payload<'_>) -> Option<&[u8]>
     }
 }
 
+/// The same, none if there are no such bytes.
+pub fn content_or_none(payload: Payload<'_>) -> &[u8]
+    ensures { result.now ≡ so_far (content (payload_data payload.entry)) }
+{
+    match content(payload) {
+        Some(content) => content,
+        None => &[],
+    }
+}
+
 /// A text, if the bytes are UTF-8.
 fn if_text(bytes: &[u8]) -> Option<&str>
     ensures { option_map (λ s. s.now) result ≡ if_text bytes.now }
@@ -145,6 +155,16 @@ impl<'a> Whole<'a> {
             Whole::Absent => None,
             Whole::Slice(bytes) => Some(bytes),
             Whole::Joined(bytes) => Some(bytes.as_slice()),
+        }
+    }
+
+    /// Its bytes, none if it is absent.
+    pub fn bytes_or_none(&self) -> &[u8]
+        ensures { result.now ≡ so_far (whole_data self.now) }
+    {
+        match self.bytes() {
+            Some(bytes) => bytes,
+            None => &[],
         }
     }
 

@@ -5,8 +5,8 @@ ghost use Rattle.serde_json.specs.Data.{Data};
 ghost use Rattle.otlp_read.specs.Fields.{flags_fit, nanos_in};
 ghost use Rattle.otlp_read.specs.Sums.{number_in, sum_fields};
 ghost use Rattle.otlp_protobuf.specs.Members.{unsigned_data, signed_data};
-ghost use Rattle.otlp_protobuf.specs.Points.{number_point_of, number_point_data};
-ghost use Rattle.otlp_protobuf.specs.inner.SumViews.{sum_fields_of, sum_fields_data};
+ghost use Rattle.otlp_protobuf.specs.Points.{number_point_of, number_point_data, sum_fields_data};
+ghost use Rattle.otlp_protobuf.specs.inner.SumViews.{sum_fields_of};
 
 use crate::number_point::NumberPoint;
 

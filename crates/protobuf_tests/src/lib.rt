@@ -1,0 +1,7 @@
+//! Tests of the reader of protobuf.
+#![tactic(auto)]
+
+#[cfg(test)]
+mod messages;
+#[cfg(test)]
+mod points;
