@@ -1,7 +1,6 @@
 -- Steps of the check of a message.
-use Rattle.std.proofs.Common.{◌≡◌, ◌<◌, ℕ, zero, suc, ◌-◌, ◌==◌, List, length, Bool, true, false, Result, Ok, Err, refl, arith}
-use Rattle.std.specs.Prelude.{if◌then◌else◌, ⊤}
-use Rattle.otlp_protobuf.specs.declared.malformed.Malformed.{Malformed}
+use Rattle.std.proofs.Common.{◌≡◌, ◌<◌, ℕ, zero, suc, ◌-◌, ◌==◌, List, length, Ok, Err, refl, arith}
+use Rattle.std.specs.Prelude.{if◌then◌else◌}
 use Rattle.otlp_protobuf.specs.declared.malformed.Malformed.TheVariants.{Cut, Deep}
 use Rattle.otlp_protobuf.specs.declared.schema.Message.{Message}
 use Rattle.otlp_protobuf.specs.Wire.{◌>>=◌, field_at}

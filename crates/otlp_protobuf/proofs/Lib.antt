@@ -4,3 +4,4 @@ pub mod Texts
 pub mod PointLemmas
 pub mod ValueLemmas
 pub mod ListLemmas
+pub mod SumLemmas

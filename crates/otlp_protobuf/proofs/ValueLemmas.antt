@@ -7,7 +7,6 @@ use Rattle.std.proofs.Math.Facts.{sfits_to_z}
 use Rattle.std.proofs.lemmas.Bool.{eqb-true}
 use Rattle.std.proofs.lemmas.Bool.Decides.{nat_tests}
 use Rattle.serde_json.specs.Data.{Data, Members, no_members, string, object}
-use Rattle.series_id.specs.declared.scalars.Scalar.{Scalar}
 use Rattle.series_id.specs.declared.scalars.Scalar.TheVariants as scalars
 use Rattle.series_id.specs.declared.values.AttrValue.TheVariants.{One, Many}
 use Rattle.otlp_read.specs.Attributes.{pair_of, key_and_value}

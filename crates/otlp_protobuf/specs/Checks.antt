@@ -12,7 +12,7 @@ use Rattle.otlp_protobuf.specs.declared.schema.Kind.{Kind}
 use Rattle.otlp_protobuf.specs.declared.schema.Kind.TheVariants as kind
 use Rattle.otlp_protobuf.specs.declared.checks.TheConstants.{MAX_LEVELS}
 use Rattle.otlp_protobuf.specs.Wire.{◌>>=◌, Value, varint_value, fixed64_value, bytes_value}
-use Rattle.otlp_protobuf.specs.Wire.{group_value, fixed32_value, Field, field_at}
+use Rattle.otlp_protobuf.specs.Wire.{field_at}
 use Rattle.otlp_protobuf.specs.Schema.{kind_of}
 
 -- the message that a field has
@@ -36,9 +36,9 @@ plain_checked k v = Err OtherType
 abbrev pub value_checked : (Message → List ℕ → Result ⊤ Malformed) → Kind → Value
     → Result ⊤ Malformed
 value_checked inner k v = elim (nested k v) [
-    None ↦ plain_checked k v
+  | None ↦ plain_checked k v
   | Some m ↦ inner m.0 m.1
-  ]
+]
 
 -- the rest of a message, from a field on, with so many levels of messages below it at most, and so
 -- many fields

@@ -16,7 +16,7 @@ whole_size size =
     else (if nat_lt (exponent size) 1023 then None
     else (if nat_lt (exponent size) 1075
     then (if digits size % 2 ^ (1075 - exponent size) == 0
-      then Some (digits size / 2 ^ (1075 - exponent size)) else None)
+    then Some (digits size / 2 ^ (1075 - exponent size)) else None)
     else (if nat_lt (exponent size) 2047 then Some (digits size * 2 ^ (exponent size - 1075))
     else None)))
 

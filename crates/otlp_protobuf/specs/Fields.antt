@@ -1,10 +1,10 @@
 -- What the fields of one number say: the last value of a number or a text, the contents of a list
 -- of messages, and the message that comes in parts.
-use Rattle.std.specs.Prelude.{ℕ, ◌%◌, ◌^◌, ◌==◌, if◌then◌else◌, List, [], ◌∷◌, ◌++◌, Option, Some, None}
-use Rattle.std.specs.Prelude.{option_and_then}
+use Rattle.std.specs.Prelude.{ℕ, ◌%◌, ◌^◌, ◌==◌, if◌then◌else◌, List, [], ◌∷◌, ◌++◌}
+use Rattle.std.specs.Prelude.{Option, Some, None, option_and_then}
 use Rattle.std.specs.Str.{is_utf8}
-use Rattle.otlp_protobuf.specs.Wire.{Value, varint_value, fixed64_value, bytes_value, group_value}
-use Rattle.otlp_protobuf.specs.Wire.{fixed32_value, Field, fields}
+use Rattle.otlp_protobuf.specs.Wire.{Value, varint_value, fixed64_value, bytes_value}
+use Rattle.otlp_protobuf.specs.Wire.{Field, fields}
 
 -- what all fields say, each taken after those before it
 abbrev pub gathered : {A : Type 0} → (A → Field → A) → A → List Field → A

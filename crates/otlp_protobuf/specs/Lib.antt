@@ -6,4 +6,5 @@ pub mod Doubles
 pub mod Members
 pub mod Points
 pub mod Values
+pub mod Streams
 pub mod inner

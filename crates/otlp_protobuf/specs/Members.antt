@@ -1,9 +1,9 @@
 -- Members of the JSON mapping. A field that is absent is null, which counts as absent: so an object
 -- has all members that its message may have.
-use Rattle.std.specs.Prelude.{ℕ, ℤ, List, [], ◌∷◌, Option, Some, None, option_map}
+use Rattle.std.specs.Prelude.{ℕ, ℤ, List, [], ◌∷◌, Option, Some, None}
 use Rattle.std.specs.Float.{binary64}
 use Rattle.std.specs.Float.Ieee.{of_bits}
-use Rattle.serde_json.specs.Data.{Data, null, number, string, array, unsigned, float, Items, no_items}
+use Rattle.serde_json.specs.Data.{Data, null, number, array, unsigned, float, Items, no_items}
 use Rattle.serde_json.specs.Data.{item}
 use Rattle.serde_json.specs.Find.{of_integer}
 use Rattle.otlp_protobuf.specs.Doubles.{whole_double}

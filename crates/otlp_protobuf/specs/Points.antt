@@ -1,6 +1,6 @@
 -- The points of sums (`NumberDataPoint`).
-use Rattle.std.specs.Prelude.{ℕ, ◌%◌, ◌^◌, ◌==◌, if◌then◌else◌, List, Option, Some, None, option_map}
-use Rattle.std.specs.Prelude.{codes}
+use Rattle.std.specs.Prelude.{ℕ, ◌%◌, ◌^◌, ◌==◌, if◌then◌else◌, List, codes}
+use Rattle.std.specs.Prelude.{Some, None, option_map}
 use Rattle.std.specs.Int.{w64, cast_signed}
 use Rattle.serde_json.specs.Data.{Data, object, member, no_members}
 use Rattle.otlp_read.specs.Sums.{SumFields}
@@ -17,7 +17,8 @@ take_number p f =
     if f.number == 2 then record p { start = Some (bits f.value) }
     else (if f.number == 3 then record p { end = Some (bits f.value) }
     else (if f.number == 4 then record p { double = Some (bits f.value); int = None }
-    else (if f.number == 6 then record p { double = None; int = Some (cast_signed w64 (bits f.value)) }
+    else (if f.number == 6
+    then record p { double = None; int = Some (cast_signed w64 (bits f.value)) }
     else (if f.number == 8 then record p { flags = Some (bits f.value % 2 ^ 32) } else p))))
 
 abbrev pub no_number : NumberPoint

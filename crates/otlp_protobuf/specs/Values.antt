@@ -35,7 +35,7 @@ if_chosen n shows (Some f) = if f.number == n then shows f.value else null
 unfoldable pub any_of : Members → Option Field → Data
 any_of list found = object (
     member (codes "stringValue")
-      (if_chosen 1 (λ v. or_null (option_map string (text_of v))) found) (
+    (if_chosen 1 (λ v. or_null (option_map string (text_of v))) found) (
     member (codes "boolValue") (if_chosen 2 (λ v. boolean (not (bits v == 0))) found) (
     member (codes "intValue") (if_chosen 3 (λ v. signed_data (cast_signed w64 (bits v))) found) (
     member (codes "doubleValue") (if_chosen 4 (λ v. double_data (bits v)) found) (

@@ -6,7 +6,6 @@ use Rattle.std.specs.Int.{w32, w64, from_le_bytes}
 use Rattle.otlp_protobuf.specs.declared.malformed.Malformed.{Malformed}
 use Rattle.otlp_protobuf.specs.declared.malformed.Malformed.TheVariants.{Cut, LongNumber, NoNumber}
 use Rattle.otlp_protobuf.specs.declared.malformed.Malformed.TheVariants.{WireType, Deep}
-
 use Rattle.otlp_protobuf.specs.declared.wire.TheConstants.{MAX_INNER}
 
 infixl 10 ◌>>=◌
@@ -31,10 +30,10 @@ weighed byte unit sum =
 unfoldable pub varint_from : ℕ → ℕ → List ℕ → Result (ℕ × List ℕ) Malformed
 varint_from unit sum [] = Err Cut
 varint_from unit sum (b ∷ bs) = elim (weighed b unit sum) as (λ o. Result (ℕ × List ℕ) Malformed) [
-    None ↦ Err LongNumber
+  | None ↦ Err LongNumber
   | Some value ↦ (if nat_lt b 128 then Ok (value, bs)
       else (if nat_le unit (2 ^ 56) then varint_from (unit * 128) value bs else Err LongNumber))
-  ]
+]
 
 -- a number, and the bytes after it
 abbrev pub varint : List ℕ → Result (ℕ × List ℕ) Malformed

@@ -23,12 +23,7 @@ pub fn checked(message: Message, bytes: &[u8]) -> Result<(), Malformed>
 
 /// The same with so many levels of messages below it at most, and so many fields.
 #[tactic(auto, using(crate::proofs::CheckLemmas::check_step))]
-fn checked_from(
-    message: Message,
-    bytes: &[u8],
-    levels: u32,
-    left: usize,
-) -> Result<(), Malformed>
+fn checked_from(message: Message, bytes: &[u8], levels: u32, left: usize) -> Result<(), Malformed>
     ensures { Gives (λ done. done) result (checked_from left levels message bytes.now) }
 {
     let mut rest = bytes;

@@ -2,9 +2,11 @@
 
 ghost use Rattle.std.specs.Prelude.{◌≡◌, ◌∷◌, ◌++◌, [], option_map, IfOk, MatchOption, None, Some};
 ghost use Rattle.otlp_protobuf.specs.Wire.{Field as FieldData, fields};
-ghost use Rattle.otlp_protobuf.specs.Fields.{gathered, newer, last, bits, content, if_text, text_of};
-ghost use Rattle.otlp_protobuf.specs.Fields.{text_at, content_at, contents, so_far, whole_at};
-ghost use Rattle.otlp_protobuf.specs.inner.Views.{payload_data, field_data, fields_data, whole_data};
+ghost use Rattle.otlp_protobuf.specs.Fields.{gathered, newer, last, bits, content, if_text};
+ghost use Rattle.otlp_protobuf.specs.Fields.{text_of, text_at, content_at, contents, so_far};
+ghost use Rattle.otlp_protobuf.specs.Fields.{whole_at};
+ghost use Rattle.otlp_protobuf.specs.inner.Views.{payload_data, field_data, fields_data};
+ghost use Rattle.otlp_protobuf.specs.inner.Views.{whole_data};
 
 use crate::fields::{Field, Fields};
 use crate::wire::Payload;

@@ -105,11 +105,7 @@ fn is_list(found: Option<Field<'_>>) -> bool
 }
 
 /// The list of a value after a field.
-fn take_list<'a>(
-    alloc: Global,
-    found: Whole<'a>,
-    field: Field<'a>,
-) -> Result<Whole<'a>, AllocError>
+fn take_list<'a>(alloc: Global, found: Whole<'a>, field: Field<'a>) -> Result<Whole<'a>, AllocError>
     ensures { IfOk result (λ w. whole_data w
         ≡ take_list (whole_data found.entry) (field_data field.entry)) }
 {
@@ -137,7 +133,8 @@ fn list_of<'a>(alloc: Global, bytes: &'a [u8]) -> Result<Whole<'a>, AllocError>
 /// The values of a list.
 #[tactic(auto, using(crate::proofs::ValueLemmas::scalars_are))]
 fn many_of(alloc: Global, bytes: &[u8]) -> Result<Option<AttrValue>, AllocError>
-    ensures { IfOk result (λ o. o ≡ option_map Many (scalars_of (object (array_members bytes.now)))) }
+    ensures { IfOk result (λ o. o
+        ≡ option_map Many (scalars_of (object (array_members bytes.now)))) }
 {
     match all_of(alloc, bytes, 1)? {
         None => Ok(None),

@@ -107,7 +107,10 @@ pub fn fixed32(bytes: &[u8]) -> Result<(u32, &[u8]), Malformed>
         return Err(Malformed::Cut);
     }
     let (front, rest) = bytes.split_at(4);
-    Ok((u32::from_le_bytes([front[0], front[1], front[2], front[3]]), rest))
+    Ok((
+        u32::from_le_bytes([front[0], front[1], front[2], front[3]]),
+        rest,
+    ))
 }
 
 /// The bytes of a field that says how many they are, and the bytes after them.
@@ -174,6 +177,7 @@ fn group(bytes: &[u8], number: u32, levels: u32, left: usize) -> Result<&[u8], M
 
 /// The wire types that begin and end a group.
 const START_GROUP: u32 = 3;
+
 const END_GROUP: u32 = 4;
 
 /// The bytes after the end of a group, if it is the end of its own.

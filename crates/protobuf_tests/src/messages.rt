@@ -32,8 +32,14 @@ const OTHERS: &[(&[u8], Malformed)] = &[
     (&[80, 128], Malformed::Cut),
     (&[81, 1, 2, 3, 4, 5, 6, 7], Malformed::Cut),
     (&[75, 8, 5], Malformed::Cut),
-    (&[80, 255, 255, 255, 255, 255, 255, 255, 255, 255, 2], Malformed::LongNumber),
-    (&[80, 128, 128, 128, 128, 128, 128, 128, 128, 128, 128, 0], Malformed::LongNumber),
+    (
+        &[80, 255, 255, 255, 255, 255, 255, 255, 255, 255, 2],
+        Malformed::LongNumber,
+    ),
+    (
+        &[80, 128, 128, 128, 128, 128, 128, 128, 128, 128, 128, 0],
+        Malformed::LongNumber,
+    ),
     (&[128, 128, 128, 128, 16, 0], Malformed::LongNumber),
     (&[2, 0], Malformed::NoNumber),
     (&[14], Malformed::WireType),

@@ -1,5 +1,5 @@
 -- The fields of a sum's point, as they are read of its values.
-use Rattle.std.specs.Prelude.{ℕ, not, ◌&&◌, if◌then◌else◌, Option, Some, None, option_map, is_some}
+use Rattle.std.specs.Prelude.{not, ◌&&◌, if◌then◌else◌, Option, Some, None, option_map, is_some}
 use Rattle.otlp_read.specs.Fields.{flags_fit, nanos_in}
 use Rattle.otlp_read.specs.Lists.{◌>>=◌}
 use Rattle.otlp_read.specs.Sums.{SumFields, number_in}

@@ -1,5 +1,4 @@
-use Rattle.std.proofs.Common.{◌≡◌, None, option_map, length}
-use Rattle.otlp_protobuf.specs.Wire.{fields}
+use Rattle.std.proofs.Common.{◌≡◌, option_map, length}
 use Rattle.otlp_protobuf.specs.Fields.{gathered, newer, last}
 use Rattle.otlp_protobuf.specs.inner.Views.{payload_data, fields_data}
 use Rattle.otlp_protobuf.proofs.scan.last.Given as goal

@@ -1,4 +1,4 @@
-use Rattle.std.proofs.Common.{sym, ◌∙◌, ap, option_map}
+use Rattle.std.proofs.Common.{sym, ◌∙◌, ap}
 use Rattle.otlp_protobuf.specs.inner.SumViews.{sum_fields_of}
 use Rattle.otlp_protobuf.proofs.PointLemmas.{sum_fields_are}
 use Rattle.otlp_protobuf.proofs.sums.sum_fields.Goals as goal
