@@ -5,3 +5,5 @@
 mod messages;
 #[cfg(test)]
 mod points;
+#[cfg(test)]
+mod streams;
