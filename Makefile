@@ -56,10 +56,11 @@ tried: ## lists each test with what it tries: NAME=word
 wrong: ## tries wrong copies of the service
 	@tools/wrong.py $(NAME)
 
-# With what make build has built, while it is killed; as root with STALLS=1 also while its disk stands still now and then.
-soak: ## the service under load for an hour: STALLS=1
+# With what make build has built, while it is killed; as root with STALLS=1 also while its disk stands still now and then, and
+# with STORE=1 three instances over a store, each on a machine of its own: make soak STORE=1, or make soak STORE=1 SEED=7,8.
+soak: ## the service under load for an hour: STALLS=1, STORE=1
 	@[ -x bin/totxegun ] || { echo "there is no bin/totxegun: make build makes it" >&2; exit 1; }
-	@tests/service_load.py bin/totxegun 3600 $(if $(STALLS),--stalls)
+	@$(if $(STORE),tests/several_machines.py bin/totxegun 3600 $(SEED) --long,tests/service_load.py bin/totxegun 3600 $(if $(STALLS),--stalls))
 
 # DESTDIR, PREFIX (/usr/local), SYSCONFDIR (/etc) and UNITDIR (PREFIX/lib/systemd/system) say where.
 install: ## installs what make build has built: DESTDIR=, PREFIX=/usr/local

@@ -27,6 +27,7 @@ part half service.py --senders 64 --rows json-1,json-20,protobuf-103 --parties p
 part plain gateway.py --beside plain,plain-tree,plain-answers,plain-fast --allocators tcmalloc --receivers 4 --runs 7 --seconds 0.6
 part instructions instructions.py
 part cumulative cumulative.py
+part post post.py
 part runs service.py --rows protobuf-103,cumulative-103 --senders 64 --parties process --runs 3 --seconds 0.7
 part allocators gateway.py --allocators libc,mimalloc --seconds 0.7
 # shellcheck disable=SC2086

@@ -29,16 +29,16 @@ POINTS, LEAST_REQUESTS = 6000, 40
 WORDS = ["--durable", "process", "--first", "count", "--flush-every", "1h", "--threads", "2"]
 
 
-def count(arguments, kind, points, encoding):
-    """The instructions of a post."""
-    requests = max(POINTS // points // SENDERS, LEAST_REQUESTS) * SENDERS
+def profiled(arguments, kind, points, encoding, all_points=POINTS, series=SERIES):
+    """What a load of about so many points takes, and how many posts it has."""
+    requests = max(all_points // points // SENDERS, LEAST_REQUESTS) * SENDERS
     with tempfile.TemporaryDirectory() as folder:
         traced = ["valgrind", "--tool=callgrind", f"--callgrind-out-file={folder}/out", "--quiet"]
         one = Service(arguments.totxegun, f"{folder}/data", f"sqlite:{folder}/sink.db", *WORDS, before=traced)
         one.environment = {}
         try:
             start(one)
-            senders = Senders(one.listen, SENDERS, Posts(kind, points, SERIES, encoding, "kept"))
+            senders = Senders(one.listen, SENDERS, Posts(kind, points, series, encoding, "kept"))
             senders.make_series()
             senders.load(requests)
             order(one.process, "--zero")
@@ -48,7 +48,13 @@ def count(arguments, kind, points, encoding):
             one.kill()
         if loaded.failed:
             raise SystemExit(f"{loaded.failed} requests failed")
-        return Profile(f"{folder}/out.1").whole() / loaded.requests
+        return Profile(f"{folder}/out.1"), loaded.requests
+
+
+def count(arguments, kind, points, encoding):
+    """The instructions of a post."""
+    profile, posts = profiled(arguments, kind, points, encoding)
+    return profile.whole() / posts
 
 
 def snapshot(arguments, kind):

@@ -1,17 +1,19 @@
 #!/usr/bin/env python3
 """Prints what the service takes for a post beside the bare gateway, and beside an earlier service, in one run.
 
-    bench/service.py [--totxegun FILE] [--gateway FILE] [--earlier FOLDER] [--senders N,..] [--series N] [--rows NAME,..]
+    bench/service.py [--totxegun FILE] [--gateway FILE] [--earlier FOLDER] [--other FILE] [--senders N,..] [--series N] [--rows NAME,..]
                      [--parties NAME,..] [--connections kept|each] [--runs N] [--seconds N] [--share N] [--data DIR] [--options WORDS]
-                     [--set NAME=VALUE]*
+                     [--set NAME=VALUE]* [--sink sqlite|postgres]
 
 The programs are bin/totxegun and bin/gateway, as `make build` makes them, where none is named. Rows: json-1, json-20,
 protobuf-103, gzip-103, grpc-1, grpc-103, by the encoding and the points of a post, over 800 series, and cumulative-103, which is
 protobuf. Parties: gateway, which is
-the bare one, process and disk, which are the service with this durability and a SQLite file as its sink; more options of it
-are in WORDS, and --set sets more of its environment than the shipped unit does, such as LD_PRELOAD. process-tls and disk-tls are the
+the bare one, process and disk, which are the service with this durability and a SQLite file as its sink, or with --sink postgres a database
+of a server that runs beside, whose processor time is not counted; `--set TOTXEGUN_FLUSH_EVERY=250ms` has each run deliver. More
+options of it are in WORDS, and --set sets more of its environment than the shipped unit does, such as LD_PRELOAD. process-tls and disk-tls are the
 same over TLS 1.3, on connections that shake hands wholly, and their ratios are to those without. FOLDER has totxegun and
-gateway of a revision whose service starts a gateway (1383c49c): it is measured as earlier-process and earlier-disk too. The bare
+gateway of a revision whose service starts a gateway (1383c49c): it is measured as earlier-process and earlier-disk too. The other
+FILE is a totxegun of another revision, measured as other-process and so on. The bare
 gateway has four receivers, tcmalloc where that is installed, a connection a request, over TCP, and protobuf's points as JSON: it
 reads no other. The services get kept connections, a sender each, or with `each` one for each post, but for gRPC. The folder of a service is made in DIR, which is out/bench
 where none is named: the disk that `disk` waits for.
@@ -22,17 +24,22 @@ Figures are medians over the runs, with the least and the most in brackets; a ra
 run beside it. Processor time is all of a service's, an earlier one's gateway counted, with what flushing, journal and outbox
 take meanwhile.
 """
+import argparse
 import contextlib
 import os
 import subprocess
+import sys
 
 import loading
 from loading import Posts, Senders, rounded
 from allocators import environment, shown
-from process import file_system, numbers, processor_seconds, spread
+from process import ROOT, file_system, numbers, processor_seconds, spread
 from running import bare, options, processes, serving
 
 from loopback import free_port
+
+sys.path.insert(0, f"{ROOT}/demo")
+from parts import Database  # noqa: E402
 
 # A row of the service alone.
 CUMULATIVE = "cumulative-103"
@@ -42,6 +49,7 @@ ROWS = {"json-1": ("json", 1, 4000), "json-20": ("json", 20, 1000), "protobuf-10
 SERVICE = ["process", "disk"]
 PARTIES = ["gateway", *SERVICE]
 EARLIER = "earlier-"
+OTHER = "other-"
 OVER_TLS = "-tls"
 # Of the bare gateway.
 RECEIVERS = ["--receivers", "4"]
@@ -57,6 +65,25 @@ class Figures:
         self.a_second = loaded.requests / loaded.seconds
         self.median, self.last = loaded.median, loaded.last
         self.failed = loaded.failed
+
+
+class Databases:
+    """A PostgreSQL server, with a database for each run."""
+
+    def __init__(self):
+        self.server = Database()
+        self.server.start()
+        self.server.wait_ready()
+        self.count = 0
+
+    def fresh(self):
+        """The address of one that has nothing yet."""
+        self.count += 1
+        self.server.run("createdb", "-h", self.server.folder, "-U", "postgres", f"run{self.count}")
+        return f"postgres://postgres@/run{self.count}?host={self.server.folder}"
+
+    def close(self):
+        self.server.close()
 
 
 def measured(port, pids, clients, posts, requests, period):
@@ -88,11 +115,16 @@ def run(party, arguments, row, clients, requests, period):
             pids, encoding, connections = [gateway.pid], "json", "each"
         else:
             grpc = free_port()
-            words = ["--durable", party.removeprefix(EARLIER).removesuffix(OVER_TLS), "--listen-grpc", f"127.0.0.1:{grpc}"]
+            durability = party.removeprefix(EARLIER).removeprefix(OTHER).removesuffix(OVER_TLS)
+            words = ["--durable", durability, "--listen-grpc", f"127.0.0.1:{grpc}"]
             if party.endswith(OVER_TLS):
                 words += certificate(arguments.data)
                 connections += OVER_TLS
-            one = stack.enter_context(serving(arguments, *words, is_earlier=party.startswith(EARLIER)))
+            its = arguments
+            if party.startswith(OTHER):
+                its = argparse.Namespace(**vars(arguments) | {"totxegun": arguments.other})
+            sink = arguments.databases and arguments.databases.fresh()
+            one = stack.enter_context(serving(its, *words, sink=sink, is_earlier=party.startswith(EARLIER)))
             port, pids = grpc if encoding == "grpc" else one.listen, processes(one)
         kind = "cumulative-sum" if row == CUMULATIVE else "sum"
         posts = Posts(kind, points, arguments.series, encoding, connections)
@@ -117,8 +149,8 @@ def print_row(arguments, row, clients):
     print(f"\n{row}, {clients} senders", flush=True)
     for party, all_of_it in runs.items():
         print_party(party, all_of_it)
-        for other in ("gateway", EARLIER + party, party.removesuffix(OVER_TLS)):
-            if party not in ("gateway", other) and other in runs and not party.startswith(EARLIER):
+        for other in ("gateway", EARLIER + party, OTHER + party, party.removesuffix(OVER_TLS)):
+            if party not in ("gateway", other) and other in runs and not party.startswith((EARLIER, OTHER)):
                 print_ratios(other, runs[other], all_of_it)
 
 
@@ -142,6 +174,7 @@ def print_ratios(name, others, runs):
 
 def main():
     parser = options(__doc__.split("\n", maxsplit=1)[0])
+    parser.add_argument("--other", type=os.path.abspath)
     parser.add_argument("--senders", type=numbers, default=[8, 64])
     parser.add_argument("--series", type=int, default=800)
     parser.add_argument("--rows", type=lambda text: text.split(","), default=[row for row in ROWS if row != CUMULATIVE])
@@ -150,17 +183,24 @@ def main():
     parser.add_argument("--runs", type=int, default=5)
     parser.add_argument("--seconds", type=float, default=1)
     parser.add_argument("--share", type=float, default=1)
+    parser.add_argument("--sink", choices=("sqlite", "postgres"), default="sqlite")
     arguments = parser.parse_args()
     if arguments.earlier:
         arguments.parties += [EARLIER + party for party in arguments.parties if party in SERVICE]
+    if arguments.other:
+        arguments.parties += [OTHER + party for party in arguments.parties if not party.startswith(("gateway", EARLIER))]
     loading.build()
     os.makedirs(arguments.data, exist_ok=True)
     print(f"{arguments.totxegun}, {arguments.gateway}, {len(os.sched_getaffinity(0))} processors, {arguments.runs} runs in turn, the"
           f" folder on {file_system(arguments.data)}; the bare gateway has {' '.join(RECEIVERS)}, and {shown(environment('tcmalloc'))}",
           flush=True)
-    for row in arguments.rows:
-        for clients in arguments.senders:
-            print_row(arguments, row, clients)
+    with contextlib.ExitStack() as stack:
+        arguments.databases = None
+        if arguments.sink == "postgres":
+            arguments.databases = stack.enter_context(contextlib.closing(Databases()))
+        for row in arguments.rows:
+            for clients in arguments.senders:
+                print_row(arguments, row, clients)
 
 
 if __name__ == "__main__":

@@ -3,10 +3,10 @@
 
     tests/alerts.py TOTXEGUN
 
-Prometheus scrapes three services, whose rules are those of operate/alerts.yml with minutes made seconds. What each alert is
-for is done to a service; the alert has to fire, and to clear once the cause is gone. Each query of operate/dashboard.json is
-asked too, and names metrics that are on the page. `promtool` looks at the rules, by tests/alerts_by_time.yml at the times at
-which they fire, and at the page. Without Prometheus all is left out, with status 77.
+Prometheus scrapes three services, and an instance over a store in PostgreSQL, whose rules are those of operate/alerts.yml with
+minutes made seconds. What each alert is for is done to a service or the store; the alert has to fire, and to clear once the
+cause is gone. Each query of operate/dashboard.json is asked too, and names metrics that are on the page. `promtool` looks at
+the rules, by tests/alerts_by_time.yml at the times at which they fire, and at the page. Without Prometheus all is left out, with status 77, and what is of a store without PostgreSQL.
 
 Each line is one check; the last line counts those that passed and failed, and the status is 0 where none failed.
 """
@@ -15,6 +15,7 @@ import json
 import os
 import re
 import shutil
+import signal
 import subprocess
 import sys
 import tempfile
@@ -22,8 +23,13 @@ import threading
 import time
 import urllib.parse
 
+ROOT = os.path.dirname(os.path.dirname(os.path.abspath(__file__)))
+sys.path.insert(1, f"{ROOT}/demo")
+
 from checks import Checks
 from loopback import free_port
+from parts import initdb
+from servers import Pair
 from service import JSON, OtlpSink, Service, ask, in_json, wait_until
 from shipped import own_disk
 
@@ -39,10 +45,11 @@ SERIES = 20
 # The alert on series fires over so many of them; one book takes 10,000.
 MOST_SERIES, TAKES = 1_000, 10_000
 TOO_MANY = in_json([(f"more.{number}", 10, 20, 1) for number in range(TAKES + 1)])
+RAISE = "update totxegun_store.slot set term = term + 3 where slot = 1"
 # Points a second that a sender may post, and of one post.
 POINTS, MUCH = 100, 3_000
 SHORT = ((r"for: \d+[mh]", "for: 1s"), (r"\[\d+[mhd]\]", "[6s]"), (r"offset 1[hd]", "offset 6s"), (r"> 300", "> 3"),
-         (r"> 0\.9", f"> {SERIES / MOST_SERIES}"))
+         (r"> 0\.9", f"> {SERIES / MOST_SERIES}"), (r"> 30\n", "> 3\n"), (r"> 10\n", "> 3\n"))
 SCRAPES = """\
 global: {{scrape_interval: 500ms, scrape_timeout: 500ms, evaluation_interval: 500ms}}
 rule_files: [alerts.yml]
@@ -100,7 +107,8 @@ class Prometheus:
         found = self.ask("alerts")
         alerts = found["data"]["alerts"] if found else ()
         return any(one["labels"]["alertname"] == alert and one["state"] == "firing"
-                   and one["labels"]["instance"] == f"127.0.0.1:{service.operate}" for one in alerts)
+                   and one["labels"].get("instance", f"127.0.0.1:{service.operate}") == f"127.0.0.1:{service.operate}"
+                   for one in alerts)
 
     def close(self):
         self.process.terminate()
@@ -229,6 +237,40 @@ class Causes:
         self.sees_repeated("PostsTurnedAway", "more series than there may be", self.post_too_many)
         self.sees_repeated("SenderOverShare", "a sender that posts more than it may", self.post_much)
 
+    # Those of a store
+
+    def of_store(self, store):
+        walreceivers = store.standby.kinds("walreceiver")
+        self.sees("StoreInDoubt FewCopies", "a standby that stands still", lambda: stop(walreceivers, signal.SIGSTOP),
+                  lambda: stop(walreceivers, signal.SIGCONT))
+        self.sees_repeated("TermsGoUp", "a slot that is taken again and again", lambda: store.primary.ask(RAISE), every=1)
+        self.service.kill()
+        holder = hold_row(store)
+        self.service.start()
+        self.sees("NoOwner", "a slot that can't be taken", lambda: None, lambda: let_go(store, holder))
+
+
+def stop(pids, number):
+    for pid in pids:
+        os.kill(pid, number)
+
+
+def hold_row(store):
+    """A session that holds the row of slot 0."""
+    place = ("-h", "127.0.0.1", "-p", str(store.primary.port), "-U", "postgres", "-XAtqc")
+    words = ("set application_name = 'holder'; begin; select 1 from totxegun_store.slot where slot = 0 for update; "
+             "select pg_sleep(600)")
+    holder = subprocess.Popen([f"{store.primary.programs}/psql", *place, words], stdout=subprocess.DEVNULL,
+                              stderr=subprocess.DEVNULL)
+    sleeps = "select count(*) from pg_stat_activity where application_name = 'holder' and wait_event = 'PgSleep'"
+    wait_until(lambda: store.primary.ask(sleeps) == "1")
+    return holder
+
+
+def let_go(store, holder):
+    store.primary.ask("select pg_terminate_backend(pid) from pg_stat_activity where application_name = 'holder'")
+    holder.wait()
+
 
 def write(path, text):
     with open(path, "w", encoding="utf-8") as file:
@@ -246,10 +288,23 @@ def promtool(checks, what, *words, given=b"", folder=OPERATE):
         f"promtool says nothing of {what}", (0, b"", b""), (done.returncode, done.stdout, done.stderr))
 
 
-def look_at_dashboard(checks, prometheus, page):
+def instance_of_store(program, folder, sink, closing):
+    """An instance over a store with a standby, and the store."""
+    store = Pair()
+    closing.callback(store.close)
+    subprocess.run([program, "store", "init", store.address, "--slots", "4"], check=True, capture_output=True)
+    store.standby.be_standby_of(store.primary)
+    peer = f"127.0.0.1:{free_port()}"
+    words = ("--store", store.address, "--instance", "a", "--peer", peer, "--flush-every", "1s")
+    return store, Service(program, f"{folder}/instance", sink.address, *words)
+
+
+def look_at_dashboard(checks, prometheus, page, has_store):
     """Each query is one that Prometheus takes, of metrics that are there."""
     with open(f"{OPERATE}/dashboard.json", encoding="utf-8") as file:
-        queries = [target["expr"] for panel in json.load(file)["panels"] for target in panel["targets"]]
+        panels = [panel for panel in json.load(file)["panels"]
+                  if has_store or not panel["title"].startswith("Several machines")]
+    queries = [target["expr"] for panel in panels for target in panel["targets"]]
     names = {line.split()[2] for line in page.decode().splitlines() if line.startswith("# TYPE")}
     unknown = [name for query in queries for name in METRIC.findall(query)
                if name not in names and re.sub("_(bucket|sum|count)$", "", name) not in names]
@@ -273,6 +328,10 @@ def run(checks, program, folder):
                         "--sender-points", str(POINTS))]
     with contextlib.ExitStack() as closing:
         closing.callback(sink.close)
+        store = None
+        if checks.has("alerts of a store", *[] if initdb() else ["postgresql"]):
+            store, instance = instance_of_store(program, folder, sink, closing)
+            services.append(instance)
         for service in services:
             closing.callback(service.kill)
             service.start()
@@ -280,16 +339,18 @@ def run(checks, program, folder):
         prometheus = Prometheus(folder, services, shutil.disk_usage(folder).free)
         closing.callback(prometheus.close)
         checks.true("Prometheus scrapes them", wait_until(lambda: prometheus.is_up(len(services))), "it does not")
-        first, second, third = [Causes(checks, prometheus, service, sink) for service in services]
+        first, second, third, *fourth = [Causes(checks, prometheus, service, sink) for service in services]
         threads = [threading.Thread(target=first.of_sink), threading.Thread(target=third.of_refusals),
                    threading.Thread(target=second.of_senders, args=(f"{folder}/fill",))]
+        threads += [threading.Thread(target=one.of_store, args=(store,)) for one in fourth]
         for thread in threads:
             thread.start()
         for thread in threads:
             thread.join()
-        _, page = ask(services[1].operate, "GET", "/metrics")
-        promtool(checks, "the page of metrics", "check", "metrics", given=page)
-        look_at_dashboard(checks, prometheus, page)
+        pages = [ask(service.operate, "GET", "/metrics")[1] for service in services]
+        for page in (pages[1], *pages[3:]):
+            promtool(checks, "the page of metrics", "check", "metrics", given=page)
+        look_at_dashboard(checks, prometheus, pages[1] + b"".join(pages[3:]), store is not None)
 
 
 def main(program):

@@ -75,6 +75,8 @@ class Rules:
     a_post_is_answered_once_all_parts_are: bool = True
     # All instances find the same slot for a series.
     a_series_has_one_slot: bool = True
+    # Whoever has the slot reads a post as of the same series.
+    a_post_is_of_the_same_series_everywhere: bool = True
     # A group is delivered once it is committed,
     a_group_is_delivered_behind_its_commit: bool = True
     # under a key of the store, the same whoever delivers it,
@@ -131,6 +133,7 @@ WITHOUT = {
     "a_forwarded_answer_waits_too": (ONE, Left(takeovers=1), GONE),
     "a_post_is_answered_once_all_parts_are": (TWO, Left(takeovers=2), GONE),
     "a_series_has_one_slot": (TWO, Left(takeovers=2), TWICE),
+    "a_post_is_of_the_same_series_everywhere": (ONE, Left(takeovers=2, doubts=1, checkpoints=1), TWICE),
     "a_group_is_delivered_behind_its_commit": (ONE, Left(takeovers=2, checkpoints=2, deliveries=1), LOST),
     "a_key_is_the_stores": (ONE, Left(takeovers=2, checkpoints=1, deliveries=2), TWICE),
     "the_sink_answers_before_the_ack": (ONE, Left(takeovers=1, checkpoints=1, deliveries=1), LOST),
@@ -422,7 +425,7 @@ def answered(rules, world, state, one, is_done):
     owner = state.owners[place_of(world, one.who, one.slot)]
     if one.kind == "take":
         slot = owner.read or visible(state)[one.slot]
-        return with_owner(world, state, one.who, one.slot, owned(slot, visible(state)[one.slot].term) if is_done else None)
+        return with_owner(world, state, one.who, one.slot, owned(rules, slot, visible(state)[one.slot].term) if is_done else None)
     if not isinstance(owner, Owner):
         return state
     if is_done or not rules.who_is_lost_answers_nothing:
@@ -437,9 +440,10 @@ def answered(rules, world, state, one, is_done):
     return with_owner(world, state, one.who, one.slot, owner._replace(under_way=owner.under_way - 1, groups=groups))
 
 
-def owned(slot, term):
+def owned(rules, slot, term):
     sent = all_of(slot.groups)
-    return Owner(term, slot.next, sent | slot.journal, slot.journal, (), 0, 0, None, slot.groups, slot.acknowledged,
+    seen = sent | slot.journal if rules.a_post_is_of_the_same_series_everywhere else 0
+    return Owner(term, slot.next, seen, slot.journal, (), 0, 0, None, slot.groups, slot.acknowledged,
                  slot.is_quarantined, False)
 
 
@@ -499,7 +503,7 @@ def take(rules, world, state, who, slot):
     seen = visible(state)[slot]
     how = (f"{'AB'[who]} takes slot {slot}",)
     if not rules.a_takeover_writes_a_term:
-        yield how, with_owner(world, left, who, slot, owned(seen, seen.term))
+        yield how, with_owner(world, left, who, slot, owned(rules, seen, seen.term))
         return
     early = None if rules.files_are_read_behind_the_term else seen
     taking = with_owner(world, left, who, slot, Taking(early))

@@ -3,7 +3,7 @@
 
     tests/gateway_sizes.py PROGRAM [CHECK ..]
 
-No contract excludes a false answer `no memory`, so what README names as a limit is met here through the gateway: 12 seats,
+No contract excludes a false answer `no memory`, so what is named as a limit is met here through the gateway: 12 seats,
 which is as many as its options give, 10,000 series and 1,000 quarantined senders over the ends of rounds, 1,000 and 60,000
 points in a post, bodies of 4,194,304 bytes, one of them in chunks of 64 KiB, and flushes of 1,000 series with 4 MB of text.
 

@@ -5,7 +5,8 @@
 
 The program is put where `make build` would have made it. Then: every file has its place and mode; the service started as
 the unit starts it, with the shipped settings, takes a point, flushes and shows it; the settings name every option, and all
-their defaults together start it too; a SQLite file in a folder for a group is read by another user of it, and by nobody else;
+their defaults together start it too; user, group and folder are made of the installed files, and a SQLite file there is read by
+another user of the group, and by nobody else;
 settings that were there stay, with mode 600; the page names every option of the
 program and mandoc finds nothing; the completion completes; the version says whether the book inside was proved; systemd
 finds nothing in the unit; what is missing is said in one line.
@@ -36,6 +37,8 @@ PLACES = {
     "usr/share/fish/vendor_completions.d/totxegun.fish": 0o644,
     "usr/share/zsh/vendor-completions/_totxegun": 0o644,
     "lib/systemd/system/totxegun.service": 0o644,
+    "usr/lib/sysusers.d/totxegun.conf": 0o644,
+    "usr/lib/tmpfiles.d/totxegun.conf": 0o644,
     "etc/totxegun/totxegun.env": 0o600,
     "usr/share/doc/totxegun/README.md": 0o644,
     "usr/share/doc/totxegun/OPERATING.md": 0o644,
@@ -141,22 +144,41 @@ def serve(checks, what, root, folder, settings):
     shutil.rmtree(f"{folder}/totxegun")
 
 
-# Who reads, and how.
+# Where a group may read the sink's file, by the unit's settings, and who reads how.
+SHARED = "/var/lib/totxegun-read"
 NOBODY = 65534
 READER = "import sqlite3, sys; print(sqlite3.connect(f'file:{sys.argv[1]}', uri=True).execute('select total from totals').fetchall())"
 
 
-def look_at_group(checks, program, folder):
-    """As OPERATING has the folder made, with the umask of the unit."""
-    if not checks.has("a reader of the sink's group", *([] if os.geteuid() == 0 and shutil.which("setpriv") else ["root"])):
+def make_shared(checks, root):
+    """The folder of the group as the installed files have systemd make it; user and group of the service, and that of its readers."""
+    for words in (["systemd-sysusers", f"--root={root}"], ["systemd-tmpfiles", f"--root={root}", "--create", f"--prefix={SHARED}"]):
+        checks.true(f"{words[0]} takes what is installed", ran(words)[0] == 0, ran(words))
+    users = dict(re.findall(r"^([a-z-]+):[^:]*:(\d+):", content(f"{root}/etc/passwd"), re.M))
+    groups = dict(re.findall(r"^([a-z-]+):[^:]*:(\d+):", content(f"{root}/etc/group"), re.M))
+    user, group, readers = int(users["totxegun"]), int(groups["totxegun"]), int(groups["totxegun-read"])
+    there = os.stat(f"{root}{SHARED}")
+    checks.same("the folder is the service's, and its group may look into it", (user, readers, 0o2750),
+                (there.st_uid, there.st_gid, there.st_mode & 0o7777))
+    unit = content(f"{root}/lib/systemd/system/totxegun.service")
+    checks.true("the unit may write there", f"\nReadWritePaths=-{SHARED}\n" in unit, unit)
+    checks.true("it is that user's by its name", "\nDynamicUser=yes\n" in unit and "\nUser=" not in unit, unit)
+    return user, group, readers
+
+
+def look_at_group(checks, program, root, folder):
+    """As the unit runs it: with that user and umask."""
+    lacks = [name for name in ("setpriv", "systemd-sysusers", "systemd-tmpfiles") if not shutil.which(name)]
+    if not checks.has("a reader of the sink's group", *(lacks if os.geteuid() == 0 else ["root"])):
         return
-    group, at = 54321, f"{folder}/shared"
-    os.chmod(folder, 0o711)
-    os.mkdir(at)
-    os.chown(at, 0, group)
-    os.chmod(at, 0o2750)
+    user, group, readers = make_shared(checks, root)
+    own, at = f"{folder}/own", f"{root}{SHARED}"
+    for path in (folder, root):
+        os.chmod(path, 0o711)
+    os.mkdir(own, 0o700)
+    os.chown(own, user, group)
     listen, operate = free_port(), free_port()
-    words = ["serve", "--data", f"{folder}/own", "--sink", f"sqlite:{at}/metrics.db", "--listen", f"127.0.0.1:{listen}",
+    words = ["serve", "--data", own, "--sink", f"sqlite:{at}/metrics.db", "--listen", f"127.0.0.1:{listen}",
              "--operate", f"127.0.0.1:{operate}"]
 
     def read(of_group, how="?mode=ro"):
@@ -164,19 +186,21 @@ def look_at_group(checks, program, folder):
         return ran([*as_whom, sys.executable, "-c", READER, f"{at}/metrics.db{how}"])
 
     service = subprocess.Popen([program, *words], env=without_settings(), stdin=subprocess.DEVNULL, stderr=subprocess.DEVNULL,
-                               umask=0o077)
+                               umask=0o077, user=user, group=group, extra_groups=[])
     try:
         checks.true("it serves", wait_until(lambda: ask(operate, "GET", "/ready", seconds=2)[0] == 200), "not ready")
         now = time.time_ns()
         headers = {"Content-Type": "application/json", "x-sender": "A"}
         ask(listen, "POST", "/v1/metrics", (POINT % (now - 10_000_000_000, now)).encode(), headers)
-        ran([program, "flush", "--data", f"{folder}/own"])
-        checks.true("who is of the group reads it", wait_until(lambda: read(group)[1] == "[(5,)]\n", 20), read(group))
+        ran([program, "flush", "--data", own])
+        checks.true("who is of the group reads it", wait_until(lambda: read(readers)[1] == "[(5,)]\n", 20), read(readers))
+        checks.true("and no other file of the service", ran(["setpriv", f"--reuid={NOBODY}", f"--regid={readers}", "--clear-groups",
+                                                             "ls", own])[0] != 0, own)
         checks.true("nobody else does", read(NOBODY)[0] != 0, read(NOBODY))
     finally:
         service.terminate()
         service.wait(30)
-    checks.same("also while the service is stopped", (0, "[(5,)]\n"), read(group, "?immutable=1"))
+    checks.same("also while the service is stopped", (0, "[(5,)]\n"), read(readers, "?immutable=1"))
 
 
 def version():
@@ -318,7 +342,7 @@ def main(given):
         chosen, (_, defaults) = set_by_unit(root), shipped_settings(root)
         serve(checks, "as shipped", root, folder, chosen)
         serve(checks, "with each default said", root, folder, {**defaults, **chosen})
-        look_at_group(checks, program, folder)
+        look_at_group(checks, program, root, folder)
         look_at_version(checks, program)
         look_at_kept_settings(checks, folder, given)
         look_at_what_is_missing(checks, folder)

@@ -38,7 +38,7 @@ SETTINGS = "/etc/totxegun/totxegun.env"
 FORGET = "9d"
 # Where a purge may leave something: what was taken, the manager's own books, and what systemd notes of a unit.
 MAY_STAY = re.compile(r"/var/lib/(private/totxegun|totxegun$|dpkg/|systemd/|private$)|/var/(log|cache)/|/run/|/tmp/|/proc|/sys|/dev"
-                      r"|/etc/(machine-id|hostname|\.pwd\.lock)")
+                      r"|/etc/(machine-id|hostname|\.pwd\.lock|(passwd|group|shadow|gshadow)-)")
 # A control group of its own, so that two of them don't share their units'.
 BOOT = """\
 set -e

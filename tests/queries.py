@@ -392,8 +392,18 @@ def try_postgres(checks, program, folder, count, wanted):
                 rows = postgres.ask(sqls["PostgreSQL"])
                 compare(checks, "PostgreSQL", number, wanted[number], rows)
                 print(f"note: it took {time.monotonic() - began:.2f} s by the clock", flush=True)
+        look_at_plan(checks, postgres)
     finally:
         postgres.server.close()
+
+
+def look_at_plan(checks, postgres):
+    """Of a month of one metric neither rows nor other hours are read."""
+    plan = postgres.psql(f"set search_path to totxegun; set timezone to 'UTC'; explain (analyze, buffers, costs off) {MONTH_BY_HOUR}")
+    scans = re.findall(r"Index Only Scan using past_hour_at on .*\n +Index Cond: (.*)\n(.*)\n", plan)
+    is_by_time = scans and scans[0][0].count("to_timestamp(") == 2 and scans[0][1].strip() == "Heap Fetches: 0"
+    checks.true("PostgreSQL: a month by hour is read of the index alone, by time", is_by_time, plan)
+    print(f"note: {re.search(r'Buffers: .*', plan)[0]}", flush=True)
 
 
 # --------------------------------------------------------------------------------------------------------------------

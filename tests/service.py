@@ -184,8 +184,7 @@ def add_points(totals, points):
         totals[name] = added(totals.get(name), value)
 
 
-def in_json(points):
-    """A request with these points."""
+def metrics_in_json(points):
     metrics = []
     for name, start, end, value in points:
         point = {"startTimeUnixNano": str(start), "timeUnixNano": str(end)}
@@ -197,7 +196,12 @@ def in_json(points):
             point |= {"bucketCounts": [str(count) for count in value[0]], "count": str(sum(value[0])), "sum": value[1],
                       "explicitBounds": BOUNDS}
         metrics.append({"name": name, kind: {"aggregationTemporality": DELTA, "dataPoints": [point], **more}})
-    return json.dumps({"resourceMetrics": [{"scopeMetrics": [{"metrics": metrics}]}]}).encode()
+    return metrics
+
+
+def in_json(points):
+    """A request with these points."""
+    return json.dumps({"resourceMetrics": [{"scopeMetrics": [{"metrics": metrics_in_json(points)}]}]}).encode()
 
 
 def varint(number):
@@ -220,8 +224,7 @@ def fixed(number, form, value):
     return varint(number << 3 | 1) + struct.pack(form, value)
 
 
-def in_protobuf(points):
-    """The same request in protobuf."""
+def metrics_in_protobuf(points):
     metrics = b""
     for name, start, end, value in points:
         point = fixed(2, "<Q", start) + fixed(3, "<Q", end)
@@ -232,7 +235,26 @@ def in_protobuf(points):
             point += field(6, struct.pack(f"<{len(value[0])}Q", *value[0])) + field(7, struct.pack(f"<{len(BOUNDS)}d", *BOUNDS))
             data = field(9, field(1, point) + field(2, DELTA))
         metrics += field(2, field(1, name.encode()) + data)
-    return field(1, field(2, metrics))
+    return metrics
+
+
+def in_protobuf(points):
+    """The same request in protobuf."""
+    return field(1, field(2, metrics_in_protobuf(points)))
+
+
+def by_resource(kind, groups):
+    """A request in JSON or protobuf of several resources: the points of each by its `service.instance.id`."""
+    if kind == JSON:
+        key = "service.instance.id"
+        resources = [{"resource": {"attributes": [{"key": key, "value": {"stringValue": name}}]},
+                      "scopeMetrics": [{"metrics": metrics_in_json(points)}]} for name, points in groups.items()]
+        return json.dumps({"resourceMetrics": resources}).encode()
+    body = b""
+    for name, points in groups.items():
+        attribute = field(1, b"service.instance.id") + field(2, field(1, name.encode()))
+        body += field(1, field(1, field(1, attribute)) + field(2, metrics_in_protobuf(points)))
+    return body
 
 
 def forwarded_points(body):
@@ -276,7 +298,7 @@ class Sender:
     told is taken, added up by series."""
 
     def __init__(self, service, number, seed=0, seconds=3):
-        self.service = service
+        self.service, self.host = service, "127.0.0.1"
         self.name = f"sender-{number}"
         self.chance = random.Random(f"{seed} {number}")
         self.seconds = seconds
@@ -312,7 +334,7 @@ class Sender:
         """The answer to one attempt, on the kept connection, or (None, why)."""
         try:
             if self.connection is None:
-                self.connection = http.client.HTTPConnection("127.0.0.1", self.service.listen, timeout=self.seconds)
+                self.connection = http.client.HTTPConnection(self.host, self.service.listen, timeout=self.seconds)
             self.connection.request("POST", "/v1/metrics", body, headers)
             answer = self.connection.getresponse()
             return answer.status, answer.read()
@@ -402,11 +424,11 @@ class OtlpSink:
     """A sink of OTLP over HTTP that takes each key once. How it answers goes by its moods, one drawn for each request:
     `well`, `late`, `busy` (503), `refuse` (400), `deny` (401), `silent` (no answer), `lose` (takes, and its answer is lost)."""
 
-    def __init__(self, seed=0):
+    def __init__(self, seed=0, host="127.0.0.1"):
         self.chance = random.Random(f"sink {seed}")
         self.moods = ["well"]
         self.lock = threading.Lock()
-        self.taken = {}
+        self.taken, self.read = {}, {}
         self.seen = {}
         self.broken = []
         sink = self
@@ -424,10 +446,10 @@ class OtlpSink:
             def log_message(self, *_):
                 pass
 
-        self.server = http.server.ThreadingHTTPServer(("127.0.0.1", 0), Handler)
+        self.server = http.server.ThreadingHTTPServer((host, 0), Handler)
         self.server.daemon_threads = True
         threading.Thread(target=self.server.serve_forever, daemon=True).start()
-        self.address = f"http://127.0.0.1:{self.server.server_port}/v1/metrics"
+        self.address = f"http://{host}:{self.server.server_port}/v1/metrics"
 
     def mood(self, moods):
         self.moods = moods
@@ -461,7 +483,9 @@ class OtlpSink:
 
     def points(self):
         with self.lock:
-            return [point for body in self.taken.values() for point in forwarded_points(body)]
+            for key in self.taken.keys() - self.read.keys():
+                self.read[key] = list(forwarded_points(self.taken[key]))
+            return [point for key in self.taken for point in self.read[key]]
 
     def wrong(self):
         return self.broken

@@ -30,6 +30,7 @@ import time
 
 import sdk_go
 from checks import Checks
+from machines import ip, may_have_machines, on
 from service import JSON, ask, in_json, wait_until
 
 HERE = os.path.dirname(os.path.abspath(__file__))
@@ -76,10 +77,6 @@ public class Post {
 # Machines
 
 
-def ip(*words):
-    subprocess.run(["ip", *words], check=True, capture_output=True, timeout=20)
-
-
 def make_machines(stack):
     """Two, by their names. What they call the first one stands in their own /etc/hosts."""
     names = [f"totxegun-{os.getpid()}-{what}" for what in ("gateway", "shop")]
@@ -96,16 +93,6 @@ def make_machines(stack):
         for it in ("lo", "eth0"):
             ip("-n", name, "link", "set", it, "up")
     return names
-
-
-def on(machine, *words):
-    return ["ip", "netns", "exec", machine, *words]
-
-
-def may_have_machines():
-    name = f"totxegun-{os.getpid()}-try"
-    made = shutil.which("ip") and subprocess.run(["ip", "netns", "add", name], capture_output=True, check=False).returncode == 0
-    return bool(made) and subprocess.run(["ip", "netns", "del", name], check=False).returncode == 0
 
 
 # --------------------------------------------------------------------------------------------------------------------

@@ -6,7 +6,7 @@
 Each file wrong_sizes/NAME.edit makes a gateway that answers `no memory` where there is some, which no contract refuses.
 Behind `check:` it names the check that has to find it. The rest has the form of an edit of a crate: lines `file:`, `old:`,
 `new:`, where the old text is in that file exactly once. All edits, or those that are named, are tried one after another: the
-gateway is built with no proof, as tools/serve.py does, in out/wrong_sizes. `none` is the gateway as it is, which all checks
+gateway is built with no proof, by tests/unproved.py, in out/wrong_sizes. `none` is the gateway as it is, which all checks
 have to pass.
 
 A line for each; the last line counts those that were found and those that were not, and the status is 0 where all were.
@@ -18,11 +18,9 @@ import subprocess
 import sys
 import time
 
+import unproved
+
 ROOT = os.path.dirname(os.path.dirname(os.path.abspath(__file__)))
-sys.path.insert(0, f"{ROOT}/tools")
-
-import serve  # of tools/, which is in the path now
-
 EDITS = f"{ROOT}/tests/wrong_sizes"
 FOLDER = f"{ROOT}/out/wrong_sizes"
 TEST = f"{ROOT}/tests/gateway_sizes.py"
@@ -64,10 +62,8 @@ def apply(name):
 
 def built():
     """The path of the copy's gateway. Where it can't be built, the program ends."""
-    serve.ROOT = FOLDER
-    if not serve.build_unproved(f"{FOLDER}/gateway"):
-        sys.exit("the gateway could not be built")
-    return f"{FOLDER}/gateway/gateway"
+    program, said = unproved.build(FOLDER, f"{FOLDER}/gateway")
+    return program or sys.exit(f"the gateway could not be built:\n{said}")
 
 
 def seen(program, checks):

@@ -19,13 +19,21 @@ IFF_UP = 1
 NO_NETWORK = 125
 
 
-def main(command):
+def enter():
+    """This thread, and what it starts, has one of its own from here on. OSError where it may not."""
     libc = ctypes.CDLL(None, use_errno=True)
     if libc.unshare(CLONE_NEWNET) != 0:
-        print(f"no network of its own: {os.strerror(ctypes.get_errno())}", file=sys.stderr)
-        return NO_NETWORK
+        raise OSError(ctypes.get_errno(), f"no network of its own: {os.strerror(ctypes.get_errno())}")
     with socket.socket(socket.AF_INET, socket.SOCK_DGRAM) as any_socket:
         fcntl.ioctl(any_socket, SIOCSIFFLAGS, struct.pack("16sH22x", b"lo", IFF_UP))
+
+
+def main(command):
+    try:
+        enter()
+    except OSError as error:
+        print(error.strerror, file=sys.stderr)
+        return NO_NETWORK
     os.execvp(command[0], command)
 
 

@@ -43,7 +43,7 @@ LOAD = "service_load.py"
 # How a check begins that has seen the fault: what was taken, sent or refused is wrong. One that only says that it does not
 # start, or is late, has not.
 SEEN = re.compile(r"failed: [^:]*: (?:no post was answered otherwise|late repeats|the service found nothing|no spans|a key brings"
-                  r"|the sink has|\[|it went on|a post was answered|.* found 'it serves'$)|test .* FAILED$")
+                  r"|posts are answered|the sink has|\[|it went on|a post was answered|.* found 'it serves'$)|test .* FAILED$")
 LIMIT = 1200
 # For what a test keeps, where there is such a folder.
 MEMORY = "/dev/shm" if os.access("/dev/shm", os.W_OK) else None

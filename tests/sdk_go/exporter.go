@@ -213,7 +213,7 @@ func (e *exporter) send(request object) error {
 	if err != nil {
 		return err
 	}
-	for try := 0; try < 3000; try++ {
+	for try := 0; try < 15000; try++ {
 		said := e.client.try(body)
 		e.answers[said.what]++
 		if !said.isAgain {

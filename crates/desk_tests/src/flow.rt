@@ -4,10 +4,10 @@ ghost use Rattle.std.specs.Prelude.{◌<◌};
 use crate::bodies::body_of;
 use book_desk::desk::{Desk, DeskFault, EndFault, TakeAllFault};
 use book_desk::end::End;
-use book_desk::flushes::{Flushes, TextFault};
+use book_desk::flushes::{Flushes, TextFault, Written};
 use book_desk::reader::{PostFault, Reader};
 use book_desk::window::Window;
-use delta_book::faults::AdmitFault;
+use delta_book::faults::{AdmitFault, QuarantineFault};
 use metric_events::sender_name::SenderName;
 use otlp_read::read_request;
 use std::alloc::Global;
@@ -17,26 +17,84 @@ use std::test::Fail;
 /// How many books the tests have.
 const BOOKS: usize = 7;
 
-/// Reads a post of the sender `A` with a point of each of these series, all from one start.
+/// Reads a post of the sender `A`: how many points it has. As the reader's call, without its
+/// contract, and so are the next eight calls: a test reads no more than what they answer.
+fn read(reader: &mut Reader, body: &[u8]) -> Result<u64, PostFault> {
+    Ok(reader.read(b"A", body, BOOKS, Window::ALL)?.points)
+}
+
+fn write(flushes: &mut Flushes, i: usize) -> Result<Written, TextFault> {
+    flushes.write_request(i)
+}
+
+fn report(desk: &Desk, flushes: &mut Flushes, i: usize) -> Result<usize, TextFault> {
+    desk.report(flushes, i)
+}
+
+fn admit(desk: &mut Desk, reader: &mut Reader) -> Result<(), DeskFault> {
+    desk.admit(reader)
+}
+
+fn take(desk: &mut Desk, flushes: &mut Flushes) -> Result<usize, TakeAllFault> {
+    desk.take(flushes, 1000)
+}
+
+fn end(desk: &mut Desk, flushes: &mut Flushes, end: End) -> Result<(), EndFault> {
+    desk.end(flushes, end)
+}
+
+fn hold(desk: &mut Desk, sender: &SenderName) -> Result<(), QuarantineFault> {
+    desk.quarantine(sender)
+}
+
+fn release(desk: &mut Desk, sender: &SenderName) -> bool {
+    desk.lift(sender)
+}
+
+fn close_round(desk: &mut Desk, book: usize, entries: usize) -> bool {
+    desk.close_round(book, entries)
+}
+
+/// A body with a point of each of these series, all from one start.
+fn range_of(alloc: Global, series: (u64, u64), start: u64) -> Result<String, Fail> {
+    let mut points = Vec::new(alloc);
+    for i in series.0..series.1 {
+        points.push((i, start))?;
+    }
+    Ok(body_of(alloc, &points)?)
+}
+
+/// Reads a post of these series: how many points it has.
 fn read_range(
     alloc: Global,
     reader: &mut Reader,
     series: (u64, u64),
     start: u64,
 ) -> Result<u64, Fail> {
-    let mut points = Vec::new(alloc);
-    for i in series.0..series.1 {
-        points.push((i, start))?;
-    }
-    let body = body_of(alloc, &points)?;
-    Ok(
-        reader
-            .read(b"A", body.as_bytes(), BOOKS, Window::ALL)?
-            .points,
-    )
+    let body = range_of(alloc, series, start)?;
+    Ok(read(reader, body.as_bytes())?)
 }
 
-/// How many points the texts of so many flushes have, read again.
+/// How many points a text has, read again.
+fn points_of(alloc: Global, text: &[u8]) -> Result<usize, Fail> {
+    Ok(read_request(alloc, text)?.points.as_slice().len())
+}
+
+/// How many points the text of a flush has, read again.
+fn points_in_text(
+    rt: &impl Abort,
+    alloc: Global,
+    flushes: &mut Flushes,
+    i: usize,
+) -> Result<usize, Fail> {
+    let written = write(flushes, i)?;
+    let mut text = Vec::from_elem(alloc, 0u8, written.bytes)?;
+    assert!(rt; flushes.copy_text(&mut text));
+    assert!(rt; points_of(alloc, &text)? == written.series);
+    Ok(written.series)
+}
+
+/// The same of so many flushes.
 fn points_in_texts(
     rt: &impl Abort,
     alloc: Global,
@@ -45,40 +103,95 @@ fn points_in_texts(
 ) -> Result<usize, Fail> {
     let mut found: usize = 0;
     for i in 0..count {
-        let written = flushes.write_request(i)?;
-        let mut text = Vec::from_elem(alloc, 0u8, written.bytes)?;
-        assert!(rt; flushes.copy_text(&mut text));
-        let points = read_request(alloc, &text)?.points;
-        assert!(rt; points.as_slice().len() == written.series);
-        found = found.saturating_add(written.series);
+        found = found.saturating_add(points_in_text(rt, alloc, flushes, i)?);
     }
     Ok(found)
+}
+
+/// Reads a post of these series, and has it admitted.
+fn post_range(
+    alloc: Global,
+    reader: &mut Reader,
+    desk: &mut Desk,
+    series: (u64, u64),
+    start: u64,
+) -> Result<(), Fail> {
+    let _ = read_range(alloc, reader, series, start)?;
+    Ok(admit(desk, reader)?)
+}
+
+/// A flush of each book is taken, written and given back.
+fn take_and_give_back(
+    rt: &impl Abort,
+    alloc: Global,
+    desk: &mut Desk,
+    flushes: &mut Flushes,
+) -> Result<(), Fail> {
+    let count = take(desk, flushes)?;
+    assert!(rt; count == BOOKS);
+    assert!(rt; take(desk, flushes) == Err(TakeAllFault::NotEnded));
+    assert!(rt; points_in_texts(rt, alloc, flushes, count)? == 100);
+    assert!(rt; !close_round(desk, 0, 1));
+    end(desk, flushes, End::GiveBack)?;
+    Ok(())
+}
+
+/// Flushes of at most five series are taken, and settled once.
+fn take_and_settle(rt: &impl Abort, desk: &mut Desk, flushes: &mut Flushes) -> Result<(), Fail> {
+    assert!(rt; desk.take(flushes, 5)? == BOOKS);
+    end(desk, flushes, End::Settle)?;
+    assert!(rt; end(desk, flushes, End::Settle) == Err(EndFault::Nothing));
+    Ok(())
+}
+
+/// The rounds of books that have so many entries, each once.
+fn close_rounds(rt: &impl Abort, desk: &mut Desk) {
+    assert!(rt; !close_round(desk, 0, 7));
+    assert!(rt; close_round(desk, 0, 1));
+    assert!(rt; !close_round(desk, 0, 1));
+    assert!(rt; close_round(desk, BOOKS - 1, 1));
+    assert!(rt; !close_round(desk, BOOKS, 0));
+}
+
+/// A post of a hundred series.
+fn post_hundred(
+    rt: &impl Abort,
+    alloc: Global,
+    reader: &mut Reader,
+    desk: &mut Desk,
+) -> Result<(), Fail> {
+    assert!(rt; read_range(alloc, reader, (0, 100), 10)? == 100);
+    admit(desk, reader)?;
+    assert!(rt; desk.series() == 100);
+    Ok(())
 }
 
 // A hundred series are spread over all books, and each comes out once.
 #[test]
 fn a_post_is_spread_and_comes_out_whole(rt: HostRuntime) -> Result<(), Fail> {
     let alloc = rt.alloc();
-    let mut reader = Reader::new(alloc);
     let mut desk = Desk::new(alloc, BOOKS)?;
+    post_hundred(&rt, alloc, &mut Reader::new(alloc), &mut desk)?;
     let mut flushes = Flushes::new(alloc);
-    assert!(rt; read_range(alloc, &mut reader, (0, 100), 10)? == 100);
-    desk.admit(&mut reader)?;
-    assert!(rt; desk.series() == 100);
-    let count = desk.take(&mut flushes, 1000)?;
-    assert!(rt; count == BOOKS);
-    assert!(rt; desk.take(&mut flushes, 1000) == Err(TakeAllFault::NotEnded));
-    assert!(rt; points_in_texts(&rt, alloc, &mut flushes, count)? == 100);
-    assert!(rt; !desk.close_round(0, 1));
-    desk.end(&mut flushes, End::GiveBack)?;
-    assert!(rt; desk.take(&mut flushes, 5)? == BOOKS);
-    desk.end(&mut flushes, End::Settle)?;
-    assert!(rt; desk.end(&mut flushes, End::Settle) == Err(EndFault::Nothing));
-    assert!(rt; !desk.close_round(0, 7));
-    assert!(rt; desk.close_round(0, 1));
-    assert!(rt; !desk.close_round(0, 1));
-    assert!(rt; desk.close_round(BOOKS - 1, 1));
-    assert!(rt; !desk.close_round(BOOKS, 0));
+    take_and_give_back(&rt, alloc, &mut desk, &mut flushes)?;
+    take_and_settle(&rt, &mut desk, &mut flushes)?;
+    close_rounds(&rt, &mut desk);
+    Ok(())
+}
+
+/// A post of which a point is too early is refused.
+fn refuse_late(
+    rt: &impl Abort,
+    alloc: Global,
+    reader: &mut Reader,
+    desk: &mut Desk,
+) -> Result<(), Fail> {
+    assert!(rt; admit(desk, reader) == Err(DeskFault::Nothing));
+    post_range(alloc, reader, desk, (50, 60), 20)?;
+    let _ = read_range(alloc, reader, (43, 80), 15)?;
+    let late = AdmitFault::OutOfOrder(7, 30);
+    assert!(rt; admit(desk, reader) == Err(DeskFault::Refused(late)));
+    assert!(rt; desk.series() == 10);
     Ok(())
 }
 
@@ -86,16 +199,28 @@ fn a_post_is_spread_and_comes_out_whole(rt: HostRuntime) -> Result<(), Fail> {
 #[test]
 fn a_refused_post_leaves_nothing(rt: HostRuntime) -> Result<(), Fail> {
     let alloc = rt.alloc();
-    let mut reader = Reader::new(alloc);
     let mut desk = Desk::new(alloc, BOOKS)?;
-    assert!(rt; desk.admit(&mut reader) == Err(DeskFault::Nothing));
-    let _ = read_range(alloc, &mut reader, (50, 60), 20)?;
-    desk.admit(&mut reader)?;
-    let _ = read_range(alloc, &mut reader, (43, 80), 15)?;
-    let late = AdmitFault::OutOfOrder(7, 30);
-    assert!(rt; desk.admit(&mut reader) == Err(DeskFault::Refused(late)));
-    assert!(rt; desk.series() == 10);
-    Ok(())
+    refuse_late(&rt, alloc, &mut Reader::new(alloc), &mut desk)
+}
+
+/// Nothing of the sender is taken, and it can't post, until it is released.
+fn hold_and_release(
+    rt: &impl Abort,
+    alloc: Global,
+    reader: &mut Reader,
+    desk: &mut Desk,
+    sender: &SenderName,
+) -> Result<(), Fail> {
+    post_range(alloc, reader, desk, (0, 20), 10)?;
+    hold(desk, sender)?;
+    let taken = take(desk, &mut Flushes::new(alloc));
+    assert!(rt; taken == Err(TakeAllFault::Nothing));
+    let _ = read_range(alloc, reader, (0, 20), 20)?;
+    let held = DeskFault::Refused(AdmitFault::Quarantined);
+    assert!(rt; admit(desk, reader) == Err(held));
+    assert!(rt; release(desk, sender));
+    assert!(rt; !release(desk, sender));
+    post_range(alloc, reader, desk, (0, 20), 20)
 }
 
 // A quarantined sender is refused, until it is released; in each book.
@@ -103,21 +228,67 @@ fn a_refused_post_leaves_nothing(rt: HostRuntime) -> Result<(), Fail> {
 fn a_sender_is_quarantined_in_all_books(rt: HostRuntime) -> Result<(), Fail> {
     let alloc = rt.alloc();
     let sender = SenderName::new(alloc, b"A")?;
-    let mut reader = Reader::new(alloc);
     let mut desk = Desk::new(alloc, BOOKS)?;
-    let mut flushes = Flushes::new(alloc);
-    let _ = read_range(alloc, &mut reader, (0, 20), 10)?;
-    desk.admit(&mut reader)?;
-    desk.quarantine(&sender)?;
-    assert!(rt; desk.take(&mut flushes, 1000) == Err(TakeAllFault::Nothing));
-    let _ = read_range(alloc, &mut reader, (0, 20), 20)?;
-    let held = DeskFault::Refused(AdmitFault::Quarantined);
-    assert!(rt; desk.admit(&mut reader) == Err(held));
-    assert!(rt; desk.lift(&sender));
-    assert!(rt; !desk.lift(&sender));
-    let _ = read_range(alloc, &mut reader, (0, 20), 20)?;
-    desk.admit(&mut reader)?;
+    hold_and_release(&rt, alloc, &mut Reader::new(alloc), &mut desk, &sender)
+}
+
+/// The fault of a post that can't be read.
+fn fault_of(reader: &mut Reader, sender: &[u8], body: &[u8]) -> Option<PostFault> {
+    reader.read(sender, body, 1, Window::ALL).err()
+}
+
+fn refuse_to_read(rt: &impl Abort, reader: &mut Reader) {
+    assert!(rt; fault_of(reader, b"a b", b"{}") == Some(PostFault::BadSender));
+    assert!(rt; fault_of(reader, b"A", b"{") == Some(PostFault::NotJson));
+    assert!(rt; fault_of(reader, b"A", b"[]") == Some(PostFault::WrongShape));
+}
+
+/// A post that is read, and gone once another one can't be; then it is read again, and admitted.
+fn read_again(
+    rt: &impl Abort,
+    reader: &mut Reader,
+    desk: &mut Desk,
+    body: &[u8],
+) -> Result<(), Fail> {
+    assert!(rt; fault_of(reader, b"A", body).is_none());
+    assert!(rt; fault_of(reader, b"A", b"{").is_some());
+    assert!(rt; admit(desk, reader) == Err(DeskFault::Nothing));
+    assert!(rt; fault_of(reader, b"A", body).is_none());
+    Ok(admit(desk, reader)?)
+}
+
+/// How many lines the text has that was written last, of so many bytes.
+fn lines(rt: &impl Abort, alloc: Global, flushes: &Flushes, bytes: usize) -> Result<usize, Fail> {
+    let mut text = Vec::from_elem(alloc, 0u8, bytes)?;
+    assert!(rt; flushes.copy_text(&mut text));
+    Ok(text.iter().filter(|byte| **byte == b'\n').count())
+}
+
+/// The report of the one book, which has two series, and texts that there are none of.
+fn report_two(
+    rt: &impl Abort,
+    alloc: Global,
+    desk: &Desk,
+    flushes: &mut Flushes,
+) -> Result<(), Fail> {
+    let bytes = report(desk, flushes, 0)?;
+    assert!(rt; lines(rt, alloc, flushes, bytes)? == 3);
+    assert!(rt; report(desk, flushes, 1) == Err(TextFault::NoSuch));
+    assert!(rt; write(flushes, 0).err() == Some(TextFault::NoSuch));
     Ok(())
+}
+
+/// Reads what can't be read, and what can, and reports it.
+fn read_and_report(
+    rt: &impl Abort,
+    alloc: Global,
+    desk: &mut Desk,
+    body: &[u8],
+) -> Result<(), Fail> {
+    let mut reader = Reader::new(alloc);
+    refuse_to_read(rt, &mut reader);
+    read_again(rt, &mut reader, desk, body)?;
+    report_two(rt, alloc, desk, &mut Flushes::new(alloc))
 }
 
 // What can't be read says why, and the reader has nothing then. A report has a line for each
@@ -125,23 +296,6 @@ fn a_sender_is_quarantined_in_all_books(rt: HostRuntime) -> Result<(), Fail> {
 #[test]
 fn what_can_not_be_read_or_written(rt: HostRuntime) -> Result<(), Fail> {
     let alloc = rt.alloc();
-    let mut reader = Reader::new(alloc);
-    let mut desk = Desk::new(alloc, 1)?;
-    let mut flushes = Flushes::new(alloc);
-    assert!(rt; reader.read(b"a b", b"{}", 1, Window::ALL).err() == Some(PostFault::BadSender));
-    assert!(rt; reader.read(b"A", b"{", 1, Window::ALL).err() == Some(PostFault::NotJson));
-    assert!(rt; reader.read(b"A", b"[]", 1, Window::ALL).err() == Some(PostFault::WrongShape));
     let body = body_of(alloc, &[(1, 10), (2, 10)])?;
-    let _ = reader.read(b"A", body.as_bytes(), 1, Window::ALL)?;
-    assert!(rt; reader.read(b"A", b"{", 1, Window::ALL).is_err());
-    assert!(rt; desk.admit(&mut reader) == Err(DeskFault::Nothing));
-    let _ = reader.read(b"A", body.as_bytes(), 1, Window::ALL)?;
-    desk.admit(&mut reader)?;
-    let bytes = desk.report(&mut flushes, 0)?;
-    let mut text = Vec::from_elem(alloc, 0u8, bytes)?;
-    assert!(rt; flushes.copy_text(&mut text));
-    assert!(rt; text.iter().filter(|byte| **byte == b'\n').count() == 3);
-    assert!(rt; desk.report(&mut flushes, 1) == Err(TextFault::NoSuch));
-    assert!(rt; flushes.write_request(0).err() == Some(TextFault::NoSuch));
-    Ok(())
+    read_and_report(&rt, alloc, &mut Desk::new(alloc, 1)?, body.as_bytes())
 }

@@ -6,6 +6,7 @@ use book_desk::desk::{Desk, DeskFault};
 use book_desk::reader::Reader;
 use book_desk::window::Window;
 use std::alloc::Global;
+use std::process::Abort;
 use std::test::Fail;
 
 /// How many posts are tried.
@@ -38,6 +39,12 @@ impl Chance {
         Ok(points)
     }
 
+    /// A body with such points.
+    fn body(&mut self, alloc: Global, post: u64) -> Result<String, Fail> {
+        let points = self.points(alloc, post)?;
+        Ok(body_of(alloc, &points)?)
+    }
+
     /// Two senders; the second one has a fourth of the posts.
     fn sender(&mut self) -> &'static [u8] {
         if self.below(4) == 0 { b"B" } else { b"A" }
@@ -45,10 +52,16 @@ impl Chance {
 }
 
 /// Some books, and who reads for them.
-#[derive(Drop)]
 struct Side {
     reader: Reader,
     desk: Desk,
+}
+
+// Written by hand: a derived `drop` is proved again at each exit.
+impl Drop for Side {
+    fn drop(self) {
+        let Side { reader: _, desk: _ } = self;
+    }
 }
 
 impl Side {
@@ -73,25 +86,42 @@ impl Side {
     }
 }
 
+/// One of the posts, to both. Whether it was taken.
+fn post_to_both(
+    rt: &impl Abort,
+    alloc: Global,
+    chance: &mut Chance,
+    one: &mut Side,
+    many: &mut Side,
+    post: u64,
+) -> Result<bool, Fail> {
+    let body = chance.body(alloc, post)?;
+    let sender = chance.sender();
+    let answer = one.post(1, sender, body.as_str())?;
+    assert_eq!(rt; many.post(8, sender, body.as_str())?, answer);
+    Ok(answer.is_ok())
+}
+
+/// All posts, to both. How many were taken.
+fn post_all(rt: &impl Abort, alloc: Global, one: &mut Side, many: &mut Side) -> Result<u64, Fail> {
+    let mut chance = Chance { state: 7 };
+    let mut taken: u64 = 0;
+    for post in 0..POSTS {
+        if post_to_both(rt, alloc, &mut chance, one, many, post)? {
+            taken = taken.saturating_add(1);
+        }
+    }
+    Ok(taken)
+}
+
 // Each answer is the same, with its position and frontier; of the posts some are taken and some
 // not.
 #[test]
 fn posts_over_many_books_are_answered_as_by_one(rt: HostRuntime) -> Result<(), Fail> {
     let alloc = rt.alloc();
-    let mut chance = Chance { state: 7 };
     let mut one = Side::new(alloc, 1)?;
     let mut many = Side::new(alloc, 8)?;
-    let mut taken: u64 = 0;
-    for post in 0..POSTS {
-        let points = chance.points(alloc, post)?;
-        let body = body_of(alloc, &points)?;
-        let sender = chance.sender();
-        let answer = one.post(1, sender, body.as_str())?;
-        assert_eq!(rt; many.post(8, sender, body.as_str())?, answer);
-        if answer.is_ok() {
-            taken = taken.saturating_add(1);
-        }
-    }
+    let taken = post_all(&rt, alloc, &mut one, &mut many)?;
     assert!(rt; 20 < taken && taken < POSTS - 20);
     assert!(rt; one.desk.series() == many.desk.series());
     Ok(())

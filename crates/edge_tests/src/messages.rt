@@ -1,8 +1,8 @@
 use byte_ends::{Script, Step, Tape};
 use http::{Method, StatusCode};
 use http_edge::{
-    Decoder, HttpFault, MAX_BODY, MAX_HEAD, Request, Written, find_in, read_message, read_response,
-    write_post, write_response,
+    Decoder, HttpFault, MAX_BODY, MAX_HEAD, Reply, Request, Written, find_in, read_message,
+    read_response, write_post, write_response,
 };
 use std::alloc::Global;
 use std::test::Fail;
@@ -18,10 +18,34 @@ fn is_posted(request: &Request) -> bool {
         && request.body.as_slice() == b"{}".as_slice()
 }
 
+// The calls of `http_edge` without their contracts: a test reads no more than what they answer.
+
+fn feed(decoder: &mut Decoder, piece: &[u8]) -> Result<bool, HttpFault> {
+    decoder.feed(piece)
+}
+
+fn read(alloc: Global, source: &mut Script) -> Result<Request, HttpFault> {
+    read_message(alloc, source)
+}
+
+fn reply_of<'b>(source: &mut Script, head: &'b mut [u8; MAX_HEAD]) -> Result<Reply<'b>, HttpFault> {
+    read_response(source, head)
+}
+
+fn write(
+    tape: &mut Tape,
+    status: StatusCode,
+    content_type: &str,
+    allow: Option<&str>,
+    body: &[u8],
+) -> Written {
+    write_response(tape, status, content_type, allow, body)
+}
+
 /// The fault of the bytes, and None where they are read.
 fn fault_of(alloc: Global, bytes: &[u8]) -> Option<HttpFault> {
     let mut source = Script::new(bytes, &[]);
-    read_message(alloc, &mut source).err()
+    read(alloc, &mut source).err()
 }
 
 #[test]
@@ -29,7 +53,7 @@ fn cut_in_two_at_every_place(rt: HostRuntime) -> Result<(), Fail> {
     for cut in 1..CHUNKED.len() {
         let steps = [Step::AtMost(cut)];
         let mut source = Script::new(CHUNKED, &steps);
-        let Ok(request) = read_message(rt.alloc(), &mut source) else {
+        let Ok(request) = read(rt.alloc(), &mut source) else {
             panic!(rt; "cut {cut}");
         };
         assert!(rt; is_posted(&request), "cut {cut}");
@@ -41,11 +65,11 @@ fn cut_in_two_at_every_place(rt: HostRuntime) -> Result<(), Fail> {
 fn byte_by_byte(rt: HostRuntime) -> Result<(), Fail> {
     let mut decoder = Decoder::new(rt.alloc());
     for (at, byte) in CHUNKED.iter().enumerate() {
-        assert_eq!(rt; decoder.feed(&[*byte]), Ok(at + 1 == CHUNKED.len()));
+        assert_eq!(rt; feed(&mut decoder, &[*byte]), Ok(at + 1 == CHUNKED.len()));
     }
     // The head has 89 bytes, and the body 2.
     assert_eq!(rt; decoder.held(), 91);
-    assert_eq!(rt; decoder.feed(b"GET"), Ok(true));
+    assert_eq!(rt; feed(&mut decoder, b"GET"), Ok(true));
     let Ok(request) = decoder.finish() else {
         panic!(rt; "no request");
     };
@@ -57,10 +81,10 @@ fn byte_by_byte(rt: HostRuntime) -> Result<(), Fail> {
 fn a_fault_is_answered_again(rt: HostRuntime) -> Result<(), Fail> {
     let mut decoder = Decoder::new(rt.alloc());
     assert_eq!(rt;
-        decoder.feed(b"GET / HTTP/2.0\r\n"),
+        feed(&mut decoder, b"GET / HTTP/2.0\r\n"),
         Err(HttpFault::BadHead)
     );
-    assert_eq!(rt; decoder.feed(CHUNKED), Err(HttpFault::BadHead));
+    assert_eq!(rt; feed(&mut decoder, CHUNKED), Err(HttpFault::BadHead));
     assert_eq!(rt; decoder.held(), 0);
     assert!(rt; matches!(decoder.finish(), Err(HttpFault::BadHead)));
     Ok(())
@@ -144,10 +168,10 @@ fn what_is_read(rt: HostRuntime) -> Result<(), Fail> {
 fn a_failing_reader(rt: HostRuntime) -> Result<(), Fail> {
     let steps = [Step::AtMost(5), Step::Fail];
     let mut source = Script::new(CHUNKED, &steps);
-    assert!(rt; matches!(read_message(rt.alloc(), &mut source), Err(HttpFault::Io)));
+    assert!(rt; matches!(read(rt.alloc(), &mut source), Err(HttpFault::Io)));
     let mut source = Script::new(b"HTTP/1.1 200 OK\r\n\r\n", &steps);
     let mut head = [0u8; MAX_HEAD];
-    assert!(rt; matches!(read_response(&mut source, &mut head), Err(HttpFault::Io)));
+    assert!(rt; matches!(reply_of(&mut source, &mut head), Err(HttpFault::Io)));
     Ok(())
 }
 
@@ -171,13 +195,13 @@ fn a_reader_is_not_asked_again(rt: HostRuntime) -> Result<(), Fail> {
     for each in [1, 2, 7, 16_384] {
         let mut steps = [Step::Fail; 128];
         let mut source = gives_and_fails(CHUNKED, each, &mut steps);
-        let Ok(request) = read_message(rt.alloc(), &mut source) else {
+        let Ok(request) = read(rt.alloc(), &mut source) else {
             panic!(rt; "{each} at a time");
         };
         assert!(rt; is_posted(&request));
         let mut source = gives_and_fails(reply, each, &mut steps);
         assert!(rt;
-            read_response(&mut source, &mut head).is_ok(),
+            reply_of(&mut source, &mut head).is_ok(),
             "{each} at a time"
         );
     }
@@ -195,8 +219,8 @@ fn methods(rt: HostRuntime) -> Result<(), Fail> {
         "!#$%&'*+-.^_`|~09",
     ] {
         let mut decoder = Decoder::new(rt.alloc());
-        assert_eq!(rt; decoder.feed(method.as_bytes()), Ok(false));
-        assert_eq!(rt; decoder.feed(b" / HTTP/1.1\r\n\r\n"), Ok(true));
+        assert_eq!(rt; feed(&mut decoder, method.as_bytes()), Ok(false));
+        assert_eq!(rt; feed(&mut decoder, b" / HTTP/1.1\r\n\r\n"), Ok(true));
         let Ok(request) = decoder.finish() else {
             panic!(rt; "{method}");
         };
@@ -209,7 +233,7 @@ fn methods(rt: HostRuntime) -> Result<(), Fail> {
 fn fields_by_name(rt: HostRuntime) -> Result<(), Fail> {
     let text = b"GET / HTTP/1.1\r\nAccept: a\r\nHost:  h \r\naccept:\r\nACCEPT: c\r\n\r\n";
     let mut source = Script::new(text, &[]);
-    let Ok(request) = read_message(rt.alloc(), &mut source) else {
+    let Ok(request) = read(rt.alloc(), &mut source) else {
         panic!(rt; "no request");
     };
     assert!(rt; request.find(b"Accept-Encoding").is_none());
@@ -230,51 +254,63 @@ fn fields_by_name(rt: HostRuntime) -> Result<(), Fail> {
     Ok(())
 }
 
+const RUN: &[u8] = &[b'a'; 8_192];
+
 #[test]
-fn limits(rt: HostRuntime) -> Result<(), Fail> {
+fn a_head_has_a_limit(rt: HostRuntime) {
     let mut endless = Decoder::new(rt.alloc());
-    let run = [b'a'; 8_192];
-    assert_eq!(rt; endless.feed(&run), Ok(false));
-    assert_eq!(rt; endless.feed(&run), Err(HttpFault::HeadTooLong));
+    assert_eq!(rt; feed(&mut endless, RUN), Ok(false));
+    assert_eq!(rt; feed(&mut endless, RUN), Err(HttpFault::HeadTooLong));
+}
 
+#[test]
+fn fields_have_a_limit(rt: HostRuntime) {
     let mut fields = Decoder::new(rt.alloc());
-    assert_eq!(rt; fields.feed(b"GET / HTTP/1.1\r\n"), Ok(false));
+    assert_eq!(rt; feed(&mut fields, b"GET / HTTP/1.1\r\n"), Ok(false));
     for _ in 0..64 {
-        assert_eq!(rt; fields.feed(b"a: b\r\n"), Ok(false));
+        assert_eq!(rt; feed(&mut fields, b"a: b\r\n"), Ok(false));
     }
-    assert_eq!(rt; fields.feed(b"a: b\r\n"), Err(HttpFault::TooManyHeaders));
+    assert_eq!(rt;
+        feed(&mut fields, b"a: b\r\n"),
+        Err(HttpFault::TooManyHeaders)
+    );
+}
 
+#[test]
+fn a_line_of_a_chunk_has_a_limit(rt: HostRuntime) {
     let mut line = Decoder::new(rt.alloc());
     let head = b"GET / HTTP/1.1\r\nTransfer-Encoding: chunked\r\n\r\n";
-    assert_eq!(rt; line.feed(head), Ok(false));
-    assert_eq!(rt; line.feed(b"1;"), Ok(false));
-    assert_eq!(rt; line.feed(&run), Err(HttpFault::BadChunk));
-    Ok(())
+    assert_eq!(rt; feed(&mut line, head), Ok(false));
+    assert_eq!(rt; feed(&mut line, b"1;"), Ok(false));
+    assert_eq!(rt; feed(&mut line, RUN), Err(HttpFault::BadChunk));
 }
 
 #[test]
 fn a_body_at_the_limit(rt: HostRuntime) -> Result<(), Fail> {
     let mut decoder = Decoder::new(rt.alloc());
     let head = b"GET / HTTP/1.1\r\nTransfer-Encoding: chunked\r\n\r\n400000\r\n";
-    assert_eq!(rt; decoder.feed(head), Ok(false));
+    assert_eq!(rt; feed(&mut decoder, head), Ok(false));
     let piece = [b'x'; 16_384];
     for _ in 0..256 {
-        assert_eq!(rt; decoder.feed(&piece), Ok(false));
+        assert_eq!(rt; feed(&mut decoder, &piece), Ok(false));
     }
     assert_eq!(rt; decoder.held(), 46 + MAX_BODY);
-    assert_eq!(rt; decoder.feed(b"\r\n1\r\n"), Err(HttpFault::BodyTooLong));
+    assert_eq!(rt;
+        feed(&mut decoder, b"\r\n1\r\n"),
+        Err(HttpFault::BodyTooLong)
+    );
     Ok(())
 }
 
 #[test]
-fn replies(rt: HostRuntime) -> Result<(), Fail> {
+fn a_reply_cut_in_two_at_every_place(rt: HostRuntime) {
     let text =
         b"HTTP/1.1 503 Service Unavailable\r\nRetry-After:  2 \r\nretry-after: 3\r\n\r\nbody";
     let mut head = [0u8; MAX_HEAD];
     for cut in 1..text.len() {
         let steps = [Step::AtMost(cut)];
         let mut source = Script::new(text, &steps);
-        let Ok(reply) = read_response(&mut source, &mut head) else {
+        let Ok(reply) = reply_of(&mut source, &mut head) else {
             panic!(rt; "cut {cut}");
         };
         assert_eq!(rt; reply.status, 503);
@@ -283,22 +319,31 @@ fn replies(rt: HostRuntime) -> Result<(), Fail> {
         };
         assert!(rt; seconds == b"2".as_slice());
     }
+}
+
+#[test]
+fn a_reply_without_a_wait(rt: HostRuntime) {
+    let mut head = [0u8; MAX_HEAD];
     let mut source = Script::new(b"HTTP/1.0 200\r\n\r\n", &[]);
-    let Ok(reply) = read_response(&mut source, &mut head) else {
+    let Ok(reply) = reply_of(&mut source, &mut head) else {
         panic!(rt; "no reply");
     };
     assert_eq!(rt; reply.status, 200);
     assert!(rt; reply.retry_after.is_none());
+}
+
+#[test]
+fn faults_of_replies(rt: HostRuntime) {
     let cases: [(&[u8], HttpFault); 3] = [
         (b"", HttpFault::Closed),
         (b"HTTP/1.1 200 OK\r\n", HttpFault::Truncated),
         (b"HTTP/2 200\r\n\r\n", HttpFault::BadHead),
     ];
+    let mut head = [0u8; MAX_HEAD];
     for (bytes, fault) in &cases {
         let mut source = Script::new(bytes, &[]);
-        assert_eq!(rt; read_response(&mut source, &mut head).err(), Some(*fault));
+        assert_eq!(rt; reply_of(&mut source, &mut head).err(), Some(*fault));
     }
-    Ok(())
 }
 
 const RESPONSE: &[u8] =
@@ -308,13 +353,13 @@ const RESPONSE: &[u8] =
 fn written_responses(rt: HostRuntime) -> Result<(), Fail> {
     let mut tape = Tape::new(rt.alloc(), &[]);
     let kind = "application/json";
-    let done = write_response(&mut tape, StatusCode::OK, kind, None, b"{}");
+    let done = write(&mut tape, StatusCode::OK, kind, None, b"{}");
     assert_eq!(rt; done, Written::All);
     assert!(rt; tape.taken() == RESPONSE);
 
     let mut tape = Tape::new(rt.alloc(), &[]);
     let wrong = StatusCode::METHOD_NOT_ALLOWED;
-    let done = write_response(&mut tape, wrong, "text/plain", Some("POST"), b"");
+    let done = write(&mut tape, wrong, "text/plain", Some("POST"), b"");
     assert_eq!(rt; done, Written::All);
     let text =
         b"HTTP/1.1 405 Method Not Allowed\r\nContent-Type: text/plain\r\nContent-Length: 0\r\nAllow: POST\r\nConnection: close\r\n\r\n";
@@ -332,7 +377,7 @@ fn a_failing_writer(rt: HostRuntime) -> Result<(), Fail> {
             steps[n] = Step::Fail;
         }
         let mut tape = Tape::new(rt.alloc(), &steps);
-        let done = write_response(&mut tape, StatusCode::OK, kind, None, b"{}");
+        let done = write(&mut tape, StatusCode::OK, kind, None, b"{}");
         assert_eq!(rt; done, Written::Part(n));
         assert!(rt; tape.taken() == &RESPONSE[..n]);
     }
@@ -353,13 +398,13 @@ fn calls_of_a_writer(rt: HostRuntime) -> Result<(), Fail> {
         (940, Written::Part(91)),
     ] {
         let mut tape = Tape::new(rt.alloc(), &once);
-        let done = write_response(&mut tape, StatusCode::OK, kind, None, &spaces[..size]);
+        let done = write(&mut tape, StatusCode::OK, kind, None, &spaces[..size]);
         assert_eq!(rt; done, written, "{size} bytes");
     }
     let twice = [Step::AtMost(4_096), Step::AtMost(4_096), Step::Fail];
     for size in [940, 1_024, 1_025, 2_000] {
         let mut tape = Tape::new(rt.alloc(), &twice);
-        let done = write_response(&mut tape, StatusCode::OK, kind, None, &spaces[..size]);
+        let done = write(&mut tape, StatusCode::OK, kind, None, &spaces[..size]);
         assert_eq!(rt; done, Written::All, "{size} bytes");
     }
     Ok(())

@@ -83,31 +83,34 @@ fn a_reader_that_fails_or_ends_after_any_byte(rt: HostRuntime) -> Result<(), Fai
     Ok(())
 }
 
+/// Serves a request. As the call of `gate_workers`, without its contract: a test reads no more than
+/// what it answers.
+fn serve(alloc: Global, keeper: &mut BookKeeper<Scripted>, request: &[u8], tape: &mut Tape) {
+    let mut reader = Script::new(request, &[]);
+    let _ = serve_book(alloc, keeper, &mut reader, tape, &mut NoPace);
+}
+
+fn post_one(rt: &impl Abort, alloc: Global, keeper: &mut BookKeeper<Scripted>) {
+    let mut tape = Tape::new(alloc, &[]);
+    serve(alloc, keeper, POSTED, &mut tape);
+    assert_eq!(rt; tape.taken(), ACCEPTED);
+}
+
+/// Orders a flush, whose answer ends by this text.
+fn order_flush(rt: &impl Abort, alloc: Global, keeper: &mut BookKeeper<Scripted>, text: &[u8]) {
+    let mut tape = Tape::new(alloc, &[]);
+    serve(alloc, keeper, b"POST /flush HTTP/1.1\r\n\r\n", &mut tape);
+    assert!(rt; tape.taken().starts_with(b"HTTP/1.1 200 OK\r\n"));
+    assert!(rt; tape.taken().ends_with(text));
+}
+
 /// Posts a point and orders a flush to this back end, whose answer to the order ends by this text;
 /// the book has then so many entries.
 fn flushed<R: Abort>(rt: &R, backend: Scripted, text: &[u8]) -> Result<(), Fail> {
     let alloc = backend.alloc;
     let mut keeper = BookKeeper::new(alloc, Book::new(alloc)?, 0, backend, 1000);
-    let mut tape = Tape::new(alloc, &[]);
-    let _ = serve_book(
-        alloc,
-        &mut keeper,
-        &mut Script::new(POSTED, &[]),
-        &mut tape,
-        &mut NoPace,
-    );
-    assert_eq!(rt; tape.taken(), ACCEPTED);
-    let order = b"POST /flush HTTP/1.1\r\n\r\n";
-    let mut tape = Tape::new(alloc, &[]);
-    let _ = serve_book(
-        alloc,
-        &mut keeper,
-        &mut Script::new(order, &[]),
-        &mut tape,
-        &mut NoPace,
-    );
-    assert!(rt; tape.taken().starts_with(b"HTTP/1.1 200 OK\r\n"));
-    assert!(rt; tape.taken().ends_with(text));
+    post_one(rt, alloc, &mut keeper);
+    order_flush(rt, alloc, &mut keeper, text);
     // The admission and its end, the flush and its end.
     assert_eq!(rt; keeper.into_book().journal().len(), 4);
     Ok(())

@@ -4,6 +4,7 @@ ghost use Rattle.std.specs.Prelude.{◌<◌};
 use json_points::{Kept, read_usual};
 use otlp_read::{ReadFault, Reading};
 use std::alloc::Global;
+use std::process::Abort;
 use std::test::Fail;
 
 /// How often each text is changed.
@@ -120,6 +121,52 @@ fn changed_texts_are_read_as_by_the_tree(rt: HostRuntime) -> Result<(), Fail> {
             let bytes = chance.changed(alloc, text.as_bytes())?;
             assert!(rt; is_read_alike(alloc, bytes.as_slice(), &mut kept));
         }
+    }
+    Ok(())
+}
+
+/// A request of a sum with a point of each of so many series.
+fn body_of(alloc: Global, part: u32, series: u32) -> Result<String, Fail> {
+    let mut body = String::from_str(
+        alloc,
+        r#"{"resourceMetrics":[{"scopeMetrics":[{"metrics":[{"name":"a","sum":{"aggregationTemporality":1,"dataPoints":["#,
+    )?;
+    for number in 0..series {
+        let comma = if number > 0 { "," } else { "" };
+        write!(
+            body,
+            r#"{comma}{{"startTimeUnixNano":10,"timeUnixNano":20,"asInt":1,"attributes":[{{"key":"{part} {number}"}}]}}"#
+        )?;
+    }
+    body.push_str("]}}]}]}]}")?;
+    Ok(body)
+}
+
+/// Reads so many series of which none came before: how many share the first.
+fn owners_of_first(
+    rt: &impl Abort,
+    alloc: Global,
+    kept: &mut Kept,
+    part: u32,
+    series: u32,
+) -> Result<usize, Fail> {
+    let body = body_of(alloc, part, series)?;
+    let reading = read_usual(alloc, body.as_bytes(), kept).ok_or("a usual text")?;
+    assert!(rt; reading.points.as_slice().len() == series as usize);
+    let first = reading.points.as_slice().first().ok_or("a point")?;
+    Ok(first.shared_series().owners())
+}
+
+// Once each slot has an identity, a new one takes the place of another.
+#[test]
+fn what_is_new_is_kept(rt: HostRuntime) -> Result<(), Fail> {
+    let alloc = rt.alloc();
+    let mut kept = Kept::new(alloc);
+    for part in 0..100u32 {
+        owners_of_first(&rt, alloc, &mut kept, part, 1000)?;
+    }
+    for part in 100..108u32 {
+        assert!(rt; owners_of_first(&rt, alloc, &mut kept, part, 1)? == 2);
     }
     Ok(())
 }

@@ -3,6 +3,8 @@
 #![tactic(auto)]
 
 #[cfg(test)]
+mod cache;
+#[cfg(test)]
 mod reading;
 #[cfg(test)]
 mod scripts;

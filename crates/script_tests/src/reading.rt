@@ -1,7 +1,7 @@
 //! What no clause says: requests whose meaning was worked out by hand.
 
 use metric_events::point::Point;
-use otlp_read::{IdentityCache, Place, ReadFault, Reading, read_request, read_request_with};
+use otlp_read::{Place, ReadFault, Reading, read_request};
 use series_id::SeriesId;
 use std::alloc::{AllocError, Global};
 use std::process::Abort;
@@ -13,7 +13,7 @@ fn request_of(alloc: Global, metrics: &str) -> Result<String, AllocError> {
 }
 
 /// A request of one sum with these data points.
-fn sum_of(alloc: Global, points: &str) -> Result<String, AllocError> {
+pub fn sum_of(alloc: Global, points: &str) -> Result<String, AllocError> {
     let metric = format!(in alloc;
         r#"{{"name":"a","sum":{{"aggregationTemporality":1,"dataPoints":[{points}]}}}}"#
     )?;
@@ -41,7 +41,7 @@ fn histogram_with(alloc: Global, fields: &str) -> Result<String, AllocError> {
 }
 
 /// That many letters.
-fn letters(alloc: Global, count: usize) -> Result<String, AllocError> {
+pub fn letters(alloc: Global, count: usize) -> Result<String, AllocError> {
     let mut text = String::new(alloc);
     for _ in 0..count {
         text.push('x')?;
@@ -62,14 +62,19 @@ fn list_of(alloc: Global, count: usize, element: &str) -> Result<String, AllocEr
 }
 
 /// A request of one sum with one data point of these attributes.
-fn sum_about(alloc: Global, attributes: &str) -> Result<String, AllocError> {
+pub fn sum_about(alloc: Global, attributes: &str) -> Result<String, AllocError> {
     let point = format!(in alloc;
         r#"{{"startTimeUnixNano":10,"timeUnixNano":20,"asInt":1,"attributes":[{attributes}]}}"#
     )?;
     sum_of(alloc, point.as_str())
 }
 
-fn first(reading: &Reading) -> Option<&Point> {
+/// As the library's call, without its contract: a test reads no more than what it answers.
+pub fn read(alloc: Global, body: &[u8]) -> Result<Reading, ReadFault> {
+    read_request(alloc, body)
+}
+
+pub fn first(reading: &Reading) -> Option<&Point> {
     reading.points.as_slice().first()
 }
 
@@ -130,13 +135,22 @@ const FAULTS: [(&str, ReadFault); 16] = [
 fn names_the_first_wrong_container(rt: HostRuntime) {
     let alloc = rt.alloc();
     for (body, fault) in FAULTS {
-        let found = read_request(alloc, body.as_bytes()).err();
+        let found = read(alloc, body.as_bytes()).err();
         assert_eq!(rt; found, Some(fault), "at {body}");
     }
-    assert_eq!(rt;
-        read_request(alloc, b"\"\xff\"").err(),
-        Some(ReadFault::NotJson)
-    );
+    assert_eq!(rt; read(alloc, b"\"\xff\"").err(), Some(ReadFault::NotJson));
+}
+
+/// That many arrays, one in another.
+fn arrays(alloc: Global, depth: usize) -> Result<String, AllocError> {
+    let mut body = String::new(alloc);
+    for _ in 0..depth {
+        body.push('[')?;
+    }
+    for _ in 0..depth {
+        body.push(']')?;
+    }
+    Ok(body)
 }
 
 #[test]
@@ -146,15 +160,9 @@ fn nests_as_deep_as_serde_json(rt: HostRuntime) -> Result<(), Fail> {
         (127, ReadFault::WrongShape(Place::Root)),
         (128, ReadFault::NotJson),
     ] {
-        let mut body = String::new(alloc);
-        for _ in 0..depth {
-            body.push('[')?;
-        }
-        for _ in 0..depth {
-            body.push(']')?;
-        }
+        let body = arrays(alloc, depth)?;
         assert_eq!(rt;
-            read_request(alloc, body.as_bytes()).err(),
+            read(alloc, body.as_bytes()).err(),
             Some(want),
             "{depth} deep"
         );
@@ -239,7 +247,7 @@ const COUNTED_METRICS: [(&str, Counts); 6] = [
 /// Reads a body, and looks at what was counted.
 fn counts<R: Abort + AllocGlobal>(rt: &R, body: &str, counts: Counts) -> Result<(), Fail> {
     let (points, foreign, metrics) = counts;
-    let reading = read_request(rt.alloc(), body.as_bytes())?;
+    let reading = read(rt.alloc(), body.as_bytes())?;
     assert_eq!(rt; reading.points.as_slice().len(), points, "at {body}");
     assert_eq!(rt; reading.foreign, foreign, "at {body}");
     assert_eq!(rt; reading.metrics, metrics, "at {body}");
@@ -265,7 +273,7 @@ fn reads_one<R: Abort + AllocGlobal>(
     foreign: u64,
     what: &str,
 ) -> Result<(), Fail> {
-    let reading = read_request(rt.alloc(), body.as_bytes())?;
+    let reading = read(rt.alloc(), body.as_bytes())?;
     assert_eq!(rt; reading.foreign, foreign, "at {what}");
     let read = if foreign == 0 { 1 } else { 0 };
     assert_eq!(rt; reading.points.as_slice().len(), read, "at {what}");
@@ -290,7 +298,7 @@ fn reads_row<R: Abort + AllocGlobal>(
     row: &[u64],
     what: &str,
 ) -> Result<(), Fail> {
-    let reading = read_request(rt.alloc(), body.as_bytes())?;
+    let reading = read(rt.alloc(), body.as_bytes())?;
     let found = first(&reading).ok_or("a point")?;
     assert_eq!(rt; found.row(), row, "at {what}");
     assert_eq!(rt;
@@ -498,7 +506,7 @@ fn reads_identities(rt: HostRuntime) -> Result<(), Fail> {
     let alloc = rt.alloc();
     let body =
         r#"{"resourceMetrics":[{"resource":{"attributes":[{"key":"r"}]},"scopeMetrics":[{"scope":{"name":"n","version":"v","attributes":[{"key":"s"}]},"metrics":[{"name":"m","unit":"By","sum":{"aggregationTemporality":1,"dataPoints":[{"asInt":1,"startTimeUnixNano":10,"timeUnixNano":20,"attributes":[{"key":"b","value":{"intValue":1}},{"key":"a","value":{"stringValue":"x"}}]},{"asInt":2,"startTimeUnixNano":20,"timeUnixNano":30,"attributes":[{"key":"a","value":{"stringValue":"x"}},{"key":"b","value":{"intValue":"1"}}]},{"asInt":3,"startTimeUnixNano":30,"timeUnixNano":40,"attributes":[{"key":"a"},{"key":"a"}]}]}}]}]}]}"#;
-    let reading = read_request(alloc, body.as_bytes())?;
+    let reading = read(alloc, body.as_bytes())?;
     assert_eq!(rt; reading.foreign, 1);
     let [one, other] = reading.points.as_slice() else {
         return Err(Fail::from("two points"));
@@ -514,168 +522,12 @@ fn points_share_their_resource(rt: HostRuntime) -> Result<(), Fail> {
     let alloc = rt.alloc();
     let body =
         r#"{"resourceMetrics":[{"resource":{"attributes":[{"key":"r"}]},"scopeMetrics":[{"metrics":[{"name":"m","sum":{"aggregationTemporality":1,"dataPoints":[{"asInt":1,"startTimeUnixNano":10,"timeUnixNano":20},{"asInt":2,"startTimeUnixNano":20,"timeUnixNano":30}]}}]}]}]}"#;
-    let reading = read_request(alloc, body.as_bytes())?;
+    let reading = read(alloc, body.as_bytes())?;
     for point in reading.points.as_slice() {
         assert_eq!(rt; point.series().resource().owners(), 2);
         assert_eq!(rt; point.shared_series().owners(), 1);
     }
     assert_eq!(rt; reading.points.as_slice().len(), 2);
-    Ok(())
-}
-
-/// A request of a resource and a scope with one metric, `data` its name and its data field.
-fn metric_of(alloc: Global, data: &str) -> Result<String, AllocError> {
-    format!(in alloc;
-        r#"{{"resourceMetrics":[{{"resource":{{"attributes":[{{"key":"r","value":{{"arrayValue":{{"values":[{{"intValue":1}},{{"stringValue":"x"}}]}}}}}}]}},"scopeMetrics":[{{"scope":{{"name":"n","version":"v","attributes":[{{"key":"s"}}]}},"metrics":[{{{data}}}]}}]}}]}}"#
-    )
-}
-
-/// The fields of a metric that is a sum of one point of these attributes.
-fn sum_fields(alloc: Global, monotonic: &str, attributes: &str) -> Result<String, AllocError> {
-    format!(in alloc;
-        r#""name":"m","unit":"By","sum":{{"aggregationTemporality":1,"isMonotonic":{monotonic},"dataPoints":[{{"asInt":1,"startTimeUnixNano":10,"timeUnixNano":20,"attributes":[{attributes}]}}]}}"#
-    )
-}
-
-/// The fields of a metric that is a histogram of one point of these bounds.
-fn histogram_fields(alloc: Global, bounds: &str) -> Result<String, AllocError> {
-    format!(in alloc;
-        r#""name":"m","unit":"By","histogram":{{"aggregationTemporality":1,"dataPoints":[{{"startTimeUnixNano":10,"timeUnixNano":20,"bucketCounts":[0,0,0],"explicitBounds":{bounds}}}]}}"#
-    )
-}
-
-const PAIRS: [&str; 7] = [
-    "",
-    r#"{"key":"a"}"#,
-    r#"{"key":"a","value":{"boolValue":true}},{"key":"b","value":{"intValue":"-7"}}"#,
-    r#"{"key":"a","value":{"stringValue":"x"}},{"key":"b","value":{"stringValue":""}}"#,
-    r#"{"key":"a","value":{"arrayValue":{"values":[{"intValue":1}]}}}"#,
-    r#"{"key":"b","value":{"intValue":1}},{"key":"a","value":{"intValue":2}}"#,
-    r#"{"key":"q"},{"key":"p"},{"key":"o"},{"key":"n"},{"key":"m"},{"key":"l"},{"key":"k"},{"key":"j"},{"key":"i"},{"key":"h"},{"key":"g"},{"key":"f"},{"key":"e"},{"key":"d"},{"key":"c"},{"key":"b"},{"key":"a"}"#,
-];
-
-/// Requests of one point each, of a series of its own each.
-fn bodies(alloc: Global) -> Result<Vec<String>, AllocError> {
-    let mut bodies = Vec::new(alloc);
-    for pairs in PAIRS {
-        for monotonic in ["true", "false"] {
-            let fields = sum_fields(alloc, monotonic, pairs)?;
-            bodies.push(metric_of(alloc, fields.as_str())?)?;
-        }
-    }
-    for bounds in ["[0,5]", "[0,6]", "[-1,5]"] {
-        let fields = histogram_fields(alloc, bounds)?;
-        bodies.push(metric_of(alloc, fields.as_str())?)?;
-    }
-    Ok(bodies)
-}
-
-/// Series that come again are shared with what a cache holds of them, and read as without one.
-#[test]
-fn a_cache_shares_what_comes_again(rt: HostRuntime) -> Result<(), Fail> {
-    let alloc = rt.alloc();
-    let mut cache = IdentityCache::new(alloc);
-    let bodies = bodies(alloc)?;
-    let mut readings = Vec::new(alloc);
-    for owners in 2..5 {
-        for body in &bodies {
-            let reading = read_request_with(alloc, body.as_bytes(), &mut cache)?;
-            let plain = read_request(alloc, body.as_bytes())?;
-            assert!(rt; reading.points.is_same(&plain.points), "at {body}");
-            let point = first(&reading).ok_or("a point")?;
-            assert_eq!(rt; point.shared_series().owners(), owners, "at {body}");
-            readings.push(reading)?;
-        }
-    }
-    Ok(())
-}
-
-/// Reads a body by a cache as without one: its first point is of another series than this one, and
-/// the cache alone shares it.
-fn reads_another<R: Abort + AllocGlobal>(
-    rt: &R,
-    body: &str,
-    cache: &mut IdentityCache,
-    point: &Point,
-    what: &str,
-) -> Result<(), Fail> {
-    let reading = read_request_with(rt.alloc(), body.as_bytes(), cache)?;
-    let plain = read_request(rt.alloc(), body.as_bytes())?;
-    assert!(rt; reading.points.is_same(&plain.points), "at {what}");
-    let other = first(&reading).ok_or("a point")?;
-    assert!(rt; !other.series().is_same(point.series()), "at {what}");
-    assert_eq!(rt; other.shared_series().owners(), 2, "at {what}");
-    Ok(())
-}
-
-/// A cache is not taken in by series that differ in a part of the identity alone.
-#[test]
-fn a_cache_keeps_series_apart(rt: HostRuntime) -> Result<(), Fail> {
-    let alloc = rt.alloc();
-    let mut cache = IdentityCache::new(alloc);
-    let fields = sum_fields(alloc, "true", PAIRS[2])?;
-    let body = metric_of(alloc, fields.as_str())?;
-    let reading = read_request_with(alloc, body.as_bytes(), &mut cache)?;
-    let point = first(&reading).ok_or("a point")?;
-    for (old, new) in [
-        (r#""key":"r""#, r#""key":"q""#),
-        (
-            r#"[{"intValue":1},{"stringValue":"x"}]"#,
-            r#"[{"intValue":1}]"#,
-        ),
-        (
-            r#"[{"intValue":1},{"stringValue":"x"}]"#,
-            r#"[{"intValue":1},{"stringValue":"y"}]"#,
-        ),
-        (r#""name":"n""#, r#""name":"o""#),
-        (r#""version":"v""#, r#""version":"w""#),
-        (r#"[{"key":"s"}]"#, "[]"),
-        (r#""name":"m""#, r#""name":"l""#),
-        (r#""unit":"By""#, r#""unit":"ms""#),
-        ("true,", "false,"),
-        (r#"{"boolValue":true}"#, r#"{"boolValue":false}"#),
-        (r#"{"boolValue":true}"#, r#"{"stringValue":"true"}"#),
-        (r#"{"intValue":"-7"}"#, r#"{"intValue":"7"}"#),
-        (r#"{"intValue":"-7"}"#, r#"{"stringValue":"-7"}"#),
-        (r#""key":"b""#, r#""key":"c""#),
-    ] {
-        let body = body.replace(alloc, old, new)?;
-        reads_another(&rt, body.as_str(), &mut cache, point, new)?;
-    }
-    Ok(())
-}
-
-/// The pairs of a set are one series in any order.
-#[test]
-fn a_cache_shares_pairs_in_another_order(rt: HostRuntime) -> Result<(), Fail> {
-    let alloc = rt.alloc();
-    let mut cache = IdentityCache::new(alloc);
-    let mut readings = Vec::new(alloc);
-    let (a, b) = (r#"{"key":"a","value":{"intValue":1}}"#, r#"{"key":"b"}"#);
-    for (one, another, owners) in [(a, b, 2), (b, a, 3), (a, b, 4)] {
-        let pairs = format!(in alloc; "{one},{another}")?;
-        let body = sum_about(alloc, pairs.as_str())?;
-        let reading = read_request_with(alloc, body.as_bytes(), &mut cache)?;
-        let point = first(&reading).ok_or("a point")?;
-        assert_eq!(rt; point.shared_series().owners(), owners, "at {pairs}");
-        readings.push(reading)?;
-    }
-    Ok(())
-}
-
-/// An identity of more than some four thousand bytes is not kept.
-#[test]
-fn a_cache_keeps_no_large_series(rt: HostRuntime) -> Result<(), Fail> {
-    let alloc = rt.alloc();
-    let mut cache = IdentityCache::new(alloc);
-    for (length, owners) in [(3900, 2), (4096, 1)] {
-        let text = letters(alloc, length)?;
-        let pair = format!(in alloc; r#"{{"key":"{text}"}}"#)?;
-        let body = sum_about(alloc, pair.as_str())?;
-        let reading = read_request_with(alloc, body.as_bytes(), &mut cache)?;
-        let point = first(&reading).ok_or("a point")?;
-        assert_eq!(rt; point.shared_series().owners(), owners, "{length} bytes");
-    }
     Ok(())
 }
 

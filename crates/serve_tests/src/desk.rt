@@ -21,6 +21,19 @@ pub fn keeper(alloc: Global, answer: Answer) -> Result<BookKeeper<Fixed>, Fail> 
     Ok(BookKeeper::new(alloc, book, 0, Fixed { answer }, 1000))
 }
 
+/// Serves a request from a reader that follows these steps. As the call of `gate_workers`, without
+/// its contract: a test reads no more than what it answers.
+pub fn serve(
+    alloc: Global,
+    keeper: &mut BookKeeper<Fixed>,
+    request: &[u8],
+    reads: &[Step],
+    writer: &mut Tape<'_>,
+) -> Served {
+    let mut reader = Script::new(request, reads);
+    serve_book(alloc, keeper, &mut reader, writer, &mut NoPace)
+}
+
 /// Serves a request, and looks at all that was written.
 pub fn ask<R: Abort + AllocGlobal>(
     rt: &R,
@@ -42,9 +55,8 @@ pub fn ask_by<R: Abort + AllocGlobal>(
     text: &[u8],
 ) -> Result<(), Fail> {
     assert!(rt; request.len() <= SINGLE_BYTES);
-    let mut reader = Script::new(request, reads);
     let mut writer = Tape::new(rt.alloc(), &[]);
-    let got = serve_book(rt.alloc(), keeper, &mut reader, &mut writer, &mut NoPace);
+    let got = serve(rt.alloc(), keeper, request, reads, &mut writer);
     assert_eq!(rt; got, served);
     assert_eq!(rt; writer.taken(), text);
     Ok(())

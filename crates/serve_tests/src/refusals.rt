@@ -1,8 +1,8 @@
 //! Refusals, and their order.
-use crate::desk::{READS, ask, done, keeper, refused};
+use crate::desk::{READS, ask, done, keeper, refused, serve};
 use back_answers::Answer;
-use byte_ends::{Script, Step, Tape};
-use gate_workers::{BookKeeper, End, NoPace, serve_book};
+use byte_ends::{Step, Tape};
+use gate_workers::{BookKeeper, End};
 use std::process::Abort;
 use std::test::Fail;
 use test_support::{ACCEPTED, Fixed};
@@ -169,9 +169,8 @@ fn refuses<R: Abort + AllocGlobal>(
     line: &[u8],
     body: &[u8],
 ) -> Result<(), Fail> {
-    let mut reader = Script::new(request, reads);
     let mut writer = Tape::new(rt.alloc(), &[]);
-    let _ = serve_book(rt.alloc(), keeper, &mut reader, &mut writer, &mut NoPace);
+    let _ = serve(rt.alloc(), keeper, request, reads, &mut writer);
     assert!(rt; writer.taken().starts_with(line));
     assert!(rt; writer.taken().ends_with(body));
     Ok(())

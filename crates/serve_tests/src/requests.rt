@@ -1,8 +1,8 @@
 //! Requests that are served, with their whole responses.
-use crate::desk::{READS, ask, ask_by, done, keeper, refused};
+use crate::desk::{READS, ask, ask_by, done, keeper, refused, serve};
 use back_answers::Answer;
-use byte_ends::{Script, Step, Tape};
-use gate_workers::{End, NoPace, Served, serve_book};
+use byte_ends::{Step, Tape};
+use gate_workers::{End, Served};
 use http_edge::Written;
 use std::test::Fail;
 use test_support::{ACCEPTED, LATER, POSTED};
@@ -122,9 +122,8 @@ fn sums_over_a_limit_are_refused(rt: HostRuntime) -> Result<(), Fail> {
 fn served_by(rt: &HostRuntime, reads: &[Step], writes: &[Step]) -> Result<Served, Fail> {
     let alloc = rt.alloc();
     let mut keeper = keeper(alloc, Answer::Success)?;
-    let mut reader = Script::new(POSTED, reads);
     let mut writer = Tape::new(alloc, writes);
-    Ok(serve_book(alloc, &mut keeper, &mut reader, &mut writer, &mut NoPace))
+    Ok(serve(alloc, &mut keeper, POSTED, reads, &mut writer))
 }
 
 #[test]
@@ -209,12 +208,7 @@ fn a_reader_that_ends_or_fails(rt: HostRuntime) -> Result<(), Fail> {
             {\"message\":\"malformed request\"}",
     )?;
     let steps = [Step::AtMost(7), Step::Fail];
-    let mut reader = Script::new(POSTED, &steps);
-    let mut writer = Tape::new(alloc, &[]);
-    let got = serve_book(alloc, &mut keeper, &mut reader, &mut writer, &mut NoPace);
-    assert_eq!(rt; got, Served::Broken);
-    assert_eq!(rt; writer.taken(), b"".as_slice());
-    Ok(())
+    ask_by(&rt, &mut keeper, &steps, POSTED, Served::Broken, b"")
 }
 
 #[test]

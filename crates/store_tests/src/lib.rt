@@ -18,6 +18,8 @@ mod lanes;
 #[cfg(test)]
 mod look;
 #[cfg(test)]
+mod premises;
+#[cfg(test)]
 mod recovery;
 #[cfg(test)]
 mod rooms;

@@ -1,19 +1,14 @@
 //! Recovery, run on the book. A book is lost, in whatever round. A fresh one is primed with the
 //! owner and the frontier of each series that was sent, and gets the posts that were not, those of
-//! quarantined senders last; then both go on, and stay alike. The last tests show what the premises
-//! of `metric_events::laws::recovery` and `congruence` are for.
+//! quarantined senders last; then both go on, and stay alike.
 
 use crate::bodies::{sender, sum_point};
-use crate::call::Call::{
-    Close, Confirm, GiveBack, Lift, Ones, Quarantine, Settle, Single, Take, Undo,
-};
-use crate::call::{Call, admit, run};
+use crate::call::admit;
 use crate::look;
 use delta_book::book::Book;
-use delta_book::faults::{AdmitFault, NotLive};
+use delta_book::faults::AdmitFault;
 use delta_book::flush::FlushPoint;
 use metric_events::batch::Batch;
-use metric_events::limits::MAX_ENTRIES;
 use metric_events::points::Points;
 use metric_events::span::Span;
 use series_cell::cell::Cell;
@@ -71,21 +66,50 @@ enum Step {
 }
 
 /// What is kept of a post: its sender and its batch.
-#[derive(Drop)]
 struct Post {
     sent_by: usize,
     body: Batch,
 }
 
+// Written by hand, as the next one: a derived `drop` is proved again at each exit.
+impl Drop for Post {
+    fn drop(self) {
+        let Post {
+            sent_by: _,
+            body: _,
+        } = self;
+    }
+}
+
+impl Post {
+    fn copy(&self, alloc: Global) -> Result<Post, Fail> {
+        let body = self.body.copy(alloc)?;
+        Ok(Post {
+            sent_by: self.sent_by,
+            body,
+        })
+    }
+}
+
 /// What is kept outside a book: the posts that were not sent, in order; where each series ends in
 /// what was posted, and in what was sent; which sender is quarantined. Series 0 and 3 are of sender
 /// 0, 1 and 4 of sender 1, 2 and 5 of sender 2.
-#[derive(Drop)]
 struct Kept {
     posts: Vec<Post>,
     posted: [u64; 6],
     sent: [u64; 6],
     held: [bool; 3],
+}
+
+impl Drop for Kept {
+    fn drop(self) {
+        let Kept {
+            posts: _,
+            posted: _,
+            sent: _,
+            held: _,
+        } = self;
+    }
 }
 
 /// A batch of this sender at this time.
@@ -212,17 +236,19 @@ impl Kept {
                 self.sent[name] = self.posted[name];
             }
         }
+        self.posts = self.held_posts(alloc)?;
+        Ok(())
+    }
+
+    /// The posts of quarantined senders.
+    fn held_posts(&self, alloc: Global) -> Result<Vec<Post>, Fail> {
         let mut left = Vec::new(alloc);
         for post in self.posts.iter() {
             if self.is_held(post.sent_by) {
-                left.push(Post {
-                    sent_by: post.sent_by,
-                    body: post.body.copy(alloc)?,
-                })?;
+                left.push(post.copy(alloc)?)?;
             }
         }
-        self.posts = left;
-        Ok(())
+        Ok(left)
     }
 }
 
@@ -296,23 +322,32 @@ fn replay(
     Ok(())
 }
 
-/// A fresh book that is primed, gets what was pending, and quarantines again, in another order.
-fn recovered(rt: &impl Abort, alloc: Global, kept: &Kept) -> Result<Book, Fail> {
-    let mut book = Book::new(alloc)?;
-    for (name, end) in kept.sent.iter().enumerate() {
+/// Primes a fresh book with the ends of the series that were sent.
+fn prime_all(rt: &impl Abort, alloc: Global, book: &mut Book, sent: &[u64; 6]) -> Result<(), Fail> {
+    for (name, end) in sent.iter().enumerate() {
         if *end > 0 {
-            prime(rt, alloc, &mut book, name, *end)?;
+            prime(rt, alloc, book, name, *end)?;
         }
     }
-    flush_all(rt, &mut book)?;
-    replay(rt, alloc, &mut book, kept, false)?;
-    replay(rt, alloc, &mut book, kept, true)?;
+    flush_all(rt, book)
+}
+
+/// Quarantines again, in another order.
+fn hold_again(rt: &impl Abort, alloc: Global, book: &mut Book, kept: &Kept) -> Result<(), Fail> {
     for name in [2usize, 1, 0] {
         if kept.is_held(name) {
-            toggle(rt, alloc, &mut book, name, false)?;
+            toggle(rt, alloc, book, name, false)?;
         }
     }
-    Ok(book)
+    Ok(())
+}
+
+/// Primes a fresh book, admits again what was pending, and quarantines again.
+fn recover(rt: &impl Abort, alloc: Global, book: &mut Book, kept: &Kept) -> Result<(), Fail> {
+    prime_all(rt, alloc, book, &kept.sent)?;
+    replay(rt, alloc, book, kept, false)?;
+    replay(rt, alloc, book, kept, true)?;
+    hold_again(rt, alloc, book, kept)
 }
 
 fn ends(span: Option<Span>) -> Option<(u64, u64)> {
@@ -407,29 +442,60 @@ fn step_both(
     Ok(())
 }
 
-/// Thirty steps, the recovery, and thirty steps of both: how many posts were admitted again.
-fn recover_one(rt: &impl Abort, alloc: Global, seed: u64) -> Result<usize, Fail> {
-    let mut draw = Draw { state: seed };
-    let mut kept = Kept::new(alloc);
-    let mut lost = Book::new(alloc)?;
+/// Thirty steps of the book that will be lost.
+fn lose(
+    rt: &impl Abort,
+    alloc: Global,
+    lost: &mut Book,
+    kept: &mut Kept,
+    draw: &mut Draw,
+) -> Result<(), Fail> {
     for clock in 5u64..35 {
         let step = draw.step();
-        step_lost(rt, alloc, &mut lost, &mut kept, step, clock * 2)?;
+        step_lost(rt, alloc, lost, kept, step, clock * 2)?;
     }
-    let mut fresh = recovered(rt, alloc, &kept)?;
-    expect_alike(rt, lost.cells(), fresh.cells());
+    Ok(())
+}
+
+/// Thirty steps of both books.
+fn go_on(
+    rt: &impl Abort,
+    alloc: Global,
+    lost: &mut Book,
+    fresh: &mut Book,
+    kept: &mut Kept,
+    draw: &mut Draw,
+) -> Result<(), Fail> {
     for clock in 35u64..65 {
         let step = draw.step();
-        step_both(
-            rt,
-            alloc,
-            (&mut lost, &mut fresh),
-            &mut kept,
-            step,
-            clock * 2,
-        )?;
+        step_both(rt, alloc, (lost, fresh), kept, step, clock * 2)?;
     }
+    Ok(())
+}
+
+/// Thirty steps, the recovery, and thirty steps of both: how many posts were admitted again.
+fn lose_and_recover(
+    rt: &impl Abort,
+    alloc: Global,
+    lost: &mut Book,
+    fresh: &mut Book,
+    kept: &mut Kept,
+    seed: u64,
+) -> Result<usize, Fail> {
+    let mut draw = Draw { state: seed };
+    lose(rt, alloc, lost, kept, &mut draw)?;
+    recover(rt, alloc, fresh, kept)?;
+    expect_alike(rt, lost.cells(), fresh.cells());
+    go_on(rt, alloc, lost, fresh, kept, &mut draw)?;
     Ok(kept.posts.len())
+}
+
+/// The same of two new books.
+fn recover_one(rt: &impl Abort, alloc: Global, seed: u64) -> Result<usize, Fail> {
+    let mut lost = Book::new(alloc)?;
+    let mut fresh = Book::new(alloc)?;
+    let mut kept = Kept::new(alloc);
+    lose_and_recover(rt, alloc, &mut lost, &mut fresh, &mut kept, seed)
 }
 
 #[test]
@@ -440,175 +506,4 @@ fn what_is_lost_is_recovered(rt: HostRuntime) -> Result<(), Fail> {
     }
     look::holds(&rt, again > 100, "many posts are admitted again");
     Ok(())
-}
-
-/// Makes the calls on a new book.
-fn run_anew(rt: &impl Abort, alloc: Global, calls: &[Call]) -> Result<(), Fail> {
-    run(rt, alloc, &mut Book::new(alloc)?, calls)
-}
-
-// A batch of another sender that is not undone makes the next one another writer's.
-#[test]
-fn another_owner_refuses(rt: HostRuntime) -> Result<(), Fail> {
-    run_anew(
-        &rt,
-        rt.alloc(),
-        &[
-            Single(1, 10, 0, Ok(1)),
-            Single(0, 20, 7, Err(AdmitFault::OtherWriter(0))),
-        ],
-    )
-}
-
-// A series that is known to end later refuses what came before.
-#[test]
-fn a_later_frontier_refuses(rt: HostRuntime) -> Result<(), Fail> {
-    run_anew(
-        &rt,
-        rt.alloc(),
-        &[
-            Single(0, 20, 0, Ok(1)),
-            Single(0, 20, 7, Err(AdmitFault::OutOfOrder(0, 30))),
-        ],
-    )
-}
-
-/// Series 1 is made known by a point of this value, which is settled.
-fn known_by(value: i64) -> [Call; 4] {
-    [
-        Single(0, 10, value, Ok(1)),
-        Confirm(1, Ok(())),
-        Take(Ok(Some(1))),
-        Settle(1, Ok(())),
-    ]
-}
-
-// What made a series known counts for its limits.
-#[test]
-fn a_greater_sum_refuses(rt: HostRuntime) -> Result<(), Fail> {
-    let most = 9_223_372_036_854_775_807;
-    for (value, want) in [(0, Ok(2)), (most, Err(AdmitFault::TooLarge))] {
-        let alloc = rt.alloc();
-        let mut book = Book::new(alloc)?;
-        run(&rt, alloc, &mut book, &known_by(value))?;
-        run(&rt, alloc, &mut book, &[Single(0, 20, 7, want)])?;
-    }
-    Ok(())
-}
-
-// Where batches are open under other numbers, one undo removes different points.
-#[test]
-fn open_batches_keep_their_numbers(rt: HostRuntime) -> Result<(), Fail> {
-    let late = Err(AdmitFault::OutOfOrder(0, 2));
-    for (first, second, want) in [(0, 1, Ok(3)), (1, 0, late)] {
-        run_anew(
-            &rt,
-            rt.alloc(),
-            &[
-                Ones(first, first + 1, 1, Ok(1)),
-                Ones(second, second + 1, 1, Ok(2)),
-                Undo(1, Ok(())),
-                Ones(0, 1, 1, want),
-            ],
-        )?;
-    }
-    Ok(())
-}
-
-// Without the quarantine the same pending points are taken.
-#[test]
-fn a_quarantine_is_to_be_made_again(rt: HostRuntime) -> Result<(), Fail> {
-    let held = [
-        Single(0, 10, 5, Ok(1)),
-        Quarantine(0, Ok(())),
-        Take(Ok(None)),
-    ];
-    run_anew(&rt, rt.alloc(), &held)?;
-    run_anew(
-        &rt,
-        rt.alloc(),
-        &[Single(0, 10, 5, Ok(1)), Take(Ok(Some(1)))],
-    )
-}
-
-// What a live flush has may become pending again, and the fresh book does not have it.
-#[test]
-fn a_live_flush_is_to_end_first(rt: HostRuntime) -> Result<(), Fail> {
-    let live = [
-        Single(0, 10, 5, Ok(1)),
-        Take(Ok(Some(1))),
-        GiveBack(1, Ok(())),
-        Take(Ok(Some(2))),
-    ];
-    run_anew(&rt, rt.alloc(), &live)?;
-    let alloc = rt.alloc();
-    let mut fresh = Book::new(alloc)?;
-    run(&rt, alloc, &mut fresh, &known_by(0))?;
-    run(
-        &rt,
-        alloc,
-        &mut fresh,
-        &[GiveBack(1, Err(NotLive)), Take(Ok(None))],
-    )
-}
-
-// A round that was closed with a point pending knows its series up to the end of that point, so
-// what is pending does not come after the rest there. A fresh book has to know what was sent in all
-// rounds, which is nothing here.
-#[test]
-fn what_is_pending_comes_after_the_rest(rt: HostRuntime) -> Result<(), Fail> {
-    let late = [
-        Single(0, 10, 5, Ok(1)),
-        Confirm(1, Ok(())),
-        Close(Ok(2)),
-        Take(Ok(Some(1))),
-    ];
-    run_anew(&rt, rt.alloc(), &late)?;
-    let alloc = rt.alloc();
-    let mut fresh = Book::new(alloc)?;
-    run(&rt, alloc, &mut fresh, &known_by(0))?;
-    let again = [Single(0, 10, 5, Err(AdmitFault::OutOfOrder(0, 20)))];
-    run(&rt, alloc, &mut fresh, &again)?;
-    run_anew(
-        &rt,
-        rt.alloc(),
-        &[Single(0, 10, 5, Ok(1)), Take(Ok(Some(1)))],
-    )
-}
-
-// What was settled since rest is known too. A fresh book that knows no more than was known at rest
-// takes it twice.
-#[test]
-fn a_flush_since_rest_counts(rt: HostRuntime) -> Result<(), Fail> {
-    let alloc = rt.alloc();
-    let mut lost = Book::new(alloc)?;
-    run(&rt, alloc, &mut lost, &known_by(5))?;
-    let again = [Single(0, 10, 5, Err(AdmitFault::OutOfOrder(0, 20)))];
-    run(&rt, alloc, &mut lost, &again)?;
-    run_anew(&rt, rt.alloc(), &[Single(0, 10, 5, Ok(1))])
-}
-
-// A full journal refuses whatever comes again; the next round takes it.
-#[test]
-fn a_replay_needs_room(rt: HostRuntime) -> Result<(), Fail> {
-    let alloc = rt.alloc();
-    let mut fresh = Book::new(alloc)?;
-    for _ in 0..MAX_ENTRIES / 2 {
-        run(
-            &rt,
-            alloc,
-            &mut fresh,
-            &[Quarantine(1, Ok(())), Lift(1, Ok(()))],
-        )?;
-    }
-    run(
-        &rt,
-        alloc,
-        &mut fresh,
-        &[
-            Single(0, 10, 5, Err(AdmitFault::Full)),
-            Close(Ok(2)),
-            Single(0, 10, 5, Ok(1)),
-        ],
-    )
 }

@@ -108,3 +108,31 @@ pub fn run<L: Round, R: Wait + Abort>(
     }
     Ok(())
 }
+
+/// Makes these lists of calls from the last of the seats, and returns the seats.
+pub fn run_from<L: Round, R: Wait + Abort>(
+    rt: &R,
+    alloc: Global,
+    shared: &SharedBook<L>,
+    seats: Vec<Seat<L>>,
+    lists: &[&[Call]],
+) -> Result<Vec<Seat<L>>, Fail> {
+    let mut seats = seats;
+    let mut seat = seats.pop().ok_or("no seat")?;
+    run_all(rt, alloc, shared, &mut seat, lists)?;
+    seats.push(seat)?;
+    Ok(seats)
+}
+
+fn run_all<L: Round, R: Wait + Abort>(
+    rt: &R,
+    alloc: Global,
+    shared: &SharedBook<L>,
+    seat: &mut Seat<L>,
+    lists: &[&[Call]],
+) -> Result<(), Fail> {
+    for calls in lists {
+        run(rt, alloc, shared, seat, *calls)?;
+    }
+    Ok(())
+}

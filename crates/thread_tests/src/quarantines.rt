@@ -4,13 +4,14 @@ ghost use Rattle.std.specs.Prelude.{◌≡◌};
 ghost use Rattle.metric_events.specs.Opening.{first_opening};
 
 use crate::call::Call::{Admit, AdmitOf, Lift, Quarantine, Settle, Take, Totals};
-use crate::call::{Call, run};
+use crate::call::{Call, run, run_from};
 use crate::compare::{Sent, Total};
 use crate::pair::{finish, finish_both, two_seats};
 use delta_book::book::Book;
 use delta_book::faults::{AdmitFault, NotQuarantined};
 use shared_book::audit::Audit;
 use shared_book::round::Round;
+use shared_book::seat::Seat;
 use shared_book::shared::SharedBook;
 use std::alloc::Global;
 use std::marker::Brand;
@@ -134,19 +135,32 @@ fn from_one_seat<L: Round, R: Wait + Abort>(rt: &R, alloc: Global, blank: Blank)
     let Ok((shared, seats)) = SharedBook::<L>::new(alloc, Book::new(alloc)?, blank, 1) else {
         return Err(Fail::from("no seats"));
     };
-    let mut seats = seats;
-    let mut seat = seats.pop().ok_or("no seat")?;
-    run(rt, alloc, &shared, &mut seat, A_IS_QUARANTINED)?;
-    run(rt, alloc, &shared, &mut seat, B_IS_QUARANTINED)?;
-    run(rt, alloc, &shared, &mut seat, B_IS_RELEASED)?;
-    run(rt, alloc, &shared, &mut seat, A_IS_RELEASED)?;
-    seats.push(seat)?;
+    let lists = [
+        A_IS_QUARANTINED,
+        B_IS_QUARANTINED,
+        B_IS_RELEASED,
+        A_IS_RELEASED,
+    ];
+    let seats = run_from(rt, alloc, &shared, seats, &lists)?;
     let (_, audit) = finish(shared, seats)?;
     assert_eq!(rt; audit, ALL);
     Ok(())
 }
 
 /// Each seat quarantines a sender, and releases the other seat's.
+fn run_in_turn<L: Round, R: Wait + Abort>(
+    rt: &R,
+    alloc: Global,
+    shared: &SharedBook<L>,
+    first: &mut Seat<L>,
+    second: &mut Seat<L>,
+) -> Result<(), Fail> {
+    run(rt, alloc, shared, first, A_IS_QUARANTINED)?;
+    run(rt, alloc, shared, second, B_IS_QUARANTINED)?;
+    run(rt, alloc, shared, first, B_IS_RELEASED)?;
+    run(rt, alloc, shared, second, A_IS_RELEASED)
+}
+
 fn from_two_seats<L: Round, R: Wait + Abort>(
     rt: &R,
     alloc: Global,
@@ -158,10 +172,7 @@ fn from_two_seats<L: Round, R: Wait + Abort>(
     requires opening { L.opening ≡ first_opening }
 {
     let (shared, mut first, mut second) = two_seats::<L>(alloc, blank)?;
-    run(rt, alloc, &shared, &mut first, A_IS_QUARANTINED)?;
-    run(rt, alloc, &shared, &mut second, B_IS_QUARANTINED)?;
-    run(rt, alloc, &shared, &mut first, B_IS_RELEASED)?;
-    run(rt, alloc, &shared, &mut second, A_IS_RELEASED)?;
+    run_in_turn(rt, alloc, &shared, &mut first, &mut second)?;
     let (_, audit) = finish_both(alloc, shared, (first, second))?;
     assert_eq!(rt; audit, ALL);
     Ok(())

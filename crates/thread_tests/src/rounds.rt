@@ -50,6 +50,19 @@ fn take_and_settle<L: Round, R: Wait + Abort>(
     Ok(())
 }
 
+/// The same from the last of the seats, which come back.
+fn settle_from<L: Round, R: Wait + Abort>(
+    rt: &R,
+    shared: &SharedBook<L>,
+    seats: Vec<Seat<L>>,
+) -> Result<Vec<Seat<L>>, Fail> {
+    let mut seats = seats;
+    let mut seat = seats.pop().ok_or("no seat")?;
+    take_and_settle(rt, shared, &mut seat)?;
+    seats.push(seat)?;
+    Ok(seats)
+}
+
 /// One seat takes and settles all that the first round has left pending.
 fn second_round<L: Round, R: Wait + Abort>(
     rt: &R,
@@ -66,10 +79,7 @@ fn second_round<L: Round, R: Wait + Abort>(
     let Ok((shared, seats)) = SharedBook::<L>::new(alloc, book, blank, 1) else {
         return Err(Fail::from("no seats"));
     };
-    let mut seats = seats;
-    let mut seat = seats.pop().ok_or("no seat")?;
-    take_and_settle(rt, &shared, &mut seat)?;
-    seats.push(seat)?;
+    let seats = settle_from(rt, &shared, seats)?;
     let (book, audit) = finish(shared, seats)?;
     assert_eq!(rt;
         audit,

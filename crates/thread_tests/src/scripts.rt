@@ -6,7 +6,7 @@ ghost use Rattle.std.specs.Prelude.{◌≡◌, []};
 use crate::call::Call::{
     Admit, AdmitOf, Confirm, DropFlush, GiveBack, Lift, Quarantine, Settle, Take, Totals, Undo,
 };
-use crate::call::{Call, run};
+use crate::call::{Call, run_from};
 use crate::compare::{Sent, Total};
 use crate::pair::finish;
 use delta_book::book::Book;
@@ -43,13 +43,21 @@ fn one_seat<L: Round, R: Wait + Abort>(
     let Ok((shared, seats)) = SharedBook::<L>::new(alloc, book, blank, 1) else {
         return Err(Fail::from("no seats"));
     };
-    let mut seats = seats;
-    let mut seat = seats.pop().ok_or("no seat")?;
-    run(rt, alloc, &shared, &mut seat, calls)?;
-    seats.push(seat)?;
+    let seats = run_from(rt, alloc, &shared, seats, &[calls])?;
     let (book, audit) = finish(shared, seats)?;
     assert_eq!(rt; audit, wanted);
     Ok(book)
+}
+
+/// The same of a new book.
+fn in_a_new_book<R: Wait + Abort>(
+    rt: &R,
+    alloc: Global,
+    calls: &[Call],
+    wanted: Audit,
+) -> Result<Book, Fail> {
+    let new = Book::new(alloc)?;
+    one_seat::<Brand, R>(rt, alloc, new, Blank::new(1), calls, wanted)
 }
 
 /// Flush 1, which takes the point of batch 1.
@@ -80,9 +88,7 @@ fn the_first_path(rt: HostRuntime) -> Result<(), Fail> {
         admitted: 1,
         acknowledged: 1,
     };
-    let alloc = rt.alloc();
-    let new = Book::new(alloc)?;
-    one_seat::<Brand, _>(&rt, alloc, new, Blank::new(1), FIRST_PATH, wanted)?;
+    in_a_new_book(&rt, rt.alloc(), FIRST_PATH, wanted)?;
     Ok(())
 }
 
@@ -128,9 +134,7 @@ fn a_quarantined_sender(rt: HostRuntime) -> Result<(), Fail> {
         admitted: 2,
         acknowledged: 0,
     };
-    let alloc = rt.alloc();
-    let new = Book::new(alloc)?;
-    one_seat::<Brand, _>(&rt, alloc, new, Blank::new(1), QUARANTINED_SENDER, wanted)?;
+    in_a_new_book(&rt, rt.alloc(), QUARANTINED_SENDER, wanted)?;
     Ok(())
 }
 
@@ -156,9 +160,7 @@ fn an_undo_after_a_take(rt: HostRuntime) -> Result<(), Fail> {
         admitted: 2,
         acknowledged: 0,
     };
-    let alloc = rt.alloc();
-    let new = Book::new(alloc)?;
-    one_seat::<Brand, _>(&rt, alloc, new, Blank::new(1), UNDO_AFTER_TAKE, wanted)?;
+    in_a_new_book(&rt, rt.alloc(), UNDO_AFTER_TAKE, wanted)?;
     Ok(())
 }
 
@@ -199,9 +201,7 @@ fn flushes_that_are_refused(rt: HostRuntime) -> Result<(), Fail> {
         admitted: 2,
         acknowledged: 0,
     };
-    let alloc = rt.alloc();
-    let new = Book::new(alloc)?;
-    one_seat::<Brand, _>(&rt, alloc, new, Blank::new(1), REFUSED_FLUSHES, wanted)?;
+    in_a_new_book(&rt, rt.alloc(), REFUSED_FLUSHES, wanted)?;
     Ok(())
 }
 
@@ -227,9 +227,7 @@ fn batches_that_are_refused(rt: HostRuntime) -> Result<(), Fail> {
         admitted: 2,
         acknowledged: 0,
     };
-    let alloc = rt.alloc();
-    let new = Book::new(alloc)?;
-    one_seat::<Brand, _>(&rt, alloc, new, Blank::new(1), REFUSED_BATCHES, wanted)?;
+    in_a_new_book(&rt, rt.alloc(), REFUSED_BATCHES, wanted)?;
     Ok(())
 }
 
@@ -257,13 +255,12 @@ const QUARANTINED_AT_FIRST: &[Call] = &[
 #[test]
 fn a_later_round_begins_with_a_quarantine(rt: HostRuntime) -> Result<(), Fail> {
     let alloc = rt.alloc();
-    let new = Book::new(alloc)?;
     let wanted = Audit {
         events: 2,
         admitted: 1,
         acknowledged: 0,
     };
-    let mut book = one_seat::<Brand, _>(&rt, alloc, new, Blank::new(1), LEFT_BEHIND, wanted)?;
+    let mut book = in_a_new_book(&rt, alloc, LEFT_BEHIND, wanted)?;
     match book.close_round() {
         Ok(round) => assert_eq!(rt; round, 2),
         Err(_) => return Err(Fail::from("the round is not closed")),

@@ -1,9 +1,9 @@
 //! The loop of an instance: it beats, takes slots and hands them over as `owners` says, and tells who has which.
 
 use super::owners::{Owners, Step, Whose};
-use super::status::{Counts, Status};
+use super::status::{Counts, Status, Unserved};
 use super::terms::{Silence, Terms, Units, Unopened};
-use crate::log::Seldom;
+use crate::log::{shown, Seldom};
 use crate::switch::Switch;
 use std::collections::{BTreeMap, HashMap};
 use std::sync::{Arc, Mutex, MutexGuard, PoisonError};
@@ -22,6 +22,8 @@ pub const NO_STORE: &str = "the store does not answer";
 const LOOKS: Duration = Duration::from_millis(50);
 /// Who leaves waits so long for its slots to be handed over.
 const LEAVES_WITHIN: Duration = Duration::from_secs(60);
+/// How much of a reason the others are told, in characters.
+const REASON_SHOWN: usize = 500;
 /// Steps that follow from what was done: one at a time, as one slot is handed over at a time.
 const FOLLOWING: usize = 16;
 
@@ -37,6 +39,7 @@ pub struct Cluster {
     look: Notify,
     /// When the last own beat that is committed was sent; none before the first.
     beaten: Mutex<Option<Instant>>,
+    unserved: Mutex<Unserved>,
     counts: Counts,
 }
 
@@ -48,6 +51,7 @@ impl Cluster {
             places: watch::channel(Places::default()).0,
             look: Notify::new(),
             beaten: Mutex::default(),
+            unserved: Mutex::default(),
             counts: Counts::default(),
         })
     }
@@ -76,6 +80,21 @@ impl Cluster {
         beaten.map(|beaten| beaten.elapsed())
     }
 
+    /// A slot could not be opened here, or has ended by a fault.
+    pub fn failed(&self, slot: u16, term: u64, reason: &str) {
+        let reason = shown(reason, REASON_SHOWN);
+        let then = match self.owners().failed(slot, term, &reason) {
+            true => "another instance takes it",
+            false => "no other instance is left that could, so it is tried again",
+        };
+        tracing::error!(
+            slot,
+            reason,
+            "slot {slot} can't be kept open here, {then}: {reason}"
+        );
+        self.publish();
+    }
+
     /// What a slot's writer tells once it has found another's term.
     pub fn lost(&self, slot: u16, term: u64) {
         if self.owners().lost(slot, term) {
@@ -85,12 +104,21 @@ impl Cluster {
     }
 
     pub fn status(&self) -> Status {
-        let places = self.places.borrow().clone();
         let owners = self.owners();
+        let unserved = self.unserved.lock().unwrap_or_else(PoisonError::into_inner); // it is changed whole
         Status {
+            name: owners.name().into(),
             instances: owners.instances(),
+            others: owners.others(),
+            slots: owners.slots(),
             has_namesake: owners.has_namesake(),
-            without_owner: places.values().filter(|whose| **whose == Whose::Nobody).count(),
+            refused: owners.all_refused(),
+            without_owner: unserved.count(),
+            // Who has no answer of the store knows nothing of now.
+            longest_without_owner: match self.is_stalled() {
+                true => Duration::ZERO,
+                false => unserved.longest(Instant::now()),
+            },
             terms: owners.terms(),
             beat_age: self.beat_age(),
             counted: self.counts.counted(),
@@ -99,10 +127,16 @@ impl Cluster {
 
     /// What a beat would have found, and its answer counts for an hour: a test may be slow.
     #[cfg(test)]
-    pub(super) fn knows(&self, places: &[(u16, Whose)]) {
+    pub(crate) fn knows(&self, places: &[(u16, Whose)]) {
         *self.beaten.lock().unwrap() = Some(Instant::now() + Duration::from_secs(3600));
         self.places
             .send_replace(Arc::new(places.iter().cloned().collect()));
+    }
+
+    /// A beat of a test's, by which nothing is done.
+    #[cfg(test)]
+    pub(crate) fn has_seen(&self, seen: super::terms::Seen) {
+        self.owners().beat(seen);
     }
 
     /// It is changed whole under the lock.
@@ -113,7 +147,13 @@ impl Cluster {
     /// Says who has which slot, where that is new. It is found under the lock of what is said, so the last word is the latest.
     fn publish(&self) {
         self.places.send_if_modified(|said| {
-            let places = Arc::new(self.owners().whose());
+            let (places, slots) = {
+                let owners = self.owners();
+                (Arc::new(owners.whose()), owners.slots())
+            };
+            let mut unserved = self.unserved.lock().unwrap_or_else(PoisonError::into_inner);
+            unserved.note(&slots, Instant::now());
+            drop(unserved);
             let is_new = *said != places;
             *said = places;
             is_new
@@ -202,8 +242,8 @@ impl<T: Terms + 'static, U: Units + 'static> Beats<T, U> {
 
     async fn beat(&mut self) {
         let (work, began) = (self.work.clone(), Instant::now());
-        let stay = work.cluster.owners().stay();
-        let seen = match work.terms.beat(stay).await {
+        let (stay, refused) = work.cluster.owners().told();
+        let seen = match work.terms.beat(stay, refused).await {
             Ok(seen) => seen,
             Err(silence) => {
                 work.cluster.owners().unanswered();
@@ -290,14 +330,7 @@ impl<T: Terms, U: Units> Work<T, U> {
                 }
             }
             Err(Unopened::Lost) => self.cluster.lost(slot, term),
-            Err(Unopened::Fault(reason)) => {
-                tracing::error!(
-                    slot,
-                    reason,
-                    "slot {slot} can't be opened, and is tried again: {reason}"
-                );
-                self.cluster.owners().failed(slot, term);
-            }
+            Err(Unopened::Fault(reason)) => self.cluster.failed(slot, term, &reason),
         }
         self.cluster.publish();
     }

@@ -1,35 +1,39 @@
 //! Posts for slots of other instances: each goes to its slot's owner over kept connections, and that one's answer comes back
-//! as it said it. `internal` is the owner's side, `head` what a request says beside its body, `said` an answer on its way.
+//! as it said it. `internal` is the owner's side, `head` what a request says beside its body, `said` an answer on its way,
+//! `wire` what they speak. `operators` are questions that come the same way.
 //!
 //! One that has not the slot has taken nothing, so another is asked then. Any other end may be behind a post that was taken:
 //! its sender is told 503, and its repeat finds out.
 
 mod head;
 mod internal;
+mod operators;
 mod peer;
 mod said;
+mod wire;
 
 pub use head::Secret;
 pub use internal::Internal;
+pub use operators::{Answers, Asks};
 pub use peer::SILENT_FOR;
+pub use wire::Wire;
 
-use super::beats::Cluster;
+use super::beats::{Cluster, Places, NO_STORE};
 use super::owners::Whose;
 use super::terms::Doing;
 use crate::log::Seldom;
 use crate::otlp::{Original, Outcome};
 use crate::slot::Elsewhere;
 use head::Head;
-use hyper::client::HttpConnector;
 use hyper::{Body, Request};
-use hyper_rustls::HttpsConnector;
 use peer::{Peer, Peers};
-use rustls::ClientConfig;
 use said::Said;
 use std::sync::atomic::{AtomicU64, Ordering::Relaxed};
 use std::sync::{Arc, OnceLock};
 use std::time::Duration;
+use tokio::sync::watch;
 use tokio::time::{timeout, timeout_at, Instant};
+use wire::Connections;
 
 /// Where posts of other instances come.
 pub const PATH: &str = "/internal/post";
@@ -37,8 +41,11 @@ pub const PATH: &str = "/internal/post";
 const WITHIN: Duration = Duration::from_secs(10);
 /// So long an owner is looked for.
 const LOOKED_FOR: Duration = Duration::from_secs(3);
-/// Between two looks, where nothing changes.
-const PAUSE: Duration = Duration::from_millis(100);
+/// And so often instances are asked that say it is not theirs.
+const MOST_ASKED: u32 = 16;
+/// Between two looks, where the owner stays the same: the first come soon, since it may be opening the slot.
+const SHORTEST: Duration = Duration::from_millis(50);
+const LONGEST: Duration = Duration::from_millis(400);
 const CONNECT: Duration = Duration::from_secs(3);
 /// Shorter than an idle connection is kept at the other end.
 const IDLE: Duration = Duration::from_secs(20);
@@ -49,6 +56,8 @@ const BROKEN: &str = "the instance that has the slot of this post has given no a
 const MOVED: &str = "the slot of this post is being moved";
 
 static TOLD: Seldom = Seldom::every(Duration::from_secs(10));
+
+type Watched = watch::Receiver<Places>;
 
 /// The slots of this instance.
 pub trait Here: Send + Sync + 'static {
@@ -61,14 +70,6 @@ pub trait Here: Send + Sync + 'static {
         sender: &'a str,
         part: Original,
     ) -> Doing<'a, Option<Outcome>>;
-}
-
-/// What instances speak with each other.
-#[derive(Clone)]
-pub enum Wire {
-    Plain,
-    /// By the roots that their certificates are believed by.
-    Tls(Arc<ClientConfig>),
 }
 
 /// How many posts for others' slots ended how.
@@ -94,31 +95,18 @@ pub struct Forward<H> {
     /// None before posts are served.
     here: OnceLock<Arc<H>>,
     secret: Secret,
-    client: hyper::Client<HttpsConnector<HttpConnector>, Body>,
-    scheme: &'static str,
+    connections: Connections,
     peers: Peers,
     counts: Counts,
 }
 
 impl<H: Here> Forward<H> {
     pub fn new(cluster: Arc<Cluster>, secret: Secret, wire: Wire) -> Forward<H> {
-        let mut http = HttpConnector::new();
-        http.enforce_http(false);
-        http.set_nodelay(true);
-        http.set_connect_timeout(Some(CONNECT));
-        let (scheme, config) = match wire {
-            Wire::Plain => ("http", Arc::new(no_roots())),
-            Wire::Tls(config) => ("https", config),
-        };
-        let connector = HttpsConnector::from((http, config));
-        let mut client = hyper::Client::builder();
-        client.pool_idle_timeout(IDLE).pool_max_idle_per_host(peer::POSTS);
         Forward {
             cluster,
             here: OnceLock::new(),
             secret,
-            client: client.build(connector),
-            scheme,
+            connections: Connections::new(wire),
             peers: Peers::default(),
             counts: Counts::default(),
         }
@@ -131,29 +119,41 @@ impl<H: Here> Forward<H> {
 
     /// Has its slot's owner take a part of a request: that owner's answer, or 503.
     pub async fn post(&self, slot: u16, sender: &str, part: Original) -> Outcome {
-        let began = Instant::now();
+        let (began, mut asked, mut pause) = (Instant::now(), 0, SHORTEST);
         let mut places = self.cluster.places();
         loop {
             places.borrow_and_update();
-            let said = match self.cluster.whose(slot) {
+            let whose = self.cluster.whose(slot);
+            let said = match &whose {
                 Whose::Nobody => None,
                 Whose::Here { term } => match self.here.get() {
-                    Some(here) => here.post(slot, term, sender, part.clone()).await,
+                    Some(here) => here.post(slot, *term, sender, part.clone()).await,
                     None => None,
                 },
                 Whose::There { address, term, .. } => {
-                    let head = Head::new(slot, term, sender, part.encoding);
-                    self.ask(&address, &head, &part, began + WITHIN).await
+                    asked += 1;
+                    let head = Head::new(slot, *term, sender, part.encoding);
+                    self.ask(address, &head, &part, began + WITHIN).await
                 }
             };
-            match said {
-                Some(outcome) => return outcome,
-                None if began.elapsed() >= LOOKED_FOR => return unavailable(MOVED),
-                None => {}
+            if let Some(outcome) = said {
+                return outcome;
+            }
+            if began.elapsed() >= LOOKED_FOR || asked >= MOST_ASKED {
+                return unavailable(MOVED);
             }
             self.cluster.look();
-            let _ = timeout(PAUSE, places.changed()).await;
+            pause = match self.has_moved(slot, &whose, &mut places, pause).await {
+                true => SHORTEST,
+                false => (2 * pause).min(LONGEST),
+            };
         }
+    }
+
+    /// Waits until another has the slot, as far as is known, and not longer than this.
+    async fn has_moved(&self, slot: u16, from: &Whose, places: &mut Watched, most: Duration) -> bool {
+        let moves = async { while self.cluster.whose(slot) == *from && places.changed().await.is_ok() {} };
+        timeout(most, moves).await.is_ok()
     }
 
     /// One that has not the slot says so: then none.
@@ -201,13 +201,13 @@ impl<H: Here> Forward<H> {
         part: &Original,
     ) -> Result<Said, Broken> {
         let _room = peer.room(part.body.len()).await;
-        let uri = format!("{}://{address}{PATH}", self.scheme);
+        let uri = format!("{}://{address}{PATH}", self.connections.scheme());
         let request = head.put(Request::post(uri), &self.secret);
         let request = request
             .body(Body::from(part.body.clone()))
             .map_err(Broken::Address)?;
-        let response = self.client.request(request).await.map_err(Broken::Wire)?;
-        said::read(response).await
+        let response = self.connections.asks().request(request).await;
+        said::read(response.map_err(Broken::Wire)?).await
     }
 
     pub fn forwarded(&self) -> Forwarded {
@@ -225,6 +225,10 @@ impl<H: Here> Forward<H> {
 }
 
 impl<H: Here> Elsewhere for Forward<H> {
+    fn unavailable(&self) -> Option<&'static str> {
+        self.cluster.is_stalled().then_some(NO_STORE)
+    }
+
     fn post<'a>(&'a self, slot: u16, sender: &'a str, part: Original) -> Doing<'a, Outcome> {
         Box::pin(Forward::post(self, slot, sender, part))
     }
@@ -243,6 +247,8 @@ enum Broken {
     Secret,
     #[error("what answers there is no instance, or of another version: it says {0}")]
     Strange(u16),
+    #[error("its answer is longer than {0} bytes: ask it by itself")]
+    Long(usize),
 }
 
 fn unavailable(why: &str) -> Outcome {
@@ -250,14 +256,6 @@ fn unavailable(why: &str) -> Outcome {
         status: 503,
         message: why.into(),
     }
-}
-
-/// Nothing is asked over TLS by it.
-fn no_roots() -> ClientConfig {
-    ClientConfig::builder()
-        .with_safe_defaults()
-        .with_root_certificates(rustls::RootCertStore::empty())
-        .with_no_client_auth()
 }
 
 #[cfg(test)]

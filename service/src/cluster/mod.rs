@@ -12,8 +12,8 @@ pub mod status;
 pub mod terms;
 
 pub use beats::{Beats, Cluster, NO_STORE};
-pub use forward::{Forward, Here, Internal, Secret, Wire};
-pub use owners::Whose;
+pub use forward::{Answers, Asks, Forward, Forwarded, Here, Internal, Secret, Wire};
+pub use owners::{Refusal, Whose};
 pub use status::Status;
 
 #[cfg(test)]

@@ -4,15 +4,21 @@
 //! What is decided here is never a matter of safety: a slot's term in the store is, and two that decide for the same slot find
 //! that one of them was first.
 
+mod namesake;
 mod others;
+mod refused;
+mod shown;
 mod step;
 
+pub use refused::Refusal;
 pub use step::{Step, Whose};
 
 use super::places::place;
-use super::terms::{Row, Seen, Stay};
+use super::terms::{Refused, Row, Seen, Stay};
+use namesake::Namesake;
 use others::Others;
-use std::collections::{BTreeMap, BTreeSet};
+use refused::Refusals;
+use std::collections::BTreeMap;
 
 /// So many own beats are committed while another's stands still, until that one counts as gone.
 pub const GONE: u32 = 6;
@@ -22,12 +28,6 @@ pub const AFTER_SILENCE: u32 = 14;
 pub const SETTLED: u32 = 20;
 /// A slot that has this instance's name, and is not open here, is an earlier process': a namesake that lives would beat within.
 const RESTARTED: u32 = 4;
-/// A beat more than was asked for counts so much, and one that is as it should be takes 1 off: an own one may be late.
-const BEAT_MORE: u32 = 2;
-const IS_NAMESAKE: u32 = 2 * BEAT_MORE;
-const MOST_NAMESAKE: u32 = IS_NAMESAKE + GONE;
-/// So many own beats later a slot that could not be opened is tried again.
-const AGAIN: u32 = 20;
 /// Slots that are taken or opened side by side: each replays its journal.
 const AT_ONCE: usize = 4;
 
@@ -59,19 +59,16 @@ pub struct Owners {
     me: String,
     stay: Stay,
     others: Others,
-    /// Those that may have slots, and where each slot belongs.
-    living: BTreeSet<String>,
+    /// Those that may have slots, but for these of each; and where each slot belongs.
+    living: BTreeMap<String, Refused>,
     places: BTreeMap<u16, Option<String>>,
     rows: Vec<Row>,
     mine: BTreeMap<u16, Mine>,
+    refusals: Refusals,
     /// Slots that have this instance's name and are not open here: by which term, and how many beats they are left alone.
     left_alone: BTreeMap<u16, (u64, u32)>,
     handed: Option<Handed>,
-    beat: Option<u64>,
-    /// Own beats that got no answer since the last one that did: they may be done as well.
-    unanswered: u64,
-    /// How sure it is that another beats under this name.
-    namesake: u32,
+    namesake: Namesake,
 }
 
 impl Owners {
@@ -80,15 +77,14 @@ impl Owners {
             me: me.into(),
             stay: Stay::Here,
             others: Others::of(me),
-            living: BTreeSet::new(),
+            living: BTreeMap::new(),
             places: BTreeMap::new(),
             rows: Vec::new(),
             mine: BTreeMap::new(),
+            refusals: Refusals::default(),
             left_alone: BTreeMap::new(),
             handed: None,
-            beat: None,
-            unanswered: 0,
-            namesake: 0,
+            namesake: Namesake::default(),
         }
     }
 
@@ -97,8 +93,14 @@ impl Owners {
         self.stay = Stay::Leaves;
     }
 
-    pub fn stay(&self) -> Stay {
-        self.stay
+    /// What the others are told with a beat.
+    pub fn told(&self) -> (Stay, Refused) {
+        (self.stay, self.refusals.told())
+    }
+
+    /// What those that live can't open.
+    pub fn all_refused(&self) -> Vec<Refusal> {
+        refused::all(&self.living)
     }
 
     /// Whether this instance has nothing more to do for any slot.
@@ -108,7 +110,7 @@ impl Owners {
 
     /// Another process beats under this instance's name.
     pub fn has_namesake(&self) -> bool {
-        self.namesake >= IS_NAMESAKE
+        self.namesake.is_there()
     }
 
     /// Slots that are open here, or being opened or closed, and their terms.
@@ -149,7 +151,7 @@ impl Owners {
 
     /// An own beat got no answer.
     pub fn unanswered(&mut self) {
-        self.unanswered += 1;
+        self.namesake.unanswered();
         self.others.wait();
     }
 
@@ -165,7 +167,9 @@ impl Owners {
 
     /// An own beat is committed, and this was read behind it: what is to be done now.
     pub fn beat(&mut self, seen: Seen) -> Vec<Step> {
-        self.note_namesake(&seen);
+        if let Some(own) = seen.instances.iter().find(|one| one.name == self.me) {
+            self.namesake.note(own.beat);
+        }
         self.others.note(&seen);
         self.rows = seen.slots;
         self.note_living();
@@ -177,32 +181,22 @@ impl Owners {
         steps
     }
 
-    /// An own beat adds one. Where more was added than was asked for, another adds to it.
-    fn note_namesake(&mut self, seen: &Seen) {
-        let Some(own) = seen.instances.iter().find(|one| one.name == self.me) else {
-            return;
-        };
-        let most = self.beat.map(|before| before + 1 + self.unanswered);
-        let is_more = most.is_some_and(|most| own.beat > most);
-        self.namesake = match is_more {
-            true => (self.namesake + BEAT_MORE).min(MOST_NAMESAKE),
-            false => self.namesake.saturating_sub(1),
-        };
-        self.beat = Some(own.beat);
-        self.unanswered = 0;
-    }
-
-    /// Where each slot belongs: found anew where an instance has come or gone.
+    /// Where each slot belongs: found anew where an instance has come or gone, or can't open one.
     fn note_living(&mut self) {
-        let mut living: BTreeSet<String> = self.others.staying().map(String::from).collect();
+        let others = self.others.staying();
+        let mut living: BTreeMap<String, Refused> = others
+            .map(|(name, refused)| (name.into(), refused.clone()))
+            .collect();
+        let may_another = |slot| living.values().any(|refused| !refused.contains_key(&slot));
+        self.refusals.beat(may_another);
         if self.stay == Stay::Here {
-            living.insert(self.me.clone());
+            living.insert(self.me.clone(), self.refusals.told());
         }
         if living == self.living && self.places.len() == self.rows.len() {
             return;
         }
         let place_of = |row: &Row| {
-            let place = place(row.slot, living.iter().map(String::as_str));
+            let place = place(row.slot, refused::may_have(row.slot, &living));
             (row.slot, place.map(String::from))
         };
         self.places = self.rows.iter().map(place_of).collect();
@@ -355,16 +349,23 @@ impl Owners {
         match self.mine.get_mut(&slot) {
             Some(mine) if mine.term == term && mine.phase == Phase::Opening => {
                 mine.phase = Phase::Serving;
+                self.refusals.opened(slot);
                 true
             }
             _ => false,
         }
     }
 
-    /// It could not be opened: it is tried again later.
-    pub fn failed(&mut self, slot: u16, term: u64) {
-        self.ended(slot, term);
-        self.left_alone.insert(slot, (term, AGAIN));
+    /// It could not be opened, or has ended by a fault: it is let go with the next beat, for another to try. False where no
+    /// other may, so that it is tried here again.
+    pub fn failed(&mut self, slot: u16, term: u64, reason: &str) -> bool {
+        if self.ended(slot, term) {
+            self.refusals.failed(slot, reason);
+            self.left_alone.insert(slot, (term, 1));
+        }
+        self.others
+            .staying()
+            .any(|(_, refused)| !refused.contains_key(&slot))
     }
 
     /// Another has it: seen by what writes to it. False where it was no more open here under that term.

@@ -1,22 +1,84 @@
 //! What is shown of an instance among others.
 
-use std::collections::BTreeMap;
+use super::owners::Refusal;
+use std::collections::{BTreeMap, HashSet};
 use std::sync::atomic::{AtomicU64, Ordering::Relaxed};
 use std::time::Duration;
+use tokio::time::Instant;
 
 #[derive(Clone, Debug, PartialEq, Eq)]
 pub struct Status {
+    /// This instance's.
+    pub name: String,
     /// Those whose beats go on, this one among them.
     pub instances: usize,
-    /// Slots of the cluster that nobody serves, or nobody knows where.
+    /// All others that the store knows, by their names.
+    pub others: Vec<OtherInstance>,
+    /// All slots of the store, ascending.
+    pub slots: Vec<OwnedSlot>,
+    /// How many of them nobody serves, or nobody knows where.
     pub without_owner: usize,
+    /// For how long the slot of these has had nobody that has had nobody for longest.
+    pub longest_without_owner: Duration,
     /// Of each slot of this instance.
     pub terms: BTreeMap<u16, u64>,
     /// Since the last own beat that is committed was sent; none before the first.
     pub beat_age: Option<Duration>,
     /// Another process beats under this name.
     pub has_namesake: bool,
+    /// Slots that instances could not open: another has them, or nobody.
+    pub refused: Vec<Refusal>,
     pub counted: Counted,
+}
+
+/// Another instance, as this one's beats have seen it.
+#[derive(Clone, Debug, PartialEq, Eq)]
+pub struct OtherInstance {
+    pub name: String,
+    /// The last one that it had.
+    pub address: String,
+    pub version: String,
+    /// So many own beats has its own stood still.
+    pub still: u32,
+    /// That is so many that its slots are taken.
+    pub is_gone: bool,
+    /// It hands over what it has.
+    pub leaves: bool,
+}
+
+/// A slot, as the store has it.
+#[derive(Clone, Debug, PartialEq, Eq)]
+pub struct OwnedSlot {
+    pub slot: u16,
+    pub term: u64,
+    /// Empty where nobody has it.
+    pub owner: String,
+    /// Whether its owner is there and serves it, as far as is known.
+    pub is_served: bool,
+}
+
+/// Since when slots are served by nobody.
+#[derive(Default)]
+pub(super) struct Unserved(BTreeMap<u16, Instant>);
+
+impl Unserved {
+    pub fn note(&mut self, slots: &[OwnedSlot], now: Instant) {
+        let unserved = slots.iter().filter(|slot| !slot.is_served);
+        let unserved: HashSet<u16> = unserved.map(|slot| slot.slot).collect();
+        self.0.retain(|slot, _| unserved.contains(slot));
+        for slot in unserved {
+            self.0.entry(slot).or_insert(now);
+        }
+    }
+
+    pub fn count(&self) -> usize {
+        self.0.len()
+    }
+
+    pub fn longest(&self, now: Instant) -> Duration {
+        let since = self.0.values().min();
+        since.map_or(Duration::ZERO, |since| now.saturating_duration_since(*since))
+    }
 }
 
 /// Since the start.
@@ -54,5 +116,36 @@ impl Counts {
             hand_overs: self.hand_overs.load(Relaxed),
             lost: self.lost.load(Relaxed),
         }
+    }
+}
+
+#[cfg(test)]
+mod tests {
+    use super::*;
+
+    #[test]
+    fn a_slot_is_without_an_owner_since_it_was_first_seen_so() {
+        let slots = |served: &[bool]| -> Vec<OwnedSlot> {
+            let slots = (0..).zip(served).map(|(slot, is_served)| OwnedSlot {
+                slot,
+                term: 1,
+                owner: "a".into(),
+                is_served: *is_served,
+            });
+            slots.collect()
+        };
+        let (mut unserved, began) = (Unserved::default(), Instant::now());
+        let at = |seconds| began + Duration::from_secs(seconds);
+        let longest = |unserved: &Unserved, seconds| unserved.longest(at(seconds)).as_secs();
+        unserved.note(&slots(&[true, true, true]), at(0));
+        assert_eq!((unserved.count(), longest(&unserved, 9)), (0, 0));
+        unserved.note(&slots(&[true, false, true]), at(10));
+        unserved.note(&slots(&[true, false, false]), at(20));
+        assert_eq!((unserved.count(), longest(&unserved, 25)), (2, 15));
+        // Another one each time, as in a row of hand-overs.
+        unserved.note(&slots(&[true, true, false]), at(30));
+        assert_eq!((unserved.count(), longest(&unserved, 31)), (1, 11));
+        unserved.note(&slots(&[false, true, true]), at(40));
+        assert_eq!(longest(&unserved, 41), 1);
     }
 }

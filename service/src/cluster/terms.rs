@@ -1,9 +1,13 @@
 //! What the cluster asks of the store, and of the slots of this process.
 
+use std::collections::BTreeMap;
 use std::future::Future;
 use std::pin::Pin;
 
 pub type Doing<'a, T> = Pin<Box<dyn Future<Output = T> + Send + 'a>>;
+
+/// Slots that an instance can't open, and why.
+pub type Refused = BTreeMap<u16, String>;
 
 /// An instance, as the store has it.
 #[derive(Clone, Debug, PartialEq, Eq)]
@@ -11,7 +15,10 @@ pub struct Instance {
     pub name: String,
     /// Where others forward posts to; empty where it leaves.
     pub address: String,
+    /// Of its program.
+    pub version: String,
     pub beat: u64,
+    pub refused: Refused,
 }
 
 /// A slot's row, which is never deleted.
@@ -46,8 +53,9 @@ pub struct Silence(pub String);
 
 /// The rows of instances and slots. Each call waits for as long as the store does, or says that it is in doubt.
 pub trait Terms: Send + Sync {
-    /// Adds one to this instance's beat, waits until that is committed, and then reads all instances and slots.
-    fn beat(&self, stay: Stay) -> Doing<'_, Result<Seen, Silence>>;
+    /// Adds one to this instance's beat, with what it refuses, waits until that is committed, and then reads all instances
+    /// and slots.
+    fn beat(&self, stay: Stay, refused: Refused) -> Doing<'_, Result<Seen, Silence>>;
     /// The slots alone: for who was told `not mine`.
     fn slots(&self) -> Doing<'_, Result<Vec<Row>, Silence>>;
     /// Writes the next term behind the one that was seen, with this instance as the owner: the new term. None where another

@@ -7,8 +7,10 @@ mod posts;
 
 use super::table::Table;
 use super::{json, values, Failure, Form};
-use crate::files::{Dropped, Durability, Fault, Folder, FolderFault, Journal, Outbox, Replayed};
+use crate::files::{Dropped, Durability, Fault, Folder, FolderFault, Journal, Mark, Outbox, Replayed};
 use crate::service::slot_of;
+use crate::store::moving::folder_counts;
+use crate::store::postgres::{address, Server};
 use anyhow::{bail, Context};
 use clap::Args;
 use copy::{interrupts, remove_at, Copy};
@@ -43,6 +45,10 @@ pub struct Options {
 #[derive(Debug, Default, PartialEq, Eq, Serialize)]
 struct Found {
     slots: u16,
+    /// Whether it counts, and no store does in its place; none where the store that decides can't be asked.
+    counts: Option<bool>,
+    /// Why no service starts on it.
+    moved: Option<String>,
     /// Where it delivers to, as the last start has met it.
     sink: Option<String>,
     segments: u64,
@@ -67,6 +73,8 @@ struct Found {
     dropped: Vec<String>,
     /// Of each request that was changed: the delivery of its slot stops there, and all else goes on.
     faults: Vec<String>,
+    #[serde(skip)]
+    mark: Option<Mark>,
 }
 
 impl Options {
@@ -89,6 +97,9 @@ impl Options {
 /// What is printed. Where a request was changed, that is, and the first fault ends the command.
 fn show_found(mut found: Found, copy: &Path, data: &Path, form: Form) -> Result<Vec<u8>, Failure> {
     found.new_epoch = Folder::is_moved(data);
+    if let Some(mark) = &found.mark {
+        (found.counts, found.moved) = (said_by_store(mark), Some(mark.refusal(data)));
+    }
     let (inner, outer) = (copy.display().to_string(), data.display().to_string());
     for text in found.dropped.iter_mut().chain(&mut found.faults) {
         *text = text.replace(&inner, &outer);
@@ -106,9 +117,22 @@ fn show_found(mut found: Found, copy: &Path, data: &Path, form: Form) -> Result<
     }
 }
 
+/// Whether a folder counts that was on its way into a store, or out of one.
+fn said_by_store(mark: &Mark) -> Option<bool> {
+    let servers: Result<Vec<Server>, String> = mark.store.split(' ').map(address).collect();
+    folder_counts(mark, &servers.ok()?).ok()
+}
+
 /// Keeps a service from starting on the folder while it is copied. Nothing is written: a lock that was deleted is not
 /// made, and the folder itself is locked in its place.
 fn lock(data: &Path) -> anyhow::Result<File> {
+    if let Some(place) = in_store(data) {
+        bail!(
+            "{place} has no folder of slots to read: an instance has them in its --store, and checks each when it takes it. \
+             `totxegun status` shows them, its log what is wrong with one, and `totxegun store check` whether a store counts. \
+             Without --store a start would begin anew there"
+        );
+    }
     Folder::look_at(data)?;
     let is_none = |name: &str| !data.join(name).exists();
     if is_none("version") && is_none("dead") && !has_slot(data) {
@@ -138,6 +162,18 @@ fn lock(data: &Path) -> anyhow::Result<File> {
     Ok(file)
 }
 
+/// A store, or the folder of an instance, which has no more than its socket and its acts.
+fn in_store(data: &Path) -> Option<String> {
+    let text = data.to_string_lossy().to_ascii_lowercase();
+    if text.starts_with("postgres:") || text.starts_with("postgresql:") {
+        return Some("a store".into()); // its address may have a password
+    }
+    let has = |name: &str| data.join(name).exists();
+    let is_of_instance =
+        (has("acts.jsonl") || has("operate")) && !has("version") && !has("dead") && !has_slot(data);
+    is_of_instance.then(|| data.display().to_string())
+}
+
 fn has_slot(data: &Path) -> bool {
     let mut entries = std::fs::read_dir(data).into_iter().flatten().flatten();
     entries.any(|entry| entry.file_name().as_encoded_bytes().starts_with(b"slot-"))
@@ -154,6 +190,8 @@ fn found(copy: &Path) -> Result<Found, Failure> {
     let folder = opened(copy)?;
     let mut found = Found {
         slots: folder.slots(),
+        counts: Some(true),
+        mark: folder.mark(),
         sink: folder.sink().map(|sink| sink.to_string()),
         dead: folder.dead()?.count(),
         ..Found::default()
@@ -246,6 +284,15 @@ fn text(found: &Found, data: &Path) -> String {
     let mut table = Table::new(&["folder".to_string(), data.display().to_string()]);
     let mut row = |name: &str, text: String| table.row(&[name, text.as_str()]);
     let (bytes, counted) = (values::bytes_shown, values::counted);
+    if let Some(moved) = &found.moved {
+        let counts = match found.counts {
+            Some(true) => "yes, as yet",
+            Some(false) => "no",
+            None => "as the store says, which does not answer",
+        };
+        row("counts", counts.into());
+        row("no service starts", format!("it {moved}"));
+    }
     row("slots", found.slots.to_string());
     row("sink", found.sink.clone().unwrap_or_else(|| "none yet".into()));
     row(

@@ -4,7 +4,7 @@ use crate::core::MOST_SERIES;
 use crate::identity::{Door, Options};
 use crate::metrics::Metrics;
 use crate::shares::{Share, MOST_POINTS};
-use crate::tls::Files;
+use crate::tls::{Files, Named};
 use clap::{value_parser, Args};
 use std::path::PathBuf;
 use std::sync::Arc;
@@ -41,6 +41,11 @@ impl OfSenders {
         self.client_ca.is_some() || self.tokens.is_some()
     }
 
+    /// The certificate of the senders' addresses and its key.
+    pub fn pair(&self) -> Option<(PathBuf, PathBuf)> {
+        self.tls_cert.clone().zip(self.tls_key.clone())
+    }
+
     /// What each may have that has no line of its own.
     pub fn of_each(&self) -> Share {
         Share {
@@ -54,6 +59,7 @@ impl OfSenders {
         let (client_ca, tokens) = (self.client_ca, self.tokens);
         let both = self.tls_cert.zip(self.tls_key);
         let tls = both.map(|(certificate, key)| Files {
+            named: Named::OF_SENDERS,
             certificate,
             key,
             client_ca,

@@ -6,8 +6,10 @@ use crate::service::OfStore as Settings;
 use crate::sinks::Address;
 use crate::slot::is_sender;
 use crate::store::postgres::{address, Copies, Server};
+use crate::tls::{Files, Named};
 use anyhow::{anyhow, bail};
 use clap::{value_parser, Args};
+use std::path::PathBuf;
 
 #[derive(Args)]
 #[command(next_help_heading = "Options of a store that several machines share")]
@@ -18,9 +20,26 @@ pub(super) struct OfStore {
     /// This instance's name, which no other has
     #[arg(long, env = "TOTXEGUN_INSTANCE", value_name = "NAME", value_parser = name, requires = "store")]
     instance: Option<String>,
-    /// Where other instances bring posts, HOST:PORT: nobody else may reach it, or read along
+    /// Where other instances bring posts, HOST:PORT, by the name that they reach it by
     #[arg(long, env = "TOTXEGUN_PEER", value_name = "ADDRESS", value_parser = place, requires = "store")]
     peer: Option<String>,
+    /// Roots in PEM: instances speak TLS with each other, and each shows a certificate that one of these has signed and that is for the host of its --peer
+    #[arg(long, env = "TOTXEGUN_PEER_CA", value_name = "FILE", requires = "store")]
+    peer_ca: Option<PathBuf>,
+    /// The certificate that this instance shows the others, in PEM [default: that of --tls-cert]
+    #[arg(long, env = "TOTXEGUN_PEER_CERT", value_name = "FILE", requires_all = ["peer_key", "peer_ca"])]
+    peer_cert: Option<PathBuf>,
+    /// The key of --peer-cert in PEM
+    #[arg(long, env = "TOTXEGUN_PEER_KEY", value_name = "FILE", requires = "peer_cert")]
+    peer_key: Option<PathBuf>,
+    /// Takes posts of other instances beyond loopback without TLS: where nobody else reaches their network, or reads along
+    #[arg(
+        long,
+        env = "TOTXEGUN_PEER_PLAIN",
+        requires = "store",
+        conflicts_with = "peer_ca"
+    )]
+    peer_plain: bool,
     /// On how many servers of the store an answered post has to be: 1 takes a store without a synchronous standby too
     #[arg(long, env = "TOTXEGUN_STORE_COPIES", value_name = "N", default_value_t = 2, value_parser = value_parser!(u8).range(1..=2))]
     store_copies: u8,
@@ -38,8 +57,14 @@ impl OfStore {
         !self.databases.is_empty()
     }
 
-    /// None where a folder has all.
-    pub fn settings(self, reading: String, sink: &Address) -> anyhow::Result<Option<Settings>> {
+    /// None where a folder has all. `pair` is what senders are shown.
+    pub fn settings(
+        self,
+        reading: String,
+        sink: &Address,
+        pair: Option<(PathBuf, PathBuf)>,
+    ) -> anyhow::Result<Option<Settings>> {
+        let peer_tls = self.peer_tls(pair)?;
         let (Some(instance), Some(peer)) = (self.instance, self.peer) else {
             return Ok(None);
         };
@@ -54,7 +79,38 @@ impl OfStore {
             },
             instance,
             peer,
-            reading: format!("{reading} sink={}", sink.known()),
+            peer_tls,
+            peer_plain: self.peer_plain,
+            reading,
+        }))
+    }
+}
+
+impl OfStore {
+    /// The files of TLS between instances, if they speak it.
+    fn peer_tls(&self, pair: Option<(PathBuf, PathBuf)>) -> anyhow::Result<Option<Files>> {
+        let Some(ca) = self.peer_ca.clone() else {
+            return Ok(None);
+        };
+        let own = self.peer_cert.clone().zip(self.peer_key.clone());
+        let (of_pair, pair) = match own {
+            Some(own) => (["--peer-cert", "--peer-key"], own),
+            None => {
+                let pair = pair.ok_or_else(|| {
+                    anyhow!("--peer-ca needs a certificate to show the others: give --peer-cert and --peer-key, or --tls-cert and --tls-key")
+                })?;
+                (["--tls-cert", "--tls-key"], pair)
+            }
+        };
+        Ok(Some(Files {
+            named: Named {
+                certificate: of_pair[0],
+                key: of_pair[1],
+                roots: "--peer-ca",
+            },
+            certificate: pair.0,
+            key: pair.1,
+            client_ca: Some(ca),
         }))
     }
 }

@@ -111,10 +111,18 @@ fn deliver(at: &Address) -> Result<()> {
     loop {
         let status = client::status(at)?;
         let waiting = status.waiting();
-        if waiting == 0 {
+        let unknown = status.unknown();
+        if waiting == 0 && unknown.is_none() {
             return Ok(());
         }
         if begun.elapsed() > DELIVERED {
+            if let Some((slot, why)) = unknown {
+                bail!(
+                    "nothing was closed: after {} s nothing is known of slot {slot} ({why}), which may have requests for {}",
+                    DELIVERED.as_secs(),
+                    status.sink
+                );
+            }
             let trouble = status.slots.iter().find_map(|slot| slot.trouble.clone());
             bail!(
                 "nothing was closed: after {} s {} for {} still: {}",

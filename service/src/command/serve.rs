@@ -276,7 +276,9 @@ impl Options {
         let sink = self.of_sink.put_into(sink).map_err(Failure::Line)?;
         let keep = self.of_keeping.keep(&sink).map_err(Failure::Line)?;
         let likeness = self.of_reading.likeness(self.never_across);
-        let store = self.of_store.settings(likeness, &sink).map_err(Failure::Line)?;
+        let pair = self.of_senders.pair();
+        let store = self.of_store.settings(likeness, &sink, pair);
+        let store = store.map_err(Failure::Line)?;
         let clock = self.of_reading.clock();
         let reading = self.of_reading.reading().map_err(Failure::Line)?;
         if self.of_senders.has_names() && reading.sender_from.is_some() {

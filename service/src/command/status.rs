@@ -1,5 +1,7 @@
 //! `totxegun status`: how the running service is.
 
+mod cluster;
+
 use super::{ask::Shown, client, table::Table, values, with_end};
 use crate::files::Held;
 use crate::operate::{CumulativeStatus, RoundedStatus, SlotStatus, Status, Stock};
@@ -27,6 +29,9 @@ fn text(status: &Status) -> String {
     if let Some(why) = unavailable(status) {
         lines.row(&["posts get 503", &why]);
     }
+    for silent in &status.silent {
+        lines.row(&["its slots get 503", silent]);
+    }
     lines.row(&["senders post to", status.listen.as_str()]);
     lines.row(&["data", status.data.as_str()]);
     lines.row(&["sink", status.sink.as_str()]);
@@ -45,13 +50,21 @@ fn text(status: &Status) -> String {
     for rounded in &status.rounded {
         lines.row(&["rounded", &rounding(rounded)]);
     }
+    let (slots, of_cluster) = match &status.cluster {
+        None => (slots(status), String::new()),
+        Some(cluster) => (cluster::slots(status), cluster::text(cluster)),
+    };
+    let troubles: String = status.slots.iter().filter_map(trouble).collect();
+    let (senders, rounded) = (shares(&status.senders), rounded_series(&status.rounded));
+    format!("{lines}\n{of_cluster}{slots}{senders}{rounded}{troubles}")
+}
+
+fn slots(status: &Status) -> Table {
     let mut slots = Table::new(&["slot", "series", "journal", "waiting", "outbox", "quarantined"]);
     for slot in &status.slots {
         slots.row(&row(slot));
     }
-    let troubles: String = status.slots.iter().filter_map(trouble).collect();
-    let (senders, rounded) = (shares(&status.senders), rounded_series(&status.rounded));
-    format!("{lines}\n{slots}{senders}{rounded}{troubles}")
+    slots
 }
 
 /// The senders that are nearest to their share, where there are shares.
@@ -75,7 +88,7 @@ fn shares(senders: &[Used]) -> String {
 
 /// Why posts are answered 503.
 fn unavailable(status: &Status) -> Option<String> {
-    let why = status.slots.iter().find_map(|slot| slot.unavailable.as_deref())?;
+    let why = status.unavailable.as_deref()?;
     Some(match why {
         NO_ROOM => format!("{why}: make room on the disk of {}", status.data),
         NO_ANSWER => format!("{why}: look at the disk of {}", status.data),
@@ -170,6 +183,9 @@ fn stock(stock: &Stock) -> String {
 }
 
 fn trouble(slot: &SlotStatus) -> Option<String> {
+    if let Some(why) = &slot.unknown {
+        return Some(format!("\nnothing is known of slot {}: {why}\n", slot.slot));
+    }
     if let Some(why) = &slot.stuck {
         return Some(format!("\nthe delivery of slot {} stops: {why}\n", slot.slot));
     }
@@ -187,22 +203,9 @@ mod tests {
     use crate::operate::{BooksStatus, RoundedSeriesStatus};
 
     fn status(quarantined: &[&str]) -> Status {
-        let stock = || Stock {
-            bytes: 0,
-            age_seconds: None,
-        };
         let slot = SlotStatus {
-            slot: 0,
-            unavailable: None,
-            series: 0,
             quarantined: quarantined.iter().map(ToString::to_string).collect(),
-            held: Held::default(),
-            journal: stock(),
-            waiting: 0,
-            outbox: stock(),
-            tries: 0,
-            trouble: None,
-            stuck: None,
+            ..SlotStatus::default()
         };
         Status {
             version: "0".into(),
@@ -220,9 +223,7 @@ mod tests {
                 most_memory_bytes: 1 << 30,
             },
             slots: vec![slot],
-            senders: Vec::new(),
-            cumulative: CumulativeStatus::default(),
-            rounded: Vec::new(),
+            ..Status::default()
         }
     }
 
@@ -238,13 +239,13 @@ mod tests {
             "totxegun 0        ready, up 2 s, process 1\nsenders post to",
         );
         told.ready = false;
-        told.slots[0].unavailable = Some(NO_ROOM.into());
+        told.unavailable = Some(NO_ROOM.into());
         begins(
             &told,
             "totxegun 0        not ready, up 2 s, process 1\n\
              posts get 503     no room for the journal: make room on the disk of /data\n",
         );
-        told.slots[0].unavailable = Some(NO_ANSWER.into());
+        told.unavailable = Some(NO_ANSWER.into());
         begins(
             &told,
             "totxegun 0        not ready, up 2 s, process 1\n\

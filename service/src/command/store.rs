@@ -1,14 +1,20 @@
-//! `totxegun store`: makes what several machines share.
+//! `totxegun store`: makes what several machines share, brings a folder into it and back, and says what counts.
 
-use super::line;
-use crate::store::postgres::{address, PostgresStore, Server, MOST_SLOTS};
-use anyhow::Result;
+use super::{line, values::counted};
+use crate::store::moving::{from_folder, give_up, to_folder, Moved};
+use crate::store::postgres::{address, Copies, PostgresStore, Server, MOST_SLOTS};
+use anyhow::{bail, Result};
 use clap::{value_parser, Args, Subcommand};
+use std::path::PathBuf;
 
 #[derive(Subcommand)]
 pub enum Command {
     /// Makes the tables of a store, once
     Init(Init),
+    /// Brings what a folder has into a store that nobody has used yet, or what a store has into a new folder: the other one counts then. All services must have ended; killed, the same command goes on
+    Move(Move),
+    /// Says whether a store counts, or which folder does in its place
+    Check(Check),
 }
 
 #[derive(Args)]
@@ -21,12 +27,108 @@ pub struct Init {
     slots: u16,
 }
 
+#[derive(Args)]
+pub struct Move {
+    /// The store; each of its databases, in the order of `store init`
+    #[arg(value_name = "ADDRESS", required = true, value_parser = address)]
+    databases: Vec<Server>,
+    /// The folder whose content goes into the store
+    #[arg(long, value_name = "DIR", conflicts_with = "to", required_unless_present_any = ["to", "give_up"])]
+    from: Option<PathBuf>,
+    /// The folder that gets what the store has
+    #[arg(long, value_name = "DIR")]
+    to: Option<PathBuf>,
+    /// Gives up a move that has not come to its end: with --from one of this folder into the store, else one out of the store
+    #[arg(long, conflicts_with = "to")]
+    give_up: bool,
+    /// As `serve` has it
+    #[arg(long, env = "TOTXEGUN_STORE_COPIES", value_name = "N", default_value_t = 2, value_parser = value_parser!(u8).range(1..=2))]
+    store_copies: u8,
+}
+
+#[derive(Args)]
+pub struct Check {
+    /// The store; each of its databases, in the order of `store init`
+    #[arg(value_name = "ADDRESS", required = true, value_parser = address)]
+    databases: Vec<Server>,
+}
+
 impl Command {
     pub fn run(&self) -> Result<Vec<u8>> {
-        let Command::Init(init) = self;
-        let made = PostgresStore::make(&init.databases, init.slots)?;
-        let databases: Vec<String> = init.databases.iter().map(Server::to_string).collect();
-        let (slots, databases) = (made.slots, databases.join(" and "));
+        match self {
+            Command::Init(init) => init.run(),
+            Command::Move(of) => of.run(),
+            Command::Check(check) => check.run(),
+        }
+    }
+}
+
+fn shown(databases: &[Server]) -> String {
+    let databases: Vec<String> = databases.iter().map(Server::to_string).collect();
+    databases.join(" and ")
+}
+
+impl Init {
+    fn run(&self) -> Result<Vec<u8>> {
+        let made = PostgresStore::make(&self.databases, self.slots)?;
+        let (slots, databases) = (made.slots, shown(&self.databases));
         Ok(line(format!("a store of {slots} slots in {databases}")))
+    }
+}
+
+impl Move {
+    fn run(&self) -> Result<Vec<u8>> {
+        let copies = match self.store_copies {
+            1 => Copies::One,
+            _ => Copies::Two,
+        };
+        let store = shown(&self.databases);
+        match (&self.from, &self.to) {
+            (from, None) if self.give_up => {
+                give_up(from.as_deref(), &self.databases, copies)?;
+                let counts = from.as_ref().map_or(store, |from| from.display().to_string());
+                Ok(line(format!("given up: {counts} counts, as before")))
+            }
+            (Some(from), None) => Ok(said(
+                from_folder(from, &self.databases, copies)?,
+                &from.display().to_string(),
+                &store,
+            )),
+            (_, Some(to)) => Ok(said(
+                to_folder(to, &self.databases, copies)?,
+                &store,
+                &to.display().to_string(),
+            )),
+            (None, None) => bail!("give --from DIR or --to DIR"),
+        }
+    }
+}
+
+fn said(moved: Option<Moved>, from: &str, to: &str) -> Vec<u8> {
+    match moved {
+        None => line(format!("all of {from} was in {to} before, and {to} counts")),
+        Some(moved) => line(format!(
+            "{to} has all of {from}, and counts in its place: {} series, {}, {} not flushed, {} refused for good",
+            moved.series,
+            counted(moved.requests, "request for the sink"),
+            counted(moved.posts, "post"),
+            counted(moved.letters, "request"),
+        )),
+    }
+}
+
+impl Check {
+    fn run(&self) -> Result<Vec<u8>> {
+        let store = PostgresStore::look_into(&self.databases, Copies::One)?;
+        let standing = store.standing()?;
+        let databases = shown(&self.databases);
+        Ok(line(match standing.refusal() {
+            None if standing.id.is_empty() => format!("the store in {databases} counts"),
+            None => format!(
+                "the store in {databases} counts: it has all of the folder {}",
+                standing.folder
+            ),
+            Some(why) => format!("no service starts on the store in {databases}: {why}"),
+        }))
     }
 }

@@ -10,6 +10,8 @@ use std::ptr::null_mut;
 
 /// The most series of each book that one flush takes.
 pub(super) const MOST_TAKEN: usize = 1000;
+/// What a call says that was out of memory.
+pub(super) const NO_MEMORY: u32 = 7;
 
 /// One word, that of the library's own value.
 #[repr(C)]
@@ -95,19 +97,37 @@ unsafe impl Send for Desk {}
 // SAFETY: as above.
 unsafe impl Send for Flushes {}
 
+/// Makes a call that answers. A build for tests looks at each answer of no memory: no contract can say that a block was
+/// refused in that call.
+fn asked(call: impl FnOnce(&mut Answer)) -> Answer {
+    let before = memory::refusals();
+    let mut answer = Answer::default();
+    call(&mut answer);
+    debug_assert!(
+        answer.status != NO_MEMORY || memory::refusals() > before,
+        "the library says that there is no memory, and was refused none"
+    );
+    answer
+}
+
+/// The handle that a call has made, or none where there is no memory.
+fn made(call: impl FnOnce(&mut Handle) -> bool) -> Option<Handle> {
+    let mut handle = Handle { at: null_mut() };
+    let answer = asked(|answer| answer.status = if call(&mut handle) { 0 } else { NO_MEMORY });
+    (answer.status == 0).then_some(handle)
+}
+
 impl Reader {
     /// None where there is no memory.
     pub fn new() -> Option<Reader> {
-        let mut handle = Handle { at: null_mut() };
         // SAFETY: `handle` is there through the call, which makes it live where it returns true.
-        unsafe { reader_new(&mut handle) }.then(|| Reader(handle))
+        made(|handle| unsafe { reader_new(handle) }).map(Reader)
     }
 
     pub fn read(&mut self, sender: &[u8], body: &[u8], books: usize) -> Answer {
-        let mut answer = Answer::default();
         let (sender_at, body_at) = (sender.as_ptr(), body.as_ptr());
         // SAFETY: the handle is live and lent for this call alone; both slices and the answer are there through it.
-        unsafe {
+        asked(|answer| unsafe {
             reader_read(
                 &mut self.0,
                 sender_at,
@@ -117,17 +137,15 @@ impl Reader {
                 books.max(1),
                 0,
                 u64::MAX,
-                &mut answer,
+                answer,
             )
-        };
-        answer
+        })
     }
 
     /// The same of points by number: each is its number, start, end, and what it says.
     pub fn put(&mut self, names: &mut Names, sender: &[u8], words: &[u64], books: usize) -> Answer {
-        let mut answer = Answer::default();
         // SAFETY: both handles are live and lent for this call alone; both slices and the answer are there through it.
-        unsafe {
+        asked(|answer| unsafe {
             reader_put(
                 &mut self.0,
                 &mut names.0,
@@ -138,19 +156,16 @@ impl Reader {
                 books.max(1),
                 0,
                 u64::MAX,
-                &mut answer,
+                answer,
             )
-        };
-        answer
+        })
     }
 
     /// When its points end: `number` is the least of these times, `at` the greatest, in nanoseconds. Another status where it
     /// has no points.
     pub fn ends(&mut self) -> Answer {
-        let mut answer = Answer::default();
         // SAFETY: the handle is live and lent for this call alone; the answer is there through it.
-        unsafe { reader_ends(&mut self.0, &mut answer) };
-        answer
+        asked(|answer| unsafe { reader_ends(&mut self.0, answer) })
     }
 }
 
@@ -164,17 +179,14 @@ impl Drop for Reader {
 impl Names {
     /// None where there is no memory.
     pub fn new() -> Option<Names> {
-        let mut handle = Handle { at: null_mut() };
         // SAFETY: as of a reader.
-        unsafe { names_new(&mut handle) }.then(|| Names(handle))
+        made(|handle| unsafe { names_new(handle) }).map(Names)
     }
 
     /// Gives the next number to the series of a request of one point.
     pub fn learn(&mut self, request: &[u8]) -> Answer {
-        let mut answer = Answer::default();
         // SAFETY: the handle is live and lent for this call alone; the slice and the answer are there through it.
-        unsafe { names_learn(&mut self.0, request.as_ptr(), request.len(), &mut answer) };
-        answer
+        asked(|answer| unsafe { names_learn(&mut self.0, request.as_ptr(), request.len(), answer) })
     }
 }
 
@@ -188,74 +200,70 @@ impl Drop for Names {
 impl Desk {
     /// None where there is no memory.
     pub fn new(books: usize) -> Option<Desk> {
-        let mut handle = Handle { at: null_mut() };
         // SAFETY: as of a reader; there is one book at least.
-        unsafe { desk_new(books.max(1), &mut handle) }.then(|| Desk(handle))
+        made(|handle| unsafe { desk_new(books.max(1), handle) }).map(Desk)
     }
 
     /// Of what the reader has read for so many books as there are.
     pub fn admit(&mut self, reader: &mut Reader) -> Answer {
-        let mut answer = Answer::default();
         // SAFETY: both handles are live and lent for this call alone.
-        unsafe { desk_admit(&mut self.0, &mut reader.0, &mut answer) };
-        answer
+        asked(|answer| unsafe { desk_admit(&mut self.0, &mut reader.0, answer) })
     }
 
     /// What `admit` would answer. Each book is as it was, or as if its part had never come; what was read is gone.
     pub fn try_admit(&mut self, reader: &mut Reader) -> Answer {
-        let mut answer = Answer::default();
         // SAFETY: both handles are live and lent for this call alone.
-        unsafe { desk_try(&mut self.0, &mut reader.0, &mut answer) };
-        answer
+        asked(|answer| unsafe { desk_try(&mut self.0, &mut reader.0, answer) })
     }
 
     /// The first book, from this one on, that holds something pending of a series of which the reader has a point in a later
     /// stretch of so many nanoseconds: `number`. Nothing changes.
     pub fn crosses(&mut self, reader: &mut Reader, stretch: u64, first: usize) -> Answer {
-        let mut answer = Answer::default();
         // SAFETY: both handles are live and lent for this call alone; a stretch is not 0.
-        unsafe { desk_crosses(&mut self.0, &mut reader.0, stretch.max(1), first, &mut answer) };
-        answer
+        asked(|answer| unsafe { desk_crosses(&mut self.0, &mut reader.0, stretch.max(1), first, answer) })
     }
 
     /// Takes a flush of each book that has something, of at most so many series.
     pub fn take(&mut self, flushes: &mut Flushes, most: usize) -> Answer {
         let most = most.clamp(1, MOST_TAKEN);
-        let mut answer = Answer::default();
         // SAFETY: both handles are live and lent for this call alone; the number is from 1 to 1,000.
-        memory::forwarding(|| unsafe { desk_take(&mut self.0, &mut flushes.0, most, &mut answer) });
-        answer
+        let call = |answer: &mut Answer| unsafe { desk_take(&mut self.0, &mut flushes.0, most, answer) };
+        memory::forwarding(|| asked(call))
     }
 
     /// As `take`, of one book alone.
     pub fn take_book(&mut self, flushes: &mut Flushes, book: usize, most: usize) -> Answer {
         let most = most.clamp(1, MOST_TAKEN);
-        let mut answer = Answer::default();
         // SAFETY: both handles are live and lent for this call alone; the number is from 1 to 1,000.
-        memory::forwarding(|| unsafe {
-            desk_take_book(&mut self.0, &mut flushes.0, book, most, &mut answer)
-        });
-        answer
+        let call =
+            |answer: &mut Answer| unsafe { desk_take_book(&mut self.0, &mut flushes.0, book, most, answer) };
+        memory::forwarding(|| asked(call))
     }
 
-    pub fn settle(&mut self, flushes: &mut Flushes) -> u32 {
+    pub fn settle(&mut self, flushes: &mut Flushes) -> Answer {
         // SAFETY: both handles are live and lent for this call alone.
-        memory::forwarding(|| unsafe { desk_settle(&mut self.0, &mut flushes.0) })
+        let call = |answer: &mut Answer| answer.status = unsafe { desk_settle(&mut self.0, &mut flushes.0) };
+        memory::forwarding(|| asked(call))
     }
 
-    pub fn give_back(&mut self, flushes: &mut Flushes) -> u32 {
+    pub fn give_back(&mut self, flushes: &mut Flushes) -> Answer {
         // SAFETY: both handles are live and lent for this call alone.
-        memory::forwarding(|| unsafe { desk_give_back(&mut self.0, &mut flushes.0) })
+        let call =
+            |answer: &mut Answer| answer.status = unsafe { desk_give_back(&mut self.0, &mut flushes.0) };
+        memory::forwarding(|| asked(call))
     }
 
-    pub fn quarantine(&mut self, sender: &[u8]) -> u32 {
+    pub fn quarantine(&mut self, sender: &[u8]) -> Answer {
         // SAFETY: the handle is live and lent for this call alone, the slice is there through it.
-        unsafe { desk_quarantine(&mut self.0, sender.as_ptr(), sender.len()) }
+        asked(|answer| answer.status = unsafe { desk_quarantine(&mut self.0, sender.as_ptr(), sender.len()) })
     }
 
-    pub fn lift(&mut self, sender: &[u8]) -> u32 {
+    pub fn lift(&mut self, sender: &[u8]) -> Answer {
         // SAFETY: the handle is live and lent for this call alone, the slice is there through it.
-        memory::forwarding(|| unsafe { desk_lift(&mut self.0, sender.as_ptr(), sender.len()) })
+        let call = |answer: &mut Answer| {
+            answer.status = unsafe { desk_lift(&mut self.0, sender.as_ptr(), sender.len()) }
+        };
+        memory::forwarding(|| asked(call))
     }
 
     /// Whether the round of one book was closed: it has something, and nothing is open or live in it.
@@ -270,10 +278,8 @@ impl Desk {
     }
 
     pub fn report(&mut self, flushes: &mut Flushes, book: usize) -> Answer {
-        let mut answer = Answer::default();
         // SAFETY: both handles are live and lent for this call alone.
-        unsafe { desk_report(&mut self.0, &mut flushes.0, book, &mut answer) };
-        answer
+        asked(|answer| unsafe { desk_report(&mut self.0, &mut flushes.0, book, answer) })
     }
 }
 
@@ -287,17 +293,16 @@ impl Drop for Desk {
 impl Flushes {
     /// None where there is no memory.
     pub fn new() -> Option<Flushes> {
-        let mut handle = Handle { at: null_mut() };
         // SAFETY: as of a reader.
-        memory::forwarding(|| unsafe { flushes_new(&mut handle) }).then(|| Flushes(handle))
+        let call = |handle: &mut Handle| unsafe { flushes_new(handle) };
+        memory::forwarding(|| made(call)).map(Flushes)
     }
 
     /// Writes the request of one of them: its bytes can be copied then.
     pub fn text(&mut self, number: usize) -> Answer {
-        let mut answer = Answer::default();
         // SAFETY: the handle is live and lent for this call alone.
-        memory::forwarding(|| unsafe { flushes_text(&mut self.0, number, &mut answer) });
-        answer
+        let call = |answer: &mut Answer| unsafe { flushes_text(&mut self.0, number, answer) };
+        memory::forwarding(|| asked(call))
     }
 
     /// Copies the text that was written last: whether it has exactly so many bytes.
@@ -330,6 +335,7 @@ impl Tried {
     }
 
     fn not() -> Tried {
+        memory::note_refusal();
         Tried {
             ok: false,
             at: (&raw const NO_BLOCK).cast_mut(),

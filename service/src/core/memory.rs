@@ -30,6 +30,8 @@ struct Own {
     drift: Cell<i64>,
     /// Whether the call that is under way forwards what was taken.
     forwards: Cell<bool>,
+    /// How many blocks it was refused.
+    refusals: Cell<u64>,
     /// So many more are given; then one is refused.
     #[cfg(test)]
     left: Cell<Option<u64>>,
@@ -40,6 +42,7 @@ impl Own {
         Own {
             drift: Cell::new(0),
             forwards: Cell::new(false),
+            refusals: Cell::new(0),
             #[cfg(test)]
             left: Cell::new(None),
         }
@@ -113,6 +116,17 @@ pub(super) fn give(bytes: usize) {
     if OWN.try_with(|own| own.give(bytes)).is_err() {
         USED.fetch_sub(bytes, Relaxed);
     }
+}
+
+/// A block was refused.
+pub(super) fn note_refusal() {
+    let note = |own: &Own| own.refusals.set(own.refusals.get().wrapping_add(1));
+    OWN.try_with(note).unwrap_or_default(); // of a thread that ends nobody asks
+}
+
+/// How many blocks this thread was refused so far.
+pub(super) fn refusals() -> u64 {
+    OWN.with(|own| own.refusals.get())
 }
 
 /// What counts as so many bytes has so many: an allocator may give some more than it was asked for.

@@ -19,12 +19,12 @@ mod stretch;
 
 pub use memory::used as memory_used;
 pub use names::Names;
-pub use read::Read;
+pub use read::{free_spare_readers, Read};
 pub use refusal::Refused;
 pub use stretch::Across;
 
 use crate::files::{Body, Points};
-use book::{Answer, Desk, Flushes, Reader, MOST_TAKEN};
+use book::{Answer, Desk, Flushes, MOST_TAKEN};
 use bytes::Bytes;
 use earlier::Earlier;
 use refusal::check;
@@ -39,11 +39,10 @@ const SMALL: usize = 10;
 /// What may be asked for.
 pub const MOST_SERIES: usize = 1_000_000;
 
-/// The book with its lock, and what reads posts.
+/// The book with its lock, and how posts are read for it.
 pub struct Core {
     books: usize,
     across: Across,
-    readers: Mutex<Vec<Reader>>,
     book: Mutex<Book>,
 }
 
@@ -86,7 +85,6 @@ impl Core {
         Ok(Arc::new(Core {
             books,
             across,
-            readers: Mutex::default(),
             book: Mutex::new(Book::new(books, across)?),
         }))
     }
@@ -120,15 +118,6 @@ impl Core {
         left_out: u64,
     ) -> Result<Read, Refused> {
         Read::new(self, sender, Body::Points(points), Some(names), left_out)
-    }
-
-    fn reader(&self) -> Result<Reader, Refused> {
-        let kept = self.readers().pop();
-        kept.or_else(Reader::new).ok_or(Refused::NoMemory)
-    }
-
-    fn readers(&self) -> MutexGuard<'_, Vec<Reader>> {
-        self.readers.lock().unwrap_or_else(PoisonError::into_inner) // a list is sound at any time
     }
 
     /// Waits for the lock: nothing is waited for while it is held but a write of the journal's.
@@ -190,17 +179,21 @@ impl Book {
     /// Of one book, where one is to be closed: what is over is forgotten, and sums begin at what they are.
     fn close_next_round(&mut self) {
         if let Some(book) = self.rounds.next() {
-            let is_closed = self.desk.close_round(book);
-            self.rounds.note(is_closed, || self.desk.series());
+            self.close_round(book);
         }
     }
 
     /// Of all books at once, since something finds no room.
     fn close_rounds(&mut self) {
         self.rounds.begin();
-        for _ in 0..self.books {
-            self.close_next_round();
+        while let Some(book) = self.rounds.being_closed() {
+            self.close_round(book);
         }
+    }
+
+    fn close_round(&mut self, book: usize) {
+        let is_closed = self.desk.close_round(book);
+        self.rounds.note(is_closed, || self.desk.series());
     }
 
     /// Takes all that may be forwarded, or nothing. Until it is settled no round can be closed.
@@ -265,11 +258,11 @@ impl Book {
         self.end(taken, Desk::settle)
     }
 
-    fn end(&mut self, taken: Flushed, end: fn(&mut Desk, &mut Flushes) -> u32) -> Result<(), Refused> {
+    fn end(&mut self, taken: Flushed, end: fn(&mut Desk, &mut Flushes) -> Answer) -> Result<(), Refused> {
         // Each is ended, also after one that says no, which none does.
         let ended = taken.parts.into_iter().map(|(mut flushes, _)| {
-            let status = end(&mut self.desk, &mut flushes);
-            check(Answer::of_status(status)).map(drop)
+            let answer = end(&mut self.desk, &mut flushes);
+            check(answer).map(drop)
         });
         let ended = ended.fold(Ok(()), Result::and);
         self.rounds.count(0);
@@ -278,17 +271,17 @@ impl Book {
 
     pub fn quarantine(&mut self, sender: &str) -> Result<(), Refused> {
         let sender = sender.as_bytes();
-        let mut done = check(Answer::of_status(self.desk.quarantine(sender)));
+        let mut done = check(self.desk.quarantine(sender));
         if done.is_err_and(|refused| refused.may_be_cured_by_a_round()) {
             self.close_rounds();
-            done = check(Answer::of_status(self.desk.quarantine(sender)));
+            done = check(self.desk.quarantine(sender));
         }
         done.map(drop)
     }
 
     pub fn lift(&mut self, sender: &str) -> Result<(), Refused> {
         self.earlier.note(0); // of whatever stretch it has something
-        check(Answer::of_status(self.desk.lift(sender.as_bytes()))).map(drop)
+        check(self.desk.lift(sender.as_bytes())).map(drop)
     }
 
     /// How many series it has.

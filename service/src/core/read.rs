@@ -2,13 +2,28 @@
 
 use super::book::Reader;
 use super::refusal::{check, Refused};
-use super::{Core, Names};
+use super::{Across, Core, Names};
 use crate::files::{self, Body, NoNames, Points, Post};
-use std::sync::Arc;
+use std::cell::RefCell;
+use std::sync::{Arc, Mutex, MutexGuard, PoisonError};
+
+/// So many readers a thread keeps: a post has one no longer than its thread reads it and puts it in, unless it has to wait.
+const KEPT: usize = 2;
+/// As many as a start reads at once, and a little more.
+const MOST_SPARE: usize = 160;
+
+thread_local! {
+    /// Those that nobody has: no post waits for another thread's.
+    static READERS: RefCell<Vec<Reader>> = const { RefCell::new(Vec::new()) };
+}
+
+/// Those that a thread has no place for. A start reads posts on threads that come and go, and they know identities by now.
+static SPARE: Mutex<Vec<Reader>> = Mutex::new(Vec::new());
 
 /// A post that was read, and is in no book yet. Its reader is another's once this is dropped.
 pub struct Read {
-    core: Arc<Core>,
+    books: usize,
+    across: Across,
     pub(super) reader: Option<Reader>,
     pub post: Post,
     /// By which its points have numbers, where they have.
@@ -24,7 +39,7 @@ pub struct Read {
 
 impl Read {
     pub(super) fn new(
-        core: &Arc<Core>,
+        core: &Core,
         sender: String,
         body: Body,
         names: Option<Arc<Names>>,
@@ -36,8 +51,9 @@ impl Read {
             body,
         };
         let mut read = Read {
-            reader: Some(core.reader()?),
-            core: core.clone(),
+            reader: Some(reader()?),
+            books: core.books,
+            across: core.across,
             post,
             names,
             points: 0,
@@ -56,7 +72,7 @@ impl Read {
     /// A reader has a post until the book was asked to take it, whatever that says.
     pub(super) fn again(&mut self) -> Result<&mut Reader, Refused> {
         let reader = self.reader.as_mut().ok_or(Refused::NoMemory)?;
-        let (sender, books) = (self.post.sender.as_bytes(), self.core.books);
+        let (sender, books) = (self.post.sender.as_bytes(), self.books);
         let answer = match (&self.post.body, &self.names) {
             (Body::Text(body), _) => reader.read(sender, body, books),
             (Body::Points(points), Some(names)) => names.put(reader, sender, points.words(), books),
@@ -77,7 +93,7 @@ impl Read {
     pub(super) fn put(&mut self, part: &Points) -> Result<&mut Reader, Refused> {
         let reader = self.reader.as_mut().ok_or(Refused::NoMemory)?;
         let names = self.names.as_ref().ok_or(Refused::NoSuch)?;
-        check(names.put(reader, self.post.sender.as_bytes(), part.words(), self.core.books))?;
+        check(names.put(reader, self.post.sender.as_bytes(), part.words(), self.books))?;
         Ok(reader)
     }
 
@@ -88,7 +104,7 @@ impl Read {
 
     /// The first stretch in which a point of it ends, and the last.
     pub(super) fn first_and_last(&self) -> Option<(u64, u64)> {
-        let across = self.core.across;
+        let across = self.across;
         self.ends
             .map(|(first, last)| (across.stretch(first), across.stretch(last)))
     }
@@ -125,8 +141,37 @@ impl Read {
 
 impl Drop for Read {
     fn drop(&mut self) {
-        if let Some(reader) = self.reader.take() {
-            self.core.readers().push(reader);
-        }
+        let Some(reader) = self.reader.take() else { return };
+        // A thread that ends keeps none.
+        let _ = READERS.try_with(|kept| {
+            let mut kept = kept.borrow_mut();
+            match kept.len() < KEPT {
+                true => kept.push(reader),
+                false => keep_spare(reader),
+            }
+        });
     }
+}
+
+fn reader() -> Result<Reader, Refused> {
+    let kept = READERS.try_with(|kept| kept.borrow_mut().pop()).ok().flatten();
+    kept.or_else(|| spare().pop())
+        .or_else(Reader::new)
+        .ok_or(Refused::NoMemory)
+}
+
+fn keep_spare(reader: Reader) {
+    let mut spare = spare();
+    if spare.len() < MOST_SPARE {
+        spare.push(reader);
+    }
+}
+
+/// Gives back the memory of all readers that no thread keeps.
+pub fn free_spare_readers() {
+    spare().clear();
+}
+
+fn spare() -> MutexGuard<'static, Vec<Reader>> {
+    SPARE.lock().unwrap_or_else(PoisonError::into_inner) // a list is sound at any time
 }

@@ -76,16 +76,6 @@ const BY_NUMBER: [Option<Refused>; 17] = [
     Some(Refused::NotOne),
 ];
 
-impl Answer {
-    /// Of a call that says no more.
-    pub(super) fn of_status(status: u32) -> Answer {
-        Answer {
-            status,
-            ..Answer::default()
-        }
-    }
-}
-
 /// What a call says where it did what it was asked.
 pub(super) fn check(answer: Answer) -> Result<Answer, Refused> {
     let (point, frontier) = (answer.at, answer.frontier);

@@ -1,5 +1,5 @@
-//! When the rounds of the books are closed. It takes a book up to some milliseconds, so it is done book by book, behind one
-//! post each: no post waits for two.
+//! When the rounds of the books are closed. It takes a book up to some milliseconds, so it is done book by book, after one
+//! post each, and these are spread: no post waits for two.
 
 /// Rounds are closed after so many posts, more where there are many series, since it takes some microseconds for each;
 /// but no more than a quarter of what a book has room for. And after so many points, since a round keeps them.
@@ -12,6 +12,8 @@ const POINTS_FOR_A_SERIES: usize = 20;
 const MOST_ENTRIES: u64 = 30_000;
 /// While what was taken is live no round can be closed: it is tried again after so many posts.
 const POSTS_UNTIL_ANOTHER_TRY: u64 = 500;
+/// All books are closed within this part of the way to when it is begun again.
+const PART: u64 = 2;
 
 pub(super) struct Rounds {
     books: usize,
@@ -58,13 +60,24 @@ impl Rounds {
         self.points += points;
     }
 
-    /// The book whose round is to be closed now.
+    /// The book whose round is to be closed after this post.
     pub fn next(&mut self) -> Option<usize> {
-        let is_due = self.entries >= self.most_entries || self.points >= self.most_points;
-        if self.next.is_none() && is_due {
+        if self.next.is_none() && self.are_past(1, 1) {
             self.begin();
         }
+        let book = self.being_closed()?;
+        self.are_past(book as u64, PART * self.books as u64)
+            .then_some(book)
+    }
+
+    /// The one that comes next, however few posts came since the one before it.
+    pub fn being_closed(&self) -> Option<usize> {
         self.next.map(|(book, _)| book)
+    }
+
+    /// Whether this part of the way is behind them to where it is begun again.
+    fn are_past(&self, part: u64, of: u64) -> bool {
+        of * self.entries >= part * self.most_entries || of * self.points >= part * self.most_points
     }
 
     /// All of them are to be closed, from the first one on.
@@ -121,29 +134,27 @@ mod tests {
     #[test]
     fn no_post_waits_for_two_books() {
         let mut rounds = Rounds::new(3);
-        let first = behind(&mut rounds, 2_100, true);
-        assert_eq!(first, [(2_000, 0), (2_001, 1), (2_002, 2)]);
+        let first = behind(&mut rounds, 3_000, true);
+        assert_eq!(first, [(2_000, 0), (2_334, 1), (2_667, 2)]);
         assert_eq!((rounds.closed(), rounds.closed()), (3, 0));
         // It counts from the post at which it was begun.
-        let next = behind(&mut rounds, 16_000, true);
-        assert_eq!(next, [(15_900, 0), (15_901, 1), (15_902, 2)]);
+        let next = behind(&mut rounds, 22_000, true);
+        assert_eq!(next, [(15_000, 0), (17_667, 1), (20_334, 2)]);
     }
 
     #[test]
     fn where_none_can_be_closed_it_is_tried_again_soon() {
         let mut rounds = Rounds::new(2);
-        let tries = behind(&mut rounds, 3_001, false);
-        assert_eq!(
-            tries,
-            [
-                (2_000, 0),
-                (2_001, 1),
-                (2_500, 0),
-                (2_501, 1),
-                (3_000, 0),
-                (3_001, 1)
-            ]
-        );
+        let tries = behind(&mut rounds, 3_500, false);
+        let wanted = [
+            (2_000, 0),
+            (2_500, 1),
+            (2_501, 0),
+            (2_626, 1),
+            (3_001, 0),
+            (3_126, 1),
+        ];
+        assert_eq!(tries, wanted);
         assert_eq!(rounds.closed(), 0);
     }
 
@@ -154,15 +165,20 @@ mod tests {
         assert!(!rounds.have_entries());
         assert_eq!(behind(&mut rounds, 2_000, true), [(2_000, 0)]);
         assert!(rounds.have_entries());
-        assert_eq!(behind(&mut rounds, 2, true), [(1, 1), (2, 2)]);
+        assert_eq!(rounds.being_closed(), Some(1), "it may be closed at once");
     }
 
     #[test]
     fn many_points_close_rounds_too() {
-        let mut rounds = Rounds::new(1);
+        let mut rounds = Rounds::new(2);
         rounds.count(49_999);
         assert_eq!(rounds.next(), None);
         rounds.count(1);
         assert_eq!(rounds.next(), Some(0));
+        rounds.note(true, || 100);
+        rounds.count(12_499);
+        assert_eq!(rounds.next(), None);
+        rounds.count(1);
+        assert_eq!(rounds.next(), Some(1));
     }
 }

@@ -5,6 +5,7 @@ use crate::otlp::series::{forwarded, Value};
 use std::collections::BTreeMap;
 
 mod points;
+mod sizes;
 mod stretches;
 
 /// A body with a point of each of these series.
@@ -248,8 +249,8 @@ fn a_block_that_is_refused_changes_nothing() {
 
 /// Without a second try.
 fn check_quarantine(core: &Core) -> Result<(), Refused> {
-    let status = core.lock().desk.quarantine(b"B");
-    check(Answer::of_status(status)).map(drop)
+    let answer = core.lock().desk.quarantine(b"B");
+    check(answer).map(drop)
 }
 
 /// Where memory is short: what was written stays written, and the rest is in the book.

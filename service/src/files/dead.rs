@@ -229,6 +229,24 @@ impl Dead {
         self.keys().map(drop)
     }
 
+    /// Gives each letter as its file has it, also one that can't be read.
+    pub fn each(&self, mut each: impl FnMut(&str, Vec<u8>) -> Result<(), Fault>) -> Result<(), Fault> {
+        for key in self.keys()? {
+            let path = self.folder.join(format!("{key}.json"));
+            let bytes = self.disk.open(&path)?.read_from(0).map_err(io_fault(&path))?;
+            each(&key, bytes)?;
+        }
+        Ok(())
+    }
+
+    /// Puts a letter as another's file has it. Durable when this returns.
+    pub fn put(&self, key: &str, bytes: &[u8]) -> Result<(), Fault> {
+        let _one = lock(&self.changing);
+        self.disk
+            .put_file(&self.folder.join(format!("{key}.json")), bytes)?;
+        self.keys().map(drop)
+    }
+
     pub fn count(&self) -> u64 {
         self.count.load(Relaxed)
     }

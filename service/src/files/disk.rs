@@ -158,6 +158,14 @@ impl Disk {
         }
     }
 
+    /// Under which the slot is this instance's.
+    pub fn term(&self) -> Option<u64> {
+        match &self.place {
+            Place::Folder { .. } => None,
+            Place::Drive(owned) => owned.term(),
+        }
+    }
+
     pub fn is_lost(&self) -> bool {
         matches!(&self.place, Place::Drive(owned) if owned.is_lost())
     }

@@ -39,6 +39,14 @@ pub trait Drive: Send + Sync {
     fn sync(&self) -> io::Result<()>;
     /// How long the sync that began first has waited; zero where none does.
     fn under_way(&self) -> Duration;
+    /// The term under which it was taken, where a sink may know it.
+    fn owned_under(&self) -> Option<u64> {
+        None
+    }
+    /// Up to which request the sink has said, where it is kept beside the files, that it has all.
+    fn delivered(&self) -> u64 {
+        0
+    }
 }
 
 /// Another instance has the slot, or may have: nothing of it may be answered or delivered any more.

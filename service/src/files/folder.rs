@@ -3,7 +3,7 @@
 //! | file | what it is |
 //! |---|---|
 //! | `lock` | locked by the service that has the folder |
-//! | `version` | lines: `totxegun 1`, the format's version; `epoch`, 16 hexadecimal digits; `lock`, the inode of the lock's file; of version 2 `slots`, how many there are; `born`, when the lock's file was made, in nanoseconds since 1970, where the file system knows it; `begun`, of each slot `N:M` where a start has begun the journal's segment M; `sink`, the id (or `-`), kind and address of the sink |
+//! | `version` | lines: `totxegun 1`, the format's version; `epoch`, 16 hexadecimal digits; `lock`, the inode of the lock's file; of version 2 `slots`, how many there are; `born`, when the lock's file was made, in nanoseconds since 1970, where the file system knows it; `begun`, of each slot `N:M` where a start has begun the journal's segment M; `sink`, the id (or `-`), kind and address of the sink; `move`, where its content is on its way into a store or out of one, or has gone there: `leaving`, `left` or `coming`, the move, the store; then the format's version is 3 |
 //! | `slot-N/journal`, `slot-N/outbox` | segments. Where N is no slot any more, its outbox has what the sink has not taken |
 //! | `dead/` | one file a request that was refused for good |
 //!
@@ -12,6 +12,7 @@
 //! What waits in the outbox keeps its keys, for it has the same bytes. A copy of the whole disk looks as the first one:
 //! there `renew_epoch` is for the operator.
 
+mod mark;
 mod sink;
 mod usable;
 mod version;
@@ -30,6 +31,7 @@ use std::path::{Path, PathBuf};
 use std::sync::{Arc, Mutex};
 use std::time::{Duration, Instant};
 
+pub use mark::{Mark, Way};
 pub use sink::KnownSink;
 use version::{Identity, Version};
 

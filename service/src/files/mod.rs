@@ -20,9 +20,9 @@ pub(crate) use disk::FAILED;
 #[cfg(test)]
 pub(crate) use disk::{Call, Disk};
 pub use drive::{Drive, Lost};
-pub use folder::{Folder, FolderFault, KnownSink, MOST_SLOTS};
+pub use folder::{Folder, FolderFault, KnownSink, Mark, Way, MOST_SLOTS};
 pub use journal::{Body, Held, Journal, Names, NoNames, OfRun, Points, Post, Replayed, Ticket};
-pub use outbox::{Outbox, Runs, Series};
+pub use outbox::{Beginning, Outbox, Runs, Series, Waits};
 pub(crate) use room::Room;
 pub use segment::Dropped;
 

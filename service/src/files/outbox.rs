@@ -3,6 +3,7 @@
 //! What is written is a `Change`; the same change is then made in memory, as a start makes it when it reads. The
 //! bytes are described in `rows`.
 
+mod brought;
 mod changes;
 mod damaged;
 mod moved;
@@ -22,6 +23,7 @@ use super::{lock, Fault};
 use crate::otlp::series::{self, NotForwarded, SeriesKey};
 use crate::runs::{Run, Since};
 use crate::work::blocking;
+pub use brought::{Beginning, Waits};
 use changes::Change;
 use state::{Age, State};
 use std::collections::{BTreeSet, HashMap, HashSet};
@@ -221,6 +223,22 @@ impl Outbox {
     /// Whether this request may be delivered now: it is durable, and the slot was this instance's a moment ago.
     pub fn may_deliver(&self, number: u64) -> bool {
         !self.disk.keeps_order() || number < self.settled.load(SeqCst) && self.disk.ours_before() < OURS
+    }
+
+    /// Under which the slot is this instance's; none of a folder.
+    pub fn term(&self) -> Option<u64> {
+        self.disk.term()
+    }
+
+    /// The sink has all up to this request: what told so is not in the outbox.
+    pub(super) fn is_delivered_to(&self, number: u64) -> Result<(), Fault> {
+        loop {
+            let first = lock(&self.state).front().map(|front| front.waiting.number);
+            match first.filter(|first| *first <= number) {
+                Some(first) => self.acknowledge(first)?,
+                None => return Ok(()),
+            }
+        }
     }
 
     /// Returns once another instance has the slot, or may have.

@@ -295,13 +295,35 @@ pub async fn serve_over<H: Handler>(
                 shaken = tls.runtime().spawn(shaking) => shaken.ok().flatten(),
                 _ = stop.wait_true() => None, // nothing is owed to it
             };
-            if let Some(Ok(stream)) = shaken.map(tls::Shaken::arrive) {
-                connection(stream, None, room, limits, handler, stop).await;
+            if let Some(shaken) = shaken {
+                let believed_by = shaken.contexts();
+                let (end, ended) = watch::channel(false);
+                let ends = async {
+                    tokio::select! {
+                        _ = stop.wait_true() => {}
+                        () = has_changed(&tls, &believed_by) => {}
+                    }
+                    end.send_replace(true);
+                    std::future::pending().await
+                };
+                if let Ok(stream) = shaken.arrive() {
+                    tokio::select! {
+                        () = ends => {}
+                        () = connection(stream, None, room, limits, handler, ended) => {}
+                    }
+                }
             }
             drop(held);
         });
     };
     accept(listener, room, stop.clone(), begin).await;
+}
+
+/// Waits until certificates are believed by other files: then who was let in by the former ones comes anew.
+async fn has_changed(tls: &Tls, believed_by: &Arc<tls::Contexts>) {
+    while Arc::ptr_eq(&tls.contexts(), believed_by) {
+        tokio::time::sleep(LOOK).await;
+    }
 }
 
 async fn connection<S: Transport, H: Handler>(

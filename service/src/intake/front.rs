@@ -14,7 +14,7 @@ use bytes::Buf;
 use std::future::{poll_fn, Future};
 use std::pin::{pin, Pin};
 use std::sync::Arc;
-use std::task::Poll;
+use std::task::{Context, Poll};
 use std::time::Duration;
 use tokio::sync::watch;
 use tokio::time::{Instant, Sleep};
@@ -141,6 +141,8 @@ struct Waiting {
     most_idle: u32,
     look: Pin<Box<Sleep>>,
     stop: Pin<Box<dyn Future<Output = ()> + Send>>,
+    /// It is waited for once: all connections wait by one lock, which is not taken with each request.
+    is_waited_for: bool,
     stopped: watch::Receiver<bool>,
     ending: bool,
     room: Arc<Room>,
@@ -161,6 +163,7 @@ impl Waiting {
             most_idle: (idle.as_millis() / period.as_millis()) as u32,
             look: Box::pin(tokio::time::sleep(period)),
             stop: Box::pin(async move { switch.wait_true().await }),
+            is_waited_for: false,
             stopped: stop,
             ending: false,
             room,
@@ -174,8 +177,21 @@ impl Waiting {
 
     /// Whether a next request may come after an answer.
     fn may_go_on(&self) -> bool {
-        let is_stopped = *self.stopped.borrow() || self.stopped.has_changed().is_err();
-        !is_stopped && !self.room.is_full()
+        !self.has_stopped() && !self.room.is_full()
+    }
+
+    /// Nobody has seen a change by this receiver, and the first one is the end; so is it where the sender has gone.
+    fn has_stopped(&self) -> bool {
+        !matches!(self.stopped.has_changed(), Ok(false))
+    }
+
+    /// Whether the service ends: whoever waits here is woken then.
+    fn is_ending(&mut self, context: &mut Context<'_>) -> bool {
+        if !self.ending && (!self.is_waited_for || self.has_stopped()) {
+            self.is_waited_for = true;
+            self.ending = self.stop.as_mut().poll(context).is_ready();
+        }
+        self.ending
     }
 
     /// How often it looks for a next request: only once while others wait for its place.
@@ -218,10 +234,7 @@ impl Waiting {
                     _ => Came::Nothing,
                 });
             }
-            if !self.ending && self.stop.as_mut().poll(context).is_ready() {
-                self.ending = true;
-            }
-            if self.ending && is_idle {
+            if self.is_ending(context) && is_idle {
                 return Poll::Ready(Came::Nothing);
             }
             while self.look.as_mut().poll(context).is_ready() {

@@ -58,6 +58,11 @@ const READERS: usize = 2;
 
 /// What takes a slot's posts. Each is whole even where the caller goes away.
 pub trait Taker: Send + Sync + 'static {
+    /// How its posts are read: as all others here, or by itself.
+    fn reading<'r>(&'r self, of_all: &'r Arc<Reading>) -> &'r Arc<Reading> {
+        of_all
+    }
+
     /// The points of a request in protobuf by number; none where it is to be written in the book's form.
     fn numbered(&self, _body: &Bytes, _reading: &Arc<Reading>) -> Option<ByNumber> {
         None
@@ -99,6 +104,10 @@ pub trait Hears: Send + Sync + 'static {
 impl Hears for () {}
 
 impl Taker for Slot {
+    fn reading<'r>(&'r self, of_all: &'r Arc<Reading>) -> &'r Arc<Reading> {
+        Slot::reading(self, of_all)
+    }
+
     fn numbered(&self, body: &Bytes, reading: &Arc<Reading>) -> Option<ByNumber> {
         Slot::numbered(self, body, reading)
     }
@@ -108,8 +117,7 @@ impl Taker for Slot {
     }
 
     fn post(self: &Arc<Self>, sender: String, request: Request) -> impl Future<Output = Outcome> + Send {
-        let slot = self.clone();
-        async move { slot.request(sender, request).await }
+        self.request(sender, request)
     }
 }
 
@@ -211,6 +219,9 @@ impl<T: Taker> Intake<T> {
     }
 
     async fn prepared(&self, mut head: Head, mut body: Bytes, mut hold: Hold) -> Result<Post<T>, Refusal> {
+        if let Some(why) = self.slots.unavailable() {
+            return Err(Refusal::Unavailable(why));
+        }
         if is_short(&mut head, &mut body, &mut hold)? {
             return post::prepare(head, body, hold, &self.slots, &self.reading, &self.metrics);
         }

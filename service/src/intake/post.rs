@@ -209,16 +209,17 @@ impl<'r> Reader<'r> {
             encoding,
             body: body.clone(),
         });
+        let reading = taker.reading(self.reading);
         let numbered = match encoding {
             Encoding::Json => None,
-            Encoding::Protobuf => taker.numbered(&body, self.reading),
+            Encoding::Protobuf => taker.numbered(&body, reading),
         };
         let (request, rounded) = match numbered {
             Some(mut points) => {
                 let rounded = std::mem::take(&mut points.rounded);
                 (Request::Numbered(points), rounded)
             }
-            None => self.written(&*taker, body)?,
+            None => self.written(&*taker, reading, body)?,
         };
         Ok(Ask::Here {
             taker,
@@ -228,7 +229,12 @@ impl<'r> Reader<'r> {
         })
     }
 
-    fn written(&mut self, taker: &impl Taker, body: Bytes) -> Result<(Request, Rounded), Refusal> {
+    fn written(
+        &mut self,
+        taker: &impl Taker,
+        reading: &Reading,
+        body: Bytes,
+    ) -> Result<(Request, Rounded), Refusal> {
         let room = |more: usize| {
             let both = self.most + WHILE_READ_JSON * more;
             self.hold.set(both).map_err(Refusal::from)
@@ -237,8 +243,8 @@ impl<'r> Reader<'r> {
             body,
             rounded,
             is_cumulative,
-        } = otlp::prepare_with(self.encoding, body, self.reading, room)?;
-        let numbered = match is_cumulative && self.reading.cumulative == Cumulative::On {
+        } = otlp::prepare_with(self.encoding, body, reading, room)?;
+        let numbered = match is_cumulative && reading.cumulative == Cumulative::On {
             true => taker.numbered_text(&body).map_err(|_| Refusal::NoMemory)?,
             false => None,
         };

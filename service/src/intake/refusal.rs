@@ -49,6 +49,9 @@ pub enum Refusal {
     /// It can be sent again: the book has no memory to name its series.
     #[error("no memory")]
     NoMemory,
+    /// Nothing is taken here now.
+    #[error("{0}")]
+    Unavailable(&'static str),
     #[error("{0}")]
     Unreadable(String),
 }
@@ -78,7 +81,7 @@ impl Refusal {
             Refusal::BadSender | Refusal::Malformed | Refusal::BadGzip | Refusal::Unreadable(_) => 400,
             Refusal::TooLong | Refusal::TooLongForMemory => 413,
             Refusal::HeadTooLong => 431,
-            Refusal::Late | Refusal::TooManyBytes | Refusal::NoMemory => 503,
+            Refusal::Late | Refusal::TooManyBytes | Refusal::NoMemory | Refusal::Unavailable(_) => 503,
         }
     }
 

@@ -1,9 +1,11 @@
-//! Posts of the journal on their way into a fresh book: they go in one after the other, and texts are read side by side before.
+//! Posts of the journal on their way into a fresh book: they go in one after the other, and texts are read side by side
+//! before, while those before them go in.
 
 use crate::core::{Core, Read, Refused};
 use crate::work::side_by_side;
 use bytes::Bytes;
 use std::sync::Arc;
+use std::thread::{self, JoinHandle};
 
 /// So many are read at once, or of so many bytes: each has a reader of the library until it is in.
 const MOST_POSTS: usize = 64;
@@ -22,6 +24,8 @@ pub(super) struct Coming {
 /// Posts that wait for their turn, in order.
 #[derive(Default)]
 pub(super) struct Ahead {
+    /// Those that are being read.
+    begun: Option<JoinHandle<Vec<Coming>>>,
     posts: Vec<Coming>,
     bytes: usize,
 }
@@ -89,11 +93,26 @@ impl Ahead {
         self.posts.len() >= MOST_POSTS || self.bytes >= MOST_BYTES
     }
 
-    /// All of them, read.
-    pub fn take(&mut self, core: &Arc<Core>) -> Vec<Coming> {
+    /// Has those that wait be read, and returns those that were being read: none where it had none.
+    pub fn turn(&mut self, core: &Arc<Core>) -> Vec<Coming> {
         self.bytes = 0;
-        let mut posts = std::mem::take(&mut self.posts);
-        side_by_side(&mut posts, |post| post.be_read(core));
-        posts
+        let posts = std::mem::take(&mut self.posts);
+        let next = (!posts.is_empty()).then(|| be_read(posts, core.clone()));
+        match std::mem::replace(&mut self.begun, next).map(JoinHandle::join) {
+            Some(Ok(read)) => read,
+            Some(Err(panic)) => std::panic::resume_unwind(panic),
+            None => Vec::new(),
+        }
     }
+
+    pub fn is_empty(&self) -> bool {
+        self.begun.is_none() && self.posts.is_empty()
+    }
+}
+
+fn be_read(mut posts: Vec<Coming>, core: Arc<Core>) -> JoinHandle<Vec<Coming>> {
+    thread::spawn(move || {
+        side_by_side(&mut posts, |post| post.be_read(&core));
+        posts
+    })
 }

@@ -9,7 +9,7 @@
 use super::ahead::{Ahead, Coming};
 use super::numbers::Numbers;
 use super::Trouble;
-use crate::core::{Book, Read, Refused};
+use crate::core::{free_spare_readers, Book, Read, Refused};
 use crate::files::{Body, Outbox, Post};
 use crate::otlp::series::{zeros, NotForwarded, SeriesKey};
 use crate::runs::State;
@@ -63,6 +63,7 @@ pub(super) fn fill(
         filling.replay(|post| held.contains(&post.sender), Book::admit_held)?;
     }
     filling.quarantine(&held)?;
+    free_spare_readers();
     let stopped = (filling.stops)();
     Ok((!stopped).then_some(filling.filled))
 }
@@ -112,7 +113,7 @@ impl<S: Fn() -> bool> Filling<'_, S> {
             }
             ended.is_ok() && !(self.stops)()
         })?;
-        ended.and_then(|()| self.put_ahead(admit))
+        ended.and_then(|()| self.put_rest(admit))
     }
 
     /// A post is read by what numbers stand for now, and a text with those that come next.
@@ -123,7 +124,7 @@ impl<S: Fn() -> bool> Filling<'_, S> {
             Body::Points(_) => {
                 let mut read = self.numbers.read(&post);
                 if read.as_ref().is_err_and(|refused| refused.status() == 503) {
-                    self.put_ahead(admit)?;
+                    self.put_rest(admit)?;
                     self.make_room()?;
                     read = self.numbers.read(&post);
                 }
@@ -139,13 +140,19 @@ impl<S: Fn() -> bool> Filling<'_, S> {
         }
     }
 
-    /// Puts in what waits for its turn.
+    /// Puts in what was read, while what waits is read.
     fn put_ahead(&mut self, admit: Admit) -> Result<(), Trouble> {
-        let core = self.slot.core.clone();
-        self.ahead
-            .take(&core)
-            .into_iter()
+        let read = self.ahead.turn(&self.slot.core);
+        read.into_iter()
             .try_for_each(|coming| self.replay_one(coming, admit))
+    }
+
+    /// Puts in all that waits.
+    fn put_rest(&mut self, admit: Admit) -> Result<(), Trouble> {
+        while !self.ahead.is_empty() {
+            self.put_ahead(admit)?;
+        }
+        Ok(())
     }
 
     /// A post that a limit refuses is put after a flush.

@@ -17,6 +17,8 @@ mod owners;
 mod run;
 mod series;
 
+pub(crate) use run::settle;
+
 use crate::core::Refused;
 use crate::files::{Fault, Lost};
 use crate::otlp::series::SeriesKey;

@@ -2,7 +2,7 @@
 
 use super::fill::{fill, Filled};
 use super::{Done, Keeper, Order, Trouble};
-use crate::files::Lost;
+use crate::files::{Fault, Lost};
 use crate::log::shown;
 use crate::remarks::SERIES_SHOWN;
 use crate::slot::Slot;
@@ -79,14 +79,7 @@ impl Keeper {
     /// Brings the files to where the last commit left them.
     pub(super) async fn begin(&mut self) -> Result<(), Trouble> {
         let slot = self.slot.clone();
-        blocking(move || {
-            let first = slot.outbox.journal();
-            slot.journal.reach(first);
-            // A commit may have come without the owners of its series.
-            super::owners::find_owners_left(&slot, first)?;
-            Ok(slot.journal.forget(first)?)
-        })
-        .await
+        blocking(move || Ok(settle(&slot)?)).await
     }
 
     /// Fills the book: false where it was told to stop before.
@@ -176,6 +169,15 @@ impl Keeper {
         }
         Ok(())
     }
+}
+
+/// Brings the files of a slot to where the last commit left them.
+pub(crate) fn settle(slot: &Slot) -> Result<(), Fault> {
+    let first = slot.outbox.journal();
+    slot.journal.reach(first);
+    // A commit may have come without the owners of its series.
+    super::owners::find_owners_left(slot, first)?;
+    slot.journal.forget(first)
 }
 
 /// Of such series right points are refused.

@@ -1,11 +1,13 @@
 //! Counters and gauges of the service, and the page that Prometheus scrapes.
 
+mod cluster;
 mod make;
 mod reasons;
 mod rounding;
 
+pub use cluster::OfCluster;
 pub use reasons::{of as reason_of, to_do};
-pub use rounding::{RoundedSeries, SeriesOfRule};
+pub use rounding::{RoundedSeries, SeriesOfRule, SHOWN as SHOWN_OF_RULE};
 
 use crate::otlp::{Cause, Causes, Outcome, Rounded, Rounding};
 use crate::shares::Used;

@@ -155,18 +155,7 @@ fn is_cut(file: &mut File) -> std::io::Result<bool> {
 }
 
 impl Desk {
-    /// Carries out an act, and records it.
-    pub(super) async fn act(
-        &self,
-        actor: Actor,
-        what: &'static str,
-        of: String,
-        doing: impl Future<Output = Response<Body>>,
-    ) -> Response<Body> {
-        self.act_by(actor, what, of, |_| doing).await
-    }
-
-    /// The same of one that is to know who it is.
+    /// Carries out an act of somebody, and records it.
     pub(super) async fn act_by<Doing: Future<Output = Response<Body>>>(
         &self,
         actor: Actor,

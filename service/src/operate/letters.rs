@@ -4,13 +4,15 @@
 //! too, so no key is under way twice. A
 //! letter is thrown away only once the sink has it. A service that ends in between sends it again under the same key.
 
-use super::{message, reply, Desk, JSON};
+use super::reach::{Answer, Command};
+use super::{reply, Actor, Desk, Unit, JSON};
 use crate::files::dead::{sent_as, Letter};
 use crate::files::{Dead, Fault};
 use crate::sinks::{of_part, Fate, Forwarded};
 use crate::work::blocking;
 use hyper::{Body, Response};
 use serde::{Deserialize, Serialize};
+use std::sync::Arc;
 
 /// What became of a letter that was sent again.
 #[derive(Debug, PartialEq, Eq, Serialize, Deserialize)]
@@ -26,74 +28,83 @@ pub struct Resent {
 }
 
 impl Desk {
-    /// Asks for what the letter of this key is among; none where its slot is not here. Thousands of letters take seconds, and
-    /// so long nothing else would go on that this thread has to do.
-    async fn of_dead<T: Send + 'static>(
-        &self,
-        key: &str,
-        call: impl FnOnce(&Dead, &str) -> Result<T, Fault> + Send + 'static,
-    ) -> Result<Option<T>, Fault> {
-        let Some(dead) = self.units.dead_of(key) else {
-            return Ok(None);
+    /// Those of all slots, the oldest first.
+    pub(super) async fn letters(self: &Arc<Self>) -> Response<Body> {
+        let answers = match self.in_all_slots("", &Command::Letters).await.all() {
+            Ok(answers) => answers,
+            Err(not_all) => return not_all,
         };
-        let key = key.to_string();
-        blocking(move || call(&dead, &key).map(Some)).await
+        match answers.iter().find(|(_, answer)| answer.status != 200) {
+            Some((_, faulty)) => faulty.clone().into(),
+            None => reply(200, JSON, serde_json::json!(in_order(&answers)).to_string()),
+        }
     }
 
-    /// The oldest first.
-    pub(super) async fn all_letters(&self) -> Result<Vec<Letter>, Fault> {
-        let units = self.units.all();
-        blocking(move || {
-            let lists = units.iter().map(|unit| unit.dead.list());
-            let mut letters = lists.collect::<Result<Vec<_>, _>>()?.concat();
-            letters.sort_by_key(|letter| letter.since); // each list is in order, and letters of one time stay in theirs
-            Ok(letters)
+    /// The same of the slots that can be asked now.
+    pub(super) async fn letters_there(self: &Arc<Self>) -> Vec<Letter> {
+        in_order(&self.in_all_slots("", &Command::Letters).await.answers())
+    }
+
+    /// Asks the slot that has the letter of a key.
+    pub(super) async fn of_key(self: &Arc<Self>, who: &str, key: &str, command: Command) -> Response<Body> {
+        let Some(slot) = self.units.slot_of_key(key) else {
+            return no_such().into();
+        };
+        match self.in_slots(who, &command, [slot]).await.all() {
+            Ok(answers) => {
+                let answer = answers.into_iter().next();
+                answer.map_or_else(no_such, |(_, answer)| answer).into()
+            }
+            Err(left) => left,
+        }
+    }
+
+    /// The same of what is written down.
+    pub(super) async fn act_on_key(
+        self: &Arc<Self>,
+        actor: Actor,
+        command: Command,
+        key: String,
+    ) -> Response<Body> {
+        let (what, of) = command.act().unwrap_or(("dead", key.clone())); // each has its name
+        self.act_by(actor, what, of, |who| async move {
+            self.of_key(&who, &key, command).await
         })
         .await
     }
 
-    async fn body_of(&self, key: &str) -> Result<Option<Vec<u8>>, Fault> {
-        let body = self.of_dead(key, |dead, key| dead.body(key)).await?;
-        Ok(body.flatten())
-    }
-
-    async fn throw_away(&self, key: &str) -> Result<bool, Fault> {
-        let is_gone = self.of_dead(key, |dead, key| dead.drop_letter(key)).await?;
-        Ok(is_gone.unwrap_or(false))
-    }
-
-    pub(super) async fn letters(&self) -> Response<Body> {
-        match self.all_letters().await {
-            Ok(letters) => reply(200, JSON, serde_json::json!(letters).to_string()),
+    pub(super) async fn letters_of(&self, unit: &Unit) -> Answer {
+        match all_letters(unit).await {
+            Ok(letters) => Answer::new(200, serde_json::json!(letters).to_string()),
             Err(fault) => faulty(&fault),
         }
     }
 
-    pub(super) async fn letter(&self, key: &str) -> Response<Body> {
-        match self.body_of(key).await {
-            Ok(Some(body)) => reply(200, JSON, body),
-            Ok(None) => message(404, "no such request"),
+    pub(super) async fn letter_of(&self, unit: &Unit, key: &str) -> Answer {
+        match body_of(unit, key).await {
+            Ok(Some(body)) => Answer::new(200, String::from_utf8_lossy(&body)),
+            Ok(None) => no_such(),
             Err(fault) => faulty(&fault),
         }
     }
 
-    pub(super) async fn drop_letter(&self, key: &str) -> Response<Body> {
-        match self.throw_away(key).await {
-            Ok(true) => reply(200, JSON, "{}"),
-            Ok(false) => message(404, "no such request"),
+    pub(super) async fn drop_letter(&self, unit: &Unit, key: &str) -> Answer {
+        match throw_away(unit, key).await {
+            Ok(true) => Answer::new(200, "{}"),
+            Ok(false) => no_such(),
             Err(fault) => faulty(&fault),
         }
     }
 
-    pub(super) async fn resend(&self, key: &str) -> Response<Body> {
+    pub(super) async fn resend(&self, unit: &Unit, key: &str) -> Answer {
         let _held = self.sink.keys().hold(sent_as(key)).await;
-        let body = match self.body_of(key).await {
+        let body = match body_of(unit, key).await {
             Ok(Some(body)) => body,
-            Ok(None) => return message(404, "no such request"),
+            Ok(None) => return no_such(),
             Err(fault) => return faulty(&fault),
         };
         let Some(request) = forwarded(key, body) else {
-            return self.of_part(key).await;
+            return of_a_part(unit, key).await;
         };
         let (reason, later) = match self.sink.deliver(&request).await {
             Fate::Taken => (None, false),
@@ -103,7 +114,7 @@ impl Desk {
                 left,
             } => {
                 let reason = of_part(rejected, &reason, left.is_some());
-                return self.keep_part(key, left.unwrap_or(request.body), reason).await;
+                return keep_part(unit, key, left.unwrap_or(request.body), reason).await;
             }
             Fate::Refused { reason } => (Some(reason), false),
             Fate::Again { reason, .. } | Fate::Failed { reason, .. } | Fate::Denied { reason, .. } => {
@@ -111,52 +122,93 @@ impl Desk {
             }
         };
         if reason.is_none() {
-            if let Err(fault) = self.throw_away(key).await {
+            if let Err(fault) = throw_away(unit, key).await {
                 return faulty(&fault);
             }
             tracing::info!(key, "the sink has taken {key}, which was put aside");
         }
-        let resent = Resent {
+        told(Resent {
             key: key.into(),
             taken: reason.is_none(),
             reason,
             later,
-        };
-        reply(200, JSON, serde_json::json!(resent).to_string())
+        })
     }
+}
 
-    /// What stands under no key of a request is of one that the sink has taken, and says why.
-    async fn of_part(&self, key: &str) -> Response<Body> {
-        let letters = match self.all_letters().await {
-            Ok(letters) => letters,
-            Err(fault) => return faulty(&fault),
-        };
-        let reason = letters.into_iter().find(|letter| letter.key == key);
-        let reason = reason.map_or(String::new(), |letter| format!(": {}", letter.reason));
-        message(
-            400,
-            &format!("the sink has the other points of this one, and never takes these{reason}; look at it, and drop it"),
-        )
-    }
+/// The oldest first: each list is in order, and letters of one time stay in theirs.
+fn in_order(answers: &[(u16, Answer)]) -> Vec<Letter> {
+    let lists = answers
+        .iter()
+        .map(|(_, answer)| serde_json::from_str::<Vec<Letter>>(&answer.body));
+    let mut letters: Vec<Letter> = lists.flatten().flatten().collect();
+    letters.sort_by_key(|letter| letter.since);
+    letters
+}
 
-    /// What the sink has a part of is kept under another key: it must not be sent again.
-    async fn keep_part(&self, key: &str, left: Vec<u8>, reason: String) -> Response<Body> {
-        let why = reason.clone();
-        let keep = move |dead: &Dead, whole: &str| {
-            dead.keep(&format!("{whole}-partial"), &why, &left)?;
-            dead.drop_letter(whole)
-        };
-        if let Err(fault) = self.of_dead(key, keep).await {
-            return faulty(&fault);
-        }
-        let resent = Resent {
-            key: key.into(),
-            taken: true,
-            reason: Some(reason),
-            later: false,
-        };
-        reply(200, JSON, serde_json::json!(resent).to_string())
+/// Asks for what the letter of this key is among. Thousands of letters take seconds, and so long nothing else would go on
+/// that this thread has to do.
+async fn of_dead<T: Send + 'static>(
+    unit: &Unit,
+    key: &str,
+    call: impl FnOnce(&Dead, &str) -> Result<T, Fault> + Send + 'static,
+) -> Result<T, Fault> {
+    let (dead, key) = (unit.dead.clone(), key.to_string());
+    blocking(move || call(&dead, &key)).await
+}
+
+/// The oldest first.
+async fn all_letters(unit: &Unit) -> Result<Vec<Letter>, Fault> {
+    let dead = unit.dead.clone();
+    blocking(move || dead.list()).await
+}
+
+async fn body_of(unit: &Unit, key: &str) -> Result<Option<Vec<u8>>, Fault> {
+    of_dead(unit, key, |dead, key| dead.body(key)).await
+}
+
+async fn throw_away(unit: &Unit, key: &str) -> Result<bool, Fault> {
+    of_dead(unit, key, |dead, key| dead.drop_letter(key)).await
+}
+
+/// What stands under no key of a request is of one that the sink has taken, and says why.
+async fn of_a_part(unit: &Unit, key: &str) -> Answer {
+    let letters = match all_letters(unit).await {
+        Ok(letters) => letters,
+        Err(fault) => return faulty(&fault),
+    };
+    let reason = letters.into_iter().find(|letter| letter.key == key);
+    let reason = reason.map_or(String::new(), |letter| format!(": {}", letter.reason));
+    Answer::told(
+        400,
+        &format!("the sink has the other points of this one, and never takes these{reason}; look at it, and drop it"),
+    )
+}
+
+/// What the sink has a part of is kept under another key: it must not be sent again.
+async fn keep_part(unit: &Unit, key: &str, left: Vec<u8>, reason: String) -> Answer {
+    let why = reason.clone();
+    let keep = move |dead: &Dead, whole: &str| {
+        dead.keep(&format!("{whole}-partial"), &why, &left)?;
+        dead.drop_letter(whole)
+    };
+    if let Err(fault) = of_dead(unit, key, keep).await {
+        return faulty(&fault);
     }
+    told(Resent {
+        key: key.into(),
+        taken: true,
+        reason: Some(reason),
+        later: false,
+    })
+}
+
+fn told(resent: Resent) -> Answer {
+    Answer::new(200, serde_json::json!(resent).to_string())
+}
+
+fn no_such() -> Answer {
+    Answer::told(404, "no such request")
 }
 
 /// A letter as it was sent first.
@@ -174,10 +226,10 @@ fn forwarded(name: &str, body: Vec<u8>) -> Option<Forwarded> {
 }
 
 /// Nothing but `dead/` is concerned, so the service goes on.
-fn faulty(fault: &Fault) -> Response<Body> {
+fn faulty(fault: &Fault) -> Answer {
     let reason = fault.to_string();
     tracing::warn!(reason, "dead/: {reason}");
-    message(500, &fault.to_string())
+    Answer::told(500, &reason)
 }
 
 #[cfg(test)]

@@ -2,15 +2,17 @@
 //!
 //! Orders are taken at a socket of this machine, where the system says who may connect. The address of TCP is read, and
 //! takes orders from whoever has a token (`tcp`). What a browser sends for a page of somebody else is turned away by `web`;
-//! `pages` are the address's own, which only read.
+//! `pages` are the address's own, which only read. Where there are other instances, `reach` asks these for their slots.
 
 mod acts;
 mod amend;
+mod databases;
 mod letters;
 mod named;
 mod orders;
 mod pages;
 mod periods;
+mod reach;
 mod status;
 mod tcp;
 mod totals;
@@ -19,30 +21,32 @@ mod user;
 mod web;
 
 pub use acts::{Act, Actor, Acts};
+pub use databases::Databases;
 pub use letters::Resent;
 pub use named::Named;
 pub use pages::Pulse;
 pub use periods::ANYWAY;
+pub use reach::Others;
 pub use status::{
-    BooksStatus, CumulativeStatus, RoundedSeriesStatus, RoundedStatus, SlotStatus, Status, Stock,
+    BooksStatus, ClusterStatus, CumulativeStatus, DatabaseStatus, InstanceStatus, RoundedSeriesStatus,
+    RoundedStatus, SlotStatus, Status, Stock,
 };
 pub use tcp::AtTcp;
 pub use totals::Totals;
 pub use units::{Left, Unit, Units};
 
-use crate::cluster::Cluster;
 use crate::intake::connections::Handler;
 use crate::intake::user::User;
 use crate::intake::Budget;
-use crate::keeper::Order;
 use crate::metrics::Metrics;
-use crate::otlp::{Encoding, Outcome};
 use crate::remarks::Heard;
 use crate::shares::Shares;
 use crate::sinks::Sink;
+use crate::store::postgres::PostgresStore;
 use hyper::header::{HeaderValue, ALLOW, CONTENT_TYPE};
 use hyper::{Body, Method, Request, Response, StatusCode};
 use pages::Page;
+use reach::Command;
 use serde_json::json;
 use std::sync::Arc;
 use std::time::Instant;
@@ -55,7 +59,9 @@ const PROMETHEUS: &str = "text/plain; version=0.0.4";
 pub struct Desk {
     pub units: Arc<Units>,
     /// Where there are other instances.
-    pub cluster: Option<Arc<Cluster>>,
+    pub others: Option<Others>,
+    /// Where a store has the slots.
+    pub store: Option<Arc<PostgresStore>>,
     pub shares: Arc<Shares>,
     pub acts: Arc<Acts>,
     pub sink: Arc<dyn Sink>,
@@ -81,7 +87,7 @@ pub struct Desk {
 
 /// A route of the operator's address.
 enum Route {
-    Order(Order),
+    Order(Command),
     Report,
     Metrics,
     Totals,
@@ -104,9 +110,9 @@ impl Route {
     fn of(path: &str) -> Option<(Method, Route)> {
         let parts: Vec<&str> = path.strip_prefix('/')?.split('/').collect();
         Some(match parts[..] {
-            ["flush" | "checkpoint"] => (Method::POST, Route::Order(Order::Checkpoint)),
-            ["quarantine", sender] => (Method::POST, Route::Order(Order::Quarantine(sender.into()))),
-            ["lift", sender] => (Method::POST, Route::Order(Order::Lift(sender.into()))),
+            ["flush" | "checkpoint"] => (Method::POST, Route::Order(Command::Flush)),
+            ["quarantine", sender] => (Method::POST, Route::Order(Command::Quarantine(sender.into()))),
+            ["lift", sender] => (Method::POST, Route::Order(Command::Lift(sender.into()))),
             ["report"] => (Method::GET, Route::Report),
             ["metrics"] => (Method::GET, Route::Metrics),
             ["totals"] => (Method::GET, Route::Totals),
@@ -149,7 +155,7 @@ impl Handler for Desk {
 
 impl Desk {
     async fn answer_to(
-        &self,
+        self: &Arc<Self>,
         actor: Actor,
         route: Option<(Method, Route)>,
         request: Request<Body>,
@@ -191,17 +197,20 @@ impl Desk {
         }
     }
 
-    async fn go(&self, route: Route, actor: Actor, query: &str) -> Response<Body> {
+    async fn go(self: &Arc<Self>, route: Route, actor: Actor, query: &str) -> Response<Body> {
         match route {
-            Route::Order(order @ (Order::Checkpoint | Order::Amend(_))) => self.order(order).await,
-            Route::Order(Order::Quarantine(sender)) => {
-                let order = self.order(Order::Quarantine(sender.clone()));
-                self.act(actor, "quarantine", sender, order).await
-            }
-            Route::Order(Order::Lift(sender)) => {
-                let order = self.order(Order::Lift(sender.clone()));
-                self.act(actor, "lift", sender, order).await
-            }
+            Route::Order(order) => match order.act() {
+                None => self.order("", &order).await,
+                Some((what, of)) => {
+                    self.act_by(
+                        actor,
+                        what,
+                        of,
+                        |who| async move { self.order(&who, &order).await },
+                    )
+                    .await
+                }
+            },
             Route::Report => self.report().await,
             Route::Metrics => {
                 self.read_levels();
@@ -213,20 +222,14 @@ impl Desk {
                 None => reply(200, TEXT, "ready\n"),
                 Some(why) => message(503, why),
             },
-            Route::Status => match serde_json::to_vec(&self.status()) {
+            Route::Status => match serde_json::to_vec(&self.status_of_all().await) {
                 Ok(status) => reply(200, JSON, status),
                 Err(error) => message(500, &error.to_string()),
             },
             Route::Letters => self.letters().await,
-            Route::Letter(key) => self.letter(&key).await,
-            Route::Resend(key) => {
-                self.act(actor, "dead resend", key.clone(), self.resend(&key))
-                    .await
-            }
-            Route::Drop(key) => {
-                self.act(actor, "dead drop", key.clone(), self.drop_letter(&key))
-                    .await
-            }
+            Route::Letter(key) => self.of_key("", &key, Command::Letter(key.clone())).await,
+            Route::Resend(key) => self.act_on_key(actor, Command::Resend(key.clone()), key).await,
+            Route::Drop(key) => self.act_on_key(actor, Command::Drop(key.clone()), key).await,
             Route::Period(parts) => self.period(actor, &parts, query).await,
             Route::Amend(parts) => self.amend(actor, &parts, query).await,
             Route::Page(page) => self.page(page, query).await,
@@ -241,10 +244,6 @@ fn owned(parts: &[&str]) -> Vec<String> {
 /// HEAD is answered as GET is (RFC 9110, 9.3.2), but for the body, which hyper leaves out.
 fn is_met(wanted: &Method, asked: &Method) -> bool {
     wanted == asked || *wanted == Method::GET && *asked == Method::HEAD
-}
-
-fn answered(outcome: &Outcome) -> Response<Body> {
-    reply(outcome.status(), JSON, outcome.body(Encoding::Json))
 }
 
 fn message(status: u16, text: &str) -> Response<Body> {

@@ -1,80 +1,86 @@
-//! What is asked of the keepers and of the books.
+//! What is asked of the keepers and of the books, of all slots together.
 
-use super::{answered, message, reply, Desk, Unit, JSON, TEXT};
+use super::reach::{Answer, Command};
+use super::{reply, Desk, JSON, TEXT};
 use crate::cluster::NO_STORE;
-use crate::core::Refused;
-use crate::keeper::{Done, Order};
-use crate::otlp::Outcome;
-use crate::work::blocking;
 use hyper::{Body, Response};
 use serde_json::json;
 use std::sync::Arc;
-use tokio::task::JoinSet;
 
 impl Desk {
     /// Why posts are answered 503.
     pub(super) fn unavailable(&self) -> Option<&'static str> {
-        let stalled = self.cluster.as_ref().filter(|cluster| cluster.is_stalled());
+        let cluster = self.others.as_ref().map(|others| &others.cluster);
+        let stalled = cluster.filter(|cluster| cluster.is_stalled());
         self.units.unavailable().or(stalled.map(|_| NO_STORE))
     }
 
-    /// Has each slot carry out an order. One that is not here has to be asked elsewhere, or later.
-    pub(super) async fn order(&self, order: Order) -> Response<Body> {
-        let mut all = JoinSet::new();
-        for unit in self.units.all() {
-            let order = order.clone();
-            all.spawn(async move { unit.orders.order(order).await });
+    /// Has each slot carry out an order, wherever it is.
+    pub(super) async fn order(self: &Arc<Self>, who: &str, order: &Command) -> Response<Body> {
+        match self.in_all_slots(who, order).await.all() {
+            Ok(answers) => together(&answers).into(),
+            Err(not_all) => not_all,
         }
-        let mut done = Vec::new();
-        while let Some(ended) = all.join_next().await {
-            match ended {
-                Ok(Some(of_slot)) => done.push(of_slot),
-                // None came where the slot is ending.
-                _ => return message(503, "stopping"),
+    }
+
+    pub(super) async fn report(self: &Arc<Self>) -> Response<Body> {
+        let answers = match self.in_all_slots("", &Command::Report).await.all() {
+            Ok(answers) => answers,
+            Err(not_all) => return not_all,
+        };
+        match answers.iter().find(|(_, answer)| answer.status != 200) {
+            Some((_, refused)) => reply(refused.status, JSON, refused.body.clone()),
+            None => {
+                let reports = answers.into_iter().map(|(_, answer)| answer.body);
+                reply(200, TEXT, reports.collect::<String>())
             }
         }
-        if let Some(slot) = self.units.missing() {
-            return message(
-                503,
-                &format!("slot {slot} is not here: this is to be ordered again"),
-            );
-        }
-        together(done)
     }
-
-    /// The books' report: while one is filled nobody waits for it.
-    pub(super) async fn report(&self) -> Response<Body> {
-        if !self.units.are_ready() {
-            return message(503, self.unavailable().unwrap_or("recovering"));
-        }
-        let units = self.units.all();
-        match blocking(move || reports(&units)).await {
-            Ok(report) => reply(200, TEXT, report),
-            Err(refused) => message(refused.status(), &refused.to_string()),
-        }
-    }
-}
-
-fn reports(units: &[Arc<Unit>]) -> Result<Vec<u8>, Refused> {
-    let all = units.iter().map(|unit| unit.slot.report());
-    all.collect::<Result<Vec<_>, _>>().map(|all| all.concat())
 }
 
 /// One answer: what one slot could not do is not done, and what another had done before is.
-fn together(all: Vec<Done>) -> Response<Body> {
-    let (mut flushed, mut outcomes) = (0, Vec::new());
-    for done in all {
-        match done {
-            Done::Flushed { requests } => flushed += requests,
-            Done::Answered(outcome) => outcomes.push(outcome),
-            // `amend` gives such orders itself.
-            Done::Amended(_) => {}
-        }
+fn together(all: &[(u16, Answer)]) -> Answer {
+    let first =
+        |is_so: fn(&Answer) -> bool| all.iter().map(|(_, answer)| answer).find(|answer| is_so(answer));
+    let failed = first(|answer| answer.status >= 500);
+    let chosen = failed.or_else(|| first(|answer| answer.status == 200));
+    let Some(chosen) = chosen.or_else(|| first(|_| true)) else {
+        return Answer::new(200, "{}");
+    };
+    let flushed = all.iter().filter_map(|(_, answer)| requests(answer));
+    match requests(chosen) {
+        Some(_) => Answer::new(200, json!({ "requests": flushed.sum::<u64>() }).to_string()),
+        None => chosen.clone(),
     }
-    let is_taken = |outcome: &&Outcome| outcome.status() == 200;
-    let failed = outcomes.iter().find(|outcome| outcome.status() >= 500);
-    match failed.or(outcomes.iter().find(is_taken)).or(outcomes.first()) {
-        Some(outcome) => answered(outcome),
-        None => reply(200, JSON, json!({ "requests": flushed }).to_string()),
+}
+
+/// How many a flush has put into the outbox.
+fn requests(answer: &Answer) -> Option<u64> {
+    let read: serde_json::Value = serde_json::from_str(&answer.body).ok()?;
+    read["requests"].as_u64()
+}
+
+#[cfg(test)]
+mod tests {
+    use super::*;
+
+    #[test]
+    fn what_slots_say_is_one_answer() {
+        let of = |answers: &[(u16, &str)]| {
+            let answers = (0..).zip(answers);
+            let all: Vec<_> = answers
+                .map(|(slot, (status, body))| (slot, Answer::new(*status, *body)))
+                .collect();
+            let told = together(&all);
+            (told.status, told.body)
+        };
+        let (taken, flushed) = ((200, "{}"), |requests| (200, requests));
+        let (three, four) = (flushed(r#"{"requests":3}"#), flushed(r#"{"requests":4}"#));
+        assert_eq!(of(&[three, four]), (200, r#"{"requests":7}"#.to_string()));
+        let no_memory = (503, r#"{"message":"no memory"}"#);
+        assert_eq!(of(&[three, no_memory]).0, 503);
+        let not = (400, r#"{"message":"not quarantined"}"#);
+        assert_eq!(of(&[not, taken]).0, 200);
+        assert_eq!(of(&[not, not]), (400, not.1.to_string()));
     }
 }

@@ -1,6 +1,7 @@
 //! Periods of the sink are closed and opened, and what it counted is corrected.
 
-use super::{message, reply, Actor, Desk, Left, Unit, JSON};
+use super::status::Status;
+use super::{message, reply, Actor, Desk, JSON};
 use crate::sinks::periods::{Correction, Deed, Told};
 use hyper::{Body, Response};
 use serde_json::json;
@@ -10,7 +11,12 @@ use std::sync::Arc;
 pub const ANYWAY: &str = "anyway";
 
 impl Desk {
-    pub(super) async fn period(&self, actor: Actor, parts: &[String], query: &str) -> Response<Body> {
+    pub(super) async fn period(
+        self: &Arc<Self>,
+        actor: Actor,
+        parts: &[String],
+        query: &str,
+    ) -> Response<Body> {
         let (what, of, deed) = match read(parts, query) {
             Ok(read) => read,
             Err(why) => return message(400, &why),
@@ -20,9 +26,13 @@ impl Desk {
             .await
     }
 
-    async fn settle(&self, who: String, deed: Deed, is_anyway: bool) -> Response<Body> {
-        if let (Deed::Close(period), false) = (&deed, is_anyway) {
-            if let Some(what) = self.not_in_the_sink() {
+    async fn settle(self: &Arc<Self>, who: String, deed: Deed, is_anyway: bool) -> Response<Body> {
+        let status = match &deed {
+            Deed::Close(_) => Some(self.status_of_all().await),
+            Deed::Open(_) | Deed::Correct(_) => None,
+        };
+        if let (Deed::Close(period), Some(status), false) = (&deed, &status, is_anyway) {
+            if let Some(what) = not_in_the_sink(status) {
                 let late = format!("{what}: what it has of {period} would come late");
                 return message(
                     409,
@@ -32,49 +42,42 @@ impl Desk {
         }
         match self.sink.settle(&who, &deed).await {
             Told::Done(told) => {
-                let told = match &deed {
-                    Deed::Close(_) => told + &self.kept_back(),
-                    _ => told,
-                };
+                let told = told + &status.map_or_else(String::new, |status| kept_back(&status));
                 reply(200, JSON, json!({ "message": told }).to_string())
             }
             Told::Refused(why) => message(409, &why),
             Told::Later(why) => message(503, &why),
         }
     }
+}
 
-    /// What was taken of senders and goes to the sink, but is not there yet.
-    fn not_in_the_sink(&self) -> Option<String> {
-        if let Some(slot) = self.units.missing() {
-            return Some(format!("slot {slot} is not here, and may have some"));
-        }
-        let units = self.units.all();
-        let waits = |left: &Left| left.outbox.waiting().0;
-        let of_unit = |unit: &Arc<Unit>| waits(&unit.left) + unit.former.iter().map(waits).sum::<u64>();
-        let waiting: u64 = units.iter().map(of_unit).sum();
-        let has_posts = units.iter().any(|unit| unit.slot.journal_size().1.is_some());
-        match (waiting, has_posts) {
-            (0, false) => None,
-            (0, true) => Some("there are posts that are not flushed".into()),
-            (1, _) => Some("1 request waits for the sink".into()),
-            (more, _) => Some(format!("{more} requests wait for the sink")),
+/// What was taken of senders and goes to the sink, but is not there yet.
+fn not_in_the_sink(status: &Status) -> Option<String> {
+    if let Some((slot, why)) = status.unknown() {
+        return Some(format!("slot {slot} can't be asked, and may have some ({why})"));
+    }
+    let has_posts = status.slots.iter().any(|slot| slot.journal.age_seconds.is_some());
+    match (status.waiting(), has_posts) {
+        (0, false) => None,
+        (0, true) => Some("there are posts that are not flushed".into()),
+        (1, _) => Some("1 request waits for the sink".into()),
+        (more, _) => Some(format!("{more} requests wait for the sink")),
+    }
+}
+
+/// What stays out of the sink until an operator acts.
+fn kept_back(status: &Status) -> String {
+    let held = status.slots.iter().map(|slot| slot.held.posts).sum();
+    let mut text = String::new();
+    for (count, what) in [
+        (status.dead, "requests in dead/"),
+        (held, "posts of quarantined senders"),
+    ] {
+        if count > 0 {
+            text += &format!("; {count} {what} would come late");
         }
     }
-
-    /// What stays out of the sink until an operator acts.
-    fn kept_back(&self) -> String {
-        let (dead, held) = (self.units.dead(), self.units.held().posts);
-        let mut text = String::new();
-        for (count, what) in [
-            (dead, "requests in dead/"),
-            (held, "posts of quarantined senders"),
-        ] {
-            if count > 0 {
-                text += &format!("; {count} {what} would come late");
-            }
-        }
-        text
-    }
+    text
 }
 
 /// What is asked for, as an act names it, and of what.

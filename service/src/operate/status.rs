@@ -1,5 +1,10 @@
 //! What the service says of itself: in JSON for `totxegun status`, in gauges for Prometheus.
 
+mod cluster;
+mod merged;
+
+pub use cluster::{ClusterStatus, DatabaseStatus, InstanceStatus};
+
 use super::{Desk, Left, Unit};
 use crate::files::Held;
 use crate::metrics::RoundedSeries;
@@ -9,13 +14,16 @@ use std::sync::PoisonError;
 use std::time::{SystemTime, UNIX_EPOCH};
 
 /// `GET /status`.
-#[derive(Debug, Serialize, Deserialize)]
+#[derive(Debug, Default, Serialize, Deserialize)]
 pub struct Status {
     pub version: String,
     pub pid: u32,
     pub uptime_seconds: u64,
     /// Whether posts are taken.
     pub ready: bool,
+    /// Why they are answered 503, in that answer's words.
+    #[serde(default)]
+    pub unavailable: Option<String>,
     pub listen: String,
     pub data: String,
     pub sink: String,
@@ -24,6 +32,9 @@ pub struct Status {
     #[serde(default)]
     pub books: BooksStatus,
     pub slots: Vec<SlotStatus>,
+    /// Databases of the store that do not answer, and why not: posts of their slots get 503.
+    #[serde(default)]
+    pub silent: Vec<String>,
     /// Those that are nearest to their share, the nearest first.
     #[serde(default)]
     pub senders: Vec<Used>,
@@ -32,12 +43,21 @@ pub struct Status {
     pub rounded: Vec<RoundedStatus>,
     #[serde(default)]
     pub cumulative: CumulativeStatus,
+    /// Where several instances share a store.
+    #[serde(default, skip_serializing_if = "Option::is_none")]
+    pub cluster: Option<ClusterStatus>,
 }
 
 impl Status {
     /// How many requests wait for the sink.
     pub fn waiting(&self) -> u64 {
         self.slots.iter().map(|slot| slot.waiting).sum()
+    }
+
+    /// The first slot of which nothing is known, and why.
+    pub fn unknown(&self) -> Option<(u16, &str)> {
+        let mut slots = self.slots.iter();
+        slots.find_map(|slot| Some((slot.slot, slot.unknown.as_deref()?)))
     }
 }
 
@@ -95,9 +115,17 @@ impl From<RoundedSeries> for RoundedSeriesStatus {
     }
 }
 
-#[derive(Debug, Serialize, Deserialize)]
+#[derive(Debug, Default, Serialize, Deserialize)]
 pub struct SlotStatus {
     pub slot: u16,
+    /// Whose it is and under which term, where several instances share the slots.
+    #[serde(default, skip_serializing_if = "Option::is_none")]
+    pub owner: Option<String>,
+    #[serde(default, skip_serializing_if = "Option::is_none")]
+    pub term: Option<u64>,
+    /// Why nothing more is known of it than that.
+    #[serde(default, skip_serializing_if = "Option::is_none")]
+    pub unknown: Option<String>,
     /// Why its posts are answered 503, in that answer's words.
     #[serde(default)]
     pub unavailable: Option<String>,
@@ -106,6 +134,9 @@ pub struct SlotStatus {
     /// Posts of quarantined senders that no flush takes, in files of their own.
     #[serde(default)]
     pub held: Held,
+    /// Posts that are in no group yet.
+    #[serde(default)]
+    pub posts: u64,
     pub journal: Stock,
     /// Requests that the sink does not have.
     pub waiting: u64,
@@ -120,7 +151,7 @@ pub struct SlotStatus {
 }
 
 /// Bytes on disk, and how old the oldest part is.
-#[derive(Debug, PartialEq, Eq, Serialize, Deserialize)]
+#[derive(Debug, Default, PartialEq, Eq, Serialize, Deserialize)]
 pub struct Stock {
     pub bytes: u64,
     pub age_seconds: Option<u64>,
@@ -142,19 +173,26 @@ impl Desk {
             version: env!("CARGO_PKG_VERSION").into(),
             pid: std::process::id(),
             uptime_seconds: self.begun.elapsed().as_secs(),
-            ready: slots.iter().all(|slot| slot.unavailable.is_none()),
+            ready: self.unavailable().is_none(),
+            unavailable: self.unavailable().map(String::from),
             listen: self.listen.clone(),
             data: self.data.clone(),
             sink: self.sink.name(),
             dead: self.units.dead(),
             books: self.books_status(),
             slots,
+            silent: self
+                .store
+                .as_ref()
+                .map(|store| store.silent())
+                .unwrap_or_default(),
             senders: self.shares.nearest(),
             rounded: self.rounded_status(),
             cumulative: CumulativeStatus {
                 series: self.cumulative_series(),
                 noted: self.metrics.noted_runs.get(),
             },
+            cluster: self.own_cluster_status(),
         }
     }
 
@@ -196,7 +234,15 @@ impl Desk {
         let units = self.units.all();
         let at_work = units.iter().map(|unit| SlotStatus::at_work(unit));
         let former = units.iter().flat_map(|unit| &unit.former).map(SlotStatus::of);
-        at_work.chain(former.filter(|slot| slot.waiting > 0)).collect()
+        let mut slots: Vec<SlotStatus> = at_work.chain(former.filter(|slot| slot.waiting > 0)).collect();
+        if let Some(others) = &self.others {
+            let terms = others.cluster.status().terms;
+            for slot in &mut slots {
+                slot.owner = Some(others.instance.clone());
+                slot.term = terms.get(&slot.slot).copied();
+            }
+        }
+        slots
     }
 
     /// Sets the gauges of what is elsewhere.
@@ -229,11 +275,18 @@ impl Desk {
         let (used, most) = crate::core::memory_used();
         levels.book_memory_bytes.set(used as i64);
         levels.book_memory_most_bytes.set(most as i64);
+        if let Some(others) = &self.others {
+            self.read_cluster(others);
+        }
     }
 
     fn read_disk(&self) {
         let levels = &self.metrics.levels;
-        levels.disk_call_seconds.set(self.units.disk_call().as_secs_f64());
+        // What a store has not answered is of its databases.
+        let calls = self.others.is_none().then(|| self.units.disk_call());
+        levels
+            .disk_call_seconds
+            .set(calls.unwrap_or_default().as_secs_f64());
         // A disk that stalls may not say either how much it has.
         let free = self.units.disk_answers().then(|| free_bytes(&self.data));
         if let Some(free) = free.flatten() {
@@ -248,6 +301,7 @@ impl SlotStatus {
         SlotStatus {
             unavailable: unit.slot.unavailable().map(String::from),
             journal: Stock::new(journal, since),
+            posts: unit.slot.ungrouped(),
             held: unit.slot.held(),
             ..SlotStatus::of(&unit.left)
         }
@@ -264,16 +318,25 @@ impl SlotStatus {
             .clone(); // a copy is sound
         SlotStatus {
             slot: left.number,
-            unavailable: None,
             series: outbox.series_count(),
             quarantined: outbox.quarantined().into_iter().collect(),
-            held: Held::default(),
-            journal: Stock::new(0, None),
             waiting,
             outbox: Stock::new(bytes, first.map(|first| first.since)),
             tries: delivery.tries,
             trouble: delivery.trouble,
             stuck: outbox.stuck(),
+            ..SlotStatus::default()
+        }
+    }
+
+    /// One of which nobody says more than the store does.
+    fn unknown(slot: u16, owner: &str, term: u64, why: String) -> SlotStatus {
+        SlotStatus {
+            slot,
+            owner: Some(owner.into()).filter(|owner: &String| !owner.is_empty()),
+            term: Some(term),
+            unknown: Some(why),
+            ..SlotStatus::default()
         }
     }
 }

@@ -1,6 +1,6 @@
 //! The slots that are at work here, for who operates them.
 
-use crate::files::{Dead, Held, Outbox};
+use crate::files::{Dead, Outbox};
 use crate::keeper::Orders;
 use crate::otlp::series::SeriesKey;
 use crate::shares::Owned;
@@ -60,10 +60,15 @@ impl Units {
         here.values().cloned().collect()
     }
 
-    /// The first slot that is not here.
-    pub fn missing(&self) -> Option<u16> {
+    /// How many slots there are, here and elsewhere.
+    pub fn slots(&self) -> u16 {
+        self.slots
+    }
+
+    /// One that is here.
+    pub fn get(&self, slot: u16) -> Option<Arc<Unit>> {
         let here = self.here.read().unwrap_or_else(PoisonError::into_inner);
-        (0..self.slots).find(|slot| !here.contains_key(slot))
+        here.get(&slot).cloned()
     }
 
     /// Why posts of a slot that is here are answered 503.
@@ -80,29 +85,20 @@ impl Units {
         self.all().iter().map(|unit| of(unit)).sum()
     }
 
-    /// The dead letters that the one of this key is among: those of its slot.
-    pub fn dead_of(&self, key: &str) -> Option<Arc<Dead>> {
-        let here = self.here.read().unwrap_or_else(PoisonError::into_inner);
-        let unit = match self.slots {
-            1 => here.values().next(), // also of slots that there were
-            _ => here.get(&key.split_once('-')?.0.parse().ok()?),
-        };
-        unit.map(|unit| unit.dead.clone())
+    /// The slot that has the dead letter of this key.
+    pub fn slot_of_key(&self, key: &str) -> Option<u16> {
+        match self.slots {
+            1 => Some(0), // also of slots that there were
+            _ => {
+                let slot = key.split_once('-')?.0.parse().ok()?;
+                (slot < self.slots).then_some(slot)
+            }
+        }
     }
 
     /// How many requests the sink refused for good.
     pub fn dead(&self) -> u64 {
         self.sum(|unit| unit.dead.count())
-    }
-
-    pub fn held(&self) -> Held {
-        let mut held = Held::default();
-        for unit in self.all() {
-            let of = unit.slot.held();
-            held.posts += of.posts;
-            held.bytes += of.bytes;
-        }
-        held
     }
 
     /// Of the disk's calls the one that began first.

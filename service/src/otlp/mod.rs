@@ -110,6 +110,14 @@ pub enum Cumulative {
 }
 
 impl Reading {
+    /// The same for a slot of several.
+    pub fn of_slot(&self) -> Reading {
+        Reading {
+            whole: self.whole.of_slot(),
+            ..self.clone()
+        }
+    }
+
     /// Which points are taken.
     pub fn profile(&self) -> Profile {
         match self.cumulative {

@@ -46,7 +46,7 @@ pub struct Numbered {
     pub cumulative: Vec<u32>,
 }
 
-/// All that is known by its bytes, under one way of reading.
+/// All that is known by its bytes, under one way of reading, but for what slots decide by themselves.
 pub struct Series {
     reading: Arc<Reading>,
     levels: RwLock<Levels>,
@@ -75,16 +75,21 @@ impl Series {
 
     /// The points of a request; none where it is to be read otherwise, which says nothing of it. What is not known yet
     /// is given to `learn` as a request of one point: none where it can't be named now.
-    pub fn read(&self, body: &[u8], learn: impl Fn(Bytes) -> Option<Learnt>) -> Option<Numbered> {
-        if self.reading.whole.has_no_unit() {
+    pub fn read(
+        &self,
+        body: &[u8],
+        reading: &Reading,
+        learn: impl Fn(Bytes) -> Option<Learnt>,
+    ) -> Option<Numbered> {
+        if reading.whole.has_no_unit() {
             return None; // all metrics have a unit of `--whole`
         }
         let known = {
             let levels = self.levels.read().unwrap_or_else(PoisonError::into_inner); // each change of it is whole
-            self.walk(Known(&levels), body)
+            walk(Known(&levels), reading, body)
         };
         let read = match known {
-            Err(Stop::Unknown) if !self.is_full() => self.walk(self.learner(&learn), body),
+            Err(Stop::Unknown) if !self.is_full() => walk(self.learner(reading, &learn), reading, body),
             known => known,
         };
         read.ok()
@@ -96,21 +101,21 @@ impl Series {
         text: &[u8],
         learn: impl Fn(Bytes) -> Option<Learnt>,
     ) -> Result<Option<Numbered>, NotNamed> {
-        text::read(&self.learner(&learn), text)
+        text::read(&self.learner(&self.reading, &learn), text)
     }
 
-    fn walk(&self, find: impl Find, body: &[u8]) -> Result<Numbered, Stop> {
-        Walk::new(&self.reading, find, body.len()).request(body)
-    }
-
-    fn learner<'s>(&'s self, learn: &'s Learn<'s>) -> Learner<'s> {
+    fn learner<'s>(&'s self, reading: &'s Reading, learn: &'s Learn<'s>) -> Learner<'s> {
         Learner {
             levels: &self.levels,
-            reading: &self.reading,
+            reading,
             is_full: &self.is_full,
             learn,
         }
     }
+}
+
+fn walk(find: impl Find, reading: &Reading, body: &[u8]) -> Result<Numbered, Stop> {
+    Walk::new(reading, find, body.len()).request(body)
 }
 
 #[cfg(test)]

@@ -202,6 +202,20 @@ impl Whole {
         Whole { profile, ..self }
     }
 
+    /// The same for a slot of several, which decides by what it has itself.
+    pub fn of_slot(&self) -> Whole {
+        let units = self.units.clone();
+        Whole {
+            units: units.map(|of_all| Arc::new(Units::of_slot(of_all))),
+            ..self.clone()
+        }
+    }
+
+    /// Whose decisions these are: 0 where all slots have the same.
+    pub fn decides(&self) -> u64 {
+        self.units.as_ref().map_or(0, |units| units.number)
+    }
+
     /// Whether metrics without a unit have a rule, also where their field is not there.
     pub fn has_no_unit(&self) -> bool {
         self.rules.contains_key("")

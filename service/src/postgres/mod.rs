@@ -2,9 +2,11 @@
 
 mod address;
 mod connection;
+mod identity;
 mod said;
 mod tls;
 
 pub use address::Server;
 pub(crate) use connection::{connect, Connected, Driver, NotConnected};
+pub(crate) use identity::identity;
 pub(crate) use said::shown;

@@ -47,14 +47,17 @@ impl Heard {
     }
 
     fn note_at(&self, sender: &str, outcome: &Outcome, now: u64) -> Option<&'static str> {
+        let reason = reason_of(outcome);
         let mut all = self.lock();
-        if !all.contains_key(sender) {
-            make_room(&mut all);
-            all.insert(sender.to_string(), OfSender::default());
-        }
-        let of = all.get_mut(sender)?;
+        let of = match all.get_mut(sender) {
+            Some(of) => of,
+            None => {
+                make_room(&mut all);
+                all.entry(sender.to_string()).or_default()
+            }
+        };
         of.last = now;
-        let Some(reason) = reason_of(outcome) else {
+        let Some(reason) = reason else {
             of.taken += 1;
             return None;
         };

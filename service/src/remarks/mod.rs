@@ -326,6 +326,10 @@ impl Teller {
 }
 
 impl<T: Taker> Taker for Remarks<T> {
+    fn reading<'r>(&'r self, of_all: &'r Arc<Reading>) -> &'r Arc<Reading> {
+        self.taker.reading(of_all)
+    }
+
     fn numbered(&self, body: &Bytes, reading: &Arc<Reading>) -> Option<ByNumber> {
         self.taker.numbered(body, reading)
     }
@@ -351,6 +355,9 @@ impl<T: Taker> Taker for Remarks<T> {
         let teller = &self.teller;
         let source = request.source();
         let outcome = self.taker.post(sender.into(), request).await;
+        if let Outcome::Taken { rejected: 0, .. } = outcome {
+            return outcome; // as nearly all are: nothing is to be said
+        }
         teller.note_clock(sender, &outcome);
         let remark = teller.remark(sender, &outcome);
         let outcome = teller.in_words(sender, &source, original, outcome).await;

@@ -102,7 +102,7 @@ async fn adopt_series(
 }
 
 /// Slot 0 gets the posts of senders who are quarantined in other slots.
-fn move_held(folder: &Folder) -> Result<(), Ended> {
+pub(crate) fn move_held(folder: &Folder) -> Result<(), Ended> {
     for number in folder
         .slots_with_files()?
         .into_iter()

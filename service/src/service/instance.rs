@@ -1,23 +1,26 @@
 //! One of several instances that share a store: its slots come and go, as the cluster decides.
 
 use super::parts::limits;
+use super::peers::Peers;
 use super::unit::Files;
 use super::units::Units;
 use super::{Ended, Settings};
 use crate::cluster::terms::{self, Doing, Unopened};
-use crate::cluster::{Beats, Cluster, Forward, Internal, Secret, Wire};
+use crate::cluster::{Beats, Cluster, Forward, Internal, Secret};
 use crate::files::drive::{self, Drive};
 use crate::files::Fault;
-use crate::intake::connections::{serve, Limits};
+use crate::intake::connections::{serve_over, Limits};
 use crate::intake::Intake;
+use crate::metrics::{Metrics, OfCluster};
+use crate::operate::{Databases, Desk, Others};
 use crate::remarks::Remarks;
 use crate::slot::{Slot, Slots};
 use crate::store::postgres::{Copies, Member, PostgresDrive, PostgresStore, Server};
+use crate::tls;
 use crate::work::blocking;
 use anyhow::{anyhow, Context};
 use std::collections::BTreeMap;
 use std::sync::{Arc, Mutex, MutexGuard, PoisonError};
-use tokio::net::TcpListener;
 use tokio::sync::watch;
 use tokio::task::JoinHandle;
 
@@ -32,6 +35,10 @@ pub struct OfStore {
     pub instance: String,
     /// Where others bring posts.
     pub peer: String,
+    /// What they show each other there, if they speak TLS.
+    pub peer_tls: Option<tls::Files>,
+    /// Nobody else reaches their network.
+    pub peer_plain: bool,
     /// What the meaning of posts hangs on: all say the same.
     pub reading: String,
 }
@@ -45,39 +52,64 @@ pub(super) struct Joining {
     pub cluster: Arc<Cluster>,
     pub forward: Arc<Forward<Here>>,
     secret: Secret,
-    peer: TcpListener,
+    peers: Peers,
+    /// Of who is shown the cluster.
+    metrics: Option<OfCluster>,
 }
 
 impl Joining {
-    /// Waits for the store, but not for ever.
-    pub async fn open(of: &OfStore, peer: TcpListener) -> Result<Joining, Ended> {
-        let (databases, copies, reading) = (of.databases.clone(), of.copies, of.reading.clone());
-        let opened = blocking(move || PostgresStore::open(&databases, copies, &reading)).await;
-        let store = opened.context("the store can't be used")?;
+    pub fn new(
+        of: &OfStore,
+        peers: Peers,
+        store: PostgresStore,
+        metrics: &Metrics,
+    ) -> Result<Joining, Ended> {
         let secret =
             Secret::new(&store.cluster.secret).ok_or_else(|| anyhow!("the store's secret is no head"))?;
         let cluster = Cluster::new(&of.instance);
-        let forward = Arc::new(Forward::new(cluster.clone(), secret.clone(), Wire::Plain));
+        let forward = Arc::new(Forward::new(cluster.clone(), secret.clone(), peers.wire()));
         Ok(Joining {
             store: Arc::new(store),
             cluster,
             forward,
             secret,
-            peer,
+            peers,
+            metrics: Some(OfCluster::new(&metrics.registry).context("no metrics can be made")?),
+        })
+    }
+
+    /// How operators reach the other instances; once.
+    pub fn others(&mut self, of: &OfStore) -> Option<Others> {
+        Some(Others {
+            metrics: self.metrics.take()?,
+            cluster: self.cluster.clone(),
+            asks: self.forward.clone(),
+            databases: Databases::begin(&self.store, of.copies),
+            instance: of.instance.clone(),
+            address: of.peer.clone(),
         })
     }
 
     /// Takes slots from now on.
-    pub fn join(self, settings: &Settings, of: &OfStore, units: Units, intake: &Arc<Here>) -> Joined {
+    pub fn join(
+        self,
+        settings: &Settings,
+        of: &OfStore,
+        units: Units,
+        intake: &Arc<Here>,
+        desk: Arc<Desk>,
+    ) -> Joined {
         self.forward.serve(intake.clone());
         let (stop_peer, peer_stopped) = watch::channel(false);
         let (stop_beats, beats_stopped) = watch::channel(false);
         let internal = Internal::new(self.cluster.clone(), intake.clone(), self.secret);
+        internal.answers_by(desk);
         let of_peers = Limits {
             connections: PEERS,
             ..limits(settings)
         };
-        let peer = tokio::spawn(serve(self.peer, of_peers, internal, peer_stopped));
+        let Peers { listener, tls } = self.peers;
+        let peer = tokio::spawn(serve_over(listener, tls, of_peers, internal, peer_stopped));
         let member = Arc::new(Member::new(self.store.clone(), &of.instance, &of.peer));
         let instance = Arc::new(Instance {
             units,
@@ -107,15 +139,19 @@ pub(super) struct Joined {
 }
 
 impl Joined {
-    pub fn cluster(&self) -> Arc<Cluster> {
-        self.cluster.clone()
-    }
-
     /// A slot has ended alone: its writes found another owner.
     pub fn lost(&self, slot: u16) {
         if let Some(drive) = self.instance.forget(slot) {
             self.instance.units.lose(slot);
             self.cluster.lost(slot, drive.term());
+        }
+    }
+
+    /// A slot has ended by a fault. Nothing else ends: another instance may have what this one lacks.
+    pub fn failed(&self, slot: u16, why: &Ended) {
+        if let Some(drive) = self.instance.forget(slot) {
+            self.instance.units.lose(slot);
+            self.cluster.failed(slot, drive.term(), &why.to_string());
         }
     }
 

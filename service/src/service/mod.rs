@@ -7,14 +7,16 @@ pub mod init;
 mod instance;
 mod operators;
 mod parts;
+mod peers;
 mod running;
 mod senders;
 mod sink;
 mod supervisor;
 mod unit;
 mod units;
+mod waiting;
 
-pub(crate) use adopt::slot_of;
+pub(crate) use adopt::{leave_others, move_held, slot_of};
 pub use instance::OfStore;
 pub use operators::Operate;
 
@@ -34,7 +36,8 @@ use anyhow::{anyhow, Context};
 use instance::Joining;
 use operators::{Operators, Readers};
 use parts::Parts;
-use senders::{bind, Senders};
+use peers::Peers;
+use senders::Senders;
 use std::path::PathBuf;
 use std::sync::{Arc, OnceLock};
 use std::time::Duration;
@@ -150,10 +153,10 @@ pub async fn run(settings: Settings) -> Result<(), Ended> {
     let is_ready = move || begun.get().is_some_and(|units| units.are_ready());
     let watched = tokio::spawn(supervisor.clone().watch(is_ready));
     let opened = match &settings.store {
-        None => of_folder(&settings, readers, &mut signals).await?,
-        Some(of) => Some(of_store(&settings, of, readers).await?),
+        None => of_folder(&settings, senders, readers, &mut signals).await?,
+        Some(of) => of_store(&settings, of, senders, readers, &mut signals).await?,
     };
-    let Some((parts, operators)) = opened else {
+    let Some((parts, senders, operators)) = opened else {
         return Ok(());
     };
     let settings = Arc::new(settings);
@@ -182,29 +185,53 @@ pub async fn run(settings: Settings) -> Result<(), Ended> {
     }
 }
 
-/// None where it was told to end meanwhile.
+/// All parts, and the addresses; none where it was told to end meanwhile.
+type Opened = Option<(Parts, Senders, Operators)>;
+
 async fn of_folder(
     settings: &Settings,
+    senders: Senders,
     readers: Readers,
     signals: &mut Signals,
-) -> Result<Option<(Parts, Operators)>, Ended> {
+) -> Result<Opened, Ended> {
     let folder = Arc::new(Folder::open(&settings.data, settings.durability)?);
+    folder.counts()?;
     let operators = readers.and_socket(&settings.operate).await?;
     let keeping = settings.keeping();
     let ending = async { tracing::info!("{}: ending", signals.received().await) };
     match adopt::slots(&folder, settings.most_series, &keeping, ending).await? {
-        true => Ok(Some((Parts::open(folder, settings)?, operators))),
+        true => Ok(Some((Parts::open(folder, settings)?, senders, operators))),
         false => Ok(None),
     }
 }
 
-async fn of_store(settings: &Settings, of: &OfStore, readers: Readers) -> Result<(Parts, Operators), Ended> {
-    let peer = bind("--peer", &of.peer).await?;
+async fn of_store(
+    settings: &Settings,
+    of: &OfStore,
+    senders: Senders,
+    readers: Readers,
+    signals: &mut Signals,
+) -> Result<Opened, Ended> {
+    let peers = Peers::bind(of, &settings.metrics).await?;
     let folder = settings.data.display();
     std::fs::create_dir_all(&settings.data).with_context(|| format!("the folder {folder} can't be made"))?;
     let operators = readers.and_socket(&settings.operate).await?;
-    let joining = Joining::open(of, peer).await?;
-    Ok((Parts::of_store(joining, settings)?, operators))
+    let twice = "an address can't be served twice";
+    let [senders, senders_before] = senders.twins().context(twice)?;
+    let [operators, operators_before] = operators.twins().context(twice)?;
+    let before = (senders_before, operators_before);
+    let ending = async { tracing::info!("{}: ending", signals.received().await) };
+    match waiting::store(settings, of, before, ending).await? {
+        Some(store) => {
+            let joining = Joining::new(of, peers, store, &settings.metrics)?;
+            let store = joining.store.clone();
+            let parts = Parts::of_store(joining, settings)?;
+            // An instance whose sink is refused says nothing to the others.
+            store.agree(&of.reading).context("the store can't be used")?;
+            Ok(Some((parts, senders, operators)))
+        }
+        None => Ok(None),
+    }
 }
 
 /// The signals that end the service.

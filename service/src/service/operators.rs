@@ -1,9 +1,9 @@
 //! Where operators come to.
 
-use super::senders::{bind, is_local};
+use super::senders::{bind, is_local, twins};
 use super::{Ended, Settings};
 use crate::identity::Tokens;
-use crate::intake::connections::{serve, Limits};
+use crate::intake::connections::{serve, Handler, Limits};
 use crate::intake::{listen_at_socket, Listener};
 use crate::operate::{AtTcp, Desk};
 use crate::renewed::Renewed;
@@ -69,6 +69,23 @@ async fn bind_socket(path: &Path) -> Result<UnixListener, Ended> {
 }
 
 impl Operators {
+    /// The same addresses twice, of which the second is for who serves them before.
+    pub fn twins(self) -> std::io::Result<[Operators; 2]> {
+        let socket = self.socket.into_std()?;
+        let sockets = [socket.try_clone()?, socket];
+        let mut tcp = match self.tcp {
+            Some(tcp) => twins(tcp)?.map(Some),
+            None => [None, None],
+        };
+        let [one, other] = sockets.map(UnixListener::from_std);
+        let mut with = |socket, place: usize| Operators {
+            tcp: tcp[place].take(),
+            socket,
+            tokens: self.tokens.clone(),
+        };
+        Ok([with(one?, 0), with(other?, 1)])
+    }
+
     /// Where each is asked.
     pub fn shown(&self) -> String {
         let tcp = self
@@ -88,13 +105,28 @@ impl Operators {
         let at_tcp = AtTcp {
             desk: desk.clone(),
             orders_at: self.socket.shown(),
-            tokens: self.tokens,
+            tokens: self.tokens.clone(),
         };
+        self.serve_both(limits, Arc::new(at_tcp), desk, stop).await;
+    }
+
+    /// The same, with one answer for both.
+    pub async fn serve_all<H: Handler>(self, limits: Limits, handler: Arc<H>, stop: watch::Receiver<bool>) {
+        self.serve_both(limits, handler.clone(), handler, stop).await;
+    }
+
+    async fn serve_both<T: Handler, H: Handler>(
+        self,
+        limits: Limits,
+        at_tcp: Arc<T>,
+        at_socket: Arc<H>,
+        stop: watch::Receiver<bool>,
+    ) {
         let tcp = async {
             if let Some(tcp) = self.tcp {
-                serve(tcp, limits.clone(), Arc::new(at_tcp), stop.clone()).await;
+                serve(tcp, limits.clone(), at_tcp, stop.clone()).await;
             }
         };
-        tokio::join!(tcp, serve(self.socket, limits.clone(), desk, stop.clone()));
+        tokio::join!(tcp, serve(self.socket, limits.clone(), at_socket, stop.clone()));
     }
 }

@@ -1,7 +1,7 @@
 //! Opens all parts.
 
 use super::adopt::leave_others;
-use super::instance::{Joined, Joining};
+use super::instance::Joining;
 use super::operators::Operators;
 use super::running::Running;
 use super::senders::Senders;
@@ -14,7 +14,7 @@ use crate::intake::{Budget, Intake, Threads};
 use crate::operate::{self, Acts, Desk, Pulse, Totals};
 use crate::remarks::{Heard, Remarks, Teller};
 use crate::shares::Rules;
-use crate::sinks::{self, Sink};
+use crate::sinks::Sink;
 use crate::slot::{Shared, Slot, Slots};
 use anyhow::Context;
 use std::sync::Arc;
@@ -72,15 +72,20 @@ impl Parts {
             dead,
             former,
         };
-        let opened = Opened::new(files, settings, &shared)?;
+        let opened = Opened::new(files, 1, settings, &shared)?;
         Parts::of(Of::Folder(Box::new(opened)), settings, shared, acts, sink)
     }
 
-    /// The slots of a store are opened once they are taken. All instances name the same sink, so none is remembered.
+    /// The slots of a store are opened once they are taken.
     pub fn of_store(joining: Joining, settings: &Settings) -> Result<Parts, Ended> {
         let acts = Arc::new(Acts::in_folder(&settings.data));
-        let sink = sinks::open(&settings.sink, settings.keep, Arc::new(()));
-        let sink = sink.context("the sink can't be opened")?;
+        let sink = super::sink::open_of_store(
+            &joining.store,
+            &settings.sink,
+            settings.keep,
+            settings.new_sink,
+            acts.clone(),
+        )?;
         let shared = Arc::new(Shared::new(settings.metrics.clone(), settings.clock));
         Parts::of(Of::Store(joining), settings, shared, acts, sink)
     }
@@ -114,7 +119,7 @@ impl Parts {
             heard.clone(),
             settings.pass.clone(),
         );
-        let (slots, joining) = self.of.begin(settings, &at_work, &teller, &self.sink);
+        let (slots, mut joining) = self.of.begin(settings, &at_work, &teller, &self.sink);
         // Of series that are there already.
         self.shared.shares.begin(Rules {
             most_series: settings.most_series as u64,
@@ -140,20 +145,12 @@ impl Parts {
             metrics.clone(),
         );
         let intake = Arc::new(intake);
-        let joined = joining.zip(settings.store.as_ref()).map(|(joining, of)| {
-            let of_instance = Units {
-                settings: settings.clone(),
-                shared: self.shared.clone(),
-                sink: self.sink.clone(),
-                teller,
-                slots,
-                at_work: at_work.clone(),
-            };
-            joining.join(settings, of, of_instance, &intake)
-        });
+        let store = joining.as_ref().map(|joining| joining.store.clone());
+        let others = joining.as_mut().zip(settings.store.as_ref());
         let desk = Desk {
             units,
-            cluster: joined.as_ref().map(Joined::cluster),
+            others: others.and_then(|(joining, of)| joining.others(of)),
+            store,
             shares: self.shared.shares.clone(),
             acts: self.acts,
             sink: self.sink,
@@ -169,10 +166,22 @@ impl Parts {
             most_series: settings.most_series,
             begun: Instant::now(),
         };
+        let desk = Arc::new(desk);
+        let joined = joining.zip(settings.store.as_ref()).map(|(joining, of)| {
+            let of_instance = Units {
+                settings: settings.clone(),
+                shared: self.shared.clone(),
+                sink: desk.sink.clone(),
+                teller,
+                slots,
+                at_work: at_work.clone(),
+            };
+            joining.join(settings, of, of_instance, &intake, desk.clone())
+        });
         let threads = self.threads;
         Running {
             intake: tokio::spawn(senders.serve(limits(settings), intake, threads.clone(), intake_stopped)),
-            operate: tokio::spawn(operators.serve(of_operators, Arc::new(desk), operate_stopped)),
+            operate: tokio::spawn(operators.serve(of_operators, desk, operate_stopped)),
             stop_intake,
             stop_operate,
             at_work,

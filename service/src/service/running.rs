@@ -30,13 +30,14 @@ pub(super) struct Running {
 }
 
 impl Running {
-    /// Returns once a part has ended that nobody told to end. A slot that is lost has ended alone.
+    /// Returns once a part has ended that nobody told to end. A slot that is lost has ended alone, and so has each of a store.
     pub async fn ended(&mut self) -> Ended {
         loop {
             tokio::select! {
-                Some((slot, end)) = self.ends.recv() => match end {
-                    End::Lost => self.lost(slot),
-                    End::Failed(why) => return why,
+                Some((slot, end)) = self.ends.recv() => match (end, &self.joined) {
+                    (End::Lost, _) => self.lost(slot),
+                    (End::Failed(why), Some(joined)) => joined.failed(slot, &why),
+                    (End::Failed(why), None) => return why,
                 },
                 end = &mut self.intake => return cause("the intake", end.map(Ok::<(), Fault>)),
                 end = &mut self.operate => return cause("the operator's address", end.map(Ok::<(), Fault>)),

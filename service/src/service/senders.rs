@@ -59,7 +59,29 @@ pub(super) struct Senders {
     pub door: Door,
 }
 
+/// The same socket twice. Who comes is accepted at the one or at the other.
+pub(super) fn twins(listener: TcpListener) -> std::io::Result<[TcpListener; 2]> {
+    let one = listener.into_std()?;
+    let other = one.try_clone()?;
+    Ok([TcpListener::from_std(one)?, TcpListener::from_std(other)?])
+}
+
 impl Senders {
+    /// The same addresses twice, of which the second is for who serves them before.
+    pub fn twins(self) -> std::io::Result<[Senders; 2]> {
+        let mut callers = match self.callers {
+            Some(callers) => twins(callers)?.map(Some),
+            None => [None, None],
+        };
+        let [one, other] = twins(self.senders)?;
+        let mut with = |senders, place: usize| Senders {
+            senders,
+            callers: callers[place].take(),
+            door: self.door.clone(),
+        };
+        Ok([with(one, 0), with(other, 1)])
+    }
+
     /// Listens at their addresses, which nobody accepts at yet.
     pub async fn bind(settings: &Settings) -> Result<Senders, Ended> {
         let senders = bind_closed("--listen", &settings.listen, settings).await?;

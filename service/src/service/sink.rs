@@ -1,21 +1,62 @@
-//! The sink is the one that the folder remembers, or the operator says that it is a new one.
+//! The sink is the one that the folder or the store (`in_store`) remembers, or the operator says that it is a new one.
+
+mod in_store;
 
 use super::Ended;
-use crate::files::{Fault, Folder, KnownSink, Outbox};
+use crate::files::{Folder, KnownSink, Outbox};
 use crate::operate::{Act, Actor, Acts};
 use crate::sinks::{self, Address, Keep, Memory, Sink};
+use crate::store::postgres::PostgresStore;
 use anyhow::{anyhow, Context};
+use in_store::InStore;
 use std::sync::atomic::{AtomicBool, Ordering::Relaxed};
 use std::sync::Arc;
 
-struct Remembered {
+/// Where the sink is remembered.
+trait Remembers: Send + Sync + 'static {
+    fn sink(&self) -> Option<KnownSink>;
+
+    /// Durable, or not done, when this returns.
+    fn set_sink(&self, sink: KnownSink) -> Result<(), Ended>;
+
+    /// The error is why it may not be another one now.
+    fn may_change(&self) -> Result<(), Ended>;
+
+    /// How many requests wait, where that is known.
+    fn waiting(&self) -> Option<u64>;
+
+    fn refusal(&self, known: &KnownSink, found: &str) -> String;
+
+    /// Of a store, which databases it is in.
+    fn databases(&self) -> Vec<Option<String>> {
+        Vec::new()
+    }
+}
+
+struct InFolder {
     folder: Arc<Folder>,
+    outboxes: Vec<Arc<Outbox>>,
+}
+
+struct Remembered {
+    place: Box<dyn Remembers>,
     /// The one of this start, so far without an id.
     now: KnownSink,
     /// Until it was taken.
     takes_new: AtomicBool,
-    outboxes: Vec<Arc<Outbox>>,
     acts: Arc<Acts>,
+}
+
+/// Opens the sink of a store's instances.
+pub(super) fn open_of_store(
+    store: &Arc<PostgresStore>,
+    address: &Address,
+    keep: Keep,
+    takes_new: bool,
+    acts: Arc<Acts>,
+) -> Result<Arc<dyn Sink>, Ended> {
+    let place = InStore::open(store.clone()).context("the store can't be used")?;
+    opened(Box::new(place), address, keep, takes_new, acts)
 }
 
 /// Opens the sink. What waits in these outboxes goes into it.
@@ -27,11 +68,24 @@ pub(super) fn open(
     outboxes: Vec<Arc<Outbox>>,
     acts: Arc<Acts>,
 ) -> Result<Arc<dyn Sink>, Ended> {
-    let memory = Arc::new(Remembered {
+    let place = InFolder {
         folder: folder.clone(),
+        outboxes,
+    };
+    opened(Box::new(place), address, keep, takes_new, acts)
+}
+
+fn opened(
+    place: Box<dyn Remembers>,
+    address: &Address,
+    keep: Keep,
+    takes_new: bool,
+    acts: Arc<Acts>,
+) -> Result<Arc<dyn Sink>, Ended> {
+    let memory = Arc::new(Remembered {
+        place,
         now: address.known(),
         takes_new: AtomicBool::new(takes_new),
-        outboxes,
         acts,
     });
     memory.look_at_kind()?;
@@ -43,7 +97,7 @@ pub(super) fn open(
 impl Remembered {
     /// Before anything is made in a place that is another kind's.
     fn look_at_kind(&self) -> Result<(), Ended> {
-        match self.folder.sink() {
+        match self.place.sink() {
             Some(known) if known.kind != self.now.kind && !self.takes_new.load(Relaxed) => {
                 Err(anyhow!(self.refusal(&known, &self.now)).into())
             }
@@ -55,15 +109,18 @@ impl Remembered {
     /// was met is remembered by now.
     fn look_at_address(&self) -> Result<(), Ended> {
         let takes_new = self.takes_new.load(Relaxed);
-        match self.folder.sink() {
+        match self.place.sink() {
             Some(known) if known == self.now || !takes_new && known.is_at(&self.now) => Ok(()),
             Some(known) if !takes_new => Err(anyhow!(self.refusal(&known, &self.now)).into()),
-            known => Ok(self.remember(known, self.now.clone())?),
+            known => self.remember(known, self.now.clone()),
         }
     }
 
-    fn remember(&self, before: Option<KnownSink>, now: KnownSink) -> Result<(), Fault> {
+    fn remember(&self, before: Option<KnownSink>, now: KnownSink) -> Result<(), Ended> {
         let left = before.filter(|before| self.takes_new.load(Relaxed) && !before.is(&now));
+        if left.is_some() {
+            self.place.may_change()?;
+        }
         let act = left.as_ref().map(|left| {
             Act::new(
                 Actor::User(None),
@@ -74,22 +131,21 @@ impl Remembered {
         if let Some(act) = &act {
             self.acts.begins(act);
         }
-        self.folder.set_sink(now.clone())?;
+        self.place.set_sink(now.clone())?;
         if let (Some(act), Some(left)) = (act, left) {
-            let waiting = self.waiting();
+            let waiting = self.place.waiting();
+            let shown = waiting.map_or(String::new(), |waiting| format!(" ({waiting})"));
             tracing::warn!(
-                "--new-sink: from here on all goes into {now}, also the requests that wait ({waiting}); {left} keeps what it \
-                 has taken"
+                "--new-sink: from here on all goes into {now}, also the requests that wait{shown}; {left} keeps what it has \
+                 taken"
             );
-            self.acts
-                .ended(&act, &format!("done; requests that waited: {waiting}"));
+            let waited = waiting.map_or(String::new(), |waiting| {
+                format!("; requests that waited: {waiting}")
+            });
+            self.acts.ended(&act, &format!("done{waited}"));
         }
         self.takes_new.store(false, Relaxed);
         Ok(())
-    }
-
-    fn waiting(&self) -> u64 {
-        self.outboxes.iter().map(|outbox| outbox.waiting().0).sum()
     }
 
     fn refusal(&self, known: &KnownSink, now: &KnownSink) -> String {
@@ -97,19 +153,46 @@ impl Remembered {
             (Some(_), None) if known.is_at(now) => format!("{now}, which is empty or an older one"),
             _ => now.to_string(),
         };
+        self.place.refusal(known, &found)
+    }
+}
+
+impl Remembers for InFolder {
+    fn sink(&self) -> Option<KnownSink> {
+        self.folder.sink()
+    }
+
+    fn set_sink(&self, sink: KnownSink) -> Result<(), Ended> {
+        Ok(self.folder.set_sink(sink)?)
+    }
+
+    /// The folder is this process' own.
+    fn may_change(&self) -> Result<(), Ended> {
+        Ok(())
+    }
+
+    fn waiting(&self) -> Option<u64> {
+        Some(self.outboxes.iter().map(|outbox| outbox.waiting().0).sum())
+    }
+
+    fn refusal(&self, known: &KnownSink, found: &str) -> String {
         format!(
             "this folder delivers to {known}, and the sink is now {found}; requests that wait: {}. Set --sink (or \
              TOTXEGUN_SINK) to the old one, or put it back; or give --new-sink for one start: what waits, and all after \
              it, goes into the new one",
-            self.waiting()
+            self.waiting().unwrap_or_default()
         )
     }
 }
 
 impl Memory for Remembered {
+    fn databases(&self) -> Vec<Option<String>> {
+        self.place.databases()
+    }
+
     fn admit(&self, id: Option<&str>, is_replaced: bool) -> Result<(), String> {
         let now = self.now.with_id(id);
-        let known = self.folder.sink();
+        let known = self.place.sink();
         let may_be = is_replaced || self.takes_new.load(Relaxed);
         match known {
             Some(known) if known == now => {
@@ -118,7 +201,7 @@ impl Memory for Remembered {
             }
             Some(known) if !may_be && !known.is(&now) => Err(self.refusal(&known, &now)),
             _ if id.is_none() => Ok(()), // one is made now
-            known => self.remember(known, now).map_err(|fault| fault.to_string()),
+            known => self.remember(known, now).map_err(|ended| ended.to_string()),
         }
     }
 }

@@ -21,6 +21,9 @@ const LAST_CHECKPOINT: Duration = Duration::from_secs(5);
 /// How long what is changing a file is waited for: a fault there is told by the exit status.
 pub(super) const LAST_CHANGES: Duration = Duration::from_secs(2);
 
+/// A slot of several has so many times its share of all series at least.
+const UNEVEN: usize = 4;
+
 /// Where a slot is kept.
 pub(super) struct Files {
     pub number: u16,
@@ -59,10 +62,24 @@ pub(super) struct Unit {
     stop_deliveries: watch::Sender<bool>,
 }
 
+/// How many series a slot has room for: a book takes its memory from the beginning, and an instance may have all slots. So
+/// each has more than its share, since resources are uneven, and more than it has already.
+fn room(most_series: usize, slots: u16, known: usize) -> usize {
+    let share = (UNEVEN * most_series).div_ceil(usize::from(slots.max(1)));
+    share.max(2 * known).min(most_series)
+}
+
 impl Opened {
-    pub fn new(files: Files, settings: &Settings, shared: &Shared) -> Result<Opened, Ended> {
-        settings.reading.whole.know(&files.outbox, &files.journal)?;
-        let core = Core::apart(settings.most_series, settings.across).with_context(|| {
+    /// One of so many slots.
+    pub fn new(files: Files, slots: u16, settings: &Settings, shared: &Shared) -> Result<Opened, Ended> {
+        let reading = settings
+            .store
+            .is_some()
+            .then(|| Arc::new(settings.reading.of_slot()));
+        let whole = &reading.as_deref().unwrap_or(&settings.reading).whole;
+        whole.know(&files.outbox, &files.journal)?;
+        let room = room(settings.most_series, slots, files.outbox.series_count());
+        let core = Core::apart(room, settings.across).with_context(|| {
             format!(
                 "a book for --most-series {} can't be made: give a greater --book-memory, or a smaller --most-series",
                 settings.most_series
@@ -75,7 +92,7 @@ impl Opened {
             dead,
             former,
         } = files;
-        let slot = Slot::of(number, journal, outbox, core, shared);
+        let slot = Slot::reading_by(reading, number, journal, outbox, core, shared);
         slot.runs.set(settings.runs);
         let (keeper, orders) = Keeper::new(slot.clone(), settings.keeping());
         Ok(Opened {

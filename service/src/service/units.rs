@@ -138,7 +138,8 @@ impl Units {
     /// Has a slot here: its posts are answered 503 until its book is filled.
     pub async fn open(&self, files: Files) -> Result<(), Ended> {
         let (settings, shared) = (self.settings.clone(), self.shared.clone());
-        let opened = blocking(move || Opened::new(files, &settings, &shared)).await?;
+        let slots = self.slots.count();
+        let opened = blocking(move || Opened::new(files, slots, &settings, &shared)).await?;
         let (number, taker) = (opened.slot.number(), taker(&opened.slot, &self.teller));
         self.at_work.start(opened.start(&self.sink));
         self.slots.set(number, Place::Here(taker));

@@ -25,7 +25,7 @@ const LOOK: Duration = Duration::from_secs(1);
 const AGAIN: u64 = 10;
 
 /// How many senders are shown.
-const SHOWN: usize = 10;
+pub const SHOWN: usize = 10;
 
 /// Until there are rules each may have all.
 #[derive(Default)]

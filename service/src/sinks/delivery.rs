@@ -53,6 +53,10 @@ pub async fn deliver(
 /// What a delivery needs of the files.
 trait Store: Sync {
     fn epoch(&self) -> String;
+    /// Under which the slot is this instance's, where there are several.
+    fn term(&self) -> Option<u64> {
+        None
+    }
     fn first(&self) -> impl Future<Output = Result<(Waiting, Vec<u8>), Fault>> + Send;
     /// Returns once a request may be sent: it is durable, and the slot is this instance's.
     fn may_deliver(&self, number: u64) -> impl Future<Output = Result<(), Fault>> + Send;
@@ -77,6 +81,10 @@ struct Files {
 impl Store for Files {
     fn epoch(&self) -> String {
         self.outbox.epoch()
+    }
+
+    fn term(&self) -> Option<u64> {
+        self.outbox.term()
     }
 
     async fn first(&self) -> Result<(Waiting, Vec<u8>), Fault> {
@@ -168,7 +176,8 @@ impl<S: Store> Run<S> {
             let held = self.unless_stopped(self.sink.keys().hold(&key)).await?;
             self.unless_stopped(self.files.may_deliver(request.number))
                 .await??;
-            let fate = self.unless_stopped(self.sink.deliver(&request)).await?;
+            let fate = self.sink.deliver_of(&request, self.files.term());
+            let fate = self.unless_stopped(fate).await?;
             let outcome = match fate {
                 Fate::Denied { .. } => "denied",
                 _ => "again",

@@ -101,6 +101,12 @@ pub type Answer<'a, T> = Pin<Box<dyn Future<Output = T> + Send + 'a>>;
 pub trait Sink: Send + Sync {
     fn deliver<'a>(&'a self, request: &'a Forwarded) -> Answer<'a, Fate>;
 
+    /// The same of a slot that this instance has under a term: where the sink is in the database that has the slot's row, it
+    /// takes the request and notes that it has, in one transaction, and takes none of an earlier term.
+    fn deliver_of<'a>(&'a self, request: &'a Forwarded, _term: Option<u64>) -> Answer<'a, Fate> {
+        self.deliver(request)
+    }
+
     /// Closes or opens a period, or corrects: wholly or not at all, between two requests.
     fn settle<'a>(&'a self, _who: &'a str, _deed: &'a Deed) -> Answer<'a, Told> {
         let why = "keeps no periods: only a SQLite or PostgreSQL sink can close, open and correct them";
@@ -121,6 +127,11 @@ pub trait Memory: Send + Sync {
     /// Whether requests may go into the sink of this id, else why not; without one it is empty, or of a schema that had
     /// none. `is_replaced` says that this run had it open and found it replaced, which was told.
     fn admit(&self, id: Option<&str>, is_replaced: bool) -> Result<(), String>;
+
+    /// Of each database of the store that has the slots, which one it is, by its own word.
+    fn databases(&self) -> Vec<Option<String>> {
+        Vec::new()
+    }
 }
 
 /// Remembers nothing.

@@ -19,7 +19,7 @@ pub use slots::{Elsewhere, Place, Slots, Way, NO_OWNER};
 use crate::core::{Core, Refused};
 use crate::files::{Held, Journal, Outbox, Room};
 use crate::metrics::Metrics;
-use crate::otlp::{Clock, Outcome};
+use crate::otlp::{Clock, Outcome, Reading};
 use crate::runs::Runs;
 use crate::shares::Shares;
 use bytes::Bytes;
@@ -64,6 +64,8 @@ pub struct Slot {
     pub(crate) landed: Notify,
     told: disk::Told,
     pub(crate) shares: Arc<Shares>,
+    /// Where it reads by itself, as each of several does.
+    reading: Option<Arc<Reading>>,
 }
 
 /// What all slots of a process share.
@@ -119,7 +121,20 @@ impl Slot {
         core: Arc<Core>,
         shared: &Shared,
     ) -> Arc<Slot> {
+        Slot::reading_by(None, number, journal, outbox, core, shared)
+    }
+
+    /// The same, which reads posts so, and not as all others here.
+    pub fn reading_by(
+        reading: Option<Arc<Reading>>,
+        number: u16,
+        journal: Journal,
+        outbox: Arc<Outbox>,
+        core: Arc<Core>,
+        shared: &Shared,
+    ) -> Arc<Slot> {
         Arc::new(Slot {
+            reading,
             number,
             room: journal.room().clone(),
             journal: Arc::new(journal),
@@ -142,6 +157,11 @@ impl Slot {
 
     pub fn number(&self) -> u16 {
         self.number
+    }
+
+    /// How its posts are read, beside what they say themselves.
+    pub fn reading<'r>(&'r self, of_all: &'r Arc<Reading>) -> &'r Arc<Reading> {
+        self.reading.as_ref().unwrap_or(of_all)
     }
 
     /// Puts a request into the book. What is taken is in the journal, as durably as was asked for, before this returns,

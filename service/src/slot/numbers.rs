@@ -69,7 +69,7 @@ pub(super) struct Numbers {
     /// None until there is a request, and where there is no memory for them.
     now: RwLock<Option<Arc<Generation>>>,
     limits: Limits,
-    /// Of numbers that began with a text, which needs none.
+    /// Of numbers that began with a text, which needs none. All others are of the process' way of reading, or of its slots'.
     of_texts: Arc<Reading>,
 }
 
@@ -164,8 +164,8 @@ impl Generation {
         self.series.is_full() && self.began.elapsed() >= limits.kept
     }
 
-    fn read(&self, body: &[u8]) -> Option<Numbered> {
-        self.series.read(body, |request| self.learnt(request))
+    fn read(&self, body: &[u8], reading: &Reading) -> Option<Numbered> {
+        self.series.read(body, reading, |request| self.learnt(request))
     }
 
     fn read_text(&self, text: &[u8]) -> Result<Option<Numbered>, NotNamed> {
@@ -240,14 +240,11 @@ impl Numbers {
     /// The points of a request in protobuf; none where it is to be read otherwise.
     fn read(&self, core: &Core, body: &Bytes, reading: &Arc<Reading>) -> Option<ByNumber> {
         let now = self.now(core, reading)?;
-        if !Arc::ptr_eq(now.series.reading(), reading) {
-            return None;
-        }
         let source = Source::Protobuf {
             body: body.clone(),
             reading: reading.clone(),
         };
-        Some(now.by_number(now.read(body)?, source))
+        Some(now.by_number(now.read(body, reading)?, source))
     }
 
     /// The points of a request in the book's form, also those that are cumulative; none where the book refuses it whole.

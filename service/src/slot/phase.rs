@@ -1,9 +1,10 @@
 //! Whether posts are taken. It is looked at again under the lock of the book, so none is taken after the last checkpoint.
 
-use std::sync::{Mutex, PoisonError};
+use std::sync::atomic::{AtomicU8, Ordering::SeqCst};
 
 /// What is said at the door.
 #[derive(Clone, Copy, Debug, PartialEq, Eq)]
+#[repr(u8)]
 pub(crate) enum Phase {
     /// The book has not all accepted posts yet.
     Recovering,
@@ -14,15 +15,16 @@ pub(crate) enum Phase {
     Lost,
 }
 
-pub(super) struct Phases(Mutex<Phase>);
+/// One byte, which each post reads and none writes.
+pub(super) struct Phases(AtomicU8);
 
 impl Phases {
     pub fn new() -> Phases {
-        Phases(Mutex::new(Phase::Recovering))
+        Phases(AtomicU8::new(Phase::Recovering as u8))
     }
 
     pub fn now(&self) -> Phase {
-        *self.0.lock().unwrap_or_else(PoisonError::into_inner) // one word is sound at any time
+        Phase::of(self.0.load(SeqCst))
     }
 
     /// Takes posts, unless the service is ending.
@@ -45,9 +47,18 @@ impl Phases {
         self.go_on(|_| Phase::Lost);
     }
 
-    fn go_on(&self, to: impl FnOnce(Phase) -> Phase) {
-        let mut now = self.0.lock().unwrap_or_else(PoisonError::into_inner);
-        *now = to(*now);
+    fn go_on(&self, to: impl Fn(Phase) -> Phase) {
+        let next = |now| Some(to(Phase::of(now)) as u8);
+        let _ = self.0.fetch_update(SeqCst, SeqCst, next); // there is always a next one
+    }
+}
+
+impl Phase {
+    fn of(byte: u8) -> Phase {
+        let all = [Phase::Recovering, Phase::Serving, Phase::Stopping];
+        all.into_iter()
+            .find(|phase| *phase as u8 == byte)
+            .unwrap_or(Phase::Lost)
     }
 }
 

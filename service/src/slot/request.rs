@@ -111,7 +111,10 @@ impl Slot {
         }
         let before = book.series();
         let admitted = book.admit(&mut posted.read);
-        self.metrics.rounds_closed.inc_by(book.rounds_closed() as u64);
+        let closed = book.rounds_closed() as u64;
+        if closed > 0 {
+            self.metrics.rounds_closed.inc_by(closed);
+        }
         if book.earlier_bytes() > MANY_BYTES {
             self.hurried.notify_one();
         }

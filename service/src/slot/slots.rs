@@ -33,6 +33,11 @@ impl<T> Clone for Place<T> {
 
 /// Who brings posts to slots that are not here.
 pub trait Elsewhere: Send + Sync + 'static {
+    /// Why no post is taken here now, whosever its slot is.
+    fn unavailable(&self) -> Option<&'static str> {
+        None
+    }
+
     /// Has its slot's owner take a part of a request: that owner's answer, or 503 where it can't be had. Then the part may
     /// have been taken.
     fn post<'a>(
@@ -129,13 +134,21 @@ impl<T> Slots<T> {
         }
     }
 
+    fn others(&self) -> Option<&dyn Elsewhere> {
+        match &self.0 {
+            Kind::One(_) => None,
+            Kind::Several(several) => several.elsewhere.as_deref(),
+        }
+    }
+
+    /// Why each post is answered 503 now, before it is read.
+    pub fn unavailable(&self) -> Option<&'static str> {
+        self.others()?.unavailable()
+    }
+
     /// Brings a part of a request to its slot's owner.
     pub async fn elsewhere(&self, slot: u16, sender: &str, part: Original) -> Outcome {
-        let elsewhere = match &self.0 {
-            Kind::One(_) => None,
-            Kind::Several(several) => several.elsewhere.as_ref(),
-        };
-        match elsewhere {
+        match self.others() {
             Some(elsewhere) => elsewhere.post(slot, sender, part).await,
             None => Outcome::Refused {
                 status: 503,

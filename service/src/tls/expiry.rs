@@ -23,6 +23,15 @@ pub fn register(metrics: &Metrics, contexts: Arc<Renewed<Contexts>>) -> promethe
     metrics.registry.register(Box::new(Expiry { left, contexts }))
 }
 
+/// The same of the certificate that other instances are shown.
+pub fn register_peers(metrics: &Metrics, contexts: Arc<Renewed<Contexts>>) -> prometheus::Result<()> {
+    let left = IntGauge::new(
+        "totxegun_peer_certificate_expires_seconds",
+        "Seconds until the certificate of --peer ends, below 0 after that",
+    )?;
+    metrics.registry.register(Box::new(Expiry { left, contexts }))
+}
+
 impl Collector for Expiry {
     fn desc(&self) -> Vec<&Desc> {
         self.left.desc()

@@ -38,6 +38,11 @@ impl Shaken {
         Ok(self.stream)
     }
 
+    /// What it was believed by.
+    pub fn contexts(&self) -> Arc<Contexts> {
+        self.contexts.clone()
+    }
+
     /// The certificates that the sender has shown, its own first, and what they were believed by.
     pub fn shown(&self) -> Option<(Vec<rustls::Certificate>, Arc<Contexts>)> {
         let chain = self.stream.get_ref().1.peer_certificates()?;
@@ -65,7 +70,7 @@ impl Tls {
             Some(Ok(shaken)) => ("done", Some(shaken)),
             Some(Err(error)) => {
                 if TOLD.is_due() {
-                    let reason = why(&error);
+                    let reason = why(&error, self.certificate);
                     tracing::warn!(peer, reason, "a TLS handshake with {peer} has failed: {reason}");
                 }
                 ("failed", None)
@@ -102,7 +107,7 @@ async fn in_time<T>(shaking: impl Future<Output = T>, is_full: impl Fn() -> bool
 
 /// What a failed handshake means. A client says that it does not believe us by an alert, which openssl's sends in the clear
 /// where TLS 1.3 has it encrypted.
-fn why(error: &Error) -> String {
+fn why(error: &Error, certificate: &str) -> String {
     let of_tls = error
         .get_ref()
         .and_then(|inner| inner.downcast_ref::<rustls::Error>());
@@ -110,9 +115,10 @@ fn why(error: &Error) -> String {
         Some(
             rustls::Error::DecryptError
             | rustls::Error::AlertReceived(BadCertificate | CertificateUnknown | UnknownCA),
-        ) => "the client broke it off, most often since it does not trust the root of --tls-cert: give it that root, and the \
-              name that stands in the certificate"
-            .into(),
+        ) => format!(
+            "the client broke it off, most often since it does not trust the root of {certificate}: give it that root, and the \
+             name that stands in the certificate"
+        ),
         _ => error.to_string(),
     }
 }
@@ -141,7 +147,7 @@ mod tests {
             .shake(stream.into_std().unwrap(), Protocol::Http)
             .await;
         client.wait().unwrap();
-        why(&shaken.err().expect("it fails"))
+        why(&shaken.err().expect("it fails"), "--tls-cert")
     }
 
     /// Else who operates looks for a fault of the service.

@@ -2,13 +2,14 @@
 //!
 //! `pair` is our certificate with its key, `certificate` (by `der`) what one says of its owner, `handshake` is done on a
 //! thread of its own, from which the `socket` goes to the thread that serves it. `senders` believes those that they show.
-//! `expiry` tells when ours ends.
+//! `expiry` tells when ours ends. `peers` is the same between instances, where both sides show one.
 
 mod certificate;
 mod der;
 mod expiry;
 mod handshake;
 mod pair;
+mod peers;
 mod senders;
 mod socket;
 
@@ -21,19 +22,36 @@ use crate::renewed::{Reader, Renewed};
 use anyhow::Context;
 use pair::{certificates, Pair};
 use rustls::server::{ClientCertVerifier, NoClientAuth};
-use rustls::{RootCertStore, ServerConfig};
+use rustls::{ClientConfig, RootCertStore, ServerConfig};
 use senders::Senders;
 use std::path::PathBuf;
 use std::sync::Arc;
 use std::time::SystemTime;
 
+/// By which options files are given: faults name them.
+#[derive(Clone, Copy, Debug, PartialEq, Eq)]
+pub struct Named {
+    pub certificate: &'static str,
+    pub key: &'static str,
+    pub roots: &'static str,
+}
+
+impl Named {
+    pub const OF_SENDERS: Named = Named {
+        certificate: "--tls-cert",
+        key: "--tls-key",
+        roots: "--client-ca",
+    };
+}
+
 /// Where certificates are, in PEM.
 #[derive(Clone, Debug)]
 pub struct Files {
+    pub named: Named,
     /// Ours, with what is between it and its root.
     pub certificate: PathBuf,
     pub key: PathBuf,
-    /// The roots of senders' certificates, where these name them.
+    /// The roots of others' certificates, where these are shown.
     pub client_ca: Option<PathBuf>,
 }
 
@@ -65,26 +83,43 @@ pub struct Contexts {
     http: Arc<ServerConfig>,
     grpc: Arc<ServerConfig>,
     senders: Option<Arc<Senders>>,
+    /// How other instances are asked.
+    client: Option<Arc<ClientConfig>>,
     /// Seconds since 1970 at which our certificate ends.
     ends: i64,
 }
 
 impl Contexts {
     /// `contents` are of the certificate, of its key, and of the roots of senders where there are some.
-    fn read(contents: &[Vec<u8>], without: WithoutCertificate) -> Result<Contexts, String> {
+    fn read(named: Named, contents: &[Vec<u8>], without: WithoutCertificate) -> Result<Contexts, String> {
         let [chain, key, rest @ ..] = contents else {
-            return Err("--tls-cert and --tls-key belong together".into());
+            return Err(format!("{} and {} belong together", named.certificate, named.key));
         };
-        let pair = Pair::read(chain, key)?;
-        let roots = rest.first().map(|pem| roots(pem)).transpose()?;
+        let pair = Pair::read(named, chain, key)?;
+        let roots = rest.first().map(|pem| roots(named.roots, pem)).transpose()?;
+        Contexts::of(named, &pair, roots, without)
+    }
+
+    fn of(
+        named: Named,
+        pair: &Pair,
+        roots: Option<RootCertStore>,
+        without: WithoutCertificate,
+    ) -> Result<Contexts, String> {
         let senders = roots.map(|roots| Arc::new(Senders::new(roots, without)));
-        let of = |protocol| config(&pair, senders.clone(), protocol).map(Arc::new);
+        let of = |protocol| config(named, pair, senders.clone(), protocol).map(Arc::new);
         Ok(Contexts {
             http: of(Protocol::Http)?,
             grpc: of(Protocol::Grpc)?,
             senders,
+            client: None,
             ends: pair.ends,
         })
+    }
+
+    /// How other instances are asked; none at the senders' addresses.
+    pub fn client(&self) -> Option<Arc<ClientConfig>> {
+        self.client.clone()
     }
 
     /// Why nobody gets in by a certificate though senders may show one, and what to do.
@@ -114,17 +149,22 @@ impl Contexts {
     }
 }
 
-fn roots(pem: &[u8]) -> Result<RootCertStore, String> {
+fn roots(option: &str, pem: &[u8]) -> Result<RootCertStore, String> {
     let mut roots = RootCertStore::empty();
-    for (number, root) in certificates("--client-ca", pem)?.iter().enumerate() {
+    for (number, root) in certificates(option, pem)?.iter().enumerate() {
         roots
             .add(root)
-            .map_err(|error| format!("certificate {} of --client-ca can't be used: {error}", number + 1))?;
+            .map_err(|error| format!("certificate {} of {option} can't be used: {error}", number + 1))?;
     }
     Ok(roots)
 }
 
-fn config(pair: &Pair, senders: Option<Arc<Senders>>, protocol: Protocol) -> Result<ServerConfig, String> {
+fn config(
+    named: Named,
+    pair: &Pair,
+    senders: Option<Arc<Senders>>,
+    protocol: Protocol,
+) -> Result<ServerConfig, String> {
     let verifier = match senders {
         None => NoClientAuth::new(),
         Some(senders) => senders as Arc<dyn ClientCertVerifier>,
@@ -133,7 +173,7 @@ fn config(pair: &Pair, senders: Option<Arc<Senders>>, protocol: Protocol) -> Res
         .with_safe_defaults()
         .with_client_cert_verifier(verifier)
         .with_single_cert(pair.chain.clone(), pair.key.clone())
-        .map_err(|error| format!("--tls-cert can't be used: {error}"))?;
+        .map_err(|error| format!("{} can't be used: {error}", named.certificate))?;
     config.alpn_protocols = vec![protocol.name().to_vec()];
     Ok(config)
 }
@@ -143,18 +183,21 @@ pub struct Tls {
     contexts: Arc<Renewed<Contexts>>,
     threads: Threads,
     metrics: Arc<Metrics>,
+    /// The option of our certificate.
+    certificate: &'static str,
 }
 
 impl Tls {
     /// Reads the files. The error names what can't be used and says what to do.
     pub fn open(files: &Files, without: WithoutCertificate, metrics: Arc<Metrics>) -> anyhow::Result<Tls> {
+        let named = files.named;
         let mut paths = vec![
-            ("--tls-cert", files.certificate.clone()),
-            ("--tls-key", files.key.clone()),
+            (named.certificate, files.certificate.clone()),
+            (named.key, files.key.clone()),
         ];
-        paths.extend(files.client_ca.clone().map(|path| ("--client-ca", path)));
+        paths.extend(files.client_ca.clone().map(|path| (named.roots, path)));
         let reader = Reader {
-            read: Box::new(move |contents: &[Vec<u8>]| Contexts::read(contents, without)),
+            read: Box::new(move |contents: &[Vec<u8>]| Contexts::read(named, contents, without)),
             shut: Contexts::shut,
         };
         let contexts = Renewed::open(paths, reader, &metrics)?;
@@ -164,6 +207,7 @@ impl Tls {
             contexts,
             threads,
             metrics,
+            certificate: named.certificate,
         })
     }
 
@@ -173,5 +217,7 @@ impl Tls {
     }
 }
 
+#[cfg(test)]
+pub(crate) use peers::tests as peer_tests;
 #[cfg(test)]
 pub(crate) mod tests;

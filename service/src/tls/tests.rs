@@ -74,6 +74,7 @@ pub fn pem(at: &Path, made: Made) -> (Vec<u8>, Vec<u8>) {
 pub fn tls(at: &Path, client_ca: Option<WithoutCertificate>) -> Arc<Tls> {
     let metrics = Arc::new(Metrics::new().unwrap());
     let files = Files {
+        named: Named::OF_SENDERS,
         certificate: at.join("server.pem"),
         key: at.join("server.key"),
         client_ca: client_ca.map(|_| at.join("ca.pem")),

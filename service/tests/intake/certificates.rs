@@ -5,7 +5,7 @@ use std::process::{Command, Stdio};
 use std::sync::Arc;
 use totxegun::identity::{Door, Options};
 use totxegun::metrics::Metrics;
-use totxegun::tls::Files;
+use totxegun::tls::{Files, Named};
 
 pub fn openssl(at: &Path, words: &[&str]) {
     let done = Command::new("openssl")
@@ -86,6 +86,7 @@ pub fn folder() -> tempfile::TempDir {
 /// TLS by that certificate; with roots of senders, and tokens, where these files are named.
 pub fn door(at: &Path, client_ca: Option<&str>, tokens: Option<&str>) -> Door {
     let tls = Some(Files {
+        named: Named::OF_SENDERS,
         certificate: at.join("localhost.pem"),
         key: at.join("localhost.key"),
         client_ca: client_ca.map(|name| at.join(name)),

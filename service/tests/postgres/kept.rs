@@ -35,7 +35,7 @@ fn make_day(server: &Server, ns: u64) -> String {
     ));
     let from = ns / DAY * DAY + 1;
     server.ask(&format!(
-        "create table totxegun.{name} (like totxegun.span); alter table totxegun.span attach partition totxegun.{name} \
+        "create table totxegun.{name} (like totxegun.span_row); alter table totxegun.span_row attach partition totxegun.{name} \
          for values from ({from}) to ({})",
         from + DAY
     ));
@@ -275,7 +275,7 @@ async fn days_are_made_ahead() {
     for (number, end) in [day, day + 1, day + DAY, day + DAY + 1].into_iter().enumerate() {
         taken(&*sink, 10 + number as u64, sum("b", end - 1, end, 1)).await;
     }
-    let there = "select tableoid::regclass, count(*) from totxegun.span group by 1 order by 1";
+    let there = "select tableoid::regclass, count(*) from totxegun.span_row group by 1 order by 1";
     let before = server.ask(there);
     assert!(before.contains("totxegun.span_other|3"), "{before}");
     drop(sink);

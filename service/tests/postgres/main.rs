@@ -10,6 +10,7 @@ mod periods;
 mod points;
 mod rivals;
 mod server;
+mod spans;
 mod speed;
 mod versions;
 

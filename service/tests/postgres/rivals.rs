@@ -168,7 +168,7 @@ async fn series_that_are_gone_are_made_anew() {
     let Some(server) = Server::start() else { return };
     let sink = open(&server.by_socket("postgres"));
     taken(&*sink, 1, sum("a", 1, 2, 1)).await;
-    server.ask("truncate totxegun.series, totxegun.series_total, totxegun.span");
+    server.ask("truncate totxegun.series, totxegun.series_total, totxegun.span_row");
     again(&*sink, 2, sum("a", 2, 3, 2), "is gone").await;
     taken(&*sink, 2, sum("a", 2, 3, 2)).await;
     assert_eq!(server.ask("select points, total from totxegun.totals"), "1|2");

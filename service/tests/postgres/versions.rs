@@ -1,6 +1,6 @@
 //! Databases of earlier versions are brought up by the next service that comes.
 
-use crate::server::{sum, Server};
+use crate::server::{histogram, sum, Server};
 use crate::{again, open, open_with, refused, request, taken};
 use std::collections::BTreeSet;
 use std::time::Duration;
@@ -37,6 +37,19 @@ fn make(server: &Server, database: &str, version: usize) {
     ));
 }
 
+/// Of one of version 5, whose spans are all in hours or not, one of version 6, as it was before anything was closed.
+fn bring_to_6(server: &Server, database: &str, is_filling: bool) {
+    let views = include_str!("../../src/sinks/postgres/views.sql");
+    let views = if is_filling {
+        views.replace("--filling ", "")
+    } else {
+        views.into()
+    };
+    let step = include_str!("../../src/sinks/postgres/version6.sql");
+    let version = "update totxegun.version set version = 6;";
+    server.run_file(database, &format!("begin;\n{step}\n{views}\n{version}\ncommit;"));
+}
+
 /// Of a database of version 4, one of version 5, which has just begun to fill in the hours of its spans.
 fn bring_to_5(server: &Server, database: &str) {
     let step = [
@@ -50,7 +63,7 @@ fn bring_to_5(server: &Server, database: &str) {
 #[tokio::test(flavor = "multi_thread")]
 async fn a_database_of_an_earlier_version_is_brought_up() {
     let Some(server) = Server::start() else { return };
-    for version in 1..=STEPS.len() + 1 {
+    for version in 1..=STEPS.len() + 2 {
         let database = format!("version{version}");
         make(&server, &database, version.min(STEPS.len()));
         let ask = |query: &str| server.ask_of(&database, query);
@@ -58,8 +71,11 @@ async fn a_database_of_an_earlier_version_is_brought_up() {
         if version > STEPS.len() {
             bring_to_5(&server, &database);
         }
+        if version > STEPS.len() + 1 {
+            bring_to_6(&server, &database, true);
+        }
         let sink = open(&server.by_socket(&database));
-        assert_eq!(ask("select version from totxegun.version"), "6");
+        assert_eq!(ask("select version from totxegun.version"), "7");
         assert_eq!(ask("select count(*) from pg_constraint where contype = 'f' and connamespace = 'totxegun'::regnamespace"), "0");
         taken(&*sink, 1, sum("a", 100, 200, 5)).await;
         refused(&*sink, 2, sum("a", 150, 250, 1), "overlaps").await;
@@ -83,18 +99,72 @@ async fn a_database_of_version_5_that_has_no_older_spans_is_brought_up() {
     make(&server, "version5", 4);
     bring_to_5(&server, "version5");
     let ask = |query: &str| server.ask_of("version5", query);
+    server.run_file("version5", NOTHING_BEFORE);
     server.run_file(
         "version5",
-        "drop view totxegun.hour_before cascade; drop table totxegun.filling; drop table totxegun.span_before;
-        create view public.theirs as select name, total from totxegun.totals_by_name",
+        "create view public.theirs as select name, total from totxegun.totals_by_name",
     );
     let sink = open(&server.by_socket("version5"));
     taken(&*sink, 1, sum("a", 100, 200, 5)).await;
-    assert_eq!(ask("select version from totxegun.version"), "6");
+    assert_eq!(ask("select version from totxegun.version"), "7");
     assert_eq!(ask("select name, total from public.theirs"), "a|5");
     assert_eq!(
         ask("select total, corrections, billed from totxegun.by_month"),
         "5|0|5"
+    );
+}
+
+const NOTHING_BEFORE: &str =
+    "drop view totxegun.hour_before cascade; drop table totxegun.filling; drop table totxegun.span_before";
+
+/// What version 6 had written of a histogram, in a day of its own and beside the days, and of the hours of a sum.
+const SPANS_OF_6: &str = r#"
+    create table totxegun.span_19700101 (like totxegun.span including comments);
+    create index on totxegun.span_19700101 using brin (end_ns, start_ns) with (pages_per_range = 32, autosummarize = on);
+    alter table totxegun.span attach partition totxegun.span_19700101 for values from (1) to (86400000000001);
+    insert into totxegun.series (digest, identity, is_exact, name, unit, kind, bounds, attributes, resource, scope_name,
+        scope_version, scope_attributes)
+    select sha256(convert_to(identity, 'UTF8')), identity, true, 'h', 'ms', 'histogram', '{-5,10}', '{}', '{}', 's', '1', '{}'
+    from (select '[[],"s","1",[],"h","ms",[-5,10],[]]' as identity) as one;
+    insert into totxegun.span values (1, 100, 200, null, 8, 30, '{5,0,3}'),
+        (1, 86400000000100, 86400000000200, null, 9, null, '{9,0,0}');
+    insert into totxegun.past_hour values (1, 1, 0, 0, 100, 200, 30, 8, '{5,0,3}');
+    insert into totxegun.series_total (series, points, first_start_ns, last_end_ns, total, count, without_sum, buckets, hour,
+        hour_start_ns, before_points, before_total, before_count, before_buckets)
+    values (1, 2, 100, 86400000000200, 30, 17, 1, '{14,0,3}', 24, 86400000000100, 1, 30, 8, '{5,0,3}')"#;
+
+/// Its spans stay where they are, as they are written, and are found as before.
+#[tokio::test(flavor = "multi_thread")]
+async fn spans_of_version_6_stay() {
+    let Some(server) = Server::start() else { return };
+    make(&server, "version6", 4);
+    bring_to_5(&server, "version6");
+    server.run_file("version6", NOTHING_BEFORE);
+    bring_to_6(&server, "version6", false);
+    server.run_file("version6", SPANS_OF_6);
+    let ask = |query: &str| server.ask_of("version6", query);
+    let sink = open(&server.by_socket("version6"));
+    refused(&*sink, 1, histogram("h", 150, 160, None, [1, 0, 0]), "overlaps").await;
+    refused(
+        &*sink,
+        2,
+        histogram("h", 86_400_000_000_000, 86_400_000_000_101, None, [1, 0, 0]),
+        "overlaps",
+    )
+    .await;
+    taken(&*sink, 3, histogram("h", 200, 300, Some(4), [1, 0, 0])).await;
+    assert_eq!(ask("select version from totxegun.version"), "7");
+    assert_eq!(
+        ask("select start_ns, count, sum, buckets from totxegun.span order by 1"),
+        "100|8|30|{5,0,3}\n200|1|4|{1,0,0}\n86400000000100|9||{9,0,0}"
+    );
+    assert_eq!(
+        ask("select extract(epoch from hour)::int, points, total, count, buckets from totxegun.by_hour order by 1"),
+        "0|2|34|9|{6,0,3}\n86400|1|0|9|{9,0,0}"
+    );
+    assert_eq!(
+        ask("select series, points, total, count from totxegun.totals"),
+        "1|3|34|18"
     );
 }
 

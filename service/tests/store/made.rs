@@ -3,6 +3,7 @@
 use super::server::Server;
 use super::work::{take, wait, Work};
 use super::{make, open, SLOTS};
+use totxegun::cluster::terms::Refused;
 use totxegun::store::postgres::{address, Copies, PostgresStore, StoreFault};
 
 fn refused(addresses: &[&str], copies: Copies, reading: &str, part: &str) {
@@ -55,7 +56,7 @@ fn a_start_refuses_what_is_no_store_or_another_or_can_lose() {
     let servers = [address(&one).unwrap(), address(&other).unwrap()];
     let store = PostgresStore::open(&servers, Copies::Two, "a").unwrap();
     assert_eq!(
-        wait(store.copies()).unwrap(),
+        wait(store.copies(0)).unwrap(),
         Some(1),
         "nobody is there, so no commit ends"
     );
@@ -70,9 +71,9 @@ fn who_may_not_look_at_standbys_does_not_know_how_many_copies_there_are() {
     server.ask("grant usage on schema totxegun_store to plain");
     server.ask("grant all on all tables in schema totxegun_store to plain");
     let plain = server.address().replace("//postgres@", "//plain@");
-    assert_eq!(wait(open(&[&plain], Copies::Two).copies()).unwrap(), None);
+    assert_eq!(wait(open(&[&plain], Copies::Two).copies(0)).unwrap(), None);
     assert_eq!(
-        wait(open(&[&server.address()], Copies::Two).copies()).unwrap(),
+        wait(open(&[&server.address()], Copies::Two).copies(0)).unwrap(),
         Some(2)
     );
     drop(standby);
@@ -102,4 +103,37 @@ fn a_store_that_was_made_in_part_is_made_whole() {
     }
     let even = "select coalesce(bool_and(slot % 2 = 0), true) from totxegun_store.piece";
     assert_eq!(server.ask(even), "t");
+}
+
+#[test]
+fn the_first_says_where_all_deliver_to_and_beats_say_what_is_refused() {
+    let Some(server) = Server::start("") else { return };
+    make(&[&server.address()]);
+    let store = open(&[&server.address()], Copies::One);
+    assert_eq!(store.sink().unwrap(), "");
+    assert_eq!(store.set_sink("", "one").unwrap(), "one");
+    assert_eq!(store.set_sink("", "other").unwrap(), "one", "another was first");
+    assert_eq!(store.set_sink("one", "other").unwrap(), "other");
+    let refused: Refused = [(3, "no \"memory\"".to_string())].into();
+    wait(store.beat("a", "h:1", refused.clone())).unwrap();
+    assert_eq!(wait(store.instances()).unwrap()[0].refused, refused);
+    wait(store.beat("a", "h:1", Refused::new())).unwrap();
+    assert_eq!(wait(store.instances()).unwrap()[0].refused, Refused::new());
+    assert_eq!(store.beats().unwrap(), [("a".to_string(), 2)].into());
+}
+
+#[test]
+fn what_waiting_does_not_mend_is_told_from_a_server_that_is_away() {
+    let Some(server) = Server::start("") else { return };
+    let fault = |text: &str| {
+        let servers = [address(text).unwrap()];
+        let opened = PostgresStore::open(&servers, Copies::One, "");
+        opened.err().expect("it can't be opened")
+    };
+    assert!(fault("postgres://u@127.0.0.1:1/d").may_pass());
+    let nowhere = server.address_of("nowhere");
+    for lasting in [nowhere.as_str(), &server.address()] {
+        let fault = fault(lasting);
+        assert!(!fault.may_pass(), "{fault}");
+    }
 }

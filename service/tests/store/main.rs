@@ -2,9 +2,11 @@
 
 mod faults;
 mod made;
+mod moved;
 mod owners;
 mod proxy;
 mod server;
+mod sink;
 mod speed;
 mod work;
 

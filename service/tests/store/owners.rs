@@ -6,6 +6,7 @@ use super::work::{contents, take, wait, Chance, Contents, Work};
 use super::{make, open, rounds};
 use std::sync::{Arc, Mutex};
 use std::thread;
+use totxegun::cluster::terms::Refused;
 use totxegun::store::postgres::Copies;
 
 /// Works until the slot is lost or so many rounds are done, and says what it has said yes to.
@@ -130,9 +131,9 @@ fn beats_go_up_and_a_slot_is_given_away() {
     make(&[&server.address()]);
     let store = open(&[&server.address()], Copies::One);
     for _ in 0..3 {
-        wait(store.beat("a", "h1:1")).unwrap();
+        wait(store.beat("a", "h1:1", Refused::new())).unwrap();
     }
-    wait(store.beat("b", "h2:1")).unwrap();
+    wait(store.beat("b", "h2:1", Refused::new())).unwrap();
     let mut instances = wait(store.instances()).unwrap();
     instances.sort_by(|one, other| one.name.cmp(&other.name));
     let seen: Vec<_> = instances

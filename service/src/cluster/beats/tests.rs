@@ -1,5 +1,5 @@
 use super::*;
-use crate::cluster::terms::{Doing, Instance, Row, Seen, Stay};
+use crate::cluster::terms::{Doing, Instance, Refused, Row, Seen, Stay};
 use std::sync::atomic::{AtomicBool, Ordering::SeqCst};
 use tokio::time::timeout;
 
@@ -55,17 +55,20 @@ impl Store {
 pub struct Of(pub Arc<Store>, pub &'static str, pub String);
 
 impl Terms for Of {
-    fn beat(&self, stay: Stay) -> Doing<'_, Result<Seen, Silence>> {
+    fn beat(&self, stay: Stay, refused: Refused) -> Doing<'_, Result<Seen, Silence>> {
         Box::pin(async move {
             self.0.answers().await;
             let mut rows = self.0.rows.lock().unwrap();
             let new = Instance {
                 name: self.1.into(),
                 address: String::new(),
+                version: "1".into(),
                 beat: 0,
+                refused: Refused::new(),
             };
             let own = rows.0.entry(self.1.into()).or_insert(new);
             own.beat += 1;
+            own.refused = refused;
             own.address = match stay {
                 Stay::Here => self.2.clone(),
                 Stay::Leaves => String::new(),

@@ -25,6 +25,10 @@ impl Secret {
         (!text.is_empty()).then_some(Secret(value))
     }
 
+    pub(super) fn put(&self, request: Builder) -> Builder {
+        request.header(SECRET, &self.0)
+    }
+
     /// In a time that does not hang on where it differs.
     pub fn is_in(&self, heads: &HeaderMap) -> bool {
         let said = heads.get(SECRET).map_or(&[][..], HeaderValue::as_bytes);
@@ -61,12 +65,12 @@ impl Head {
             Encoding::Json => JSON,
             Encoding::Protobuf => PROTOBUF,
         };
-        request
+        secret
+            .put(request)
             .header(SLOT, self.slot)
             .header(TERM, self.term)
             .header(SENDER, self.sender.as_str())
             .header(CONTENT_TYPE, content_type)
-            .header(SECRET, &secret.0)
     }
 
     /// None where one is missing, or can't be read.

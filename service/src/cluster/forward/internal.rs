@@ -1,6 +1,7 @@
-//! The owner's side: posts that other instances bring.
+//! The owner's side: posts that other instances bring, and what operators ask there.
 
 use super::head::{Head, Secret};
+use super::operators::{self, Answers};
 use super::{said, unavailable, Here, PATH};
 use crate::cluster::beats::{Cluster, NO_STORE};
 use crate::cluster::owners::Whose;
@@ -11,7 +12,7 @@ use crate::otlp::{Original, Outcome};
 use bytes::{Bytes, BytesMut};
 use hyper::body::HttpBody;
 use hyper::{Body, Method, Request, Response};
-use std::sync::Arc;
+use std::sync::{Arc, OnceLock};
 use std::time::Duration;
 use tokio::sync::Semaphore;
 use tokio::time::timeout;
@@ -21,13 +22,15 @@ const MOST: usize = 5 << 20;
 /// So many of them are in memory at once, whoever sends them.
 const PARTS: usize = 64;
 /// A body comes within.
-const WITHIN: Duration = Duration::from_secs(5);
+pub(super) const WITHIN: Duration = Duration::from_secs(5);
 
 pub struct Internal<H> {
     cluster: Arc<Cluster>,
     here: Arc<H>,
     secret: Secret,
     parts: Semaphore,
+    /// None before operators are served.
+    pub(super) answers: OnceLock<Arc<dyn Answers>>,
 }
 
 impl<H: Here> Internal<H> {
@@ -37,16 +40,21 @@ impl<H: Here> Internal<H> {
             here,
             secret,
             parts: Semaphore::new(PARTS),
+            answers: OnceLock::new(),
         })
     }
 
     /// The error is what is said before a slot is asked.
     async fn take(&self, request: Request<Body>) -> Result<Response<Body>, Response<Body>> {
-        if request.uri().path() != PATH || request.method() != Method::POST {
+        let is_question = request.uri().path() == operators::PATH;
+        if !(is_question || request.uri().path() == PATH) || request.method() != Method::POST {
             return Err(said::refused(404, "there is no such page"));
         }
         if !self.secret.is_in(request.headers()) {
             return Err(said::refused(401, "this is no instance of this cluster"));
+        }
+        if is_question {
+            return self.answered(request.into_body()).await;
         }
         let head = Head::read(request.headers()).ok_or_else(|| said::refused(400, "a head is missing"))?;
         if self.cluster.whose(head.slot) != (Whose::Here { term: head.term }) {
@@ -90,7 +98,7 @@ impl<T: Taker> Here for Intake<T> {
     }
 }
 
-async fn whole(mut body: Body) -> Option<Bytes> {
+pub(super) async fn whole(mut body: Body) -> Option<Bytes> {
     let mut bytes = BytesMut::new();
     while let Some(part) = body.data().await {
         bytes.extend_from_slice(&part.ok()?);

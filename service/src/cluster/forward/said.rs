@@ -2,6 +2,7 @@
 
 use super::Broken;
 use crate::otlp::{Causes, OffClock, Outcome};
+use bytes::{Bytes, BytesMut};
 use hyper::body::HttpBody;
 use hyper::header::{HeaderValue, CONTENT_TYPE, RETRY_AFTER};
 use hyper::{Body, Response, StatusCode};
@@ -69,25 +70,53 @@ fn with(status: u16, says: &'static str, body: Vec<u8>) -> Response<Body> {
     response
 }
 
-/// All of an answer.
-pub(super) async fn read(response: Response<Body>) -> Result<Said, Broken> {
+/// What was asked by operators.
+pub(super) fn bytes(answer: Vec<u8>) -> Response<Body> {
+    with(200, ANSWER, answer)
+}
+
+fn head(response: &Response<Body>, name: &str) -> Option<String> {
+    Some(response.headers().get(name)?.to_str().ok()?.to_string())
+}
+
+/// Whether it is an answer of an instance that has what was asked for.
+fn is_answer(response: &Response<Body>) -> Result<bool, Broken> {
     let status = response.status().as_u16();
-    let head = |name: &str| Some(response.headers().get(name)?.to_str().ok()?.to_string());
-    let seconds = head(RETRY_AFTER.as_str()).and_then(|text| text.parse().ok());
-    match head(SAYS).as_deref() {
-        Some(NOT_MINE) => return Ok(Said::NotMine),
-        Some(ANSWER) => {}
-        _ if status == 401 => return Err(Broken::Secret),
-        _ => return Err(Broken::Strange(status)),
+    match head(response, SAYS).as_deref() {
+        Some(NOT_MINE) => Ok(false),
+        Some(ANSWER) => Ok(true),
+        _ if status == 401 => Err(Broken::Secret),
+        _ => Err(Broken::Strange(status)),
     }
-    let mut body = response.into_body();
-    let mut bytes = Vec::new();
+}
+
+async fn body_of(response: Response<Body>, most: usize) -> Result<Bytes, Broken> {
+    let (mut body, mut bytes) = (response.into_body(), BytesMut::new());
     while let Some(part) = body.data().await {
         bytes.extend_from_slice(&part.map_err(Broken::Wire)?);
-        if bytes.len() > MOST {
-            return Err(Broken::Strange(status));
+        if bytes.len() > most {
+            return Err(Broken::Long(most));
         }
     }
+    Ok(bytes.freeze())
+}
+
+/// All of an answer to operators.
+pub(super) async fn read_bytes(response: Response<Body>, most: usize) -> Result<Bytes, Broken> {
+    match is_answer(&response)? {
+        true => body_of(response, most).await,
+        false => Err(Broken::Strange(response.status().as_u16())),
+    }
+}
+
+/// All of an answer.
+pub(super) async fn read(response: Response<Body>) -> Result<Said, Broken> {
+    if !is_answer(&response)? {
+        return Ok(Said::NotMine);
+    }
+    let status = response.status().as_u16();
+    let seconds = head(&response, RETRY_AFTER.as_str()).and_then(|text| text.parse().ok());
+    let bytes = body_of(response, MOST).await?;
     let words = serde_json::from_slice(&bytes).map_err(|_| Broken::Strange(status))?;
     Ok(Said::Outcome(outcome(status, seconds, words)))
 }

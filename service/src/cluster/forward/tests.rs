@@ -1,13 +1,12 @@
 //! Posts over real sockets, to owners that answer, stall, break off, or have not the slot.
 
 mod peers;
+mod tls;
 
 use super::*;
-use crate::intake::connections::serve_over;
-use crate::intake::Limits;
-use crate::otlp::Encoding;
+use crate::otlp::{Encoding, Resources};
 use bytes::Bytes;
-use peers::{ends_after_one, internal, posted, receiver, secret, strange, there, Peer, Slots};
+use peers::{ends_after_one, posted, receiver, secret, strange, there, Peer, Slots};
 use std::sync::atomic::Ordering::SeqCst;
 use tokio::net::TcpListener;
 use tokio::time::sleep;
@@ -230,39 +229,115 @@ async fn so_many_posts_are_on_their_way_to_one_and_each_comes_once() {
     assert!(peer.connections.load(SeqCst) <= peer::POSTS);
 }
 
+/// Who says that it is not its own is asked a few times, also while others' slots move.
 #[tokio::test(flavor = "multi_thread", worker_threads = 2)]
-async fn over_tls_a_peer_is_told_by_its_roots() {
-    let at = crate::tls::tests::folder();
-    crate::tls::tests::server(at.path());
-    let listener = TcpListener::bind("127.0.0.1:0").await.unwrap();
-    let port = listener.local_addr().unwrap().port();
-    let (_cluster, slots, internal) = internal(Slots::default(), Whose::Here { term: 5 });
-    let limits = Limits {
-        connections: 10,
-        head: Duration::from_secs(5),
-        idle: Duration::from_secs(60),
+async fn not_mine_is_asked_again_a_bounded_number_of_times() {
+    let old = Peer::with(Slots::default(), Whose::Nobody).await;
+    let forward = receiver(old.whose(), secret("of all"));
+    let (cluster, whose) = (forward.cluster.clone(), old.whose());
+    let moves = tokio::spawn(async move {
+        for term in 0.. {
+            cluster.knows(&[(3, whose.clone()), (4, Whose::Here { term })]);
+            sleep(Duration::from_millis(2)).await;
+        }
+    });
+    assert_eq!(posted(&forward, "{}").await, unavailable(MOVED));
+    let asked = forward.forwarded().not_mine;
+    assert!((5..=u64::from(MOST_ASKED)).contains(&asked), "{asked}");
+    moves.abort();
+    // Another one is asked at once.
+    let (forward, new) = (receiver(old.whose(), secret("of all")), Peer::here().await);
+    let cluster = forward.cluster.clone();
+    let moves = async {
+        sleep(Duration::from_millis(1500)).await;
+        cluster.knows(&[(3, new.whose())]);
+        Instant::now()
     };
-    let (stop, stopped) = tokio::sync::watch::channel(false);
-    let tls = tokio::task::block_in_place(|| crate::tls::tests::tls(at.path(), None));
-    let serving = tokio::spawn(serve_over(listener, Some(tls.clone()), limits, internal, stopped));
-    let pem = std::fs::read(at.path().join("ca.pem")).unwrap();
-    for (roots, wanted) in [(pem, Outcome::taken(0)), (Vec::new(), unavailable(BROKEN))] {
-        let mut store = rustls::RootCertStore::empty();
-        let roots = rustls_pemfile::certs(&mut &roots[..]).unwrap();
-        roots
-            .iter()
-            .for_each(|root| store.add(&rustls::Certificate(root.clone())).unwrap());
-        let config = ClientConfig::builder()
-            .with_safe_defaults()
-            .with_root_certificates(store);
-        let cluster = Cluster::new("receiver");
-        cluster.knows(&[(3, there(&format!("localhost:{port}")))]);
-        let wire = Wire::Tls(Arc::new(config.with_no_client_auth()));
-        let forward = Forward::<Slots>::new(cluster, secret("of all"), wire);
-        assert_eq!(posted(&forward, "{}").await, wanted);
+    let (outcome, moved) = tokio::join!(posted(&forward, "{}"), moves);
+    assert_eq!(outcome, Outcome::taken(0));
+    assert!(moved.elapsed() < LONGEST / 2, "{:?}", moved.elapsed());
+    // Owners that come and go are not asked for ever either.
+    let (forward, whose) = (receiver(old.whose(), secret("of all")), old.whose());
+    let cluster = forward.cluster.clone();
+    let moves = tokio::spawn(async move {
+        for term in 6.. {
+            if let Whose::There { name, address, .. } = whose.clone() {
+                cluster.knows(&[(3, Whose::There { name, address, term })]);
+            }
+            sleep(Duration::from_millis(2)).await;
+        }
+    });
+    assert_eq!(posted(&forward, "{}").await, unavailable(MOVED));
+    assert_eq!(forward.forwarded().not_mine, u64::from(MOST_ASKED));
+    moves.abort();
+}
+
+/// Else each post would look for an owner for three seconds.
+#[tokio::test]
+async fn without_beats_a_post_is_turned_away_at_the_door() {
+    let forward = Forward::<Slots>::new(Cluster::new("receiver"), secret("of all"), Wire::Plain);
+    let slots = |forward: Arc<Forward<Slots>>| {
+        let resources = Resources::new(8, Arc::default());
+        crate::slot::Slots::<crate::slot::Slot>::several(resources, Some(forward))
+    };
+    let forward = Arc::new(forward);
+    let metrics = Arc::new(crate::metrics::Metrics::new().unwrap());
+    let budget = crate::intake::Budget::new(8 << 20);
+    let slots = slots(forward.clone());
+    let intake = crate::intake::Intake::of(slots, Arc::new(()), Arc::default(), budget, metrics);
+    let post = || {
+        let head = crate::intake::head::Head {
+            sender: "web-1".into(),
+            encoding: Encoding::Json,
+            packing: crate::intake::head::Packing::Plain,
+        };
+        intake.put(
+            head,
+            Bytes::from_static(b"{\"resourceMetrics\":[]}"),
+            intake.hold(),
+        )
+    };
+    let began = Instant::now();
+    assert_eq!(post().await, unavailable(NO_STORE));
+    assert!(began.elapsed() < LOOKED_FOR / 3);
+    forward.cluster.knows(&[]);
+    assert_eq!(post().await, unavailable(MOVED), "it is looked for");
+}
+
+struct Echoes;
+
+impl Answers for Echoes {
+    fn answer_question(self: Arc<Self>, question: Bytes) -> Doing<'static, Option<Vec<u8>>> {
+        Box::pin(async move { (question != "another version").then(|| [b"said ", &question[..]].concat()) })
     }
-    assert_eq!(slots.count(), 1);
-    stop.send_replace(true);
-    serving.await.unwrap();
-    tokio::task::block_in_place(|| drop(tls));
+}
+
+#[tokio::test]
+async fn a_question_of_operators_goes_to_who_has_the_secret_and_its_answer_comes_back() {
+    let peer = Peer::here().await;
+    let ask = |of: &str, question: &str| {
+        let forward = receiver(peer.whose(), secret(of));
+        let (question, address) = (question.as_bytes().to_vec(), peer.address.clone());
+        async move { forward.put_question(&address, question, WITHIN).await }
+    };
+    let starting = ask("of all", "x").await.unwrap_err();
+    assert!(starting.contains("503"), "{starting}");
+    peer.internal.answers_by(Arc::new(Echoes));
+    let long = "x".repeat(1 << 20);
+    assert_eq!(ask("of all", &long).await.unwrap(), format!("said {long}"));
+    let refused = ask("of others", "x").await.unwrap_err();
+    assert!(refused.contains("secret"), "{refused}");
+    let strange = ask("of all", "another version").await.unwrap_err();
+    assert!(strange.contains("another version"), "{strange}");
+    let (address, _) = strange_to_all().await;
+    let forward = receiver(peer.whose(), secret("of all"));
+    let late = forward
+        .put_question(&address, Vec::new(), Duration::from_millis(200))
+        .await;
+    assert!(late.unwrap_err().contains("in time"));
+}
+
+/// One that never answers.
+async fn strange_to_all() -> (String, Arc<std::sync::atomic::AtomicUsize>) {
+    strange(b"", true).await
 }

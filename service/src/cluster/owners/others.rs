@@ -1,7 +1,8 @@
 //! The other instances: whose beats go on, counted in own beats.
 
 use super::{AFTER_SILENCE, GONE};
-use crate::cluster::terms::Seen;
+use crate::cluster::status::OtherInstance;
+use crate::cluster::terms::{Refused, Seen};
 use std::collections::BTreeMap;
 
 /// So many own beats lie between two silences that others are waited for.
@@ -13,7 +14,18 @@ struct Other {
     still: u32,
     /// The last one that it had: it has none while it leaves, and still has slots.
     address: String,
+    version: String,
     leaves: bool,
+    refused: Refused,
+}
+
+/// What is read of one; an owner may have no row.
+#[derive(Default)]
+struct Read<'s> {
+    beat: Option<u64>,
+    address: &'s str,
+    version: &'s str,
+    refused: Option<&'s Refused>,
 }
 
 pub(super) struct Others {
@@ -37,28 +49,39 @@ impl Others {
 
     /// What was read behind an own beat.
     pub fn note(&mut self, seen: &Seen) {
-        let mut there: BTreeMap<&str, (Option<u64>, &str)> = BTreeMap::new();
+        let mut there: BTreeMap<&str, Read<'_>> = BTreeMap::new();
         // An owner without a row beats no more, whoever took that away.
         let owners = seen.slots.iter().map(|row| row.owner.as_str());
         there.extend(
             owners
                 .filter(|owner| !owner.is_empty())
-                .map(|owner| (owner, (None, ""))),
+                .map(|owner| (owner, Read::default())),
         );
-        let instances = seen.instances.iter();
-        there.extend(instances.map(|one| (one.name.as_str(), (Some(one.beat), one.address.as_str()))));
+        for one in &seen.instances {
+            let read = Read {
+                beat: Some(one.beat),
+                address: &one.address,
+                version: &one.version,
+                refused: Some(&one.refused),
+            };
+            there.insert(&one.name, read);
+        }
         there.remove(self.me.as_str());
         self.since_silence = self.since_silence.saturating_add(1);
         let counts = self.uncounted == 0;
         self.uncounted = self.uncounted.saturating_sub(1);
         self.by_name.retain(|name, _| there.contains_key(name.as_str()));
-        for (name, (beat, address)) in there {
+        for (name, read) in there {
+            let (beat, address, version, refused) = (read.beat, read.address, read.version, read.refused);
             let other = self.by_name.entry(name.into()).or_insert(Other {
                 beat: None,
                 still: 0,
                 address: String::new(),
+                version: String::new(),
                 leaves: false,
+                refused: Refused::new(),
             });
+            other.refused = refused.cloned().unwrap_or_default();
             other.still = match other.beat == beat {
                 true => other.still.saturating_add(counts.into()),
                 false => 0,
@@ -67,6 +90,7 @@ impl Others {
             if !other.leaves {
                 other.address = address.into();
             }
+            other.version = version.into();
         }
     }
 
@@ -91,11 +115,23 @@ impl Others {
         self.by_name.values().filter(|other| other.still < GONE).count()
     }
 
-    /// Those that may have slots.
-    pub fn staying(&self) -> impl Iterator<Item = &str> {
+    /// Those that may have slots, and which of these they can't open.
+    pub fn staying(&self) -> impl Iterator<Item = (&str, &Refused)> {
         let stays = |other: &Other| other.still < GONE && !other.leaves;
         let others = self.by_name.iter().filter(move |(_, other)| stays(other));
-        others.map(|(name, _)| name.as_str())
+        others.map(|(name, other)| (name.as_str(), &other.refused))
+    }
+
+    /// Each as it is shown.
+    pub fn shown(&self) -> impl Iterator<Item = OtherInstance> + '_ {
+        self.by_name.iter().map(|(name, other)| OtherInstance {
+            name: name.clone(),
+            address: other.address.clone(),
+            version: other.version.clone(),
+            still: other.still,
+            is_gone: other.still >= GONE,
+            leaves: other.leaves,
+        })
     }
 
     /// Where one is reached, if that is known.

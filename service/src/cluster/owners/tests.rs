@@ -147,12 +147,93 @@ fn a_slot_that_was_lost_is_dropped_once() {
     world.store.rows[3].owner = "z".into();
     let node = &mut world.nodes[0];
     let term = world.store.rows[3].term - 1;
-    let steps = node.owners.beat(world.store.beat("a", Stay::Here));
+    let steps = node.owners.beat(world.store.beat("a", here()));
     assert_eq!(steps, [Step::Drop { slot: 3, term }]);
     assert_eq!(node.owners.whose()[&3], Whose::Nobody);
     assert!(!node.owners.lost(3, term));
-    assert_eq!(node.owners.beat(world.store.beat("a", Stay::Here)), []);
+    assert_eq!(node.owners.beat(world.store.beat("a", here())), []);
     // `z` has no row, so nobody beats for it.
     world.rounds(GONE as usize + 2);
     assert_eq!(world.store.rows[3].owner, "a");
+}
+
+fn here() -> (Stay, Refused) {
+    (Stay::Here, Refused::new())
+}
+
+#[test]
+fn what_its_place_can_not_open_goes_to_another_and_stays_there() {
+    let mut world = World::of(17, &["a", "b", "c"]);
+    world.broken = (0..4).map(|slot| (slot, "a".into())).collect();
+    world.broken.extend([(5, "a".into()), (5, "b".into())]);
+    world.rounds(100);
+    assert!(world.is_settled(), "{:?}", world.store.rows);
+    let row = |world: &World, slot: usize| world.store.rows[slot].clone();
+    assert!((0..4).all(|slot| row(&world, slot).owner != "a") && row(&world, 5).owner == "c");
+    let before = (world.takes, world.hand_overs);
+    world.rounds(600);
+    assert_eq!((world.takes, world.hand_overs), before, "it is thrown to and fro");
+    // Where none is left but those that could not, they try again.
+    world.nodes.pop();
+    world.store.instances.remove("c");
+    world.rounds(30);
+    assert_eq!(row(&world, 5).owner, "");
+    let refused = world.nodes[0].owners.all_refused();
+    let of_five: Vec<&str> = refused
+        .iter()
+        .filter(|one| one.slot == 5)
+        .map(|one| one.instance.as_str())
+        .collect();
+    assert_eq!(of_five, ["a", "b"]);
+    world.broken.remove(&(5, "b".into()));
+    world.rounds(300);
+    assert_eq!(row(&world, 5).owner, "b");
+    // An instance that starts again has forgotten it, and hears of it once more.
+    world.nodes[0].owners = Owners::new("a");
+    world.rounds(200);
+    let before = (world.takes, world.hand_overs);
+    world.rounds(300);
+    assert_eq!((world.takes, world.hand_overs), before, "it is thrown to and fro");
+    assert_eq!(row(&world, 5).owner, "b");
+}
+
+#[test]
+fn what_nobody_can_open_is_tried_again_later_and_later() {
+    let mut world = World::of(19, &["a", "b"]);
+    world.broken = [(3, "a".into()), (3, "b".into())].into();
+    world.rounds(400);
+    let terms = world.store.rows[3].term;
+    assert!((6..20).contains(&terms), "{terms} tries in 400 beats");
+    world.rounds(400);
+    assert!(
+        world.store.rows[3].term - terms <= 8,
+        "each tries it once a minute"
+    );
+    world.broken.clear();
+    world.rounds(150);
+    assert!(world.is_settled());
+}
+
+#[test]
+fn what_fails_once_it_is_open_is_let_go_with_its_reason() {
+    let mut world = World::of(23, &["a", "b"]);
+    world.rounds(200);
+    let row = world
+        .store
+        .rows
+        .iter()
+        .find(|row| row.owner == "a")
+        .unwrap()
+        .clone();
+    assert!(world.nodes[0].owners.failed(row.slot, row.term, "no memory"));
+    assert_eq!(world.nodes[0].owners.whose()[&row.slot], Whose::Nobody);
+    world.rounds(4);
+    assert_eq!(world.store.rows[usize::from(row.slot)].owner, "b");
+    let refused = world.nodes[1].owners.all_refused();
+    let refused: Vec<_> = refused
+        .iter()
+        .map(|one| (one.slot, &*one.instance, &*one.reason))
+        .collect();
+    assert_eq!(refused, [(row.slot, "a", "no memory")]);
+    assert!(!world.nodes[0].owners.failed(row.slot, row.term, "late") || refused.len() == 1);
 }

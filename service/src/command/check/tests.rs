@@ -21,6 +21,27 @@ fn what_is_no_folder_is_named() -> Result<()> {
     Ok(())
 }
 
+#[test]
+fn what_is_in_a_store_is_shown_by_the_status() -> Result<()> {
+    let folder = tempdir()?;
+    std::fs::write(folder.path().join("acts.jsonl"), "")?;
+    let error = lock(folder.path()).unwrap_err().to_string();
+    assert!(
+        error.contains("totxegun status") && error.contains("--store"),
+        "{error}"
+    );
+    let error = lock("postgres://me:secret@db/x".as_ref())
+        .unwrap_err()
+        .to_string();
+    assert!(
+        error.starts_with("a store has no folder") && !error.contains("secret"),
+        "{error}"
+    );
+    killed(folder.path())?;
+    assert!(lock(folder.path()).is_ok(), "a folder may have acts too");
+    Ok(())
+}
+
 /// What a check of a folder says, and how it ends.
 fn checked(data: &Path) -> Result<Vec<u8>, Failure> {
     let temporary = tempdir().unwrap();

@@ -153,13 +153,13 @@ fn rounds_are_closed_book_by_book() {
     let all = names("s", 20); // of each book some
     let by = named(&all);
     let mut closed = Vec::new();
-    for number in 1..=2_100 {
+    for number in 1..=2_700 {
         assert_eq!(put(&core, &by, "A", of(0..20, number * 10, 1)), Ok(0));
         match core.lock().rounds_closed() {
             0 => {}
             rounds => closed.push((number, rounds)),
         }
     }
-    assert_eq!(closed, [(2_000, 1), (2_001, 1), (2_002, 1)]);
-    assert!(taken(&core).values().all(|one| *one == (2_100, 21_010)));
+    assert_eq!(closed, [(2_000, 1), (2_334, 1), (2_667, 1)]);
+    assert!(taken(&core).values().all(|one| *one == (2_700, 27_010)));
 }

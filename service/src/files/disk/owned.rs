@@ -73,6 +73,10 @@ impl Owned {
         self.drive.under_way()
     }
 
+    pub fn term(&self) -> Option<u64> {
+        self.drive.owned_under()
+    }
+
     pub fn is_lost(&self) -> bool {
         *self.lost.borrow()
     }

@@ -12,6 +12,7 @@ const LOST_OUTBOX: &str = "has no segments, and the journal beside it has: put a
 
 /// Opens the files of a slot that was taken just now. Its requests have keys of the epoch, which is the store's for ever.
 pub fn open(drive: Arc<dyn Drive>, epoch: &str) -> Result<(Journal, Outbox, Dead), Fault> {
+    let delivered = drive.delivered();
     let disk = Disk::of_drive(drive);
     let (journal, outbox) = (Path::new("journal"), Path::new("outbox"));
     let is_new = segment::numbers(&disk, outbox)?.is_empty();
@@ -25,6 +26,7 @@ pub fn open(drive: Arc<dyn Drive>, epoch: &str) -> Result<(Journal, Outbox, Dead
     }
     let room = Arc::new(Room::endless());
     let outbox = Outbox::open(&disk, outbox, epoch, room.clone())?;
+    outbox.is_delivered_to(delivered)?;
     let reach = outbox.journal();
     let expected = Expected {
         reach,

@@ -50,10 +50,15 @@ impl KnownSink {
         }
     }
 
-    /// As the file `version` has it.
-    pub(super) fn line(&self) -> String {
+    /// As the file `version`, and a store, has it.
+    pub(crate) fn line(&self) -> String {
         let id = self.id.as_deref().unwrap_or("-");
         format!("sink {id} {} {}\n", self.kind, self.address)
+    }
+
+    /// Of such a line.
+    pub(crate) fn of_line(line: &str) -> Option<KnownSink> {
+        KnownSink::read(line.strip_prefix("sink ")?.strip_suffix('\n')?)
     }
 
     /// Of what follows `sink `.

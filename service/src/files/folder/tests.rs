@@ -211,8 +211,8 @@ fn a_later_or_missing_version_is_refused_by_name() {
     let version = place.path().join("version");
     let text = std::fs::read_to_string(&version).unwrap();
     let refused = || open(place.path()).err().unwrap().to_string();
-    std::fs::write(&version, text.replacen("totxegun 1", "totxegun 3", 1)).unwrap();
-    assert!(refused().contains("format version 3"), "{}", refused());
+    std::fs::write(&version, text.replacen("totxegun 1", "totxegun 4", 1)).unwrap();
+    assert!(refused().contains("format version 4"), "{}", refused());
     for wrong in [
         "",
         "totxegun\n",
@@ -277,4 +277,47 @@ fn the_number_of_slots_stays_and_one_slot_is_of_version_1() {
         "files of other slots are left: {}",
         text()
     );
+}
+
+/// Whatever its version was: an earlier totxegun knows nothing of marks.
+#[test]
+fn a_folder_with_a_mark_is_read_by_no_earlier_totxegun_and_no_service_starts_on_it() {
+    let place = tempfile::tempdir().unwrap();
+    let folder = open(place.path()).unwrap();
+    let version = || std::fs::read_to_string(place.path().join("version")).unwrap();
+    let plain = version();
+    let mut mark = Mark {
+        way: Way::Leaving,
+        id: "0123456789abcdef".into(),
+        store: "postgres://u@h:1/d postgres://u@h:2/d".into(),
+    };
+    for (way, part) in [
+        (Way::Leaving, "on its way into the store"),
+        (Way::Left, "was moved into"),
+        (Way::Coming, "out of the store"),
+    ] {
+        mark.way = way;
+        folder.set_mark(Some(mark.clone())).unwrap();
+        assert!(version().starts_with("totxegun 3\n"), "{}", version());
+        let why = folder.counts().unwrap_err().to_string();
+        assert!(why.contains(part) && why.contains(&mark.store), "{why}");
+    }
+    drop(folder);
+    let folder = open(place.path()).unwrap();
+    assert_eq!(folder.mark(), Some(mark));
+    folder.set_mark(None).unwrap();
+    folder.counts().unwrap();
+    assert_eq!(version().lines().nth(1), plain.lines().nth(1));
+    for wrong in ["move gone 12 s\n", "move left xy s\n", "move left 12\n", ""] {
+        let text = plain
+            .replacen("totxegun 1", "totxegun 3", 1)
+            .replace("lock ", "slots 1\nlock ");
+        let text = format!(
+            "{}{wrong}",
+            text.replacen("slots 1\n", "", 1)
+                .replacen("\nborn", "\nslots 1\nborn", 1)
+        );
+        std::fs::write(place.path().join("version"), text).unwrap();
+        assert!(Version::read(place.path()).is_err(), "{wrong}");
+    }
 }

@@ -1,6 +1,6 @@
 //! What the file `version` says.
 
-use super::{io_fault, Fault, KnownSink, MOST_SLOTS};
+use super::{io_fault, Fault, KnownSink, Mark, MOST_SLOTS};
 use std::collections::BTreeMap;
 use std::fs::File;
 use std::os::unix::fs::MetadataExt;
@@ -9,6 +9,8 @@ use std::time::UNIX_EPOCH;
 
 /// Of the folder: which files there are, and where. A folder is of the second once it had another number of slots than 1.
 const VERSION: u32 = 2;
+/// Of one with a mark: no earlier totxegun may start on it.
+const MARKED: u32 = 3;
 
 /// Its lines.
 #[derive(Clone, Default)]
@@ -20,6 +22,7 @@ pub struct Version {
     /// The journal's segment that the last start of a slot has begun: so far the slot was made, durably.
     pub begun: BTreeMap<u16, u64>,
     pub sink: Option<KnownSink>,
+    pub mark: Option<Mark>,
 }
 
 /// By which a file is told from its copies.
@@ -58,12 +61,19 @@ impl Version {
             slots,
             begun,
             sink,
+            mark,
         } = self;
         let inode = lock.inode;
-        let text = match slots {
-            None => format!("totxegun 1\nepoch {epoch}\nlock {inode}\n"),
-            Some(slots) => format!("totxegun {VERSION}\nepoch {epoch}\nlock {inode}\nslots {slots}\n"),
+        let number = match (slots, mark) {
+            (_, Some(_)) => MARKED,
+            (Some(_), None) => VERSION,
+            (None, None) => 1,
         };
+        let slots = (number > 1).then(|| format!("slots {}\n", slots.unwrap_or(1)));
+        let text = format!(
+            "totxegun {number}\nepoch {epoch}\nlock {inode}\n{}",
+            slots.unwrap_or_default()
+        );
         // The last lines: an earlier totxegun passes over them.
         let born = lock.born.map(|born| format!("born {born}\n"));
         let begun: Vec<String> = begun
@@ -72,7 +82,9 @@ impl Version {
             .collect();
         let begun = (!begun.is_empty()).then(|| format!("begun{}\n", begun.concat()));
         let sink = sink.as_ref().map(KnownSink::line);
-        text + &born.unwrap_or_default() + &begun.unwrap_or_default() + &sink.unwrap_or_default()
+        let mark = mark.as_ref().map(Mark::line);
+        let lines = [born, begun, sink, mark].into_iter().flatten();
+        text + &lines.collect::<String>()
     }
 
     pub fn read(folder: &Path) -> Result<Option<Version>, Fault> {
@@ -99,10 +111,10 @@ impl Version {
         };
         let version: Option<u32> = value("totxegun").and_then(|version| version.parse().ok());
         match version {
-            Some(1..=VERSION) => {}
-            Some(version) if version > VERSION => {
+            Some(1..=MARKED) => {}
+            Some(version) if version > MARKED => {
                 return damaged(format!(
-                    "the folder is of format version {version}, and this totxegun reads up to {VERSION}: start the later totxegun that wrote it"
+                    "the folder is of format version {version}, and this totxegun reads up to {MARKED}: start the later totxegun that wrote it"
                 ))
             }
             _ => return damaged("is no version of a folder of totxegun: put a copy of this file in its place".into()),
@@ -129,16 +141,19 @@ impl Version {
             begun.split(' ').map(of_slot).collect()
         });
         let sink = last("sink ").map_or(Some(None), |line| KnownSink::read(line).map(Some));
-        match (epoch, inode, slots, begun, sink) {
-            (Some(epoch), Some(inode), Some(slots), Some(begun), Some(sink)) => Ok(Some(Version {
+        let mark = last("move ").map_or(Some(None), |line| Mark::read(line).map(Some));
+        let mark = mark.filter(|mark| mark.is_some() == (version == Some(MARKED)));
+        match (epoch, inode, slots, begun, sink, mark) {
+            (Some(epoch), Some(inode), Some(slots), Some(begun), Some(sink), Some(mark)) => Ok(Some(Version {
                 epoch,
                 lock: Identity { inode, born },
                 slots,
                 begun,
                 sink,
+                mark,
             })),
             _ => damaged(
-                "has no epoch, no inode of the lock, no number of slots, or says otherwise what was begun or which sink it has: put a copy of this file in its place"
+                "has no epoch, no inode of the lock, no number of slots, or says otherwise what was begun, which sink it has or where it was moved: put a copy of this file in its place"
                     .into(),
             ),
         }

@@ -141,6 +141,21 @@ impl Points {
         self.runs.iter().filter_map(|run| Some((run, self.point(run.0)?)))
     }
 
+    /// Those whose numbers are wanted, in their order, with what their runs are.
+    pub fn of_numbers(&self, is_wanted: impl Fn(u64) -> bool) -> Points {
+        let (mut part, mut runs) = (Points::default(), self.runs.iter().peekable());
+        for (place, point) in (0..).zip(self.each()) {
+            let run = runs.next_if(|(of, _)| *of == place);
+            if is_wanted(point[0]) {
+                if let Some((_, run)) = run {
+                    part.put_run(part.count() as u32, run.clone());
+                }
+                part.push_words(point[0], &point[1..]);
+            }
+        }
+        part
+    }
+
     /// The words of the point at a place.
     pub fn point(&self, place: u32) -> Option<&[u64]> {
         let place = place as usize;

@@ -28,7 +28,7 @@ impl Outbox {
     }
 
     /// A new segment's snapshot has what is changed.
-    fn renew(&self, change: impl FnOnce(&mut State)) -> Result<(), Fault> {
+    pub(super) fn renew(&self, change: impl FnOnce(&mut State)) -> Result<(), Fault> {
         let mut writer = lock(&self.writer);
         writer.begin(&self.disk)?;
         change(&mut lock(&self.state));

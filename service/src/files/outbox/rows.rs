@@ -303,6 +303,12 @@ pub fn sound_length(disk: &Disk, path: &Path, front: &Front) -> Result<u64, Faul
     Ok(read_packed(disk, path, front)?.1)
 }
 
+/// A waiting request, packed as it is there, and the length of its record.
+pub fn packed_item(disk: &Disk, path: &Path, front: &Front) -> Result<(Vec<u8>, u64), Fault> {
+    let (mut numbered, length) = read_packed(disk, path, front)?;
+    Ok((numbered.split_off(8), length))
+}
+
 fn read_packed(disk: &Disk, path: &Path, front: &Front) -> Result<(Vec<u8>, u64), Fault> {
     let number = front.waiting.number.to_le_bytes();
     let read = records::read_at(disk, path, front.at)?;

@@ -1,5 +1,6 @@
-//! What is kept comes back; `damage` has what goes wrong, `model` any order of calls, `size` bytes and times.
+//! What is kept comes back; `brought` is an outbox that goes on from another, `damage` has what goes wrong, `model` any order of calls, `size` bytes and times.
 
+mod brought;
 mod damage;
 mod model;
 mod power;

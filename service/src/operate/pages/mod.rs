@@ -4,6 +4,7 @@
 //! `html` escapes all that the program has not written itself; nothing is loaded from elsewhere, and the policy forbids
 //! it.
 
+mod cluster;
 mod html;
 mod overview;
 mod plot;
@@ -19,6 +20,7 @@ use html::Html;
 use hyper::header::X_CONTENT_TYPE_OPTIONS;
 use hyper::header::{HeaderName, HeaderValue, CACHE_CONTROL, CONTENT_SECURITY_POLICY, REFERRER_POLICY};
 use hyper::{Body, Response};
+use std::sync::Arc;
 
 const PAGE: &str = "text/html; charset=utf-8";
 
@@ -54,10 +56,16 @@ enum Place {
 
 impl Desk {
     /// `query` is what stands behind the path.
-    pub(super) async fn page(&self, page: Page, query: &str) -> Response<Body> {
+    pub(super) async fn page(self: &Arc<Self>, page: Page, query: &str) -> Response<Body> {
         let mut response = match page {
-            Page::Overview => reply(200, PAGE, self.overview(self.few_letters().await)),
-            Page::Levels => reply(200, PAGE, self.overview(Vec::new())),
+            Page::Overview | Page::Levels => {
+                let status = self.status_of_all().await;
+                let letters = match page {
+                    Page::Overview => self.few_letters(status.dead).await,
+                    _ => Vec::new(),
+                };
+                reply(200, PAGE, self.overview(status, letters))
+            }
             Page::Series => reply(200, PAGE, self.series_page(query).await),
             Page::Style => reply(200, "text/css", include_str!("page.css")),
             Page::Script => reply(200, "text/javascript", include_str!("page.js")),
@@ -83,8 +91,7 @@ fn frame(place: Place, status: &Status, body: Html) -> String {
         );
     }
     html.markup("</head><body><header><h1>totxegun</h1>");
-    let why = status.slots.iter().find_map(|slot| slot.unavailable.as_deref());
-    match why {
+    match &status.unavailable {
         None => html.markup("<p id=state class=\"state good\">takes posts</p>"),
         Some(why) => html
             .markup("<p id=state class=\"state bad\">posts get 503: ")

@@ -3,13 +3,15 @@
 use super::html::{grouped, Cell, Html};
 use super::plot::{lines, Line};
 use super::pulse::{Rates, KEPT};
-use super::{frame, Desk, Place};
+use super::{cluster, frame, Desk, Place};
 use crate::command::values::{bytes_shown, seconds_shown};
 use crate::files::dead::Letter;
 use crate::metrics::to_do;
 use crate::operate::status::{SlotStatus, Status, Stock};
 use crate::otlp::{Cause, NO_NAME};
 use crate::remarks::{OfReason, OfSender};
+use std::collections::BTreeSet;
+use std::sync::Arc;
 use std::time::{SystemTime, UNIX_EPOCH};
 
 /// How many rows a table has at most.
@@ -27,11 +29,11 @@ struct Seen<'a> {
 }
 
 impl Desk {
-    pub(super) fn overview(&self, letters: Vec<Letter>) -> String {
+    pub(super) fn overview(&self, status: Status, letters: Vec<Letter>) -> String {
         self.read_levels();
         let seen = Seen {
             desk: self,
-            status: self.status(),
+            status,
             senders: self.heard.last(usize::MAX),
             letters,
             now: SystemTime::now()
@@ -42,6 +44,7 @@ impl Desk {
         seen.tiles(&mut html);
         seen.rates(&mut html);
         seen.waits(&mut html);
+        cluster::sections(&mut html, &seen.status);
         seen.refused(&mut html);
         seen.foreign(&mut html);
         seen.senders(&mut html);
@@ -51,18 +54,19 @@ impl Desk {
     }
 
     /// None where there are many, or the disk is not to be asked.
-    pub(super) async fn few_letters(&self) -> Vec<Letter> {
-        if self.units.dead() > LETTERS || !self.units.disk_answers() {
+    pub(super) async fn few_letters(self: &Arc<Self>, dead: u64) -> Vec<Letter> {
+        if dead == 0 || dead > LETTERS || !self.units.disk_answers() {
             return Vec::new();
         }
-        self.all_letters().await.unwrap_or_default()
+        self.letters_there().await
     }
 }
 
 impl Seen<'_> {
     fn tiles(&self, html: &mut Html) {
         let last = self.desk.pulse.rates().last().copied().unwrap_or_default();
-        let waiting: u64 = self.status.slots.iter().map(|slot| slot.waiting).sum();
+        let waiting = self.status.waiting();
+        let series: usize = self.status.slots.iter().map(|slot| slot.series).sum();
         let class_if = |is_so: bool, class: &'static str| if is_so { class } else { "" };
         let refused = class_if(last.refused > 0.0, "refused");
         let (troubled, dead) = (
@@ -80,7 +84,7 @@ impl Seen<'_> {
             ),
             ("requests wait for the sink", troubled, grouped(waiting)),
             ("dead requests", dead, grouped(self.status.dead)),
-            ("series", "", grouped(self.desk.metrics.levels.series.get())),
+            ("series", "", grouped(series)),
         ] {
             html.markup("<div class=\"tile ")
                 .markup(class)
@@ -122,7 +126,8 @@ impl Seen<'_> {
                 .markup("</p>");
         }
         let quarantined = self.status.slots.iter().flat_map(|slot| &slot.quarantined);
-        let names: Vec<&str> = quarantined.map(String::as_str).take(ROWS).collect();
+        let names: BTreeSet<&str> = quarantined.map(String::as_str).collect();
+        let names: Vec<&str> = names.into_iter().take(ROWS).collect();
         if !names.is_empty() {
             html.markup("<p class=note>Quarantined: ").text(names.join(", "));
             html.markup("; <code>totxegun lift NAME</code> once it is repaired</p>");
@@ -144,15 +149,17 @@ impl Seen<'_> {
             let bytes = slots.iter().map(|slot| of(slot).bytes).sum();
             row(what, many, bytes, ages.max())
         };
-        let posts = self.desk.units.sum(|unit| unit.slot.ungrouped());
-        let requests = slots.iter().map(|slot| slot.waiting).sum();
-        let held = self.desk.units.held();
+        let posts = slots.iter().map(|slot| slot.posts).sum();
+        let requests = self.status.waiting();
+        let (held_posts, held_bytes) = slots.iter().fold((0, 0), |(posts, bytes), slot| {
+            (posts + slot.held.posts, bytes + slot.held.bytes)
+        });
         let mut rows = vec![
             stock("posts, for a flush", posts, |slot| &slot.journal),
             stock("requests, for the sink", requests, |slot| &slot.outbox),
         ];
-        if held.posts > 0 {
-            rows.push(row("posts of quarantined senders", held.posts, held.bytes, None));
+        if held_posts > 0 {
+            rows.push(row("posts of quarantined senders", held_posts, held_bytes, None));
         }
         rows
     }

@@ -24,6 +24,10 @@ pub struct Learner<'s> {
 }
 
 impl Find for Learner<'_> {
+    fn top(&mut self, decides: u64) -> Result<Level, Stop> {
+        self.fitting(|levels| levels.make_top(decides))
+    }
+
     fn level(&mut self, path: &Path<'_>, within: Level, bytes: &[u8]) -> Result<Level, Stop> {
         match Known(&self.known()).level(path, within, bytes) {
             Err(Stop::Unknown) => {}

@@ -10,7 +10,7 @@ use std::sync::Arc;
 /// The place of a level.
 pub type Level = u32;
 
-/// The level of resources.
+/// The level of resources, where all slots are read alike; each that is not has another.
 pub const TOP: Level = 0;
 /// The level of series' keys, by which points of a text are known.
 pub const KEYS: Level = 1;
@@ -29,6 +29,8 @@ pub struct Levels {
     all: Vec<HashMap<Box<[u8]>, u32, RandomState>>,
     hasher: RandomState,
     left: usize,
+    /// The levels of resources by whose decisions count in them.
+    tops: HashMap<u64, Level, RandomState>,
     /// Of metrics that are taken in another unit, by their level.
     scales: HashMap<Level, Arc<Scale>, RandomState>,
     /// Of the series of these, by their number.
@@ -44,6 +46,7 @@ impl Levels {
         let hasher = RandomState::new();
         Levels {
             all: vec![HashMap::with_hasher(hasher.clone()); 2],
+            tops: HashMap::with_hasher(hasher.clone()),
             scales: HashMap::with_hasher(hasher.clone()),
             shown: HashMap::with_hasher(hasher.clone()),
             hasher,
@@ -56,16 +59,41 @@ impl Levels {
         self.all[within as usize].get(bytes).copied()
     }
 
+    /// The level of resources where these decisions count.
+    #[inline]
+    pub fn top(&self, decides: u64) -> Option<Level> {
+        match decides {
+            0 => Some(TOP),
+            _ => self.tops.get(&decides).copied(),
+        }
+    }
+
+    /// The same, which is there from now on.
+    pub fn make_top(&mut self, decides: u64) -> Result<Level, Full> {
+        if let Some(level) = self.top(decides) {
+            return Ok(level);
+        }
+        let level = self.next()?;
+        self.take_room(&[], LEVEL)?;
+        self.tops.insert(decides, level);
+        self.all.push(HashMap::with_hasher(self.hasher.clone()));
+        Ok(level)
+    }
+
     /// The level of these bytes, which is there from now on.
     pub fn level(&mut self, within: Level, bytes: &[u8]) -> Result<Level, Full> {
         if let Some(level) = self.find(within, bytes) {
             return Ok(level);
         }
-        let level = Level::try_from(self.all.len()).map_err(|_| Full)?;
+        let level = self.next()?;
         self.take_room(bytes, LEVEL)?;
         self.put(within, bytes, level);
         self.all.push(HashMap::with_hasher(self.hasher.clone()));
         Ok(level)
+    }
+
+    fn next(&self) -> Result<Level, Full> {
+        Level::try_from(self.all.len()).map_err(|_| Full)
     }
 
     /// The level of a metric that is taken in another unit.
@@ -115,6 +143,11 @@ impl Levels {
 pub struct Known<'l>(pub &'l Levels);
 
 impl Find for Known<'_> {
+    #[inline]
+    fn top(&mut self, decides: u64) -> Result<Level, Stop> {
+        self.0.top(decides).ok_or(Stop::Unknown)
+    }
+
     #[inline]
     fn level(&mut self, _: &Path<'_>, within: Level, bytes: &[u8]) -> Result<Level, Stop> {
         self.0.find(within, bytes).ok_or(Stop::Unknown)

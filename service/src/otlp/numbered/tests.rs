@@ -67,7 +67,7 @@ impl Book {
     }
 
     fn read(&self, body: &[u8]) -> Option<(Vec<u64>, u64)> {
-        let read = self.series.read(body, |request| {
+        let read = self.series.read(body, &Reading::default(), |request| {
             let text = String::from_utf8(request.to_vec()).unwrap();
             let posted = crate::otlp::series::posted(&request).unwrap();
             if posted.foreign == 1 {

@@ -2,7 +2,7 @@
 //! it says `Slow`, and then the request is read as any other.
 
 use super::fields::{adds_up, eights, is_recorded, is_span, number, pass_extremes, span, whole_sum, Number};
-use super::levels::{Level, CUMULATIVE, TOP};
+use super::levels::{Level, CUMULATIVE};
 use super::Numbered;
 use crate::files::Points;
 use crate::otlp::from_protobuf::is_exemplar;
@@ -63,6 +63,8 @@ pub struct Own<'b> {
 
 /// Who knows what is known.
 pub trait Find {
+    /// The level of resources where these decisions count.
+    fn top(&mut self, decides: u64) -> Result<Level, Stop>;
     /// The level of these bytes, which are the last part of the path.
     fn level(&mut self, path: &Path<'_>, within: Level, bytes: &[u8]) -> Result<Level, Stop>;
     /// The level of a histogram's bounds.
@@ -167,7 +169,8 @@ impl<'b, F: Find> Walk<'b, F> {
             resource,
             ..Path::default()
         };
-        let level = self.find.level(&self.path, TOP, resource)?;
+        let top = self.find.top(self.reading.whole.decides())?;
+        let level = self.find.level(&self.path, top, resource)?;
         each(&RESOURCE_METRICS, 2, fields, |scope| self.scope(level, scope))
     }
 

@@ -5,9 +5,14 @@
 //! is kept: a unit that was taken once is the coarsest of these for ever, since a coarser one between would be taken in it
 //! (units are in chains, each of which divides the one before). Which is why a start has to know all series before posts are read.
 
+//!
+//! Of several slots each decides by what it has itself, so that a post means the same wherever its slot is: else a repeat
+//! would be of another series, and count twice. Where a slot knows nothing of a name yet, it takes what others here have.
+
 use super::{Rule, BYTES, PARTS, TIMES};
 use std::collections::HashMap;
-use std::sync::{PoisonError, RwLock};
+use std::sync::atomic::{AtomicU64, Ordering::Relaxed};
+use std::sync::{Arc, PoisonError, RwLock};
 
 /// Units of which each is a whole part of all before it, and the one in which doubles are taken.
 const CHAINS: [(&[&str], &str); 4] = [
@@ -27,11 +32,18 @@ pub struct Unit(usize);
 /// A set of known units, a bit each.
 type Set = u32;
 
+/// The last number that a slot's got.
+static LAST: AtomicU64 = AtomicU64::new(0);
+
 /// In which known units there are series, by the name of their metric.
 pub struct Units {
+    /// Of each that is opened another; 0 of those that all slots share.
+    pub(super) number: u64,
     names: RwLock<Names>,
+    /// What is known here of a name that this slot does not know yet.
+    of_all: Option<Arc<Units>>,
     /// By the place of the unit, and then of the one that it is taken in.
-    rules: Vec<Vec<Option<Rule>>>,
+    rules: Arc<Vec<Vec<Option<Rule>>>>,
     /// Those that it may be taken in.
     finer: Vec<Set>,
 }
@@ -39,6 +51,15 @@ pub struct Units {
 struct Names {
     units: HashMap<Box<str>, Set>,
     left: usize,
+}
+
+impl Default for Names {
+    fn default() -> Names {
+        Names {
+            units: HashMap::new(),
+            left: MOST,
+        }
+    }
 }
 
 impl Unit {
@@ -82,17 +103,27 @@ impl Default for Units {
         let row = |from| all().map(|(to, _)| rule(from, to)).collect();
         let rules: Vec<Vec<Option<Rule>>> = all().map(|(from, _)| row(from)).collect();
         Units {
-            names: RwLock::new(Names {
-                units: HashMap::new(),
-                left: MOST,
-            }),
+            number: 0,
+            names: RwLock::default(),
+            of_all: None,
             finer: (0..all().count()).map(|place| Unit(place).finer()).collect(),
-            rules,
+            rules: Arc::new(rules),
         }
     }
 }
 
 impl Units {
+    /// Of one of several slots, which knows nothing yet.
+    pub fn of_slot(of_all: Arc<Units>) -> Units {
+        Units {
+            number: 1 + LAST.fetch_add(1, Relaxed),
+            names: RwLock::default(),
+            rules: of_all.rules.clone(),
+            finer: of_all.finer.clone(),
+            of_all: Some(of_all),
+        }
+    }
+
     /// How the one unit is taken in the other, which is a part of it.
     pub fn rule(&self, from: Unit, to: Unit) -> Option<&Rule> {
         self.rules[from.0][to.0].as_ref()
@@ -109,6 +140,7 @@ impl Units {
         if known & bit(unit) == 0 {
             self.write().put(metric, unit);
         }
+        self.of_all.iter().for_each(|of_all| of_all.note(metric, unit));
     }
 
     /// In which unit a metric of this one is taken, where that is decided.
@@ -122,12 +154,15 @@ impl Units {
         if let Some(decided) = self.decided(metric, unit) {
             return decided;
         }
+        let elsewhere = self.of_all.as_ref();
+        let elsewhere = elsewhere.map(|of_all| of_all.decide(metric, unit, has_doubles));
         let mut names = self.write();
         let known = names.units.get(metric).copied().unwrap_or(0);
         if let Some(decided) = self.coarsest(known, unit) {
             return decided; // another has decided meanwhile
         }
-        let wanted = if has_doubles { unit.of_doubles() } else { unit };
+        let own = if has_doubles { unit.of_doubles() } else { unit };
+        let wanted = elsewhere.unwrap_or(own);
         if names.put(metric, wanted) {
             wanted
         } else {
@@ -228,6 +263,30 @@ mod tests {
                 }
             }
         }
+    }
+
+    #[test]
+    fn a_slot_decides_by_what_it_has_and_else_as_the_others_here() {
+        let all = Arc::new(Units::default());
+        let slot = || Units::of_slot(all.clone());
+        let (one, other) = (slot(), slot());
+        assert!(one.number > 0 && other.number > one.number);
+        let decide = |units: &Units, own, has_doubles| units.decide("a", unit(own), has_doubles).name();
+        assert_eq!(decide(&one, "s", true), "us");
+        assert_eq!(decide(&other, "s", false), "us", "as the first one");
+        // It comes back from an instance where it was taken otherwise.
+        let back = slot();
+        back.note("a", unit("s"));
+        assert_eq!(decide(&back, "s", true), "s");
+        assert_eq!(
+            [decide(&one, "s", false), decide(&other, "s", true)],
+            ["us", "us"]
+        );
+        // What another slot has since been found to have changes nothing of a slot that has decided.
+        let late = slot();
+        late.note("a", unit("ms"));
+        assert_eq!(["s", "ms"].map(|own| decide(&one, own, false)), ["us", "us"]);
+        assert_eq!(["s", "ms"].map(|own| decide(&back, own, false)), ["s", "ms"]);
     }
 
     #[test]

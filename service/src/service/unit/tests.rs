@@ -78,3 +78,21 @@ async fn a_fault_of_a_keeper_that_is_late_is_told() {
     let ended = unit(place.path(), 0, late).stop().await;
     assert!(matches!(ended, Err(Ended::Disk(_))), "{ended:?}");
 }
+
+#[test]
+fn a_slot_has_more_than_its_share_and_than_it_has_already() {
+    for (most, slots, known, wanted) in [
+        (100_000, 1, 0, 100_000),
+        (100_000, 32, 0, 12_500),
+        (100_000, 32, 9_000, 18_000),
+        (100_000, 32, 80_000, 100_000),
+        (100_000, 2, 0, 100_000),
+        (1, 1024, 0, 1),
+    ] {
+        assert_eq!(
+            room(most, slots, known),
+            wanted,
+            "{most} series, {slots} slots, {known} known"
+        );
+    }
+}

@@ -1,5 +1,8 @@
 //! Slots with their files in folders of their own, which come and go while posts go on.
 
+mod reach;
+mod whole;
+
 use super::super::operators::Operate;
 use super::super::unit::tests::{no_disk, unit};
 use super::*;
@@ -10,7 +13,7 @@ use crate::intake::connections::Handler;
 use crate::intake::head::{Head, Packing};
 use crate::intake::{Budget, Intake};
 use crate::metrics::Metrics;
-use crate::operate::{Acts, Desk, Pulse};
+use crate::operate::{Acts, Desk, Others, Pulse};
 use crate::otlp::series::{forwarded, Value};
 use crate::otlp::{slot_of, Clock, Encoding, Outcome, Reading, Resources};
 use crate::shares::Share;
@@ -91,8 +94,14 @@ struct Service {
 
 impl Service {
     fn new(place: &Path) -> Service {
-        let settings = Arc::new(settings(place));
-        let (metrics, reading) = (settings.metrics.clone(), Arc::<Reading>::default());
+        Service::of(settings(place), None)
+    }
+
+    /// With other instances.
+    fn of(settings: Settings, others: Option<Others>) -> Service {
+        let settings = Arc::new(settings);
+        let (metrics, reading) = (settings.metrics.clone(), Arc::new(settings.reading.clone()));
+        let place = settings.data.clone();
         let shared = Arc::new(Shared::new(metrics.clone(), settings.clock));
         let sink = Arc::<Taken>::default();
         let teller = Teller::new(settings.telling.clone(), metrics.clone(), Arc::default(), None);
@@ -108,10 +117,11 @@ impl Service {
             metrics.clone(),
         );
         let desk = Arc::new(Desk {
-            cluster: None,
+            others,
+            store: None,
             units: of_desk,
             shares: shared.shares.clone(),
-            acts: Arc::new(Acts::in_folder(place)),
+            acts: Arc::new(Acts::in_folder(&place)),
             sink: sink.clone(),
             totals: None,
             pulse: Pulse::begin(metrics.clone()),
@@ -134,7 +144,7 @@ impl Service {
             at_work,
         };
         Service {
-            place: place.into(),
+            place,
             sink,
             units,
             ends,
@@ -229,7 +239,7 @@ async fn a_slot_is_handed_over_while_the_others_go_on() {
     }
     assert_eq!(service.post(&[0, 1, 2], 10).await, Outcome::taken(0));
     assert!(service.units.hand_over(1).await.unwrap(), "in time");
-    assert_eq!(service.units.at_work.units().missing(), Some(1));
+    assert!(service.units.at_work.units().get(1).is_none());
     let nobody = service.post(&[1], 20).await;
     assert_eq!((nobody.status(), nobody.refusal()), (503, Some(NO_OWNER)));
     assert_eq!(service.post(&[0, 2], 20).await, Outcome::taken(0));
@@ -266,7 +276,7 @@ async fn a_slot_that_is_lost_ends_alone() {
     );
     assert_eq!(service.post(&[0, 2], 20).await, Outcome::taken(0));
     assert!(service.ends.try_recv().is_err(), "nothing else has ended");
-    assert_eq!(service.units.at_work.units().missing(), Some(1));
+    assert!(service.units.at_work.units().get(1).is_none());
 }
 
 #[tokio::test]
@@ -298,7 +308,7 @@ async fn orders_are_all_slots_and_503_where_one_is_not_here() {
     let quarantine = ("POST", "/quarantine/A");
     let (status, text) = service.ask(quarantine.0, quarantine.1).await;
     assert!(
-        status == 503 && text.contains("slot 1 is not here"),
+        status == 503 && text.contains("2 of 3 slots did it, and not slot 1"),
         "{status} {text}"
     );
     assert_eq!(
@@ -350,13 +360,7 @@ async fn what_is_shown_is_of_all_slots() {
     assert_eq!((status, series), (200, 3), "{report}");
     let (status, why) = service.ask("POST", "/close/2026-10").await;
     assert!(status == 409 && why.contains("not flushed"), "{status} {why}");
-    service.units.hand_over(0).await.unwrap();
-    let (status, why) = service.ask("POST", "/close/2026-10").await;
-    assert!(
-        status == 409 && why.contains("slot 0 is not here"),
-        "{status} {why}"
-    );
-    let dead = service.units.at_work.units().all().remove(1).dead.clone();
+    let dead = service.units.at_work.units().all().remove(2).dead.clone();
     dead.keep("2-abc-7", "no", b"{}").unwrap();
     let (status, letters) = service.ask("GET", "/dead").await;
     assert!(status == 200 && letters.contains("2-abc-7"), "{letters}");

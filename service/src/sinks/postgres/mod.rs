@@ -6,6 +6,7 @@
 pub mod by_hour;
 pub mod export;
 mod fault;
+mod fence;
 mod keeping;
 mod metric_rows;
 mod overlap;
@@ -94,6 +95,7 @@ impl PostgresSink {
         &self,
         place: &mut Option<Session>,
         request: &Forwarded,
+        term: Option<u64>,
         content: Content,
     ) -> Result<Option<Left>, NotTaken> {
         let mut session = match place.take() {
@@ -104,7 +106,7 @@ impl PostgresSink {
             }
         };
         self.was_there.store(true, Relaxed);
-        let taking = store::take(&mut session, &self.name, request, content);
+        let taking = store::take(&mut session, &self.name, request, term, content);
         let taken = match timeout(self.patience, taking).await {
             Ok(taken) => taken,
             Err(_) => Err(PostgresFault::late(&self.name, self.patience).into()),
@@ -115,15 +117,15 @@ impl PostgresSink {
         taken
     }
 
-    async fn tried(&self, request: &Forwarded) -> Result<Option<Left>, NotTaken> {
+    async fn tried(&self, request: &Forwarded, term: Option<u64>) -> Result<Option<Left>, NotTaken> {
         let content = self.read(request).await?;
         // It is not the server that is late where other slots' requests go first.
         let mut place = self.session.lock().await;
-        self.take(&mut place, request, content).await
+        self.take(&mut place, request, term, content).await
     }
 
-    async fn send(&self, request: &Forwarded) -> Fate {
-        match self.tried(request).await {
+    async fn send(&self, request: &Forwarded, term: Option<u64>) -> Fate {
+        match self.tried(request, term).await {
             Ok(None) => Fate::Taken,
             Ok(Some(left)) => left.fate(&request.body),
             Err(NotTaken::Refused(reason)) => Fate::refused(reason),
@@ -152,7 +154,11 @@ fn try_once(server: &Server, memory: Arc<dyn Memory>) -> anyhow::Result<Result<(
 
 impl Sink for PostgresSink {
     fn deliver<'a>(&'a self, request: &'a Forwarded) -> Answer<'a, Fate> {
-        Box::pin(self.send(request))
+        Box::pin(self.send(request, None))
+    }
+
+    fn deliver_of<'a>(&'a self, request: &'a Forwarded, term: Option<u64>) -> Answer<'a, Fate> {
+        Box::pin(self.send(request, term))
     }
 
     fn settle<'a>(&'a self, who: &'a str, deed: &'a Deed) -> Answer<'a, Told> {
@@ -207,7 +213,7 @@ mod tests {
             body: br#"{"resourceMetrics":[]}"#.to_vec(),
         };
         let (one, other) = (request(0), request(1));
-        let fates = tokio::join!(sink.send(&one), sink.send(&other));
+        let fates = tokio::join!(sink.send(&one, None), sink.send(&other, None));
         for fate in [fates.0, fates.1] {
             let Fate::Again { reason, .. } = fate else {
                 panic!("{fate:?}")

@@ -45,7 +45,7 @@ const TO_LAST_HOUR: &str = "update totxegun.series_total
 const TO_PAST_HOUR: &str =
     "insert into totxegun.past_hour as h (series, hour, points, total, count, without_sum, corrections)
     values ($1::int8, $2::int4, 0, 0, 0, 0, $3::int8)
-    on conflict (series, hour) do update set corrections = h.corrections + excluded.corrections";
+    on conflict (series, to_timestamp(hour * 3600::double precision)) do update set corrections = h.corrections + excluded.corrections";
 const TO_METRIC: &str =
     "insert into totxegun.metric_hour as h (metric, hour, points, total, count, corrections)
     select metric, $2::int4, 0, 0, 0, $3::int8 from totxegun.series where id = $1::int8

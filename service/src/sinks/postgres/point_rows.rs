@@ -17,9 +17,11 @@ pub(super) struct SpanRow<'a> {
 
 impl ToSql for SpanRow<'_> {
     fn to_sql(&self, of: &Type, out: &mut BytesMut) -> Written {
-        let (value, count, sum, buckets) = match &self.point.value {
+        let (value, count, sum, counts) = match &self.point.value {
             Value::Sum(value) => (Some(*value), None, None, None),
-            Value::Histogram { count, sum, buckets } => (None, Some(*count), *sum, Some(array(buckets))),
+            Value::Histogram { count, sum, buckets } => {
+                (None, beside(*count, buckets), *sum, Some(packed(buckets)))
+            }
         };
         let values: [&dyn ToSql; 7] = [
             &self.series,
@@ -28,7 +30,7 @@ impl ToSql for SpanRow<'_> {
             &value,
             &count.map(Numeric::from),
             &sum.map(Numeric::from),
-            &buckets,
+            &counts,
         ];
         row(&values, of, out)
     }
@@ -40,10 +42,24 @@ impl ToSql for SpanRow<'_> {
     to_sql_checked!();
 }
 
-/// As PostgreSQL writes an array: small counts take a fifth of one of `numeric`.
-fn array(buckets: &[u64]) -> String {
-    let buckets: Vec<String> = buckets.iter().map(u64::to_string).collect();
-    format!("{{{}}}", buckets.join(","))
+/// A count that is not what the buckets come to.
+fn beside(count: u64, buckets: &[u64]) -> Option<u64> {
+    let all: u128 = buckets.iter().map(|bucket| u128::from(*bucket)).sum();
+    (all != u128::from(count)).then_some(count)
+}
+
+/// As `totxegun.bucket_counts` reads it: seven bits a byte, the lowest first; a byte from 128 on is not the last.
+fn packed(buckets: &[u64]) -> Vec<u8> {
+    let mut bytes = Vec::with_capacity(buckets.len());
+    for bucket in buckets {
+        let mut rest = *bucket;
+        while rest > 127 {
+            bytes.push(rest as u8 | 128);
+            rest >>= 7;
+        }
+        bytes.push(rest as u8);
+    }
+    bytes
 }
 
 /// What a request adds to a series.

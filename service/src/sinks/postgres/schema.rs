@@ -16,6 +16,7 @@ const STEPS: &[&str] = &[
         include_str!("version5_comments.sql")
     ),
     include_str!("version6.sql"),
+    include_str!("version7.sql"),
 ];
 
 /// The last version that had no hours. Where it has spans, these are filled in behind the steps. Else there is nothing to

@@ -1,6 +1,7 @@
 //! A connection with its statements, to a schema of the right version.
 
 use super::fault::PostgresFault;
+use super::fence::Fence;
 use super::series::Seen;
 use super::{schema, statements, Server};
 use crate::postgres::{self, Connected, Driver, NotConnected};
@@ -26,6 +27,8 @@ pub(super) struct Session {
     pub(super) client: Client,
     pub(super) statements: Statements,
     pub(super) seen: Seen,
+    /// Where the sink is in the store's database.
+    pub(super) fence: Option<Fence>,
     _connection: Driver,
 }
 
@@ -79,14 +82,16 @@ impl Session {
         schema::migrate(&mut client, &name, version, memory, was_there).await?;
         let preparing = async {
             client.batch_execute(PLANS).await?;
-            Statements::prepare(&client).await
+            let statements = Statements::prepare(&client).await?;
+            Ok((statements, Fence::prepare(&client, &memory.databases()).await?))
         };
-        let statements = timeout(patience, preparing).await.map_err(late)?;
-        let statements = statements.map_err(|error| PostgresFault::of(&name, &error))?;
+        let prepared = timeout(patience, preparing).await.map_err(late)?;
+        let (statements, fence) = prepared.map_err(|error| PostgresFault::of(&name, &error))?;
         Ok(Session {
             client,
             statements,
             seen: Seen::default(),
+            fence,
             _connection: connection,
         })
     }

@@ -77,8 +77,10 @@ pub(super) const HOURS_BESIDE: &str = "select new.place, old.first_start_ns::tex
     left join lateral (
         select first_start_ns, last_end_ns from (
             (select h.first_start_ns, h.last_end_ns from totxegun.past_hour as h
-            where h.series = new.series and h.hour >= div(new.start_ns, 3600000000000)::int4
-                and h.last_end_ns > new.start_ns order by h.hour limit 1)
+            where h.series = new.series and h.last_end_ns > new.start_ns
+                and to_timestamp(h.hour * 3600::double precision)
+                    >= to_timestamp(div(new.start_ns, 3600000000000)::int4 * 3600::double precision)
+            order by to_timestamp(h.hour * 3600::double precision) limit 1)
             union all (select l.first_start_ns, l.last_end_ns from totxegun.late_hour as l
             where l.series = new.series and l.of_hour >= div(new.start_ns, 3600000000000)::int4
                 and l.last_end_ns > new.start_ns order by l.of_hour, l.first_start_ns limit 1)
@@ -91,7 +93,7 @@ pub(super) const HOURS_BESIDE: &str = "select new.place, old.first_start_ns::tex
 /// The spans that overlap these points, which lie in a stretch of time: a BRIN index says where its spans are.
 pub(super) const OVERLAP: &str = "select new.place, old.start_ns::text, old.end_ns::text
     from unnest($1::int8[], $2::int8[], $3::int8[]) with ordinality as new(series, start_ns, end_ns, place)
-    join totxegun.span as old on old.series = new.series and old.start_ns < new.end_ns and old.end_ns > new.start_ns
+    join totxegun.span_row as old on old.series = new.series and old.start_ns < new.end_ns and old.end_ns > new.start_ns
     where old.end_ns > $4::int8 and old.start_ns < $5::int8 and old.end_ns <= $6::int8 order by new.place";
 
 /// The same in the years from 2262 on, whose times are less 2^64: there are few. By the other sign they are in order.
@@ -120,8 +122,8 @@ pub(super) const OVERLAP_BEFORE: &str = "select new.place, old.start_ns::text, o
     where old.end_ns > new.start_ns order by new.place";
 
 pub(super) const SPANS: &str =
-    "insert into totxegun.span (series, start_ns, end_ns, value, count, sum, buckets)
-    select series, start_ns, end_ns, value, count, sum, buckets from unnest($1::totxegun.new_span[])";
+    "insert into totxegun.span_row (series, start_ns, end_ns, value, count, sum, counts)
+    select series, start_ns, end_ns, value, count, sum, counts from unnest($1::totxegun.new_span[])";
 
 /// Of series that are new.
 pub(super) const FIRST_TOTALS: &str =
@@ -145,7 +147,7 @@ pub(super) const PAST_HOURS: &str =
         total, count, without_sum, buckets)
     select series, hour, points, first_start_ns, last_end_ns, total, count, without_sum, buckets
     from unnest($1::totxegun.new_hour[])
-    on conflict (series, hour) do update set
+    on conflict (series, to_timestamp(hour * 3600::double precision)) do update set
         points = h.points + excluded.points,
         first_start_ns = least(h.first_start_ns, excluded.first_start_ns),
         last_end_ns = greatest(h.last_end_ns, excluded.last_end_ns),

@@ -29,6 +29,7 @@ pub(super) async fn take(
     session: &mut Session,
     server: &str,
     request: &Forwarded,
+    term: Option<u64>,
     content: Content,
 ) -> Result<Option<Left>, NotTaken> {
     let transaction = session.client.transaction().await;
@@ -53,7 +54,11 @@ pub(super) async fn take(
     let both = all.iter().zip(&known);
     let adding: Vec<Adding> = both.map(|(of, known)| Adding::of(of, known, &closed)).collect();
     // The totals are written down here while the server has the spans.
-    tokio::try_join!(writing.spans(&all, &known), writing.totals(&adding))?;
+    tokio::try_join!(
+        writing.spans(&all, &known),
+        writing.totals(&adding),
+        writing.delivered(session.fence.as_ref(), request, term, refused.is_empty())
+    )?;
     let left = refused.left(request)?;
     if let Some(left) = &left {
         writing.leave_out(row, repeat::points(&all), left).await?;

@@ -40,6 +40,7 @@ select * from (
     --filling select series, hour / 24 as day, points, total, count, without_sum, buckets, null from totxegun.hour_before
 ) as one where day is not null;
 
+-- An addition to each of a million rows takes longer than to see that there is nothing to add.
 create or replace view totxegun.by_hour as
 select
     to_timestamp(hour.hour * 3600::double precision) as hour,
@@ -57,10 +58,11 @@ select
     scope_attributes,
     series,
     coalesce(corrections, 0) as corrections,
-    total + coalesce(corrections, 0) as billed
+    case when corrections <> 0 then total + corrections else total end as billed
 from totxegun.hour join totxegun.series on series.id = hour.series;
 
--- A day, or a month, of which an hour was deleted is left out.
+-- A day, or a month, of which an hour was deleted is left out. Series are joined before days are added up: who asks for a
+-- metric adds up its days alone.
 create or replace view totxegun.by_day as
 select
     to_timestamp(day * 86400::double precision) as day,
@@ -71,7 +73,7 @@ select
     points,
     total,
     case when kind = 'histogram' then of_day.count end as count,
-    case when kind = 'histogram' then array(
+    case when kind <> 'histogram' then null when parts = 1 then buckets else array(
         select sum(bucket) from totxegun.day as d, unnest(d.buckets) with ordinality as one(bucket, place)
         where d.series = of_day.series and d.day = of_day.day
         group by place order by place
@@ -84,10 +86,11 @@ select
     coalesce(corrections, 0) as corrections,
     total + coalesce(corrections, 0) as billed
 from (
-    select series, day, sum(points)::bigint as points, sum(total) as total, sum(day.count) as count,
-        sum(corrections) as corrections
-    from totxegun.day group by series, day
-) as of_day join totxegun.series on series.id = of_day.series cross join totxegun.horizon where day * 24 >= hours_from;
+    select series.id as series, name, attributes, kind, unit, resource, scope_name, scope_version, scope_attributes, day,
+        sum(points)::bigint as points, sum(total) as total, sum(day.count) as count, sum(corrections) as corrections,
+        count(*) as parts, max(buckets) as buckets
+    from totxegun.day join totxegun.series on series.id = day.series group by series.id, day
+) as of_day cross join totxegun.horizon where day * 24 >= hours_from;
 
 create or replace view totxegun.by_month as
 select

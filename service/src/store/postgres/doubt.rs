@@ -18,6 +18,9 @@ pub enum Doubt {
     Said(#[from] Error),
     #[error("{0}")]
     NotConnected(String),
+    /// The same, and it will be so until somebody changes something.
+    #[error("{0}")]
+    Refused(String),
 }
 
 /// On which connection it is repeated.
@@ -70,11 +73,29 @@ impl Doubt {
     pub fn next(&self) -> Next {
         match self {
             Doubt::Warned(_) => Same,
-            Doubt::Silent(_) | Doubt::NotConnected(_) => Another,
+            Doubt::Silent(_) | Doubt::NotConnected(_) | Doubt::Refused(_) => Another,
             Doubt::Said(error) if error.is_closed() => Another,
             Doubt::Said(error) => after(error.code().map_or("", |state| state.code())),
         }
     }
+}
+
+/// What a server says that waiting does not mend: who may come in, and what is there.
+const FOR_GOOD: [&str; 7] = ["0A", "22", "23", "28", "3D", "3F", "42"];
+
+impl Doubt {
+    /// Whether it may be otherwise later, without anybody's help.
+    pub fn may_pass(&self) -> bool {
+        match self {
+            Doubt::Silent(_) | Doubt::Warned(_) | Doubt::NotConnected(_) => true,
+            Doubt::Refused(_) => false,
+            Doubt::Said(error) => passes(error.code().map_or("", |state| state.code())),
+        }
+    }
+}
+
+fn passes(code: &str) -> bool {
+    !FOR_GOOD.iter().any(|class| code.starts_with(class))
 }
 
 fn after(code: &str) -> Next {
@@ -84,7 +105,10 @@ fn after(code: &str) -> Next {
 
 impl From<NotConnected> for Doubt {
     fn from(error: NotConnected) -> Doubt {
-        Doubt::NotConnected(error.to_string())
+        match error {
+            NotConnected::Server(error) => Doubt::Said(error),
+            NotConnected::Roots(_) => Doubt::Refused(error.to_string()),
+        }
     }
 }
 
@@ -103,6 +127,16 @@ impl Backoff {
 #[cfg(test)]
 mod tests {
     use super::*;
+
+    #[test]
+    fn what_waiting_does_not_mend_is_told_from_the_rest() {
+        for code in ["28P01", "28000", "3D000", "3F000", "42501", "42703"] {
+            assert!(!passes(code), "{code}");
+        }
+        for code in ["", "57P03", "53300", "08006", "25006", "40001", "XX000"] {
+            assert!(passes(code), "{code}");
+        }
+    }
 
     #[test]
     fn each_line_of_the_table_is_come_to() {

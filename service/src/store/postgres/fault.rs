@@ -32,6 +32,10 @@ pub enum StoreFault {
     Slots { given: u16, most: u16 },
     #[error("this instance reads posts by other rules than the store's instances. Here: {here}. There: {there}. Start it with the same; or stop all, and `update totxegun_store.cluster set reading = ''`")]
     Reading { here: String, there: String },
+    #[error("{0}")]
+    Moved(String),
+    #[error("something else was done to the store meanwhile: look whether another `totxegun store move` runs, and call it again")]
+    Meanwhile,
     #[error("{server} can lose what it said is durable: {why}. Say --store-copies 1 to do so all the same")]
     Copies { server: String, why: String },
     #[error("the system has no thread or no random bytes for the store: {0}")]
@@ -39,6 +43,14 @@ pub enum StoreFault {
 }
 
 impl StoreFault {
+    /// Whether it may be otherwise later, without anybody's help.
+    pub fn may_pass(&self) -> bool {
+        match self {
+            StoreFault::Doubt(source) | StoreFault::Server { source, .. } => source.may_pass(),
+            _ => false,
+        }
+    }
+
     pub(super) fn of(server: impl ToString, source: impl Into<Doubt>) -> StoreFault {
         StoreFault::Server {
             server: server.to_string(),

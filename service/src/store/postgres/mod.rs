@@ -13,7 +13,9 @@ mod fault;
 mod member;
 mod schema;
 mod session;
+mod several;
 mod shared;
+mod state;
 mod terms;
 
 pub use crate::postgres::Server;
@@ -24,14 +26,20 @@ pub use drive::PostgresDrive;
 pub use fault::StoreFault;
 pub use member::Member;
 pub use schema::{Cluster, MOST_SLOTS};
+pub use state::{Standing, State};
 
-use crate::cluster::terms::{Instance, Row};
+use crate::cluster::terms::{Instance, Refused, Row};
 use crate::files::drive::Lost;
+use crate::postgres::identity;
 use drive::Writer;
+use session::{within, SILENT};
+use several::{Heard, Several};
 use shared::Shared;
+use std::collections::BTreeMap;
 use std::future::Future;
-use std::sync::{mpsc, Arc};
+use std::sync::{mpsc, Arc, OnceLock};
 use tokio::runtime::{Builder, Runtime};
+use tokio::task::JoinHandle;
 
 /// Connections live on these, so that a thread of the service that waits for the store never keeps the store waiting.
 const THREADS: usize = 2;
@@ -39,7 +47,11 @@ const THREADS: usize = 2;
 pub struct PostgresStore {
     pub cluster: Cluster,
     databases: Vec<Database>,
+    /// Of each database, which one it is, by its own word.
+    identities: Vec<Option<String>>,
     counts: Arc<Counts>,
+    /// What an instance hears of several databases.
+    several: OnceLock<Several>,
     runtime: Threads,
 }
 
@@ -124,18 +136,39 @@ impl PostgresStore {
 
     /// `reading` is what the meaning of posts hangs on: all instances have to say the same.
     pub fn open(servers: &[Server], copies: Copies, reading: &str) -> Result<PostgresStore, StoreFault> {
+        let store = PostgresStore::join(servers, copies)?;
+        store.agree(reading)?;
+        Ok(store)
+    }
+
+    /// The same before it is known whether the instance may start: it has not agreed yet.
+    pub fn join(servers: &[Server], copies: Copies) -> Result<PostgresStore, StoreFault> {
+        let store = PostgresStore::look_into(servers, copies)?;
+        store.admit()?;
+        Ok(store)
+    }
+
+    pub fn agree(&self, reading: &str) -> Result<(), StoreFault> {
+        let (server, reading) = (self.databases[0].taker.server.clone(), reading.to_string());
+        let agreeing = async move { schema::agree(&server, &reading).await };
+        self.runtime.wait(agreeing).unwrap_or_else(|| Err(ended()))
+    }
+
+    /// The same where nothing is served, whether it counts or not.
+    pub fn look_into(servers: &[Server], copies: Copies) -> Result<PostgresStore, StoreFault> {
         let runtime = Threads::start()?;
-        let (all, reading) = (servers.to_vec(), reading.to_string());
+        let all = servers.to_vec();
         let checking = async move {
             let cluster = schema::check(&all).await?;
+            let mut identities = Vec::new();
             for server in &all {
                 let (client, _driver) = session::connect(server).await?;
                 copies::check(&client, server, copies).await?;
+                identities.push(within(SILENT, identity(&client)).await?);
             }
-            schema::agree(&all, &reading).await?;
-            Ok(cluster)
+            Ok::<_, StoreFault>((cluster, identities))
         };
-        let cluster = runtime.wait(checking).unwrap_or_else(|| Err(ended()))?;
+        let (cluster, identities) = runtime.wait(checking).unwrap_or_else(|| Err(ended()))?;
         let shared = |server: &Server| Arc::new(Shared::new(server.clone()));
         let database = |server: &Server| Database {
             reader: shared(server),
@@ -145,12 +178,45 @@ impl PostgresStore {
         Ok(PostgresStore {
             cluster,
             databases: servers.iter().map(database).collect(),
+            identities,
             counts: Arc::default(),
+            several: OnceLock::new(),
             runtime,
         })
     }
 
-    pub fn counts(&self) -> &Counts {
+    fn waited<T: Send + 'static>(
+        &self,
+        work: impl Future<Output = Result<T, StoreFault>> + Send + 'static,
+    ) -> Result<T, StoreFault> {
+        self.runtime.wait(work).unwrap_or_else(|| Err(ended()))
+    }
+
+    /// Where instances deliver to, as the first that started has said; empty before.
+    pub fn sink(&self) -> Result<String, StoreFault> {
+        let server = self.first().server.clone();
+        self.waited(async move { schema::sink(&server).await })
+    }
+
+    /// Writes it where it is as before: what it is then.
+    pub fn set_sink(&self, before: &str, now: &str) -> Result<String, StoreFault> {
+        let (server, before, now) = (self.first().server.clone(), before.to_string(), now.to_string());
+        self.waited(async move { schema::set_sink(&server, &before, &now).await })
+    }
+
+    /// How often each instance has beaten.
+    pub fn beats(&self) -> Result<BTreeMap<String, u64>, StoreFault> {
+        let beater = self.first();
+        let instances = self.waited(async move { Ok(beater.instances().await?) })?;
+        Ok(instances.into_iter().map(|one| (one.name, one.beat)).collect())
+    }
+
+    /// Of each database, which one it is, where it says so.
+    pub fn databases(&self) -> Vec<Option<String>> {
+        self.identities.clone()
+    }
+
+    pub fn counts(&self) -> &Arc<Counts> {
         &self.counts
     }
 
@@ -172,7 +238,58 @@ impl PostgresStore {
         Ok(Arc::new(PostgresDrive::new(writer, files, reader, runtime)))
     }
 
-    /// Instances are in the first database.
+    /// From now on it is heard for this instance.
+    pub(super) fn be_member(&self, name: &str) {
+        if self.databases.len() > 1 {
+            self.several
+                .get_or_init(|| Several::new(name, self.databases.len()));
+        }
+    }
+
+    fn several(&self) -> Option<&Several> {
+        self.several.get()
+    }
+
+    /// Databases that do not answer, of several, and why not.
+    pub fn silent(&self) -> Vec<String> {
+        let each = self.databases.iter().enumerate();
+        let silent = each.filter_map(|(place, one)| {
+            let why = self.several()?.silence(place)?;
+            Some(format!("{} does not answer: {why}", one.beater.server))
+        });
+        silent.collect()
+    }
+
+    fn silence_of(&self, slot: u16) -> Option<String> {
+        self.several()?.silence(usize::from(slot) % self.databases.len())
+    }
+
+    /// Beats in one of several databases, and reads what is there behind it.
+    fn beats_in(
+        &self,
+        place: usize,
+        name: &str,
+        address: &str,
+        refused: &Refused,
+    ) -> JoinHandle<Result<Heard, Doubt>> {
+        let beater = self.databases[place].beater.clone();
+        let (name, address, refused) = (name.to_string(), address.to_string(), refused.clone());
+        self.runtime.handle().spawn(async move {
+            let version = env!("CARGO_PKG_VERSION");
+            beater.beat(&name, &address, version, &refused).await?;
+            Ok(Heard {
+                instances: beater.instances().await?,
+                slots: beater.slots().await?,
+            })
+        })
+    }
+
+    fn slots_in(&self, place: usize) -> JoinHandle<Result<Vec<Row>, Doubt>> {
+        let beater = self.databases[place].beater.clone();
+        self.runtime.handle().spawn(async move { beater.slots().await })
+    }
+
+    /// Of one database, or of the first.
     fn first(&self) -> Arc<Shared> {
         self.databases[0].beater.clone()
     }
@@ -182,9 +299,12 @@ impl PostgresStore {
     }
 
     /// Adds one to this instance's beat, which is committed when this is `Ok`.
-    pub async fn beat(&self, name: &str, address: &str) -> Result<(), Doubt> {
+    pub async fn beat(&self, name: &str, address: &str, refused: Refused) -> Result<(), Doubt> {
         let (beater, name, address) = (self.first(), name.to_string(), address.to_string());
-        let beating = async move { beater.beat(&name, &address, env!("CARGO_PKG_VERSION")).await };
+        let beating = async move {
+            let version = env!("CARGO_PKG_VERSION");
+            beater.beat(&name, &address, version, &refused).await
+        };
         self.runtime.run(beating).await
     }
 
@@ -222,24 +342,29 @@ impl PostgresStore {
             .await
     }
 
+    /// In each database: where one is silent, its row stays, and is that of one that is gone.
     pub async fn leave(&self, name: &str) -> Result<(), Doubt> {
-        let (beater, name) = (self.first(), name.to_string());
-        self.runtime.run(async move { beater.leave(&name).await }).await
+        let (beaters, name) = (self.beaters(), name.to_string());
+        let leaving = async move {
+            let mut left = Ok(());
+            for beater in beaters {
+                left = left.and(beater.leave(&name).await);
+            }
+            left
+        };
+        self.runtime.run(leaving).await
     }
 
-    /// On how many servers what is committed is now, at least; none where this role may not look.
-    pub async fn copies(&self) -> Result<Option<u64>, Doubt> {
-        let beaters = self.beaters();
-        let counting = async move {
-            let mut least = None;
-            for beater in beaters {
-                let Some(copies) = beater.copies().await? else {
-                    return Ok(None);
-                };
-                least = Some(least.map_or(copies, |least: u64| least.min(copies)));
-            }
-            Ok(least)
-        };
-        self.runtime.run(counting).await
+    /// On how many servers what is committed in a database is now; none where this role may not look. Its writes may wait
+    /// meanwhile.
+    pub async fn copies(&self, database: usize) -> Result<Option<u64>, Doubt> {
+        let reader = self.databases[database].reader.clone();
+        self.runtime.run(async move { reader.copies().await }).await
+    }
+
+    /// The databases, in their order.
+    pub fn names(&self) -> Vec<String> {
+        let servers = self.databases.iter().map(|one| one.reader.server.to_string());
+        servers.collect()
     }
 }

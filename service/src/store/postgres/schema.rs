@@ -195,10 +195,25 @@ fn check_one(found: &Found, server: &Server, servers: &[Server], place: usize) -
     Ok(())
 }
 
+const SINK: &str = "select sink from totxegun_store.cluster";
+const SET_SINK: &str = "update totxegun_store.cluster set sink = $2 where sink = $1";
+
+/// Where instances deliver to; empty before the first has started.
+pub(super) async fn sink(server: &Server) -> Result<String, StoreFault> {
+    let (client, _driver) = connect(server).await?;
+    Ok(within(SILENT, client.query_one(SINK, &[])).await?.get(0))
+}
+
+/// The same, once it is written where it still was as before.
+pub(super) async fn set_sink(server: &Server, before: &str, now: &str) -> Result<String, StoreFault> {
+    let (client, _driver) = connect(server).await?;
+    within(SILENT, client.execute(SET_SINK, &[&before, &now])).await?;
+    Ok(within(SILENT, client.query_one(SINK, &[])).await?.get(0))
+}
+
 /// The first instance that starts says how posts are read, and the others as it does.
-pub(super) async fn agree(servers: &[Server], reading: &str) -> Result<(), StoreFault> {
+pub(super) async fn agree(server: &Server, reading: &str) -> Result<(), StoreFault> {
     let first = "update totxegun_store.cluster set reading = $1 where reading = ''";
-    let server = servers.first().ok_or(StoreFault::Nowhere)?;
     let (client, _driver) = connect(server).await?;
     let agreeing = async {
         client.execute(first, &[&reading]).await?;

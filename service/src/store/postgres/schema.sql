@@ -1,14 +1,23 @@
 create schema if not exists totxegun_store;
--- One row: what the store is, the same in each of its databases but for `place`.
+-- One row: what the store is, the same in each of its databases but for `place`. `state` is `counts`; `filling` while what
+-- a folder has is on its way here, and the folder counts; `leaving` while it is on its way into a folder, and the store
+-- counts; `gone` once the folder does. The first database's is the one that is believed. `sink` is where all goes, as the file
+-- `version` of a folder has it.
 create table totxegun_store.cluster (
     id text primary key, version int not null, slots int not null, databases int not null, place int not null,
-    epoch text not null, reading text not null, secret text not null);
+    epoch text not null, reading text not null, secret text not null, state text not null default 'counts',
+    move text not null default '', folder text not null default '', sink text not null default '');
 create table totxegun_store.instance (
-    name text primary key, address text not null, version text not null, beat bigint not null);
+    name text primary key, address text not null, version text not null, beat bigint not null,
+    -- The slots that it can't open, and why, in JSON.
+    refused text not null);
 -- The fence. Its rows are never deleted. What is written of a slot locks its row where term and link are as the writer
 -- knows them: the term is the owner's, the link the last connection of the owner's.
 create table totxegun_store.slot (
     slot int primary key, term bigint not null, link bigint not null, owner text not null);
+-- Up to which request of a slot its owner has brought to a sink in this database, in the transaction of that request.
+create table totxegun_store.delivered (
+    slot int primary key, term bigint not null, number bigint not null);
 create table totxegun_store.file (
     slot int not null, file bigint not null, name text not null, primary key (slot, file));
 -- Bytes of a file from a place on. A later number counts where two overlap. Packed (raw deflate) where `bytes` has

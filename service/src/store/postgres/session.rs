@@ -142,18 +142,25 @@ static FIRST: AtomicUsize = AtomicUsize::new(0);
 
 /// A connection with our settings to a host that writes.
 pub(super) async fn connect(server: &Server) -> Result<(Client, Driver), Doubt> {
-    let mut told = Vec::new();
+    let (mut told, mut may_pass) = (Vec::new(), true);
     let mut hosts = server.each_host();
     let first = FIRST.fetch_add(1, Relaxed) % hosts.len().max(1);
     hosts.rotate_left(first);
     for host in hosts {
         match connect_to(server, &host).await {
             Ok(connected) => return Ok(connected),
-            Err(doubt) => told.push(doubt.to_string()),
+            Err(doubt) => {
+                may_pass &= doubt.may_pass();
+                told.push(doubt.to_string());
+            }
         }
     }
     told.dedup();
-    Err(Doubt::NotConnected(format!("{server}: {}", told.join("; "))))
+    let told = format!("{server}: {}", told.join("; "));
+    Err(match may_pass {
+        true => Doubt::NotConnected(told),
+        false => Doubt::Refused(told),
+    })
 }
 
 async fn connect_to(server: &Server, host: &Config) -> Result<(Client, Driver), Doubt> {

@@ -4,23 +4,27 @@ use super::copies;
 use super::doubt::Doubt;
 use super::session::{within, Session, SILENT};
 use super::shared::Shared;
-use crate::cluster::terms::{Instance, Row};
+use crate::cluster::terms::{Instance, Refused, Row};
 use std::sync::Arc;
 use tokio_postgres::types::ToSql;
 use tokio_postgres::Row as Found;
 
-const BEAT: &str = "insert into totxegun_store.instance as i (name, address, version, beat) values ($1, $2, $3, 1)
-    on conflict (name) do update set beat = i.beat + 1, address = excluded.address, version = excluded.version";
-const INSTANCES: &str = "select name, address, beat from totxegun_store.instance";
+const BEAT: &str =
+    "insert into totxegun_store.instance as i (name, address, version, beat, refused) values ($1, $2, $3, 1, $4)
+    on conflict (name) do update set beat = i.beat + 1, address = excluded.address, version = excluded.version,
+    refused = excluded.refused";
+const INSTANCES: &str = "select name, address, version, beat, refused from totxegun_store.instance";
 const SLOTS: &str = "select slot, term, owner from totxegun_store.slot";
+/// Not while what is in the store is being moved, or where it is gone.
 const TAKE: &str =
-    "update totxegun_store.slot set term = term + 1, link = 0, owner = $3 where slot = $1 and term = $2";
-const RELEASE: &str = "update totxegun_store.slot set owner = '' where slot = $1 and term = $2";
+    "update totxegun_store.slot set term = term + 1, link = 0, owner = $3 where slot = $1 and term = $2
+    and exists (select from totxegun_store.cluster where state = 'counts')";
+pub(super) const RELEASE: &str = "update totxegun_store.slot set owner = '' where slot = $1 and term = $2";
 const LEAVE: &str = "delete from totxegun_store.instance where name = $1";
 
 impl Shared {
     /// A write that is done without a doubt, or an error: then it may be done, or be done later.
-    async fn write(&self, text: &str, values: &[&(dyn ToSql + Sync)]) -> Result<u64, Doubt> {
+    pub(super) async fn write(&self, text: &str, values: &[&(dyn ToSql + Sync)]) -> Result<u64, Doubt> {
         let session = self.session().await?;
         let written = session.written(session.client.execute(text, values)).await;
         self.heard(&session, written).await
@@ -33,7 +37,11 @@ impl Shared {
         Ok(rows?.iter().map(each).collect())
     }
 
-    async fn heard<T>(&self, session: &Arc<Session>, answer: Result<T, Doubt>) -> Result<T, Doubt> {
+    pub(super) async fn heard<T>(
+        &self,
+        session: &Arc<Session>,
+        answer: Result<T, Doubt>,
+    ) -> Result<T, Doubt> {
         if let Err(doubt) = &answer {
             self.note(session, doubt).await;
         }
@@ -41,8 +49,17 @@ impl Shared {
     }
 
     /// Adds one to the instance's beat.
-    pub(super) async fn beat(&self, name: &str, address: &str, version: &str) -> Result<(), Doubt> {
-        self.write(BEAT, &[&name, &address, &version]).await.map(drop)
+    pub(super) async fn beat(
+        &self,
+        name: &str,
+        address: &str,
+        version: &str,
+        refused: &Refused,
+    ) -> Result<(), Doubt> {
+        let refused = serde_json::to_string(refused).unwrap_or_default(); // numbers and texts are always written
+        self.write(BEAT, &[&name, &address, &version, &refused])
+            .await
+            .map(drop)
     }
 
     pub(super) async fn leave(&self, name: &str) -> Result<(), Doubt> {
@@ -53,7 +70,9 @@ impl Shared {
         let instance = |row: &Found| Instance {
             name: row.get(0),
             address: row.get(1),
-            beat: row.get::<_, i64>(2) as u64,
+            version: row.get(2),
+            beat: row.get::<_, i64>(3) as u64,
+            refused: serde_json::from_str(row.get(4)).unwrap_or_default(), // a later version may say more
         };
         self.read(INSTANCES, instance).await
     }

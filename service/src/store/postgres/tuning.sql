@@ -6,3 +6,4 @@ alter table totxegun_store.piece set (
     toast.autovacuum_vacuum_cost_delay = 0);
 alter table totxegun_store.slot set (fillfactor = 10, autovacuum_vacuum_threshold = 1000);
 alter table totxegun_store.instance set (fillfactor = 10);
+alter table totxegun_store.delivered set (fillfactor = 10);

@@ -57,6 +57,7 @@ impl Slots {
 pub struct Peer {
     pub cluster: Arc<Cluster>,
     pub slots: Arc<Slots>,
+    pub internal: Arc<Internal<Slots>>,
     pub address: String,
     pub connections: Arc<AtomicUsize>,
 }
@@ -79,11 +80,11 @@ impl Peer {
         let address = listener.local_addr().unwrap().to_string();
         let (cluster, slots, internal) = internal(slots, whose);
         let connections = Arc::new(AtomicUsize::new(0));
-        let counted = connections.clone();
+        let (counted, serves) = (connections.clone(), internal.clone());
         tokio::spawn(async move {
             while let Ok((stream, _)) = listener.accept().await {
                 counted.fetch_add(1, SeqCst);
-                let internal = internal.clone();
+                let internal = serves.clone();
                 let service = service_fn(move |request| {
                     let internal = internal.clone();
                     async move { Ok::<_, Infallible>(internal.answer(request).await) }
@@ -94,6 +95,7 @@ impl Peer {
         Peer {
             cluster,
             slots,
+            internal,
             address,
             connections,
         }

@@ -2,7 +2,7 @@
 
 use super::*;
 use crate::cluster::terms::Instance;
-use std::collections::HashMap;
+use std::collections::{BTreeSet, HashMap};
 
 const SLOTS: u16 = 8;
 
@@ -25,24 +25,29 @@ impl Random {
 #[derive(Default)]
 pub struct Store {
     pub rows: Vec<Row>,
-    pub instances: BTreeMap<String, (u64, Option<Stay>)>,
+    pub instances: BTreeMap<String, (u64, Option<Stay>, Refused)>,
     /// Who was the owner under which term.
     pub terms: HashMap<(u16, u64), usize>,
 }
 
 impl Store {
-    pub fn beat(&mut self, name: &str, stay: Stay) -> Seen {
+    pub fn beat(&mut self, name: &str, (stay, refused): (Stay, Refused)) -> Seen {
         let row = self.instances.entry(name.into()).or_default();
-        *row = (row.0 + 1, Some(stay));
-        let instances = self.instances.iter().map(|(name, (beat, stay))| Instance {
-            name: name.clone(),
-            address: if *stay == Some(Stay::Here) {
-                format!("{name}:1")
-            } else {
-                String::new()
-            },
-            beat: *beat,
-        });
+        *row = (row.0 + 1, Some(stay), refused);
+        let instances = self
+            .instances
+            .iter()
+            .map(|(name, (beat, stay, refused))| Instance {
+                name: name.clone(),
+                address: if *stay == Some(Stay::Here) {
+                    format!("{name}:1")
+                } else {
+                    String::new()
+                },
+                version: "1".into(),
+                beat: *beat,
+                refused: refused.clone(),
+            });
         Seen {
             instances: instances.collect(),
             slots: self.rows.clone(),
@@ -83,6 +88,8 @@ pub struct World {
     pub nodes: Vec<Node>,
     /// Whether answers are lost, openings fail, and so on.
     pub is_rough: bool,
+    /// Slots that an instance can't open.
+    pub broken: BTreeSet<(u16, String)>,
     pub stalls_for: u64,
     pub takes: usize,
     pub hand_overs: usize,
@@ -104,6 +111,7 @@ impl World {
             store,
             nodes: Vec::new(),
             is_rough: false,
+            broken: BTreeSet::new(),
             stalls_for: 0,
             takes: 0,
             hand_overs: 0,
@@ -146,7 +154,7 @@ impl World {
         if self.stalls_for > 0 {
             return one.owners.unanswered();
         }
-        let seen = self.store.beat(&one.name, one.owners.stay());
+        let seen = self.store.beat(&one.name, one.owners.told());
         if is_lost {
             return one.owners.unanswered();
         }
@@ -165,10 +173,11 @@ impl World {
             let step = one.under_way.remove(self.random.below(count) as usize);
             self.does(node, step);
         } else if let Some((slot, term)) = one.opening.pop() {
-            match self.is_rough && self.random.once_in(10) {
-                true => one.owners.failed(slot, term),
-                false => drop(one.owners.opened(slot, term)),
-            }
+            let is_broken = self.broken.contains(&(slot, one.name.clone()));
+            match is_broken || self.is_rough && self.random.once_in(10) {
+                true => one.owners.failed(slot, term, "broken"),
+                false => one.owners.opened(slot, term),
+            };
         }
     }
 
@@ -222,8 +231,10 @@ impl World {
 
     /// Each slot is served by its place alone, and all know it.
     pub fn is_settled(&self) -> bool {
-        let names: Vec<&str> = self.nodes.iter().map(|node| node.name.as_str()).collect();
+        let refuses = |node: &&Node, slot| node.owners.told().1.contains_key(&slot);
         self.store.rows.iter().all(|row| {
+            let may = self.nodes.iter().filter(|node| !refuses(node, row.slot));
+            let names = may.map(|node| node.name.as_str());
             let served = |node: &Node| match &node.owners.whose()[&row.slot] {
                 Whose::Here { term } => node.name == row.owner && *term == row.term,
                 Whose::There { name, address, term } => {
@@ -234,7 +245,7 @@ impl World {
                 }
                 Whose::Nobody => false,
             };
-            place(row.slot, names.iter().copied()) == Some(&row.owner) && self.nodes.iter().all(served)
+            place(row.slot, names) == Some(&row.owner) && self.nodes.iter().all(served)
         })
     }
 

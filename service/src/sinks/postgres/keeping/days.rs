@@ -1,4 +1,4 @@
-//! The partitions of `span`: each has the spans that end in one day of UTC; one that ends at midnight, in the day before.
+//! The partitions of `span_row`: each has the spans that end in one day of UTC; one that ends at midnight, in the day before.
 
 use tokio_postgres::{Client, Error, GenericClient};
 
@@ -40,7 +40,7 @@ async fn make_one(client: &mut impl GenericClient, day: &str, from: i64) -> Resu
     let transaction = client.transaction().await?;
     let make = format!(
         "lock table totxegun.span_other in access exclusive mode;
-        create table {name} (like totxegun.span including comments);
+        create table {name} (like totxegun.span_row including comments);
         create index on {name} using brin (end_ns, start_ns) with (pages_per_range = 32, autosummarize = on);
         comment on table {name} is 'The spans that end on this day';
         insert into {name} select * from {of_day} limit {MOVED} + 1"
@@ -52,7 +52,7 @@ async fn make_one(client: &mut impl GenericClient, day: &str, from: i64) -> Resu
     }
     let attach = format!(
         "delete from {of_day};
-        alter table totxegun.span attach partition {name} for values from ({from}) to ({to})"
+        alter table totxegun.span_row attach partition {name} for values from ({from}) to ({to})"
     );
     transaction.batch_execute(&attach).await?;
     transaction.commit().await

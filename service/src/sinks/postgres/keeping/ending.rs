@@ -33,7 +33,7 @@ const HOURS: &str = "select hour::int8 * 3600000000000, (hour + 1)::int8 * 36000
         where nspname = 'totxegun' and relkind = 'r' and relname ~ '^span_[0-9]{8}$'
     ) as day where hour < hours_from order by 1";
 
-const OF_HOUR: &str = "delete from totxegun.span where end_ns > $1::int8 and end_ns <= $2::int8
+const OF_HOUR: &str = "delete from totxegun.span_row where end_ns > $1::int8 and end_ns <= $2::int8
     and series in (select series from totxegun.ending)";
 
 const OTHERS: &str = "delete from totxegun.span_other where series in (select series from totxegun.ending)";

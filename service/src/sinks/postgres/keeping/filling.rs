@@ -40,7 +40,7 @@ const STEP_OF: &str = "with part as materialized (
             total, count, without_sum, buckets)
         select series, hour, points, first_start_ns, last_end_ns, total, count, without_sum, buckets
         from found where hour < last_hour
-        on conflict (series, hour) do update set
+        on conflict (series, to_timestamp(hour * 3600::double precision)) do update set
             points = h.points + excluded.points,
             first_start_ns = least(h.first_start_ns, excluded.first_start_ns),
             last_end_ns = greatest(h.last_end_ns, excluded.last_end_ns),
@@ -73,7 +73,7 @@ const STEP_OF: &str = "with part as materialized (
         delete from totxegun.span_before as s using part, totxegun.filling
         where s.series = part.series and s.start_ns = part.start_ns and s.end_ns > ended_by_ns returning s.*
     ), moved as (
-        insert into totxegun.span (series, start_ns, end_ns, value, count, sum, buckets)
+        insert into totxegun.span_row (series, start_ns, end_ns, value, count, sum, buckets)
         select series, start_ns - case when start_ns < 9223372036854775808 then 0 else 18446744073709551616 end,
             end_ns - case when end_ns < 9223372036854775808 then 0 else 18446744073709551616 end,
             value, ahead.count, sum, buckets::text from ahead

@@ -13,7 +13,7 @@ const FROM: &str = "select (extract(epoch from date_trunc('day', now() at time z
 
 /// Whether none were deleted yet, and some are too old.
 const IS_FIRST: &str = "select spans_from_ns = 0
-        and exists (select from totxegun.span where end_ns > 0 and end_ns <= $1::int8)
+        and exists (select from totxegun.span_row where end_ns > 0 and end_ns <= $1::int8)
     from totxegun.horizon";
 
 const HORIZON: &str =

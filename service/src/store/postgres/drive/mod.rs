@@ -36,6 +36,7 @@ use turns::Turns;
 pub struct PostgresDrive {
     slot: u16,
     term: u64,
+    delivered: u64,
     files: Mutex<Files>,
     cache: Mutex<Cache>,
     turns: Turns,
@@ -55,6 +56,7 @@ impl PostgresDrive {
         PostgresDrive {
             slot: writer.slot as u16,
             term: writer.term as u64,
+            delivered: writer.delivered,
             files: Mutex::new(files),
             cache: Mutex::default(),
             turns: Turns::default(),
@@ -221,5 +223,13 @@ impl Drive for PostgresDrive {
 
     fn under_way(&self) -> Duration {
         self.turns.longest()
+    }
+
+    fn owned_under(&self) -> Option<u64> {
+        Some(self.term)
+    }
+
+    fn delivered(&self) -> u64 {
+        self.delivered
     }
 }

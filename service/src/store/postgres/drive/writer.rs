@@ -20,6 +20,7 @@ const RAISE: &str =
 const IS_THERE: &str =
     "select count(*) from totxegun_store.piece where slot = $1 and file = $2 and number = $3";
 
+const DELIVERED: &str = "select number from totxegun_store.delivered where slot = $1";
 const NAMES: &str = "select file, name from totxegun_store.file where slot = $1";
 /// In the order in which they were written.
 const PIECES: &str =
@@ -32,6 +33,8 @@ pub struct Writer {
     pub server: Server,
     pub slot: i32,
     pub term: i64,
+    /// Up to which request the sink had all when the slot was opened, by what is noted beside.
+    pub delivered: u64,
     link: i64,
     /// Taken out while it is used: one that was left half-way is closed.
     session: Option<Session>,
@@ -46,6 +49,7 @@ impl Writer {
             server,
             slot,
             term,
+            delivered: 0,
             link: 0,
             session: None,
             last: None,
@@ -118,6 +122,8 @@ impl Writer {
         let Some(session) = self.connect(&[]).await? else {
             return Ok(None);
         };
+        let delivered = within(SILENT, session.client.query_opt(DELIVERED, &[&self.slot])).await?;
+        self.delivered = delivered.map_or(0, |row| row.get::<_, i64>(0) as u64);
         let names = within(SILENT, session.client.query(NAMES, &[&self.slot])).await?;
         let name = |row: &Row| (row.get::<_, i64>(0) as u64, row.get(1));
         let pieces = within(SILENT, session.client.query(PIECES, &[&self.slot])).await?;

@@ -1,0 +1,268 @@
+#!/usr/bin/env python3
+"""Measures instances over a store in PostgreSQL with a synchronous standby, beside one over a folder, in one run.
+
+    bench/several_machines.py [--totxegun FILE] [--parts NAME,..] [--rows NAME,..] [--senders N,..] [--parties NAME,..] [--runs N]
+                              [--seconds N] [--series N] [--times N] [--after N] [--size N] [--data DIR]
+
+The program is bin/totxegun, as `make build` makes it, where none is named; in about ten minutes it does these parts:
+
+  - posts: posts a second, the median and the 99th percentile of a post, and the WAL that the primary writes for one, with 64 and 512
+    senders, by rows json-1, json-20 and protobuf-103. Parties: disk, a folder with --durable disk; store, an instance over a store;
+    store-2, over one of two databases, each with its standby. A ratio is to disk's run beside it.
+  - takeover: two instances that have 10,000 series, while 32 senders post to one of them. The other is killed: seconds from the kill
+    until the first and the last sender of a slot that it had is answered. It comes back and is ended by SIGTERM: the longest time
+    that a sender of a slot which is handed over waits.
+  - size: the table of journals and outboxes, with its indexes, while 64 senders post 20 points each for SIZE (120) seconds.
+
+All servers, folders and the load are on this machine; the files are in DIR, which is out/bench where none is named: one disk for all.
+The sink is one of OTLP, in this process. What is printed says what was measured here, and asserts nothing.
+"""
+import contextlib
+import os
+import signal
+import statistics
+import subprocess
+import sys
+import tempfile
+import threading
+import time
+
+import loading
+from loading import Posts, Senders, rounded
+from process import file_system, numbers, spread
+from running import options, start
+
+from loopback import free_port
+from servers import Pair
+from service import JSON, OtlpSink, Sender, Service, by_resource, wait_until
+
+ROWS = {"json-1": ("json", 1), "json-20": ("json", 20), "protobuf-103": ("protobuf", 103)}
+PARTIES = {"disk": 0, "store": 1, "store-2": 2}
+PARTS = ("posts", "takeover", "size")
+SLOTS = "32"
+# As one would set a server of this load; the standby has them from it.
+SETTINGS = ("shared_buffers = 256MB", "max_wal_size = 4GB", "max_connections = 200")
+WAL = "select pg_current_wal_lsn() - '0/0'"
+TABLE = "select pg_total_relation_size('totxegun_store.piece')"
+# Of each sender, so that what a run begins with does not count.
+LEAST_POSTS = 20
+PROBES, SERIES = 32, 10_000
+# Who waits for longer had its slot taken over.
+LONG = 1
+SETTLED_WITHIN = 120
+# Seconds between two looks at a table.
+BETWEEN = 5
+
+
+class Stores:
+    """Databases with a standby each, made when they are needed: a store over the first of them, new each time."""
+
+    def __init__(self, stack, program):
+        self.stack, self.program, self.pairs = stack, program, []
+
+    def new(self, count):
+        while len(self.pairs) < count:
+            self.pairs.append(Pair(settings=SETTINGS))
+            self.stack.callback(self.pairs[-1].close)
+            self.pairs[-1].make_standby()
+        these = self.pairs[:count]
+        for pair in these:
+            pair.ask("drop schema if exists totxegun_store cascade")
+        subprocess.run([self.program, "store", "init", *(pair.address for pair in these), "--slots", SLOTS], check=True,
+                       stdout=subprocess.DEVNULL)
+        return these
+
+
+def wal(pairs):
+    return sum(int(float(pair.ask(WAL))) for pair in pairs)
+
+
+@contextlib.contextmanager
+def instances(arguments, sink, names, pairs):
+    """As many as there are names, over these databases; with none of these, one over a folder."""
+    with tempfile.TemporaryDirectory(prefix="machines-", dir=arguments.data) as folder:
+        all_of_them = []
+        for name in names:
+            words = ["--durable", "disk"]
+            if pairs:
+                words = [word for pair in pairs for word in ("--store", pair.address)]
+                words += ["--instance", name, "--peer", f"127.0.0.1:{free_port()}"]
+            all_of_them.append(Service(arguments.totxegun, f"{folder}/{name}", sink.address, *words, *arguments.options))
+            all_of_them[-1].environment = dict(arguments.set)
+        try:
+            for one in all_of_them:
+                start(one)
+            yield all_of_them
+        finally:
+            for one in all_of_them:
+                one.kill()
+
+
+# --------------------------------------------------------------------------------------------------------------------
+# Posts
+
+
+def run(arguments, stores, sink, party, row, clients):
+    """Of one run: what was loaded, and bytes of WAL a post."""
+    encoding, points = ROWS[row]
+    pairs = stores.new(PARTIES[party]) if PARTIES[party] else []
+    with instances(arguments, sink, "a", pairs) as (one,):
+        senders = Senders(one.listen, clients, Posts("sum", points, max(arguments.series, clients), encoding, "kept"))
+        senders.make_series()
+        tried = senders.load(LEAST_POSTS * clients)
+        count = max(tried.requests / tried.seconds * arguments.seconds, LEAST_POSTS * clients)
+        before = wal(pairs)
+        loaded = senders.load(rounded(int(count), clients))
+        return loaded, (wal(pairs) - before) / loaded.requests
+
+
+def measure_posts(arguments, stores, sink):
+    for row in arguments.rows:
+        for clients in arguments.senders:
+            runs = {party: [] for party in arguments.parties}
+            for _ in range(arguments.runs):
+                for party, of_it in runs.items():
+                    of_it.append(run(arguments, stores, sink, party, row, clients))
+            print(f"\n{row}, {clients} senders", flush=True)
+            for party, of_it in runs.items():
+                print_party(party, of_it, runs.get("disk"))
+
+
+def print_party(party, runs, beside):
+    rates = [loaded.requests / loaded.seconds for loaded, _ in runs]
+    line = f"  {party}: posts/s {spread(rates, ',.0f')}"
+    if beside and beside is not runs:
+        ratios = [rate / (other.requests / other.seconds) for rate, (other, _) in zip(rates, beside)]
+        line += f", {spread(ratios, '.2f')} of disk's"
+    line += f"; ms of a post: median {spread([loaded.median / 1e3 for loaded, _ in runs], '.2f')}"
+    line += f", 99th {spread([loaded.last / 1e3 for loaded, _ in runs], '.2f')}"
+    if PARTIES[party]:
+        line += f"; WAL {spread([written for _, written in runs], ',.0f')} bytes a post"
+    failed = sum(loaded.failed for loaded, _ in runs)
+    print(line + (f"; {failed} FAILED" if failed else ""), flush=True)
+
+
+# --------------------------------------------------------------------------------------------------------------------
+# Takeover and hand-over
+
+
+class Probe(Sender):
+    """Posts points of a resource of its own on and on to one instance: when it was answered."""
+
+    def __init__(self, service, number):
+        super().__init__(service, number, seconds=20)
+        self.answered = []
+
+    def encoded(self, points):
+        return by_resource(JSON, {self.name: points}), {"Content-Type": JSON, "x-sender": self.name}
+
+    def run(self, stop):
+        while not stop.is_set():
+            self.post(self.next_points())
+            self.answered.append(time.monotonic())
+
+    def gap(self, since):
+        """The longest time without an answer after that, and how long after it that ended."""
+        times = [since, *(at for at in self.answered if at >= since)]
+        return max(((later - sooner, later - since) for sooner, later in zip(times, times[1:])), default=(0, 0))
+
+
+@contextlib.contextmanager
+def probing(service):
+    probes, stop = [Probe(service, number) for number in range(PROBES)], threading.Event()
+    threads = [threading.Thread(target=probe.run, args=(stop,)) for probe in probes]
+    for thread in threads:
+        thread.start()
+    try:
+        yield probes
+    finally:
+        stop.set()
+        for thread in threads:
+            thread.join()
+
+
+def settled(pair):
+    """Once each of two instances has half of the slots, or nearly."""
+    owners = "select count(*) from totxegun_store.slot where owner = '{}'"
+    if not wait_until(lambda: all(int(pair.ask(owners.format(name))) >= int(SLOTS) // 4 for name in "ab"), SETTLED_WITHIN):
+        raise SystemExit("two instances have not shared the slots out")
+
+
+def measure_takeover(arguments, stores, sink):
+    (pair,) = stores.new(1)
+    firsts, lasts, waits = [], [], []
+    with instances(arguments, sink, "ab", [pair]) as (lost, stays):
+        Senders(stays.listen, PROBES, Posts("sum", 100, SERIES, "protobuf", "kept")).make_series()
+        with probing(stays) as probes:
+            for _ in range(arguments.times):
+                settled(pair)
+                begun = time.monotonic()
+                lost.kill()
+                time.sleep(arguments.after)
+                ends = [end for gap, end in (probe.gap(begun) for probe in probes) if gap > LONG]
+                firsts, lasts = firsts + [min(ends, default=0)], lasts + [max(ends, default=0)]
+                start(lost)
+                settled(pair)
+                begun = time.monotonic()
+                lost.end()
+                time.sleep(1)
+                waits.append(max(probe.gap(begun)[0] for probe in probes))
+                start(lost)
+    print(f"\ntakeover with {SERIES} series, {PROBES} senders: s after a kill until the first is answered {spread(firsts, '.1f')}, the last"
+          f" {spread(lasts, '.1f')}; hand-over: the longest wait {spread(waits, '.2f')} s", flush=True)
+
+
+# --------------------------------------------------------------------------------------------------------------------
+# Size
+
+
+def measure_size(arguments, stores, sink):
+    (pair,) = stores.new(1)
+    sizes, posts, until = [], 0, time.monotonic() + arguments.size
+    with instances(arguments, sink, "a", [pair]) as (one,):
+        senders = Senders(one.listen, 64, Posts("sum", 20, arguments.series, "json", "kept"))
+        senders.make_series()
+        loaded = senders.load(64 * LEAST_POSTS)
+        while time.monotonic() < until:
+            loaded = senders.load(rounded(int(loaded.requests / loaded.seconds * BETWEEN), 64))
+            posts += loaded.requests
+            sizes.append(int(pair.ask(TABLE)) / 1e6)
+    rest = sizes[len(sizes) // 4:] or [0]
+    print(f"\nsize over {arguments.size:.0f} s, {posts} posts of 20 points: MB after a quarter of it {statistics.median(rest):,.0f}"
+          f" ({min(rest):,.0f} .. {max(rest):,.0f}), at the end {sizes[-1] if sizes else 0:,.0f}", flush=True)
+
+
+def main():
+    parser = options(__doc__.split("\n", maxsplit=1)[0])
+
+    def words(text):
+        return text.split(",")
+
+    parser.add_argument("--parts", type=words, default=PARTS)
+    parser.add_argument("--rows", type=words, default=list(ROWS))
+    parser.add_argument("--senders", type=numbers, default=[64, 512])
+    parser.add_argument("--parties", type=words, default=list(PARTIES))
+    parser.add_argument("--runs", type=int, default=1)
+    parser.add_argument("--seconds", type=float, default=4)
+    parser.add_argument("--series", type=int, default=800)
+    parser.add_argument("--times", type=int, default=3)
+    parser.add_argument("--after", type=float, default=12)
+    parser.add_argument("--size", type=float, default=120)
+    arguments = parser.parse_args()
+    loading.build()
+    os.makedirs(arguments.data, exist_ok=True)
+    tempfile.tempdir = arguments.data
+    print(f"{arguments.totxegun}, {len(os.sched_getaffinity(0))} processors, {arguments.runs} runs in turn, {SLOTS} slots, all on"
+          f" {file_system(arguments.data)}", flush=True)
+    signal.signal(signal.SIGTERM, lambda *_: sys.exit(1))
+    measures = {"posts": measure_posts, "takeover": measure_takeover, "size": measure_size}
+    with contextlib.ExitStack() as stack:
+        sink = OtlpSink()
+        stack.callback(sink.close)
+        stores = Stores(stack, arguments.totxegun)
+        for part in arguments.parts:
+            measures[part](arguments, stores, sink)
+
+
+if __name__ == "__main__":
+    main()

@@ -1,0 +1,86 @@
+//! What operators ask, on its way between instances: of one of them, for what another has. What the bytes mean `operate`
+//! knows.
+
+use super::internal::{whole, Internal, WITHIN};
+use super::{said, Broken, Forward, Forwarded, Here};
+use crate::cluster::terms::Doing;
+use bytes::Bytes;
+use hyper::{Body, Request, Response};
+use std::sync::Arc;
+use std::time::Duration;
+use tokio::time::timeout;
+
+/// Where it comes.
+pub const PATH: &str = "/internal/operators";
+/// An answer has the report of a slot's books, or the letters that it has, and no more.
+const MOST: usize = 64 << 20;
+
+/// What an instance answers.
+pub trait Answers: Send + Sync + 'static {
+    /// None where the question can't be read: it is of another version.
+    fn answer_question(self: Arc<Self>, question: Bytes) -> Doing<'static, Option<Vec<u8>>>;
+}
+
+/// How other instances are asked.
+pub trait Asks: Send + Sync + 'static {
+    /// The answer of the instance at this address, or why there is none.
+    fn put_question<'a>(
+        &'a self,
+        address: &'a str,
+        question: Vec<u8>,
+        within: Duration,
+    ) -> Doing<'a, Result<Bytes, String>>;
+
+    /// How many posts for others' slots ended how.
+    fn forwarded(&self) -> Forwarded;
+}
+
+impl<H: Here> Asks for Forward<H> {
+    fn put_question<'a>(
+        &'a self,
+        address: &'a str,
+        question: Vec<u8>,
+        within: Duration,
+    ) -> Doing<'a, Result<Bytes, String>> {
+        Box::pin(async move {
+            let answer = timeout(within, self.answer_of(address, question)).await;
+            answer.unwrap_or(Err(Broken::Late)).map_err(|why| why.to_string())
+        })
+    }
+
+    fn forwarded(&self) -> Forwarded {
+        Forward::forwarded(self)
+    }
+}
+
+impl<H: Here> Forward<H> {
+    async fn answer_of(&self, address: &str, question: Vec<u8>) -> Result<Bytes, Broken> {
+        let uri = format!("{}://{address}{PATH}", self.connections.scheme());
+        let request = self.secret.put(Request::post(uri));
+        let request = request.body(Body::from(question)).map_err(Broken::Address)?;
+        let response = self.connections.asks().request(request).await.map_err(Broken::Wire)?;
+        said::read_bytes(response, MOST).await
+    }
+}
+
+impl<H: Here> Internal<H> {
+    /// Says once what answers to questions of operators.
+    pub fn answers_by(&self, answers: Arc<dyn Answers>) {
+        let _ = self.answers.set(answers);
+    }
+
+    pub(super) async fn answered(&self, body: Body) -> Result<Response<Body>, Response<Body>> {
+        let question = timeout(WITHIN, whole(body)).await;
+        let question = question
+            .ok()
+            .flatten()
+            .ok_or_else(|| said::refused(400, "the question is not whole, or too long"))?;
+        let Some(answers) = self.answers.get() else {
+            return Err(said::refused(503, "this instance is starting"));
+        };
+        let answer = answers.clone().answer_question(question).await;
+        answer
+            .map(said::bytes)
+            .ok_or_else(|| said::refused(400, "this is asked by another version"))
+    }
+}

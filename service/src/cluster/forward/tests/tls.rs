@@ -1,0 +1,115 @@
+//! Instances that speak TLS with each other.
+
+use super::peers::{internal, posted, secret, there, Slots};
+use super::*;
+use crate::intake::connections::serve_over;
+use crate::intake::Limits;
+use crate::tls::Tls;
+
+/// An owner that speaks TLS with this certificate and these roots, and its port.
+async fn over_tls(tls: Arc<Tls>) -> (u16, Arc<Slots>, tokio::sync::watch::Sender<bool>) {
+    let listener = TcpListener::bind("127.0.0.1:0").await.unwrap();
+    let port = listener.local_addr().unwrap().port();
+    let (_, slots, internal) = internal(Slots::default(), Whose::Here { term: 5 });
+    let limits = Limits {
+        connections: 10,
+        head: Duration::from_secs(5),
+        idle: Duration::from_secs(60),
+    };
+    let (stop, stopped) = tokio::sync::watch::channel(false);
+    tokio::spawn(serve_over(listener, Some(tls), limits, internal, stopped));
+    (port, slots, stop)
+}
+
+fn asks_over(wire: Wire, port: u16, of: &str) -> Forward<Slots> {
+    let cluster = Cluster::new("receiver");
+    cluster.knows(&[(3, there(&format!("localhost:{port}")))]);
+    Forward::new(cluster, secret(of), wire)
+}
+
+/// `server` and `other` each have a root of their own; `both` has the two.
+fn peers_folder() -> tempfile::TempDir {
+    let at = crate::tls::tests::folder();
+    crate::tls::tests::server(at.path());
+    let made = |name, names, by| {
+        let made = crate::tls::tests::Made {
+            name,
+            names,
+            by,
+            ..Default::default()
+        };
+        crate::tls::tests::certificate(at.path(), made);
+    };
+    made("root", None, None);
+    made("other", Some("DNS:localhost"), Some("root"));
+    let both = ["ca.pem", "root.pem"].map(|name| std::fs::read(at.path().join(name)).unwrap());
+    std::fs::write(at.path().join("both.pem"), both.concat()).unwrap();
+    at
+}
+
+#[tokio::test(flavor = "multi_thread", worker_threads = 2)]
+async fn over_tls_both_sides_look_at_what_the_other_shows() {
+    let at = peers_folder();
+    let peer = |name: &str, ca: &str| {
+        tokio::task::block_in_place(|| crate::tls::peer_tests::peer(at.path(), name, ca).unwrap())
+    };
+    let (port, slots, _stop) = over_tls(peer("server", "ca")).await;
+    let ours = peer("server", "ca");
+    let forward = asks_over(Wire::Tls(ours.clone()), port, "of all");
+    assert_eq!(posted(&forward, "{}").await, Outcome::taken(0));
+    // Who believes the owner, and is not believed by it; and the other way.
+    for (wire, why) in [
+        (
+            Wire::Tls(peer("other", "both")),
+            "another root has signed what it shows",
+        ),
+        (Wire::Plain, "no TLS"),
+    ] {
+        let forward = asks_over(wire, port, "of all");
+        assert_eq!(posted(&forward, "{}").await, unavailable(BROKEN), "{why}");
+    }
+    let (elsewhere, strange, _stop) = over_tls(peer("other", "both")).await;
+    let forward = asks_over(Wire::Tls(ours.clone()), elsewhere, "of all");
+    assert_eq!(
+        posted(&forward, "{}").await,
+        unavailable(BROKEN),
+        "it is not believed"
+    );
+    // The secret is asked for all the same.
+    let forward = asks_over(Wire::Tls(ours), port, "another");
+    assert_eq!(posted(&forward, "{}").await, unavailable(BROKEN));
+    assert_eq!((slots.count(), strange.count()), (1, 0));
+}
+
+#[tokio::test(flavor = "multi_thread", worker_threads = 2)]
+async fn files_that_change_count_for_connections_that_are_kept() {
+    let at = peers_folder();
+    let copy = |from: &str, to: &str| std::fs::copy(at.path().join(from), at.path().join(to)).unwrap();
+    copy("both.pem", "owners.pem");
+    for end in ["pem", "key"] {
+        copy(&format!("other.{end}"), &format!("mine.{end}"));
+    }
+    let peer = |name: &str, ca: &str| {
+        tokio::task::block_in_place(|| crate::tls::peer_tests::peer(at.path(), name, ca).unwrap())
+    };
+    let (port, _, _stop) = over_tls(peer("server", "owners")).await;
+    let forward = asks_over(Wire::Tls(peer("mine", "both")), port, "of all");
+    assert_eq!(posted(&forward, "{}").await, Outcome::taken(0));
+    let within = |wanted: Outcome| {
+        let forward = &forward;
+        async move {
+            let began = Instant::now();
+            while posted(forward, "{}").await != wanted {
+                assert!(began.elapsed() < Duration::from_secs(20), "not {wanted:?}");
+                sleep(Duration::from_millis(50)).await;
+            }
+        }
+    };
+    // The root of what is shown is taken away, and then another certificate is shown.
+    copy("ca.pem", "owners.pem");
+    within(unavailable(BROKEN)).await;
+    for end in ["pem", "key"] {
+        copy(&format!("server.{end}"), &format!("mine.{end}"));
+    }
+    within(Outcome::taken(0)).await;
+}

@@ -1,0 +1,88 @@
+//! What instances speak with each other, and the connections that are kept.
+
+use super::{peer, CONNECT, IDLE};
+use crate::tls::{Contexts, Tls};
+use hyper::client::HttpConnector;
+use hyper::{Body, Client};
+use hyper_rustls::HttpsConnector;
+use rustls::ClientConfig;
+use std::sync::{Arc, Mutex, PoisonError};
+
+#[derive(Clone)]
+pub enum Wire {
+    Plain,
+    /// Both show a certificate.
+    Tls(Arc<Tls>),
+}
+
+type Asks = Client<HttpsConnector<HttpConnector>, Body>;
+
+/// Who asks other instances. Where files of TLS have changed, connections are made anew.
+pub(super) struct Connections {
+    wire: Wire,
+    now: Mutex<Now>,
+}
+
+struct Now {
+    by: Option<Arc<Contexts>>,
+    asks: Asks,
+}
+
+impl Now {
+    fn of(by: Option<Arc<Contexts>>) -> Now {
+        let config = by.as_ref().and_then(|by| by.client());
+        Now {
+            asks: client(config.unwrap_or_else(|| Arc::new(no_roots()))),
+            by,
+        }
+    }
+}
+
+impl Connections {
+    pub fn new(wire: Wire) -> Connections {
+        let now = Now::of(match &wire {
+            Wire::Plain => None,
+            Wire::Tls(tls) => Some(tls.contexts()),
+        });
+        Connections {
+            wire,
+            now: Mutex::new(now),
+        }
+    }
+
+    pub fn scheme(&self) -> &'static str {
+        match self.wire {
+            Wire::Plain => "http",
+            Wire::Tls(_) => "https",
+        }
+    }
+
+    pub fn asks(&self) -> Asks {
+        let mut now = self.now.lock().unwrap_or_else(PoisonError::into_inner); // it is changed whole
+        if let Wire::Tls(tls) = &self.wire {
+            let latest = tls.contexts();
+            if !now.by.as_ref().is_some_and(|by| Arc::ptr_eq(by, &latest)) {
+                *now = Now::of(Some(latest));
+            }
+        }
+        now.asks.clone()
+    }
+}
+
+fn client(config: Arc<ClientConfig>) -> Asks {
+    let mut http = HttpConnector::new();
+    http.enforce_http(false);
+    http.set_nodelay(true);
+    http.set_connect_timeout(Some(CONNECT));
+    let mut client = Client::builder();
+    client.pool_idle_timeout(IDLE).pool_max_idle_per_host(peer::POSTS);
+    client.build(HttpsConnector::from((http, config)))
+}
+
+/// Nothing is asked over TLS by it.
+fn no_roots() -> ClientConfig {
+    ClientConfig::builder()
+        .with_safe_defaults()
+        .with_root_certificates(rustls::RootCertStore::empty())
+        .with_no_client_auth()
+}

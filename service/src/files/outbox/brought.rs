@@ -1,0 +1,105 @@
+//! What an outbox has, brought into another that goes on from it.
+
+use super::changes::{Change, Group};
+use super::rows;
+use super::state::{Batch, Front};
+use super::{Outbox, Runs, Series, Waiting};
+use crate::files::{lock, segment, Fault};
+use crate::otlp::series::SeriesKey;
+use crate::runs::Since;
+use std::collections::{BTreeSet, HashMap};
+use std::sync::Arc;
+
+/// What an outbox begins with that goes on from others.
+pub struct Beginning {
+    /// The number of its first request.
+    pub next: u64,
+    pub series: Vec<(SeriesKey, Series)>,
+    pub quarantined: BTreeSet<String>,
+    pub since: Since,
+}
+
+/// Requests of a group that wait, in the order of their numbers, as they are in the outbox: so each has its bytes, and its
+/// key, wherever it is.
+pub struct Waits {
+    pub first: u64,
+    pub epoch: Arc<str>,
+    pub since: u64,
+    /// Packed.
+    pub bodies: Vec<Vec<u8>>,
+}
+
+impl Waits {
+    pub fn bytes(&self) -> usize {
+        self.bodies.iter().map(Vec::len).sum()
+    }
+}
+
+impl Outbox {
+    /// The number of the first request that waits; where none does, of the next one.
+    pub fn first_number(&self) -> u64 {
+        lock(&self.state).acknowledged + 1
+    }
+
+    /// Gives what waits, group by group.
+    pub fn each_group(&self, mut each: impl FnMut(Waits) -> Result<(), Fault>) -> Result<(), Fault> {
+        let batches: Vec<Batch> = lock(&self.state).batches.iter().cloned().collect();
+        batches.into_iter().try_for_each(|batch| each(self.waits(batch)?))
+    }
+
+    fn waits(&self, batch: Batch) -> Result<Waits, Fault> {
+        let path = segment::path(&self.folder, batch.segment);
+        let (mut at, mut bodies) = (batch.at, Vec::new());
+        for number in batch.first..batch.first + batch.count {
+            let waiting = Waiting {
+                number,
+                since: batch.since,
+            };
+            let segment = batch.segment;
+            let (packed, length) = rows::packed_item(&self.disk, &path, &Front { waiting, segment, at })?;
+            bodies.push(packed);
+            at += length;
+        }
+        Ok(Waits {
+            first: batch.first,
+            epoch: batch.epoch,
+            since: batch.since,
+            bodies,
+        })
+    }
+
+    /// Begins with this, in an outbox that has had nothing yet. Ordered before all that follows, and all or none of it.
+    pub fn begin_with(&self, beginning: Beginning) -> Result<(), Fault> {
+        self.renew(|state| {
+            (state.next, state.acknowledged) = (beginning.next, beginning.next - 1);
+            (state.quarantined, state.since) = (beginning.quarantined, Some(beginning.since));
+            state.adopt(beginning.series);
+        })
+    }
+
+    /// Goes on with requests of another outbox, whose series are known here already: the next ones in its order.
+    pub fn go_on_with(&self, waits: Waits) -> Result<(), Fault> {
+        let mut writer = lock(&self.writer);
+        let (group, bytes) = {
+            let state = lock(&self.state);
+            let group = Group {
+                first: waits.first,
+                epoch: waits.epoch,
+                since: waits.since,
+                heard: None,
+                journal: state.journal,
+                ends: HashMap::new(),
+                runs: Runs::new(),
+            };
+            let bytes = rows::group(&group, &waits.bodies, &state);
+            (group, bytes)
+        };
+        let count = waits.bodies.len() as u64;
+        self.write(&mut writer, &bytes.records, true, |begin| Change::Group {
+            group,
+            count,
+            segment: 0,
+            items: begin + bytes.items.start as u64..begin + bytes.items.end as u64,
+        })
+    }
+}

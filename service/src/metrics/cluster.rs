@@ -1,0 +1,278 @@
+//! What is shown of an instance that shares a store with others: of itself, and of what it sees.
+
+use crate::cluster::{Forwarded, Status};
+use crate::operate::DatabaseStatus;
+use crate::store::postgres::Counts;
+use prometheus::core::Collector;
+use prometheus::{Gauge, GaugeVec, IntCounter, IntCounterVec, IntGauge, IntGaugeVec, Opts, Registry, Result};
+use std::sync::atomic::Ordering::Relaxed;
+use std::sync::{Mutex, PoisonError};
+
+/// Set where the page is made.
+pub struct OfCluster {
+    slots_owned: IntGauge,
+    /// By `slot`: those that are here.
+    slot_term: IntGaugeVec,
+    without_owner: IntGauge,
+    longest_without_owner: Gauge,
+    instances: IntGauge,
+    beat_age: Gauge,
+    /// By `database`; none of one that is not known.
+    copies: IntGaugeVec,
+    copies_asked: IntGauge,
+    doubt: GaugeVec,
+    /// By `result`.
+    forwarded: IntCounterVec,
+    /// By `outcome`.
+    writes: IntCounterVec,
+    takeovers: IntCounter,
+    hand_overs: IntCounter,
+    lost: IntCounter,
+    /// Counters are brought to where they are elsewhere by one at a time.
+    setting: Mutex<()>,
+}
+
+/// Makes and registers.
+struct Maker<'r>(&'r Registry);
+
+impl Maker<'_> {
+    fn made<C: Collector + Clone + 'static>(&self, made: Result<C>) -> Result<C> {
+        let made = made?;
+        self.0.register(Box::new(made.clone()))?;
+        Ok(made)
+    }
+
+    fn gauge(&self, name: &str, help: &str) -> Result<IntGauge> {
+        self.made(IntGauge::new(format!("totxegun_{name}"), help))
+    }
+
+    fn seconds(&self, name: &str, help: &str) -> Result<Gauge> {
+        self.made(Gauge::new(format!("totxegun_{name}"), help))
+    }
+
+    fn gauges(&self, name: &str, help: &str, label: &str) -> Result<IntGaugeVec> {
+        self.made(IntGaugeVec::new(
+            Opts::new(format!("totxegun_{name}"), help),
+            &[label],
+        ))
+    }
+
+    fn counter(&self, name: &str, help: &str) -> Result<IntCounter> {
+        self.made(IntCounter::new(format!("totxegun_{name}"), help))
+    }
+
+    fn counters(&self, name: &str, help: &str, label: &str) -> Result<IntCounterVec> {
+        self.made(IntCounterVec::new(
+            Opts::new(format!("totxegun_{name}"), help),
+            &[label],
+        ))
+    }
+}
+
+impl OfCluster {
+    pub fn new(registry: &Registry) -> Result<OfCluster> {
+        let maker = Maker(registry);
+        let doubt = "For how long the write of this instance that began first has not been known to be there, 0 where none is";
+        Ok(OfCluster {
+            slots_owned: maker.gauge("slots_owned", "Slots that are here")?,
+            slot_term: maker.gauges(
+                "slot_term",
+                "The term of each slot that is here: it goes up whenever a slot is taken",
+                "slot",
+            )?,
+            without_owner: maker.gauge(
+                "slots_without_owner",
+                "Slots that no instance serves, as far as this one knows",
+            )?,
+            longest_without_owner: maker.seconds(
+                "longest_without_owner_seconds",
+                "For how long no instance has served the slot of these for which it is longest",
+            )?,
+            instances: maker.gauge("instances", "Instances whose beats go on, this one among them")?,
+            beat_age: maker.seconds(
+                "beat_age_seconds",
+                "Since the last beat of this instance that is known to be in the store",
+            )?,
+            copies: maker.gauges(
+                "store_copies",
+                "On how many servers what is committed in a database is; not there where it is not known",
+                "database",
+            )?,
+            copies_asked: maker.gauge(
+                "store_copies_asked",
+                "On how many it has to be, by --store-copies",
+            )?,
+            doubt: maker.made(GaugeVec::new(
+                Opts::new("totxegun_store_doubt_seconds", doubt),
+                &["database"],
+            ))?,
+            forwarded: maker.counters(
+                "forwarded_posts_total",
+                "Posts, or parts of them, that were brought to the instance of their slot, by what came back",
+                "result",
+            )?,
+            writes: maker.counters(
+                "store_writes_total",
+                "Writes of slots to the store, by how they ended",
+                "outcome",
+            )?,
+            takeovers: maker.counter("takeovers_total", "Slots that this instance has taken")?,
+            hand_overs: maker.counter("hand_overs_total", "Slots that it has handed over")?,
+            lost: maker.counter(
+                "slots_lost_total",
+                "Slots that another has taken while they were here",
+            )?,
+            setting: Mutex::default(),
+        })
+    }
+
+    /// `owned` slots are here.
+    pub fn set(
+        &self,
+        owned: usize,
+        seen: &Status,
+        databases: &[DatabaseStatus],
+        forwarded: Forwarded,
+        writes: &Counts,
+    ) {
+        let _one = self.setting.lock().unwrap_or_else(PoisonError::into_inner); // it guards nothing
+        self.slots_owned.set(owned as i64);
+        self.slot_term.reset();
+        for (slot, term) in &seen.terms {
+            self.slot_term
+                .with_label_values(&[&slot.to_string()])
+                .set(*term as i64);
+        }
+        self.without_owner.set(seen.without_owner as i64);
+        self.longest_without_owner
+            .set(seen.longest_without_owner.as_secs_f64());
+        self.instances.set(seen.instances as i64);
+        self.beat_age.set(seen.beat_age.unwrap_or_default().as_secs_f64());
+        self.set_databases(databases);
+        for (result, count) in [
+            ("answered", forwarded.answered),
+            ("not_mine", forwarded.not_mine),
+            ("broken", forwarded.broken),
+        ] {
+            bring(&self.forwarded.with_label_values(&[result]), count);
+        }
+        for (outcome, count) in [
+            ("committed", &writes.commits),
+            ("repeated", &writes.doubts),
+            ("fenced", &writes.fenced),
+            ("vanished", &writes.vanished),
+        ] {
+            bring(&self.writes.with_label_values(&[outcome]), count.load(Relaxed));
+        }
+        bring(&self.takeovers, seen.counted.takeovers);
+        bring(&self.hand_overs, seen.counted.hand_overs);
+        bring(&self.lost, seen.counted.lost);
+    }
+
+    fn set_databases(&self, databases: &[DatabaseStatus]) {
+        self.copies.reset();
+        for database in databases {
+            let label = [&*database.database];
+            if let Some(copies) = database.copies {
+                self.copies.with_label_values(&label).set(copies as i64);
+            }
+            self.copies_asked.set(database.copies_asked as i64);
+            self.doubt
+                .with_label_values(&label)
+                .set(database.doubt_seconds as f64);
+        }
+    }
+}
+
+/// A counter to where it is elsewhere.
+fn bring(counter: &IntCounter, to: u64) {
+    counter.inc_by(to.saturating_sub(counter.get()));
+}
+
+#[cfg(test)]
+mod tests {
+    use super::*;
+    use crate::cluster::status::Counted;
+    use crate::metrics::Metrics;
+    use std::collections::BTreeMap;
+    use std::time::Duration;
+
+    fn seen(terms: &[(u16, u64)], takeovers: u64) -> Status {
+        Status {
+            name: "a".into(),
+            instances: 3,
+            others: Vec::new(),
+            slots: Vec::new(),
+            without_owner: 2,
+            longest_without_owner: Duration::from_millis(31_500),
+            terms: terms.iter().copied().collect::<BTreeMap<_, _>>(),
+            beat_age: Some(Duration::from_millis(250)),
+            has_namesake: false,
+            refused: Vec::new(),
+            counted: Counted {
+                takeovers,
+                hand_overs: 1,
+                lost: 0,
+            },
+        }
+    }
+
+    fn database(copies: Option<u64>) -> DatabaseStatus {
+        DatabaseStatus {
+            database: "db/x".into(),
+            copies,
+            copies_asked: 2,
+            why: None,
+            doubt_seconds: 12,
+        }
+    }
+
+    #[test]
+    fn the_page_has_what_is_seen_now_and_counters_as_they_are() {
+        let metrics = Metrics::new().unwrap();
+        let of_cluster = OfCluster::new(&metrics.registry).unwrap();
+        let (writes, forwarded) = (
+            Counts::default(),
+            Forwarded {
+                answered: 7,
+                not_mine: 2,
+                broken: 1,
+            },
+        );
+        writes.commits.store(40, Relaxed);
+        of_cluster.set(
+            2,
+            &seen(&[(3, 5), (4, 9)], 2),
+            &[database(Some(1))],
+            forwarded,
+            &writes,
+        );
+        of_cluster.set(1, &seen(&[(4, 10)], 3), &[database(Some(1))], forwarded, &writes);
+        let page = || String::from_utf8(metrics.page()).unwrap();
+        let has = |line: &str| page().lines().any(|found| found == line);
+        for line in [
+            "totxegun_slots_owned 1",
+            "totxegun_slot_term{slot=\"4\"} 10",
+            "totxegun_slots_without_owner 2",
+            "totxegun_longest_without_owner_seconds 31.5",
+            "totxegun_instances 3",
+            "totxegun_beat_age_seconds 0.25",
+            "totxegun_store_copies{database=\"db/x\"} 1",
+            "totxegun_store_copies_asked 2",
+            "totxegun_store_doubt_seconds{database=\"db/x\"} 12",
+            "totxegun_forwarded_posts_total{result=\"answered\"} 7",
+            "totxegun_forwarded_posts_total{result=\"not_mine\"} 2",
+            "totxegun_forwarded_posts_total{result=\"broken\"} 1",
+            "totxegun_store_writes_total{outcome=\"committed\"} 40",
+            "totxegun_store_writes_total{outcome=\"vanished\"} 0",
+            "totxegun_takeovers_total 3",
+            "totxegun_hand_overs_total 1",
+            "totxegun_slots_lost_total 0",
+        ] {
+            assert!(has(line), "{line} in\n{}", page());
+        }
+        assert!(!page().contains("slot=\"3\""), "it is another's");
+        of_cluster.set(1, &seen(&[], 3), &[database(None)], forwarded, &writes);
+        assert!(!page().contains("totxegun_store_copies{"), "it is not known");
+    }
+}

@@ -1,0 +1,244 @@
+//! What is known of series is changed: where one ends is put back, as of one that a wrong clock has put ahead; or it is
+//! forgotten, so that another sender may have it. `sought` finds which ones are meant, in each slot.
+
+mod sought;
+
+pub(super) use sought::Sought;
+
+use super::named::named;
+use super::reach::{slots_shown, Answer, Command};
+use super::{message, reply, Actor, Desk, JSON};
+use crate::log::utc;
+use crate::otlp::series::SeriesKey;
+use crate::sinks::periods::{hour_shown, seconds_of};
+use crate::sinks::sqlite::by_hour::Hour;
+use crate::sinks::sqlite::totals::SeriesTotal;
+use hyper::{Body, Response, StatusCode};
+use serde_json::json;
+use sought::{Found, Meant};
+use std::sync::Arc;
+use std::time::{SystemTime, UNIX_EPOCH};
+
+const SECOND: u64 = 1_000_000_000;
+const HOUR: u64 = 3600 * SECOND;
+
+/// How many series are told of by name, and how many hours of each.
+const NAMED: usize = 5;
+const HOURS: usize = 5;
+
+impl Desk {
+    pub(super) async fn amend(
+        self: &Arc<Self>,
+        actor: Actor,
+        parts: &[String],
+        query: &str,
+    ) -> Response<Body> {
+        let (sought, anyway) = match read(parts, query) {
+            Ok(read) => read,
+            Err(why) => return message(400, &why),
+        };
+        let (what, of) = sought.act();
+        self.act_by(actor, what, of, |who| self.amended(who, sought, anyway))
+            .await
+    }
+
+    async fn amended(self: &Arc<Self>, who: String, sought: Sought, anyway: Anyway) -> Response<Body> {
+        if self.totals.is_none() && anyway == Anyway::No {
+            let what = "can't tell what it has already, so what is posted again would count twice";
+            return message(
+                409,
+                &format!(
+                    "the sink {} {what}; give --anyway where nobody posts it again",
+                    self.sink.name()
+                ),
+            );
+        }
+        // What was posted so far is known then.
+        let flushed = self.order(&who, &Command::Flush).await;
+        if flushed.status() != StatusCode::OK {
+            return flushed;
+        }
+        let found = self
+            .in_all_slots(&who, &Command::Find(sought.clone()))
+            .await
+            .all();
+        let found = match found.map(|answers| Found::read(&answers)) {
+            Ok(Ok(found)) => found,
+            Ok(Err(refused)) => return refused.into(),
+            Err(not_all) => return not_all,
+        };
+        match found.meant(&sought) {
+            Ok(meant) => self.carried_out(&who, &sought, meant).await,
+            Err(why) => message(409, &why),
+        }
+    }
+
+    async fn carried_out(self: &Arc<Self>, who: &str, sought: &Sought, meant: Meant) -> Response<Body> {
+        let command = Command::Amend(meant.sought.clone());
+        let answers = match self
+            .in_slots(who, &command, meant.slots.iter().copied())
+            .await
+            .all()
+        {
+            Ok(answers) => answers,
+            Err(not_all) => return not_all,
+        };
+        if let Some((_, refused)) = answers.iter().find(|(_, answer)| answer.status != 200) {
+            return refused_by(refused, &answers);
+        }
+        let told = self.told(sought, &meant).await;
+        reply(200, JSON, json!({ "message": told }).to_string())
+    }
+
+    async fn told(&self, sought: &Sought, meant: &Meant) -> String {
+        let mut told = match (sought.to, meant.count) {
+            (Some(to), 1) => format!("1 series ends at {} now", time(to)),
+            (Some(to), more) => format!("{more} series end at {} now", time(to)),
+            (None, 1) => "1 series is forgotten: whoever posts it next has it".to_string(),
+            (None, more) => format!("{more} series are forgotten: whoever posts one next has it"),
+        };
+        for (key, end) in &meant.first {
+            told += &format!("\n{} ended at {}", named(key), time(*end));
+            if let Some(to) = sought.to {
+                told += &self.beyond(key, to).await;
+            }
+        }
+        if meant.count > meant.first.len() {
+            told += &format!("\nand {} more", meant.count - meant.first.len());
+        }
+        told + match self.totals {
+            Some(_) => {
+                "\nwhat is posted again of that time is taken again; the sink leaves out what overlaps a span that it has (dead/)"
+            }
+            None => "\nwhat is posted again of that time counts twice",
+        }
+    }
+
+    /// What the sink has of a series beyond a time.
+    async fn beyond(&self, key: &SeriesKey, to: u64) -> String {
+        let (Some(totals), Ok(series)) = (&self.totals, SeriesTotal::of_none(key)) else {
+            return String::new();
+        };
+        let what = match totals.hours(series, to / HOUR).await {
+            Err(why) => format!("the sink can't be read: {why}"),
+            Ok(None) => "the sink has nothing of it yet".into(),
+            Ok(Some(hours)) if hours.is_empty() => "the sink has nothing of it from that hour on".into(),
+            Ok(Some(hours)) => format!(
+                "the sink has of it from that hour on {} (by_hour)",
+                in_hours(&hours)
+            ),
+        };
+        format!("; {what}")
+    }
+}
+
+/// What a slot has refused, and what others have done.
+fn refused_by(refused: &Answer, answers: &[(u16, Answer)]) -> Response<Body> {
+    let done = answers.iter().filter(|(_, answer)| answer.status == 200);
+    let done: Vec<u16> = done.map(|(slot, _)| *slot).collect();
+    match &done[..] {
+        [] => refused.clone().into(),
+        done => message(
+            refused.status,
+            &format!("{}; it is done in {}", refused.message(), slots_shown(done)),
+        ),
+    }
+}
+
+fn in_hours(hours: &[Hour]) -> String {
+    let shown = hours.iter().rev().take(HOURS).map(|hour| {
+        let count = hour.count.map(|count| format!("{count} values, "));
+        let hour_of = hour_shown(hour.hour.cast_signed());
+        format!("{}{} in {hour_of}", count.unwrap_or_default(), hour.total)
+    });
+    let mut shown: Vec<String> = shown.collect();
+    if hours.len() > HOURS {
+        shown.push(format!("something in {} hours before", hours.len() - HOURS));
+    }
+    shown.join(", ")
+}
+
+/// Whether it is to be done although the sink may count a repeat twice.
+#[derive(Clone, Copy, Debug, PartialEq, Eq)]
+enum Anyway {
+    Yes,
+    No,
+}
+
+/// What is asked for.
+fn read(parts: &[String], query: &str) -> Result<(Sought, Anyway), String> {
+    let to = match parts.iter().map(String::as_str).collect::<Vec<_>>()[..] {
+        ["forget"] => None,
+        ["repair", to] => {
+            let seconds = seconds_of(to).filter(|seconds| *seconds > 0);
+            let nanoseconds = seconds.and_then(|seconds| seconds.checked_mul(SECOND));
+            let why = || format!("`{to}` is no time: write 2026-11-05T13:30:15, of UTC");
+            Some(nanoseconds.ok_or_else(why)?)
+        }
+        _ => return Err("this takes /repair/TIME?series=NAME and /forget?series=NAME".into()),
+    };
+    let (mut written, mut all, mut anyway) = (String::new(), false, Anyway::No);
+    for pair in query.split('&') {
+        match pair.split_once('=').unwrap_or((pair, "")) {
+            ("series", name) => {
+                let name = percent_encoding::percent_decode_str(name).decode_utf8();
+                written = name.map_err(|_| "the name is no text in UTF-8")?.into();
+            }
+            ("all", _) => all = true,
+            ("anyway", _) => anyway = Anyway::Yes,
+            _ => {}
+        }
+    }
+    Ok((Sought::new(written, to, all, now())?, anyway))
+}
+
+/// In UTC, to the second.
+fn time(nanoseconds: u64) -> String {
+    utc(nanoseconds / SECOND)
+}
+
+fn now() -> u64 {
+    let since = SystemTime::now().duration_since(UNIX_EPOCH).unwrap_or_default();
+    u64::try_from(since.as_nanos()).unwrap_or(u64::MAX)
+}
+
+#[cfg(test)]
+mod tests {
+    use super::*;
+
+    #[test]
+    fn what_is_asked_for_is_read() {
+        let asked = |path: &str, query: &str| {
+            let parts: Vec<String> = path.split('/').map(String::from).collect();
+            read(&parts, query)
+        };
+        let (one, anyway) = asked("repair/2026-11-27T12:00:00", "series=a%7Bshop%3Ds1%7D&all").unwrap();
+        let noon = 1_795_780_800 * SECOND;
+        assert_eq!((one.to, &*one.written, one.all), (Some(noon), "a{shop=s1}", true));
+        assert_eq!(anyway, Anyway::No);
+        let (one, anyway) = asked("forget", "series=a&anyway").unwrap();
+        assert_eq!((one.to, one.all, anyway), (None, false, Anyway::Yes));
+        for (path, query, part) in [
+            ("repair/yesterday", "series=a", "no time"),
+            ("repair/1970-01-01", "series=a", "no time"),
+            ("repair", "series=a", "/repair/TIME"),
+            ("forget/2026-11-27", "series=a", "/forget"),
+            ("forget", "", "names no series"),
+            ("forget", "series=a%7B", "names no series"),
+        ] {
+            let why = asked(path, query).unwrap_err();
+            assert!(why.contains(part), "{path}: {why}");
+        }
+    }
+
+    #[test]
+    fn what_is_refused_in_one_slot_says_where_it_is_done() {
+        let (done, held) = (Answer::new(200, "{}"), Answer::told(409, "a has posts"));
+        let of = |answers: &[(u16, Answer)]| refused_by(&held, answers);
+        assert_eq!(of(&[(3, held.clone())]).status(), 409);
+        let both = of(&[(1, done.clone()), (3, held.clone()), (4, done.clone())]);
+        let runtime = tokio::runtime::Builder::new_current_thread().build().unwrap();
+        let body = runtime.block_on(hyper::body::to_bytes(both.into_body())).unwrap();
+        assert_eq!(body, r#"{"message":"a has posts; it is done in slots 1 and 4"}"#);
+    }
+}

@@ -1,0 +1,332 @@
+//! Which series an operator means, and what is done to them in a slot.
+
+use super::{time, NAMED};
+use crate::files::Series;
+use crate::keeper::{Amend, Done, Order};
+use crate::operate::named::{named, Named};
+use crate::operate::reach::Answer;
+use crate::operate::Unit;
+use crate::otlp::series::SeriesKey;
+use crate::otlp::Encoding;
+use crate::work::blocking;
+use serde::{Deserialize, Serialize};
+use std::sync::Arc;
+
+/// What is asked for.
+#[derive(Clone, Debug, PartialEq, Eq, Serialize, Deserialize)]
+pub struct Sought {
+    /// How they are named.
+    pub(super) written: String,
+    /// In nanoseconds since 1970; none where they are to be forgotten.
+    pub(super) to: Option<u64>,
+    /// All that are named so, where they are several.
+    pub(super) all: bool,
+    /// When it was asked, by the clock of who was.
+    now: u64,
+}
+
+/// A series, and where it ended.
+pub type Was = (SeriesKey, u64);
+
+/// What a slot has of what is meant.
+#[derive(Debug, Default, PartialEq, Eq, Serialize, Deserialize)]
+struct InSlot {
+    /// How many are named so, and the first of them by their keys.
+    count: usize,
+    first: Vec<(String, u64)>,
+    /// Where the last of them ends.
+    last: u64,
+    /// The same of those that end after the time that is asked for.
+    beyond: usize,
+    first_beyond: Vec<(String, u64)>,
+}
+
+/// The same of all slots.
+#[derive(Debug, Default, PartialEq, Eq)]
+pub struct Found {
+    in_slot: Vec<(u16, InSlot)>,
+}
+
+/// The series that are meant.
+#[derive(Debug, PartialEq, Eq)]
+pub struct Meant {
+    pub count: usize,
+    /// The first of them by their keys.
+    pub first: Vec<Was>,
+    /// Which slots have some, and how they are asked for them.
+    pub slots: Vec<u16>,
+    pub sought: Sought,
+}
+
+impl Sought {
+    pub fn new(written: String, to: Option<u64>, all: bool, now: u64) -> Result<Sought, String> {
+        written.parse::<Named>()?;
+        Ok(Sought {
+            written,
+            to,
+            all,
+            now,
+        })
+    }
+
+    /// What is written down of it.
+    pub fn act(&self) -> (&'static str, String) {
+        match self.to {
+            Some(to) => ("repair", format!("{} to {}", self.written, time(to))),
+            None => ("forget", self.written.clone()),
+        }
+    }
+
+    /// Those of a slot that are named so, in the order of their keys.
+    fn named(&self, all: impl IntoIterator<Item = (SeriesKey, Series)>) -> Vec<Was> {
+        let Ok(of) = self.written.parse::<Named>() else {
+            return Vec::new(); // it was read before
+        };
+        let found = all.into_iter().filter(|(key, _)| of.has(key));
+        let mut found: Vec<Was> = found.map(|(key, series)| (key, series.frontier)).collect();
+        found.sort_unstable();
+        found
+    }
+
+    fn is_beyond(&self, end: u64) -> bool {
+        self.to.is_none_or(|to| end > to)
+    }
+
+    fn counted(&self, named: &[Was]) -> InSlot {
+        let first = |all: &mut dyn Iterator<Item = &Was>| {
+            let first = all.take(NAMED).map(|(key, end)| (key.0.to_string(), *end));
+            first.collect()
+        };
+        let beyond = || named.iter().filter(|(_, end)| self.is_beyond(*end));
+        InSlot {
+            count: named.len(),
+            first: first(&mut named.iter()),
+            last: named.iter().map(|(_, end)| *end).max().unwrap_or(0),
+            beyond: beyond().count(),
+            first_beyond: first(&mut beyond()),
+        }
+    }
+
+    /// What a slot has of them.
+    pub async fn found_in(self, unit: &Arc<Unit>) -> Answer {
+        let unit = unit.clone();
+        let found = blocking(move || self.counted(&self.named(unit.slot.outbox.series()))).await;
+        Answer::new(200, serde_json::json!(found).to_string())
+    }
+
+    /// Has a slot change what it knows of them; none where it is ending.
+    pub async fn amended_in(self, unit: &Arc<Unit>) -> Option<Answer> {
+        let (of, sought) = (unit.clone(), self.clone());
+        let mut found = blocking(move || sought.named(of.slot.outbox.series())).await;
+        found.retain(|(_, end)| self.is_beyond(*end));
+        let is_ahead = found.iter().any(|(_, end)| *end > self.now);
+        let series: Vec<SeriesKey> = found.into_iter().map(|(key, _)| key).collect();
+        if series.is_empty() {
+            return Some(Answer::new(200, "{}")); // as of one that was asked again
+        }
+        // What ends ahead of the clock is put back to now before it is forgotten: runs that began before the end of what was
+        // forgotten don't count.
+        let put_back = self.to.or(is_ahead.then_some(self.now));
+        let forget = self.to.is_none().then(|| Amend::Forget(series.clone()));
+        let put_back = put_back.map(|to| Amend::PutBack { series, to });
+        for amend in put_back.into_iter().chain(forget) {
+            if let Err(refused) = ordered(unit, amend).await? {
+                return Some(refused);
+            }
+        }
+        Some(Answer::new(200, "{}"))
+    }
+}
+
+/// Has a slot change what it knows.
+async fn ordered(unit: &Unit, amend: Amend) -> Option<Result<(), Answer>> {
+    Some(match unit.orders.order(Order::Amend(amend)).await? {
+        Done::Amended(Ok(())) => Ok(()),
+        Done::Amended(Err(one)) => {
+            let why = "has posts that are kept back of its sender: lift it first (`totxegun status`)";
+            Err(Answer::told(409, &format!("{} {why}", named(&one))))
+        }
+        Done::Answered(outcome) => {
+            let body = outcome.body(Encoding::Json);
+            Err(Answer::new(outcome.status(), String::from_utf8_lossy(&body)))
+        }
+        Done::Flushed { .. } => return None, // no keeper says so
+    })
+}
+
+impl Found {
+    /// The error is what a slot has refused.
+    pub fn read(answers: &[(u16, Answer)]) -> Result<Found, Answer> {
+        let mut found = Found::default();
+        for (slot, answer) in answers {
+            let read = serde_json::from_str(&answer.body).ok();
+            let in_slot = read
+                .filter(|_| answer.status == 200)
+                .ok_or_else(|| answer.clone())?;
+            found.in_slot.push((*slot, in_slot));
+        }
+        Ok(found)
+    }
+
+    fn count(&self, of: fn(&InSlot) -> usize) -> usize {
+        self.in_slot.iter().map(|(_, in_slot)| of(in_slot)).sum()
+    }
+
+    fn first(&self, of: fn(&InSlot) -> &Vec<(String, u64)>) -> Vec<Was> {
+        let all = self.in_slot.iter().flat_map(|(_, in_slot)| of(in_slot));
+        let mut all: Vec<Was> = all
+            .map(|(key, end)| (SeriesKey(key.as_str().into()), *end))
+            .collect();
+        all.sort_unstable();
+        all.truncate(NAMED);
+        all
+    }
+
+    /// The series that are meant, or why there are none.
+    pub fn meant(&self, sought: &Sought) -> Result<Meant, String> {
+        if let Some(to) = sought.to.filter(|to| *to > sought.now) {
+            return Err(format!(
+                "{} is after the service's clock, which says {}",
+                time(to),
+                time(sought.now)
+            ));
+        }
+        let (count, first) = (self.count(|of| of.count), self.first(|of| &of.first));
+        match &first[..] {
+            [] => {
+                return Err(format!(
+                    "no series is named {}: `totxegun totals` shows names and attributes, as does the view totals",
+                    sought.written
+                ))
+            }
+            [one, another, ..] if !sought.all => {
+                return Err(format!(
+                    "{count} series are named so, as {} and {}: name more attributes, or give --all",
+                    named(&one.0),
+                    named(&another.0)
+                ))
+            }
+            _ => {}
+        }
+        let beyond = self.count(|of| of.beyond);
+        if beyond == 0 {
+            let last = self.in_slot.iter().map(|(_, of)| of.last).max().unwrap_or(0);
+            return Err(format!(
+                "what is named so ends at {}: there is nothing to put back",
+                time(last)
+            ));
+        }
+        let first = self.first(|of| &of.first_beyond);
+        let has_some = self.in_slot.iter().filter(|(_, of)| of.beyond > 0);
+        Ok(Meant {
+            count: beyond,
+            slots: has_some.map(|(slot, _)| *slot).collect(),
+            sought: match (sought.all, first.first()) {
+                // No other that is new since is meant.
+                (false, Some((key, _))) => Sought {
+                    written: key.0.to_string(),
+                    ..sought.clone()
+                },
+                _ => sought.clone(),
+            },
+            first,
+        })
+    }
+}
+
+#[cfg(test)]
+mod tests {
+    use super::super::{HOUR, SECOND};
+    use super::*;
+
+    const NOW: u64 = 1_795_784_400 * SECOND; // 2026-11-27 13:00
+
+    fn key(name: &str, shop: &str) -> SeriesKey {
+        let shop = format!(r#"[{{"key":"shop","value":{{"stringValue":"{shop}"}}}}]"#);
+        SeriesKey(format!(r#"[[],"","",[],"{name}","","monotonic",{shop}]"#).into())
+    }
+
+    fn series(ends: &[(&str, &str, u64)]) -> Vec<(SeriesKey, Series)> {
+        let one = |(name, shop, frontier): &(&str, &str, u64)| {
+            let about = Series {
+                frontier: *frontier,
+                owner: Some("A".into()),
+                seen: 0,
+                run: None,
+            };
+            (key(name, shop), about)
+        };
+        ends.iter().map(one).collect()
+    }
+
+    /// The series of slots 2, 5 and 7.
+    fn slots() -> [(u16, Vec<(SeriesKey, Series)>); 3] {
+        let two = series(&[("a", "s2", NOW - HOUR), ("b", "s1", NOW + HOUR)]);
+        [(2, two), (5, series(&[("a", "s1", NOW + HOUR)])), (7, Vec::new())]
+    }
+
+    fn meant(sought: &Sought) -> Result<Meant, String> {
+        let answers = slots().map(|(slot, all)| {
+            let found = sought.counted(&sought.named(all));
+            (slot, Answer::new(200, serde_json::json!(found).to_string()))
+        });
+        Found::read(&answers).unwrap().meant(sought)
+    }
+
+    fn sought(written: &str, to: Option<u64>, all: bool) -> Sought {
+        Sought::new(written.into(), to, all, NOW).unwrap()
+    }
+
+    #[test]
+    fn the_series_that_are_meant_are_found_in_their_slots() {
+        let to = Some(NOW - HOUR / 2);
+        let one = meant(&sought("a{shop=s1}", to, false)).unwrap();
+        assert_eq!(
+            (one.count, &one.first[..]),
+            (1, &[(key("a", "s1"), NOW + HOUR)][..])
+        );
+        assert_eq!(one.slots, [5]);
+        // By all that identifies it: no other is meant.
+        assert_eq!(*one.sought.written, *key("a", "s1").0);
+        let those = meant(&sought("a", to, true)).unwrap();
+        assert_eq!(
+            (those.count, &those.slots[..], &*those.sought.written),
+            (1, &[5][..], "a")
+        );
+        let all = meant(&sought("a", None, true)).unwrap();
+        assert_eq!((all.count, &all.slots[..]), (2, &[2, 5][..]));
+        assert_eq!(all.first[0].0, key("a", "s1"));
+    }
+
+    #[test]
+    fn it_is_said_why_none_is_meant() {
+        let to = Some(NOW - HOUR / 2);
+        for (written, to, part) in [
+            (
+                "b",
+                Some(NOW + SECOND),
+                "after the service's clock, which says 2026-11-27 13:00:00",
+            ),
+            ("c", to, "no series is named c"),
+            (
+                "a",
+                to,
+                "2 series are named so, as a{\"shop\":\"s1\"} and a{\"shop\":\"s2\"}",
+            ),
+            (
+                "a{shop=s2}",
+                to,
+                "ends at 2026-11-27 12:00:00: there is nothing to put back",
+            ),
+        ] {
+            let why = meant(&sought(written, to, false)).unwrap_err();
+            assert!(why.contains(part), "{written}: {why}");
+        }
+    }
+
+    #[test]
+    fn what_a_slot_refuses_is_said() {
+        let refused = Answer::told(400, "no");
+        assert_eq!(Found::read(&[(1, refused.clone())]), Err(refused));
+    }
+}

@@ -1,0 +1,130 @@
+//! What is done in one slot, where it is.
+
+use super::Desk;
+use crate::keeper::{Done, Order};
+use crate::operate::amend::Sought;
+use crate::operate::Unit;
+use crate::otlp::Encoding;
+use crate::work::blocking;
+use serde::{Deserialize, Serialize};
+use serde_json::json;
+use std::sync::Arc;
+
+/// What is asked of a slot.
+#[derive(Clone, Debug, PartialEq, Eq, Serialize, Deserialize)]
+pub enum Command {
+    Flush,
+    /// Of a sender.
+    Quarantine(String),
+    Lift(String),
+    /// What its books say of themselves.
+    Report,
+    /// Which requests the sink refused for good.
+    Letters,
+    /// Of a key, which has the slot's number.
+    Letter(String),
+    Resend(String),
+    Drop(String),
+    /// Which series are meant.
+    Find(Sought),
+    Amend(Sought),
+}
+
+/// What a slot says to it: as it goes to who has asked.
+#[derive(Clone, Debug, PartialEq, Eq, Serialize, Deserialize)]
+pub struct Answer {
+    pub status: u16,
+    /// JSON, but for a report.
+    pub body: String,
+}
+
+impl Answer {
+    pub fn new(status: u16, body: impl Into<String>) -> Answer {
+        Answer {
+            status,
+            body: body.into(),
+        }
+    }
+
+    /// Why it was not done, or something that is told of it.
+    pub fn told(status: u16, message: &str) -> Answer {
+        Answer::new(status, json!({ "message": message }).to_string())
+    }
+
+    /// As it is in the body; all of that where there is none.
+    pub fn message(&self) -> String {
+        let read: serde_json::Value = serde_json::from_str(&self.body).unwrap_or_default();
+        read["message"].as_str().unwrap_or(&self.body).to_string()
+    }
+}
+
+impl Command {
+    /// Whether it changes something.
+    pub fn changes(&self) -> bool {
+        match self {
+            Command::Flush
+            | Command::Quarantine(_)
+            | Command::Lift(_)
+            | Command::Resend(_)
+            | Command::Drop(_)
+            | Command::Amend(_) => true,
+            Command::Report | Command::Letters | Command::Letter(_) | Command::Find(_) => false,
+        }
+    }
+
+    /// What is written down of it, and of what it is.
+    pub fn act(&self) -> Option<(&'static str, String)> {
+        Some(match self {
+            Command::Quarantine(sender) => ("quarantine", sender.clone()),
+            Command::Lift(sender) => ("lift", sender.clone()),
+            Command::Resend(key) => ("dead resend", key.clone()),
+            Command::Drop(key) => ("dead drop", key.clone()),
+            Command::Amend(sought) => sought.act(),
+            Command::Flush | Command::Report | Command::Letters | Command::Letter(_) | Command::Find(_) => {
+                return None
+            }
+        })
+    }
+}
+
+impl Desk {
+    /// None where the slot is not here, or not any more: what was done of it then its next owner has, or has not.
+    pub(super) async fn in_slot(self: Arc<Self>, slot: u16, command: Command) -> Option<Answer> {
+        let unit = self.units.get(slot)?;
+        match command {
+            Command::Flush => ordered(&unit, Order::Checkpoint).await,
+            Command::Quarantine(sender) => ordered(&unit, Order::Quarantine(sender)).await,
+            Command::Lift(sender) => ordered(&unit, Order::Lift(sender)).await,
+            Command::Report => Some(report(unit).await),
+            Command::Letters => Some(self.letters_of(&unit).await),
+            Command::Letter(key) => Some(self.letter_of(&unit, &key).await),
+            Command::Resend(key) => Some(self.resend(&unit, &key).await),
+            Command::Drop(key) => Some(self.drop_letter(&unit, &key).await),
+            Command::Find(sought) => Some(sought.found_in(&unit).await),
+            Command::Amend(sought) => sought.amended_in(&unit).await,
+        }
+    }
+}
+
+async fn ordered(unit: &Unit, order: Order) -> Option<Answer> {
+    match unit.orders.order(order).await? {
+        Done::Flushed { requests } => Some(Answer::new(200, json!({ "requests": requests }).to_string())),
+        Done::Answered(outcome) => {
+            let body = outcome.body(Encoding::Json);
+            Some(Answer::new(outcome.status(), String::from_utf8_lossy(&body)))
+        }
+        // `amend` gives such orders itself.
+        Done::Amended(_) => None,
+    }
+}
+
+/// The books' report: while one is filled nobody waits for it.
+async fn report(unit: Arc<Unit>) -> Answer {
+    if !unit.slot.is_ready() {
+        return Answer::told(503, unit.slot.unavailable().unwrap_or("recovering"));
+    }
+    match blocking(move || unit.slot.report()).await {
+        Ok(report) => Answer::new(200, String::from_utf8_lossy(&report)),
+        Err(refused) => Answer::told(refused.status(), &refused.to_string()),
+    }
+}

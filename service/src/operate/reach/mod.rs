@@ -1,0 +1,170 @@
+//! All slots from any instance: what is asked of a slot is done where it is.
+//!
+//! A slot's own instance does it (`command`), and says what came of it; one that is on its way is looked for, for some seconds
+//! (`places`). `answers` is what other instances ask of this one. All that changes something can be asked again: what is done
+//! stays as it is, so whoever is told that a part is missing (`ended`) repeats it.
+
+mod answers;
+mod command;
+mod ended;
+mod places;
+
+pub(super) use answers::Question;
+pub(super) use command::{Answer, Command};
+pub(super) use ended::{slots_shown, Ended};
+pub use places::Others;
+
+use super::{reply, Desk};
+use ended::Left;
+use hyper::{Body, Response};
+use places::Place;
+use std::collections::BTreeSet;
+use std::sync::Arc;
+use std::time::Duration;
+use tokio::task::JoinSet;
+use tokio::time::Instant;
+
+/// A slot that nobody has is looked for so long: a machine that is lost has its slots elsewhere within.
+const LOOKED_FOR: Duration = match cfg!(test) {
+    false => Duration::from_secs(8),
+    true => Duration::from_millis(500),
+};
+/// An instance does what it is asked within: a flush may be long.
+const WITHIN: Duration = Duration::from_secs(100);
+
+/// Why a slot that was found did nothing.
+const MOVED: &str = "it is being moved to another instance";
+const NOBODY: &str = "no instance has it";
+/// Where there are no others.
+const ENDING: &str = "stopping";
+
+/// What came of it in a slot, or why nothing did.
+type InSlot = (u16, Result<Answer, Left>);
+
+impl Desk {
+    /// Has each slot do it, wherever it is.
+    pub(super) async fn in_all_slots(self: &Arc<Self>, who: &str, command: &Command) -> Ended {
+        self.in_slots(who, command, 0..self.units.slots()).await
+    }
+
+    /// The same of some of them.
+    pub(super) async fn in_slots(
+        self: &Arc<Self>,
+        who: &str,
+        command: &Command,
+        slots: impl IntoIterator<Item = u16>,
+    ) -> Ended {
+        let mut left: BTreeSet<u16> = slots.into_iter().collect();
+        let (mut ended, mut until) = (Ended::of(command, left.len()), None);
+        loop {
+            for (slot, done) in self.round(who, command, &left).await {
+                ended.note(slot, done);
+            }
+            left.retain(|slot| ended.is_left(*slot));
+            let Some(others) = self.others.as_ref().filter(|_| !left.is_empty()) else {
+                return ended;
+            };
+            // The first time may have been waited for somebody who stands still.
+            if Instant::now() >= *until.get_or_insert(Instant::now() + LOOKED_FOR) {
+                return ended;
+            }
+            others.look_again().await;
+        }
+    }
+
+    /// Asks once for each slot, all at the same time.
+    async fn round(self: &Arc<Self>, who: &str, command: &Command, slots: &BTreeSet<u16>) -> Vec<InSlot> {
+        let mut asking = JoinSet::new();
+        for (place, slots) in self.places(slots) {
+            let (desk, who, command) = (self.clone(), who.to_string(), command.clone());
+            asking.spawn(async move { desk.at(place, who, command, slots).await });
+        }
+        let mut all = Vec::new();
+        while let Some(asked) = asking.join_next().await {
+            all.extend(asked.unwrap_or_default()); // what has failed stays to be asked
+        }
+        all
+    }
+
+    async fn at(
+        self: Arc<Self>,
+        place: Place,
+        who: String,
+        command: Command,
+        slots: Vec<u16>,
+    ) -> Vec<InSlot> {
+        match place {
+            Place::Here => {
+                let why = self.others.as_ref().map_or(ENDING, |_| MOVED);
+                let done = self.here(&command, &slots).await.into_iter();
+                done.map(|(slot, answer)| (slot, answer.ok_or_else(|| Left::because(why))))
+                    .collect()
+            }
+            Place::At { name, address } => self.there(&name, &address, who, command, slots).await,
+            Place::Nobody => all_left(&slots, NOBODY),
+        }
+    }
+
+    /// Another instance does it. Where all of these slots leave it, it is waited for no longer: it may stand still.
+    async fn there(
+        &self,
+        name: &str,
+        address: &str,
+        who: String,
+        command: Command,
+        slots: Vec<u16>,
+    ) -> Vec<InSlot> {
+        let Some(others) = &self.others else {
+            return all_left(&slots, NOBODY);
+        };
+        let question = Question::Do {
+            who: format!("{who} (at {})", others.instance),
+            command,
+            slots: slots.clone(),
+        };
+        let asked = tokio::select! {
+            asked = others.ask::<Vec<(u16, Answer)>>(address, &question, WITHIN) => asked,
+            () = others.have_left(address, &slots) => return all_left(&slots, MOVED),
+        };
+        match asked {
+            Ok(answers) => {
+                let mut all = all_left(&slots, MOVED);
+                for (slot, done) in &mut all {
+                    if let Some((_, answer)) = answers.iter().find(|(of, _)| of == slot) {
+                        *done = Ok(answer.clone());
+                    }
+                }
+                all
+            }
+            Err(why) => all_left(
+                &slots,
+                &format!("instance {name} at {address} does not answer: {why}"),
+            ),
+        }
+    }
+
+    /// Has those of these slots that are here do it; none of one that is not.
+    async fn here(self: &Arc<Self>, command: &Command, slots: &[u16]) -> Vec<(u16, Option<Answer>)> {
+        let mut doing = JoinSet::new();
+        for slot in slots.iter().copied() {
+            let (desk, command) = (self.clone(), command.clone());
+            doing.spawn(async move { (slot, desk.in_slot(slot, command).await) });
+        }
+        let mut all: Vec<(u16, Option<Answer>)> = Vec::new();
+        while let Some(done) = doing.join_next().await {
+            all.extend(done.ok());
+        }
+        all
+    }
+}
+
+fn all_left(slots: &[u16], why: &str) -> Vec<InSlot> {
+    let left = |slot: &u16| (*slot, Err(Left::because(why)));
+    slots.iter().map(left).collect()
+}
+
+impl From<Answer> for Response<Body> {
+    fn from(answer: Answer) -> Response<Body> {
+        reply(answer.status, super::JSON, answer.body)
+    }
+}

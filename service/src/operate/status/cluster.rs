@@ -1,0 +1,78 @@
+//! What an instance says of itself among others, and of the store: in JSON, and in gauges.
+
+use crate::operate::reach::Others;
+use crate::operate::Desk;
+use serde::{Deserialize, Serialize};
+
+/// The instances of a store, and its databases.
+#[derive(Debug, Default, Serialize, Deserialize)]
+pub struct ClusterStatus {
+    /// Who was asked.
+    pub instance: String,
+    pub instances: Vec<InstanceStatus>,
+    pub databases: Vec<DatabaseStatus>,
+}
+
+#[derive(Debug, Default, PartialEq, Eq, Serialize, Deserialize)]
+pub struct InstanceStatus {
+    pub name: String,
+    /// Where others bring posts.
+    pub address: String,
+    pub version: String,
+    /// Since its last beat, as far as it was seen; none where none was.
+    pub beat_seconds: Option<u64>,
+    /// How many slots it has.
+    pub slots: usize,
+    /// What is to be known of it: it leaves, it has not answered.
+    pub trouble: Option<String>,
+}
+
+#[derive(Debug, Default, PartialEq, Eq, Serialize, Deserialize)]
+pub struct DatabaseStatus {
+    /// Its address.
+    pub database: String,
+    /// On how many servers what is committed is now.
+    pub copies: Option<u64>,
+    pub copies_asked: u64,
+    /// Why that is not known.
+    pub why: Option<String>,
+    /// For how long the write that began first has not been known to be there.
+    pub doubt_seconds: u64,
+}
+
+impl Desk {
+    /// Who this is, of the cluster.
+    pub(super) fn own_cluster_status(&self) -> Option<ClusterStatus> {
+        let others = self.others.as_ref()?;
+        let seen = others.cluster.status();
+        let namesake = "another process beats under its name: give each its own --instance";
+        let trouble = seen.has_namesake.then_some(namesake).or(self.unavailable());
+        let own = InstanceStatus {
+            name: others.instance.clone(),
+            address: others.address.clone(),
+            version: env!("CARGO_PKG_VERSION").into(),
+            beat_seconds: seen.beat_age.map(|age| age.as_secs()),
+            slots: self.units.all().len(),
+            trouble: trouble.map(String::from),
+        };
+        Some(ClusterStatus {
+            instance: others.instance.clone(),
+            instances: vec![own],
+            databases: others.databases.status(&self.units, seen.beat_age),
+        })
+    }
+
+    /// Sets the gauges of the cluster.
+    pub(super) fn read_cluster(&self, others: &Others) {
+        let seen = others.cluster.status();
+        let databases = others.databases.status(&self.units, seen.beat_age);
+        let own = self.units.all().len();
+        others.metrics.set(
+            own,
+            &seen,
+            &databases,
+            others.asks.forwarded(),
+            &others.databases.counts,
+        );
+    }
+}

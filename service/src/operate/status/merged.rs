@@ -1,0 +1,280 @@
+//! What all instances say of themselves, as one status.
+
+use super::{BooksStatus, CumulativeStatus, Desk, InstanceStatus, RoundedStatus, SlotStatus, Status};
+use crate::cluster::status::{OtherInstance, OwnedSlot};
+use crate::cluster::Refusal;
+use crate::metrics::SHOWN_OF_RULE;
+use crate::operate::reach::{Others, Question};
+use crate::shares;
+use std::collections::BTreeMap;
+use std::sync::Arc;
+use std::time::Duration;
+use tokio::task::JoinSet;
+
+/// An instance says how it is within.
+const WITHIN: Duration = Duration::from_secs(3);
+/// How often each beats, in milliseconds.
+const BEAT: u64 = crate::cluster::beats::BEAT.as_millis() as u64;
+
+/// What came of asking another instance.
+type Said = (OtherInstance, Result<Status, String>);
+
+impl Desk {
+    /// With what the other instances say of theirs.
+    pub(in crate::operate) async fn status_of_all(self: &Arc<Self>) -> Status {
+        let mut status = self.status();
+        let Some(others) = &self.others else { return status };
+        let seen = others.cluster.status();
+        let said = self.ask_each(seen.others).await;
+        status.add(said, &seen.slots, &seen.refused);
+        status
+    }
+
+    async fn ask_each(self: &Arc<Self>, others: Vec<OtherInstance>) -> Vec<Said> {
+        let mut asking = JoinSet::new();
+        for other in others {
+            let desk = self.clone();
+            asking.spawn(async move {
+                let said = match &desk.others {
+                    Some(_) if other.is_gone => Err("its beats have stopped".to_string()),
+                    Some(others) => others.status_at(&other.address).await,
+                    None => Err(String::new()),
+                };
+                (other, said)
+            });
+        }
+        let mut all = Vec::new();
+        while let Some(asked) = asking.join_next().await {
+            all.extend(asked.ok());
+        }
+        all.sort_by(|(one, _), (other, _)| one.name.cmp(&other.name));
+        all
+    }
+}
+
+impl Others {
+    async fn status_at(&self, address: &str) -> Result<Status, String> {
+        let said = self.ask(address, &Question::Status, WITHIN).await;
+        said.map_err(|why| format!("it does not answer: {why}"))
+    }
+}
+
+impl Status {
+    /// What others say, and what the store says of slots of which nobody says more.
+    fn add(&mut self, said: Vec<Said>, slots: &[OwnedSlot], refused: &[Refusal]) {
+        let mut silent = BTreeMap::new();
+        for (other, said) in said {
+            let mut shown = shown(&other, slots);
+            match said {
+                Ok(status) => self.add_one(status, &mut shown),
+                Err(why) => {
+                    silent.insert(other.name, why.clone());
+                    shown.trouble.get_or_insert(why);
+                }
+            }
+            let instances = self.cluster.iter_mut().map(|cluster| &mut cluster.instances);
+            instances.for_each(|instances| instances.push(std::mem::take(&mut shown)));
+        }
+        self.add_unknown(slots, &silent, refused);
+    }
+
+    fn add_one(&mut self, other: Status, shown: &mut InstanceStatus) {
+        let Status {
+            dead,
+            books,
+            slots,
+            senders,
+            rounded,
+            cumulative,
+            cluster,
+            ..
+        } = other;
+        if let Some(own) = cluster.and_then(|cluster| cluster.instances.into_iter().next()) {
+            shown.slots = own.slots;
+            shown.trouble = own.trouble.or(shown.trouble.take());
+        }
+        self.dead += dead;
+        self.books.add(&books);
+        self.slots.extend(slots);
+        self.senders.extend(senders);
+        self.senders
+            .sort_by(|one, other| other.part().total_cmp(&one.part()));
+        self.senders.truncate(shares::SHOWN);
+        for one in rounded {
+            self.add_rounded(one);
+        }
+        self.cumulative.add(&cumulative);
+    }
+
+    fn add_rounded(&mut self, other: RoundedStatus) {
+        let Some(same) = self.rounded.iter_mut().find(|one| one.rule == other.rule) else {
+            return self.rounded.push(other);
+        };
+        same.values += other.values;
+        same.together += other.together;
+        same.series += other.series;
+        same.greatest.extend(other.greatest);
+        same.greatest
+            .sort_by(|one, other| other.together.total_cmp(&one.together));
+        same.greatest.truncate(SHOWN_OF_RULE);
+    }
+
+    /// In the order of the slots. Of two that say they have one the later term counts.
+    fn add_unknown(&mut self, slots: &[OwnedSlot], silent: &BTreeMap<String, String>, refused: &[Refusal]) {
+        self.slots
+            .sort_by_key(|slot| (slot.slot, std::cmp::Reverse(slot.term)));
+        self.slots.dedup_by_key(|slot| slot.slot);
+        for of in slots {
+            let Err(place) = self.slots.binary_search_by_key(&of.slot, |slot| slot.slot) else {
+                continue;
+            };
+            let refusal = refused.iter().find(|refusal| refusal.slot == of.slot);
+            let why = match (silent.get(&of.owner), refusal) {
+                (Some(why), _) => format!("instance {}: {why}", of.owner),
+                (None, Some(one)) => format!("instance {} can't open it: {}", one.instance, one.reason),
+                (None, None) if of.owner.is_empty() => "no instance has it".to_string(),
+                (None, None) => "it is being moved".to_string(),
+            };
+            self.slots
+                .insert(place, SlotStatus::unknown(of.slot, &of.owner, of.term, why));
+        }
+    }
+}
+
+fn shown(other: &OtherInstance, slots: &[OwnedSlot]) -> InstanceStatus {
+    InstanceStatus {
+        name: other.name.clone(),
+        address: other.address.clone(),
+        version: other.version.clone(),
+        beat_seconds: Some(u64::from(other.still) * BEAT / 1000),
+        slots: slots.iter().filter(|slot| slot.owner == other.name).count(),
+        trouble: other
+            .leaves
+            .then(|| "it is ending, and hands over its slots".to_string()),
+    }
+}
+
+impl BooksStatus {
+    /// There may be as many series in each slot.
+    fn add(&mut self, other: &BooksStatus) {
+        self.count += other.count;
+        self.memory_bytes += other.memory_bytes;
+        self.most_memory_bytes += other.most_memory_bytes;
+    }
+}
+
+impl CumulativeStatus {
+    fn add(&mut self, other: &CumulativeStatus) {
+        self.series += other.series;
+        self.noted += other.noted;
+    }
+}
+
+#[cfg(test)]
+mod tests {
+    use super::*;
+    use crate::operate::{ClusterStatus, Stock};
+
+    fn slot(number: u16, owner: &str, term: u64, waiting: u64) -> SlotStatus {
+        SlotStatus {
+            slot: number,
+            owner: Some(owner.into()),
+            term: Some(term),
+            waiting,
+            journal: Stock {
+                bytes: 1,
+                age_seconds: None,
+            },
+            ..SlotStatus::default()
+        }
+    }
+
+    fn status(name: &str, slots: Vec<SlotStatus>) -> Status {
+        let own = InstanceStatus {
+            name: name.into(),
+            slots: slots.len(),
+            ..InstanceStatus::default()
+        };
+        Status {
+            dead: 1,
+            slots,
+            cluster: Some(ClusterStatus {
+                instance: name.into(),
+                instances: vec![own],
+                databases: Vec::new(),
+            }),
+            ..Status::default()
+        }
+    }
+
+    fn other(name: &str, still: u32) -> OtherInstance {
+        OtherInstance {
+            name: name.into(),
+            address: format!("{name}:1"),
+            version: "1".into(),
+            still,
+            is_gone: still > 5,
+            leaves: false,
+        }
+    }
+
+    #[test]
+    fn what_all_say_is_one_status_and_slots_of_which_nobody_says_more_are_in_it() {
+        let mut all = status("a", vec![slot(4, "a", 3, 5), slot(1, "a", 2, 1)]);
+        let owned = |number, owner: &str, term| OwnedSlot {
+            slot: number,
+            term,
+            owner: owner.into(),
+            is_served: true,
+        };
+        let rows = [
+            owned(0, "b", 7),
+            owned(1, "b", 3),
+            owned(2, "c", 1),
+            owned(3, "", 9),
+            owned(4, "a", 3),
+            owned(5, "b", 1),
+            owned(6, "", 8),
+        ];
+        // Slot 1 has just come to b; slot 5 is on its way there.
+        let b = status("b", vec![slot(0, "b", 7, 2), slot(1, "b", 3, 1)]);
+        let c = Err("its beats have stopped".to_string());
+        let refusal = Refusal {
+            slot: 6,
+            instance: "a".into(),
+            reason: "1.seg was changed".into(),
+        };
+        all.add(
+            vec![(other("b", 0), Ok(b)), (other("c", 9), c)],
+            &rows,
+            &[refusal],
+        );
+        let seen: Vec<_> = all
+            .slots
+            .iter()
+            .map(|slot| (slot.slot, slot.term.unwrap()))
+            .collect();
+        assert_eq!(seen, [(0, 7), (1, 3), (2, 1), (3, 9), (4, 3), (5, 1), (6, 8)]);
+        assert_eq!((all.waiting(), all.dead), (2 + 1 + 5, 2));
+        let unknown: Vec<_> = all.slots.iter().map(|slot| slot.unknown.as_deref()).collect();
+        let wanted = [
+            None,
+            None,
+            Some("instance c: its beats have stopped"),
+            Some("no instance has it"),
+            None,
+            Some("it is being moved"),
+            Some("instance a can't open it: 1.seg was changed"),
+        ];
+        assert_eq!(unknown, wanted);
+        assert_eq!(all.unknown(), Some((2, "instance c: its beats have stopped")));
+        let instances = &all.cluster.unwrap().instances;
+        let shown: Vec<_> = instances
+            .iter()
+            .map(|one| (&*one.name, one.slots, one.trouble.as_deref()))
+            .collect();
+        let gone = Some("its beats have stopped");
+        assert_eq!(shown, [("a", 2, None), ("b", 2, None), ("c", 1, gone)]);
+        assert_eq!(instances[2].beat_seconds, Some(4));
+    }
+}

@@ -1,0 +1,101 @@
+//! Where other instances bring posts.
+
+use super::senders::{bind, is_local};
+use super::{Ended, OfStore};
+use crate::cluster::Wire;
+use crate::metrics::Metrics;
+use crate::tls::Tls;
+use anyhow::anyhow;
+use std::sync::Arc;
+use tokio::net::TcpListener;
+
+pub(super) struct Peers {
+    pub listener: TcpListener,
+    /// None where they speak without.
+    pub tls: Option<Arc<Tls>>,
+}
+
+impl Peers {
+    /// Listens at an address that other machines do not reach, or at which no stranger can read along or post.
+    pub async fn bind(of: &OfStore, metrics: &Arc<Metrics>) -> Result<Peers, Ended> {
+        let listener = bind("--peer", &of.peer).await?;
+        if !is_local(&listener) && of.peer_tls.is_none() && !of.peer_plain {
+            return Err(Ended::Open(anyhow!(
+                "--peer {} is open to other machines, where anybody could read the instances' secret along, and then post under \
+                 any name: give --peer-ca and a certificate; or --peer-plain, if nobody but the instances reaches their network",
+                of.peer
+            )));
+        }
+        let tls = of.peer_tls.as_ref();
+        let tls = tls.map(|files| Tls::of_peers(files, host(&of.peer), metrics.clone()));
+        Ok(Peers {
+            listener,
+            tls: tls.transpose()?.map(Arc::new),
+        })
+    }
+
+    /// What this instance speaks with the others, as they do with it.
+    pub fn wire(&self) -> Wire {
+        self.tls.clone().map_or(Wire::Plain, Wire::Tls)
+    }
+}
+
+fn host(address: &str) -> &str {
+    address.rsplit_once(':').map_or(address, |(host, _)| host)
+}
+
+#[cfg(test)]
+mod tests {
+    use super::*;
+    use crate::store::postgres::{address, Copies};
+    use crate::tls::Files;
+    use crate::tls::{peer_tests, tests};
+
+    fn at(peer: &str, peer_plain: bool, peer_tls: Option<Files>) -> OfStore {
+        OfStore {
+            databases: vec![address("postgres://u@h/d").unwrap()],
+            copies: Copies::Two,
+            instance: "a".into(),
+            peer: peer.into(),
+            peer_tls,
+            peer_plain,
+            reading: String::new(),
+        }
+    }
+
+    #[tokio::test(flavor = "multi_thread", worker_threads = 2)]
+    async fn beyond_loopback_there_is_tls_or_nobody_else() {
+        let metrics = Arc::new(Metrics::new().unwrap());
+        let bound = |of: OfStore| {
+            let metrics = metrics.clone();
+            async move { Peers::bind(&of, &metrics).await }
+        };
+        assert!(bound(at("127.0.0.1:0", false, None)).await.is_ok());
+        assert!(bound(at("0.0.0.0:0", true, None)).await.is_ok());
+        let Err(Ended::Open(why)) = bound(at("0.0.0.0:0", false, None)).await else {
+            panic!("it is not refused");
+        };
+        let text = why.to_string();
+        assert!(
+            text.contains("--peer-ca") && text.contains("--peer-plain"),
+            "{text}"
+        );
+        let folder = tests::folder();
+        tests::server(folder.path());
+        let files = Files {
+            named: peer_tests::NAMED,
+            certificate: folder.path().join("server.pem"),
+            key: folder.path().join("server.key"),
+            client_ca: Some(folder.path().join("ca.pem")),
+        };
+        let peers = bound(at("localhost:0", false, Some(files.clone())))
+            .await
+            .unwrap();
+        assert!(matches!(peers.wire(), Wire::Tls(_)));
+        assert!(
+            bound(at("127.0.0.1:0", false, Some(files))).await.is_err(),
+            "no name"
+        );
+        tokio::task::block_in_place(|| drop(peers));
+    }
+}

@@ -1,0 +1,398 @@
+//! Instances that share slots: what an operator asks at one of them is done in all slots, or it is said in which it is not.
+
+use super::*;
+use crate::cluster::terms::{Doing, Instance, Refused, Row, Seen};
+use crate::cluster::{Answers, Asks, Cluster, Forwarded as Brought, Whose};
+use crate::metrics::OfCluster;
+use crate::operate::Databases;
+use crate::store::postgres::Copies;
+use serde_json::Value as Json;
+use std::collections::HashMap;
+
+/// How one that is asked behaves.
+#[derive(Clone, Copy, PartialEq, Eq)]
+enum Mood {
+    Well,
+    /// It says that it is not there.
+    Refuses,
+    /// It never answers.
+    StandsStill,
+}
+
+/// Who is at which address.
+#[derive(Default)]
+struct Net(Mutex<HashMap<String, (Arc<Desk>, Mood)>>);
+
+impl Net {
+    fn mood(&self, name: &str, mood: Mood) {
+        self.0.lock().unwrap().get_mut(name).unwrap().1 = mood;
+    }
+}
+
+struct Through(Arc<Net>);
+
+impl Asks for Through {
+    fn put_question<'a>(
+        &'a self,
+        address: &'a str,
+        question: Vec<u8>,
+        within: Duration,
+    ) -> Doing<'a, Result<Bytes, String>> {
+        let found = self.0 .0.lock().unwrap().get(address).cloned();
+        Box::pin(async move {
+            let (desk, mood) = found.ok_or("no such address")?;
+            match mood {
+                Mood::Well => Ok(desk
+                    .answer_question(question.into())
+                    .await
+                    .ok_or("it can't be read")?
+                    .into()),
+                Mood::Refuses => Err("connection refused".into()),
+                Mood::StandsStill => {
+                    tokio::time::sleep(within).await;
+                    Err("it has not answered in time".into())
+                }
+            }
+        })
+    }
+
+    fn forwarded(&self) -> Brought {
+        Brought::default()
+    }
+}
+
+/// Instances a and b: a has slots 0 and 2, b has slot 1.
+struct Both {
+    _places: [tempfile::TempDir; 2],
+    net: Arc<Net>,
+    a: Service,
+    b: Service,
+    clusters: [Arc<Cluster>; 2],
+}
+
+fn there(name: &str) -> Whose {
+    Whose::There {
+        name: name.into(),
+        address: name.into(),
+        term: 1,
+    }
+}
+
+fn instance(name: &str, place: &Path, net: &Arc<Net>) -> (Service, Arc<Cluster>) {
+    let cluster = Cluster::new(name);
+    let others = Others {
+        cluster: cluster.clone(),
+        asks: Arc::new(Through(net.clone())),
+        databases: Databases::of(vec!["db/x".into()], Copies::Two, Arc::default()),
+        metrics: OfCluster::new(&Metrics::new().unwrap().registry).unwrap(),
+        instance: name.into(),
+        address: name.into(),
+    };
+    let service = Service::of(settings(place), Some(others));
+    let at = (service.desk.clone(), Mood::Well);
+    net.0.lock().unwrap().insert(name.into(), at);
+    (service, cluster)
+}
+
+/// What a beat reads of both.
+fn seen() -> Seen {
+    let instance = |name: &str| Instance {
+        name: name.into(),
+        address: name.into(),
+        version: "1".into(),
+        beat: 1,
+        refused: Refused::new(),
+    };
+    let row = |(slot, owner): (u16, &str)| Row {
+        slot,
+        term: 1,
+        owner: owner.into(),
+    };
+    Seen {
+        instances: vec![instance("a"), instance("b")],
+        slots: [(0, "a"), (1, "b"), (2, "a")].map(row).into(),
+    }
+}
+
+impl Both {
+    async fn new() -> Both {
+        let places = [tempfile::tempdir().unwrap(), tempfile::tempdir().unwrap()];
+        let net = Arc::<Net>::default();
+        let (a, of_a) = instance("a", places[0].path(), &net);
+        let (b, of_b) = instance("b", places[1].path(), &net);
+        let here = Whose::Here { term: 1 };
+        of_a.knows(&[(0, here.clone()), (1, there("b")), (2, here.clone())]);
+        of_b.knows(&[(0, there("a")), (1, here), (2, there("a"))]);
+        for cluster in [&of_a, &of_b] {
+            cluster.has_seen(seen());
+        }
+        a.open(0).await;
+        a.open(2).await;
+        b.open(1).await;
+        Both {
+            _places: places,
+            net,
+            a,
+            b,
+            clusters: [of_a, of_b],
+        }
+    }
+
+    /// A point of each slot, at the instance that has it.
+    async fn post(&self, end: u64) -> [u16; 2] {
+        [
+            self.a.post(&[0, 2], end).await.status(),
+            self.b.post(&[1], end).await.status(),
+        ]
+    }
+}
+
+async fn json(service: &Service, method: &str, path: &str) -> (u16, Json) {
+    let (status, text) = service.ask(method, path).await;
+    (status, serde_json::from_str(&text).expect(&text))
+}
+
+fn acts(service: &Service) -> Vec<(String, String, Option<String>)> {
+    let text = std::fs::read_to_string(service.place.join("acts.jsonl")).unwrap_or_default();
+    let lines = text
+        .lines()
+        .map(|line| serde_json::from_str::<Json>(line).unwrap());
+    let word = |line: &Json, name: &str| line[name].as_str().map(String::from);
+    lines
+        .map(|line| {
+            let (who, act) = (word(&line, "who").unwrap(), word(&line, "act").unwrap());
+            (who, act, word(&line, "outcome"))
+        })
+        .collect()
+}
+
+#[tokio::test]
+async fn an_order_is_carried_out_in_all_slots_and_each_instance_writes_down_who_gave_it() {
+    let both = Both::new().await;
+    assert_eq!(both.post(10).await, [200, 200]);
+    let flushed = both.b.ask("POST", "/flush").await;
+    assert_eq!(flushed, (200, r#"{"requests":3}"#.to_string()));
+    assert_eq!(both.a.ask("POST", "/quarantine/A").await.0, 200);
+    assert_eq!(both.post(20).await, [403, 403]);
+    let again = both.b.ask("POST", "/quarantine/A").await;
+    assert_eq!(again.0, 400, "all had it: {}", again.1);
+    assert_eq!(both.b.ask("POST", "/lift/A").await.0, 200);
+    assert_eq!(both.post(20).await, [200, 200]);
+    let at_a = acts(&both.a);
+    assert_eq!(at_a[0], ("operator".into(), "quarantine".into(), None));
+    assert_eq!(at_a[1].2.as_deref(), Some("done"));
+    let at_b = acts(&both.b);
+    assert_eq!(at_b[0], ("operator (at a)".into(), "quarantine".into(), None));
+    assert_eq!(at_b[1].2.as_deref(), Some("done in slot 1"));
+    assert!(
+        at_a.iter()
+            .any(|(who, act, _)| who == "operator (at b)" && act == "lift"),
+        "{at_a:?}"
+    );
+}
+
+/// Else a sender would be taken by one slot that another refuses, and nobody would know.
+#[tokio::test]
+async fn where_an_instance_is_silent_it_is_said_by_slot_what_was_done_and_asked_again_it_is_whole() {
+    let both = Both::new().await;
+    both.net.mood("b", Mood::Refuses);
+    let (status, text) = both.a.ask("POST", "/quarantine/A").await;
+    assert_eq!(status, 503);
+    for part in [
+        "2 of 3 slots did it, and not slot 1: instance b at b does not answer: connection refused",
+        "totxegun status",
+        "give the order again",
+    ] {
+        assert!(text.contains(part), "{part} in {text}");
+    }
+    assert_eq!(both.post(10).await, [403, 200]);
+    let (status, text) = both.a.ask("GET", "/report").await;
+    assert!(status == 503 && text.contains("ask again"), "{status} {text}");
+    both.net.mood("b", Mood::Well);
+    assert_eq!(both.a.ask("POST", "/quarantine/A").await.0, 200);
+    assert_eq!(both.post(20).await, [403, 403]);
+    let (status, report) = both.a.ask("GET", "/report").await;
+    let series = report.lines().filter(|line| line.starts_with("series")).count();
+    assert_eq!((status, series), (200, 1), "{report}");
+}
+
+#[tokio::test]
+async fn a_slot_that_moves_is_found_where_it_has_come_to() {
+    let both = Both::new().await;
+    assert_eq!(both.post(10).await, [200, 200]);
+    // It comes here while its former instance stands still, and with it whoever has asked there.
+    both.net.mood("b", Mood::StandsStill);
+    let desk = both.a.desk.clone();
+    let flushing = tokio::spawn(async move {
+        let request = Request::post("/flush").body(Body::empty()).unwrap();
+        crate::intake::connections::Handler::answer(desk, request)
+            .await
+            .status()
+            .as_u16()
+    });
+    tokio::time::sleep(Duration::from_millis(100)).await;
+    assert!(!flushing.is_finished());
+    both.a.open(1).await;
+    let here = Whose::Here { term: 2 };
+    both.clusters[0].knows(&[(0, here.clone()), (1, here.clone()), (2, here)]);
+    let ended = tokio::time::timeout(Duration::from_secs(20), flushing).await;
+    assert_eq!(ended.unwrap().unwrap(), 200);
+    // One that nobody has is looked for, and named.
+    both.a.units.hand_over(1).await.unwrap();
+    both.clusters[0].knows(&[(0, there("b")), (1, Whose::Nobody), (2, there("b"))]);
+    let (status, text) = both.a.ask("POST", "/flush").await;
+    assert!(
+        status == 503 && text.contains("not slot 1: no instance has it"),
+        "{status} {text}"
+    );
+    // Who is asked for what it has not says so.
+    both.clusters[0].knows(&[(1, there("b"))]);
+    both.net.mood("b", Mood::Well);
+    both.b.units.hand_over(1).await.unwrap();
+    let (status, text) = both.a.ask("POST", "/flush").await;
+    assert!(
+        status == 503 && text.contains("not slot 1: it is being moved"),
+        "{status} {text}"
+    );
+}
+
+#[tokio::test]
+async fn dead_requests_are_shown_and_settled_from_anywhere() {
+    let both = Both::new().await;
+    let dead = |service: &Service, slot: u16| service.desk.units.get(slot).unwrap().dead.clone();
+    dead(&both.b, 1).keep("1-abc-7", "no", b"{\"of\":1}").unwrap();
+    dead(&both.a, 2).keep("2-abc-8", "no", b"{\"of\":2}").unwrap();
+    for service in [&both.a, &both.b] {
+        let (status, letters) = json(service, "GET", "/dead").await;
+        let keys = letters.as_array().unwrap().iter();
+        let keys: Vec<_> = keys
+            .map(|letter| letter["key"].as_str().unwrap().to_string())
+            .collect();
+        assert_eq!((status, keys.len()), (200, 2), "{keys:?}");
+        assert_eq!(
+            service.ask("GET", "/dead/1-abc-7").await,
+            (200, "{\"of\":1}".into())
+        );
+        assert_eq!(json(service, "GET", "/status").await.1["dead"], 2);
+    }
+    for path in ["/dead/0-abc-7", "/dead/9-abc-7", "/dead/x", "/dead/1-abc-8"] {
+        assert_eq!(both.a.ask("GET", path).await.0, 404, "{path}");
+    }
+    let (status, resent) = json(&both.a, "POST", "/dead/1-abc-7/resend").await;
+    assert_eq!((status, &resent["taken"]), (200, &Json::Bool(true)), "{resent}");
+    assert_eq!(dead(&both.b, 1).count(), 0);
+    assert_eq!(
+        both.b.sink.came.lock().unwrap()[0].key(),
+        "1-abc-7",
+        "by the instance that has its slot"
+    );
+    assert_eq!(both.b.ask("POST", "/dead/2-abc-8/drop").await.0, 200);
+    assert_eq!(dead(&both.a, 2).count(), 0);
+    assert_eq!(acts(&both.b)[0].0, "operator (at a)");
+    both.net.mood("b", Mood::Refuses);
+    let (status, text) = both.a.ask("GET", "/dead/1-abc-7").await;
+    assert!(
+        status == 503 && text.contains("slot 1: instance b"),
+        "{status} {text}"
+    );
+}
+
+#[tokio::test]
+async fn the_status_is_of_all_and_a_period_is_closed_once_all_is_known_to_be_in_the_sink() {
+    let both = Both::new().await;
+    assert_eq!(both.post(10).await, [200, 200]);
+    let why = |text: &Json| text["message"].as_str().unwrap().to_string();
+    let (status, text) = json(&both.a, "POST", "/close/2026-10").await;
+    assert!(status == 409 && why(&text).contains("not flushed"), "{text}");
+    assert_eq!(both.a.ask("POST", "/flush").await.0, 200);
+    both.a.taken().await;
+    both.b.taken().await;
+    assert_eq!(both.b.post(&[1], 20).await.status(), 200);
+    let (status, text) = json(&both.a, "POST", "/close/2026-10").await;
+    assert!(
+        status == 409 && why(&text).contains("not flushed"),
+        "of another instance's slot: {text}"
+    );
+    let (_, seen) = json(&both.a, "GET", "/status").await;
+    let of = |name: &str| -> Vec<Json> {
+        let slots = seen["slots"].as_array().unwrap().iter();
+        slots.map(|slot| slot[name].clone()).collect()
+    };
+    assert_eq!(of("slot"), [0, 1, 2].map(Json::from));
+    assert_eq!(of("owner"), ["a", "b", "a"].map(Json::from));
+    let instances = seen["cluster"]["instances"].as_array().unwrap();
+    let shown: Vec<_> = instances
+        .iter()
+        .map(|one| (one["name"].as_str().unwrap(), one["slots"].as_u64().unwrap()))
+        .collect();
+    assert_eq!(shown, [("a", 2), ("b", 1)]);
+    assert_eq!(seen["cluster"]["instance"], "a");
+    let database = &seen["cluster"]["databases"][0];
+    assert_eq!(
+        (&database["database"], &database["copies_asked"]),
+        (&"db/x".into(), &2.into())
+    );
+    let (_, page) = both.a.ask("GET", "/").await;
+    assert!(
+        page.contains("<h2>Instances</h2>") && page.contains("takes posts"),
+        "{page}"
+    );
+    let (_, metrics) = both.a.ask("GET", "/metrics").await;
+    assert!(metrics.contains("totxegun_ready 1"), "{metrics}");
+    both.net.mood("b", Mood::Refuses);
+    let (status, text) = json(&both.a, "POST", "/close/2026-10").await;
+    let wanted =
+        "slot 1 can't be asked, and may have some (instance b: it does not answer: connection refused)";
+    assert!(status == 409 && why(&text).contains(wanted), "{text}");
+    let (_, seen) = json(&both.a, "GET", "/status").await;
+    assert_eq!(
+        seen["slots"][1]["unknown"],
+        "instance b: it does not answer: connection refused"
+    );
+}
+
+#[tokio::test]
+async fn series_are_found_in_all_slots_and_forgotten_where_they_are() {
+    let both = Both::new().await;
+    assert_eq!(both.post(10).await, [200, 200]);
+    let (status, why) = both.b.ask("POST", "/forget?series=m").await;
+    assert!(status == 409 && why.contains("give --anyway"), "{why}");
+    let (status, why) = both.b.ask("POST", "/forget?series=m&anyway").await;
+    assert!(
+        status == 409 && why.contains("3 series are named so"),
+        "{status} {why}"
+    );
+    let (status, why) = both.b.ask("POST", "/forget?series=x&anyway").await;
+    assert!(
+        status == 409 && why.contains("no series is named x"),
+        "{status} {why}"
+    );
+    let process: Json = serde_json::from_str(&attributes(2)).unwrap();
+    let process = process[0]["value"]["stringValue"].as_str().unwrap();
+    let one = format!("/forget?series=m%7Bservice.instance.id%3D{process}%7D&anyway");
+    let (status, told) = json(&both.b, "POST", &one).await;
+    assert!(
+        status == 200
+            && told["message"]
+                .as_str()
+                .unwrap()
+                .starts_with("1 series is forgotten"),
+        "{told}"
+    );
+    assert_eq!(both.a.post(&[2], 10).await.status(), 200, "as a new one");
+    assert_eq!(both.a.post(&[0], 10).await.status(), 400, "it is known");
+    assert_eq!(acts(&both.a)[0].0, "operator (at b)");
+    let (status, told) = json(&both.a, "POST", "/forget?series=m&all&anyway").await;
+    assert!(
+        status == 200
+            && told["message"]
+                .as_str()
+                .unwrap()
+                .starts_with("3 series are forgotten"),
+        "{told}"
+    );
+    assert_eq!(both.post(10).await, [200, 200]);
+    both.net.mood("b", Mood::Refuses);
+    let (status, why) = both.a.ask("POST", "/forget?series=m&all&anyway").await;
+    assert!(status == 503 && why.contains("not slot 1"), "{status} {why}");
+}

@@ -1,0 +1,139 @@
+//! A store that can't be reached when the service starts: it is waited for, as it is while the service runs. Meanwhile posts
+//! are 503, and operators are told why.
+
+use super::operators::Operators;
+use super::parts::limits;
+use super::senders::Senders;
+use super::{Ended, OfStore, Settings};
+use crate::cluster::NO_STORE;
+use crate::intake::connections::Handler;
+use crate::intake::{Budget, Intake, Threads};
+use crate::log::Seldom;
+use crate::otlp::{Original, Outcome, Resources};
+use crate::slot::{Elsewhere, Slot, Slots};
+use crate::store::postgres::PostgresStore;
+use crate::work::blocking;
+use anyhow::Context;
+use hyper::header::{HeaderValue, CONTENT_TYPE};
+use hyper::{Body, Request, Response, StatusCode};
+use std::future::Future;
+use std::pin::{pin, Pin};
+use std::sync::Arc;
+use std::time::Duration;
+use tokio::sync::watch;
+use tokio::task::JoinHandle;
+use tokio::time::{sleep, timeout};
+
+/// A store that answers within is not waited for.
+const SOON: Duration = Duration::from_secs(1);
+/// Between two tries.
+const PAUSE: Duration = Duration::from_secs(1);
+
+static TOLD: Seldom = Seldom::every(Duration::from_secs(10));
+
+/// Tries until it answers, or says what waiting does not mend.
+async fn tried(of: &OfStore) -> Result<PostgresStore, Ended> {
+    loop {
+        let (databases, copies) = (of.databases.clone(), of.copies);
+        match blocking(move || PostgresStore::join(&databases, copies)).await {
+            Err(fault) if fault.may_pass() => {
+                if TOLD.is_due() {
+                    let reason = fault.to_string();
+                    tracing::warn!(reason, "the store can't be used yet, and is waited for: {reason}");
+                }
+            }
+            opened => return Ok(opened.context("the store can't be used")?),
+        }
+        sleep(PAUSE).await;
+    }
+}
+
+/// The store; none where the service was told to end before it answered.
+pub(super) async fn store(
+    settings: &Settings,
+    of: &OfStore,
+    (senders, operators): (Senders, Operators),
+    ending: impl Future<Output = ()>,
+) -> Result<Option<PostgresStore>, Ended> {
+    let mut trying = pin!(tried(of));
+    if let Ok(opened) = timeout(SOON, trying.as_mut()).await {
+        return opened.map(Some);
+    }
+    let waiting = Waiting::begin(settings, senders, operators)?;
+    let opened = tokio::select! {
+        opened = trying => opened.map(Some),
+        () = ending => Ok(None),
+    };
+    waiting.end().await;
+    opened
+}
+
+/// What serves the addresses before there is a store.
+struct Waiting {
+    stop: watch::Sender<bool>,
+    serving: [JoinHandle<()>; 2],
+}
+
+impl Waiting {
+    fn begin(settings: &Settings, senders: Senders, operators: Operators) -> Result<Waiting, Ended> {
+        let (stop, stopped) = watch::channel(false);
+        let reading = Arc::new(settings.reading.clone());
+        let slots = Slots::<Slot>::several(Resources::new(1, reading.clone()), Some(Arc::new(NoStore)));
+        let budget = Budget::new(settings.most_bytes);
+        let intake = Intake::of(slots, Arc::new(()), reading, budget, settings.metrics.clone());
+        let threads = Arc::new(Threads::new(1).context("no threads could be started")?);
+        let limits = limits(settings);
+        let posts = senders.serve(limits.clone(), Arc::new(intake), threads, stopped.clone());
+        let asked = operators.serve_all(limits, Arc::new(NoStore), stopped);
+        Ok(Waiting {
+            stop,
+            serving: [tokio::spawn(posts), tokio::spawn(asked)],
+        })
+    }
+
+    async fn end(self) {
+        self.stop.send_replace(true);
+        for serving in self.serving {
+            let _ = timeout(SOON, serving).await; // who is slower was answered, or comes again
+        }
+    }
+}
+
+struct NoStore;
+
+impl Elsewhere for NoStore {
+    fn unavailable(&self) -> Option<&'static str> {
+        Some(NO_STORE)
+    }
+
+    fn post<'a>(
+        &'a self,
+        _: u16,
+        _: &'a str,
+        _: Original,
+    ) -> Pin<Box<dyn Future<Output = Outcome> + Send + 'a>> {
+        Box::pin(async {
+            Outcome::Refused {
+                status: 503,
+                message: NO_STORE.into(),
+            }
+        })
+    }
+}
+
+impl Handler for NoStore {
+    async fn answer(self: Arc<Self>, request: Request<Body>) -> Response<Body> {
+        match request.uri().path() {
+            "/health" => said(200, "text/plain; charset=utf-8", "ok\n".into()),
+            _ => said(503, "application/json", format!("{{\"message\":\"{NO_STORE}\"}}")),
+        }
+    }
+}
+
+fn said(status: u16, kind: &'static str, text: String) -> Response<Body> {
+    let mut response = Response::new(Body::from(text));
+    *response.status_mut() = StatusCode::from_u16(status).unwrap_or(StatusCode::INTERNAL_SERVER_ERROR);
+    let heads = response.headers_mut();
+    heads.insert(CONTENT_TYPE, HeaderValue::from_static(kind));
+    response
+}

@@ -1,0 +1,359 @@
+//! Moves what a folder has into a store, and what a store has into a folder.
+//!
+//! At any moment one of both counts, and the row of the store's first database says which (`State`). The folder has a mark
+//! from before that row speaks of it, until it counts again: while it is there no service starts on the folder. So a kill
+//! leaves one that counts, and the same command again goes on. What was brought to the other side by then never counted:
+//! it is deleted, and brought anew.
+//!
+//! Series, with owners, ends and runs, go to the slots of their resources, and so do the posts that are in no group, each in
+//! parts where its resources have several slots. Requests that wait keep their bytes, and so their keys: those of slot N
+//! stay in a slot N, whose requests go on from their numbers.
+
+mod content;
+mod ended;
+mod posts;
+mod target;
+
+use super::postgres::{Copies, PostgresStore, Server, Standing, State, StoreFault};
+use crate::files::{Durability, Fault, Folder, FolderFault, KnownSink, Mark, Way};
+use content::{Content, From};
+pub use ended::{folder_counts, give_up};
+use posts::Posts;
+use std::fs::File;
+use std::io::Read;
+use std::path::{Path, PathBuf};
+use target::To;
+
+/// Slots of a store that are filled side by side: each has a connection.
+const SIDE_BY_SIDE: usize = 16;
+
+#[derive(Debug, thiserror::Error)]
+pub enum MoveFault {
+    #[error("{0}")]
+    Store(#[from] StoreFault),
+    #[error("{0}")]
+    Folder(#[from] FolderFault),
+    #[error("{0}")]
+    Fault(#[from] Fault),
+    #[error("{0}")]
+    Refused(String),
+}
+
+fn refused<T>(why: impl Into<String>) -> Result<T, MoveFault> {
+    Err(MoveFault::Refused(why.into()))
+}
+
+/// What was moved.
+#[derive(Clone, Copy, Debug, Default, PartialEq, Eq)]
+pub struct Moved {
+    pub series: usize,
+    pub requests: u64,
+    pub posts: u64,
+    pub letters: u64,
+}
+
+/// A store, and where it is.
+struct Place {
+    store: PostgresStore,
+    address: String,
+}
+
+impl Place {
+    fn open(servers: &[Server], copies: Copies) -> Result<Place, MoveFault> {
+        let addresses: Vec<String> = servers
+            .iter()
+            .map(|server| format!("postgres://{server}"))
+            .collect();
+        Ok(Place {
+            store: PostgresStore::look_into(servers, copies)?,
+            address: addresses.join(" "),
+        })
+    }
+
+    fn mark(&self, way: Way, id: &str) -> Mark {
+        Mark {
+            way,
+            id: id.into(),
+            store: self.address.clone(),
+        }
+    }
+
+    fn check_idle(&self) -> Result<(), MoveFault> {
+        match &self.store.running()?[..] {
+            [] => Ok(()),
+            running => refused(format!(
+                "the store is in use by {}: end all instances, and call this again",
+                running.join(" and ")
+            )),
+        }
+    }
+
+    /// From a state to another, in each database, the first ahead of the others. Others are refused by what they say.
+    fn go(&self, seen: &Standing, to: Standing) -> Result<Standing, MoveFault> {
+        let now = self.store.change(seen, &to)?;
+        if now != to {
+            return Err(StoreFault::Meanwhile.into());
+        }
+        self.store.follow(&now)?;
+        Ok(now)
+    }
+}
+
+impl Place {
+    /// From here on the other one counts: all of it is there, and nobody had a slot meanwhile.
+    fn decide(&self, seen: &Standing, state: State) -> Result<(), MoveFault> {
+        if !self.store.all_say(seen)? {
+            return Err(StoreFault::Meanwhile.into());
+        }
+        let to = Standing {
+            state,
+            ..seen.clone()
+        };
+        self.go(seen, to).map(drop)
+    }
+}
+
+impl Place {
+    /// A name of a move that no other has: that of the store, and a number.
+    fn draw(&self) -> Result<String, MoveFault> {
+        let mut drawn = [0; 8];
+        let read = File::open("/dev/urandom").and_then(|mut file| file.read_exact(&mut drawn));
+        read.map_err(StoreFault::System)?;
+        Ok(format!(
+            "{}{:016x}",
+            self.store.cluster.id,
+            u64::from_le_bytes(drawn)
+        ))
+    }
+
+    /// Another store knows nothing of the move, and what it has come to.
+    fn check_is_its(&self, folder: &Path, mark: &Mark) -> Result<(), MoveFault> {
+        match mark.id.starts_with(&self.store.cluster.id) {
+            true => Ok(()),
+            false => refused(format!(
+                "{} {}: {} is another store",
+                folder.display(),
+                mark.refusal(folder),
+                self.address
+            )),
+        }
+    }
+}
+
+fn absolute(folder: &Path) -> Result<PathBuf, MoveFault> {
+    let found = std::path::absolute(folder).map_err(StoreFault::System)?;
+    match found.to_str() {
+        Some(text) if !text.contains(char::is_control) => Ok(found),
+        _ => refused("the folder's path is no text on one line: give it another"),
+    }
+}
+
+// --------------------------------------------------------------------------------------------------------------------
+// Into a store
+
+/// Brings what a folder has into a store that has nothing yet. None where that was done before.
+pub fn from_folder(folder: &Path, servers: &[Server], copies: Copies) -> Result<Option<Moved>, MoveFault> {
+    let path = absolute(folder)?;
+    if !path.join("version").exists() {
+        return refused(format!(
+            "{} is no folder of totxegun: it has no file `version`",
+            path.display()
+        ));
+    }
+    let folder = Folder::open(&path, Durability::Disk)?;
+    let place = Place::open(servers, copies)?;
+    if let Some(mark) = folder.mark() {
+        place.check_is_its(&path, &mark)?;
+    }
+    let id = match folder.mark() {
+        Some(mark) if mark.way == Way::Left && place.store.standing()?.id == mark.id => return Ok(None),
+        Some(mark) if mark.way != Way::Leaving => {
+            return refused(format!("{} {}", path.display(), mark.refusal(&path)))
+        }
+        Some(mark) => mark.id,
+        None => {
+            place.check_unused()?;
+            let id = place.draw()?;
+            folder.set_mark(Some(place.mark(Way::Leaving, &id)))?;
+            id
+        }
+    };
+    let seen = place.store.standing()?;
+    if seen.state == State::Counts && seen.id == id {
+        place.store.follow(&seen)?;
+        folder.set_mark(Some(place.mark(Way::Left, &id)))?;
+        return Ok(None);
+    }
+    let filling = match seen.state == State::Filling && seen.id == id {
+        true => seen,
+        false => {
+            place.check_unused()?;
+            let filling = Standing {
+                state: State::Filling,
+                id: id.clone(),
+                folder: path.display().to_string(),
+            };
+            place.go(&seen, filling)?
+        }
+    };
+    place.store.follow(&filling)?;
+    place.check_idle()?;
+    let moved = fill_store(&folder, &place.store, &id)?;
+    place.decide(&filling, State::Counts)?;
+    folder.set_mark(Some(place.mark(Way::Left, &id)))?;
+    Ok(Some(moved))
+}
+
+impl Place {
+    fn check_unused(&self) -> Result<(), MoveFault> {
+        let standing = self.store.standing()?;
+        if let Some(why) = standing.refusal() {
+            return refused(why);
+        }
+        if !self.store.is_empty()? {
+            return refused(
+                "the store has something already, and a folder is moved into one that `totxegun store init` has made and nobody \
+                 has used: make it in another database",
+            );
+        }
+        self.check_idle()
+    }
+}
+
+fn fill_store(folder: &Folder, store: &PostgresStore, id: &str) -> Result<Moved, MoveFault> {
+    let slots = store.cluster.slots;
+    let content = Content::of_folder(folder)?;
+    if let Some(one) = content.from.iter().find(|one| one.number >= slots && one.waits()) {
+        return refused(format!(
+            "requests of slot {} wait, and the store has {slots} slots: make it with --slots {} or more, or have them delivered \
+             before",
+            one.number,
+            one.number + 1
+        ));
+    }
+    let (mut moved, dead) = (content.moved(), folder.dead()?);
+    let numbers: Vec<u16> = (0..slots).collect();
+    for some in numbers.chunks(SIDE_BY_SIDE) {
+        let mut all = Vec::new();
+        for number in some {
+            let term = store.take_to_move(*number, id)?;
+            all.push((term, To::slot(store, *number, term)?));
+        }
+        for (_, to) in &mut all {
+            to.begin(content.beginning(to.number, slots))?;
+            if let Some(from) = content.from.iter().find(|from| from.number == to.number) {
+                moved.requests += to.go_on(&from.outbox)?;
+            }
+        }
+        let mut posts = Posts::new(slots);
+        for from in &content.from {
+            posts.each(from, |number, post, names| {
+                match all.iter_mut().find(|(_, to)| to.number == number) {
+                    Some((_, to)) => to.put(post, names),
+                    None => Ok(()), // in another pass
+                }
+            })?;
+        }
+        moved.posts = posts.count;
+        for (term, to) in all {
+            let number = to.number;
+            // Operators look for a letter in the slot of its key.
+            let is_its = |slot| slot == number || number == 0 && slot >= slots;
+            moved.letters += to.take_letters(&dead, is_its)?;
+            to.end()?;
+            store.release_moved(number, term)?;
+        }
+    }
+    if let Some(sink) = folder.sink() {
+        store.set_sink(&store.sink()?, &sink.line())?;
+    }
+    Ok(moved)
+}
+
+// --------------------------------------------------------------------------------------------------------------------
+// Into a folder
+
+/// Brings what a store has into a folder that has nothing yet. None where that was done before.
+pub fn to_folder(folder: &Path, servers: &[Server], copies: Copies) -> Result<Option<Moved>, MoveFault> {
+    let path = absolute(folder)?;
+    let place = Place::open(servers, copies)?;
+    let folder = Folder::open(&path, Durability::Disk)?;
+    let seen = place.store.standing()?;
+    if let Some(mark) = folder.mark() {
+        place.check_is_its(&path, &mark)?;
+        if mark.way != Way::Coming {
+            return refused(format!("{} {}", path.display(), mark.refusal(&path)));
+        }
+        if mark.id == seen.id && seen.state == State::Gone {
+            place.store.follow(&seen)?;
+            folder.set_mark(None)?;
+            return Ok(None);
+        }
+    }
+    if !matches!(seen.state, State::Counts | State::Leaving) {
+        return refused(seen.refusal().unwrap_or_default());
+    }
+    let id = match folder.mark() {
+        Some(mark) => mark.id,
+        None if !folder.is_empty()? => {
+            return refused(format!(
+                "{} has something already: give a folder that is new",
+                path.display()
+            ));
+        }
+        None => {
+            let id = place.draw()?;
+            folder.set_mark(Some(place.mark(Way::Coming, &id)))?;
+            id
+        }
+    };
+    let leaving = match seen.state == State::Leaving && seen.id == id {
+        true => seen,
+        false => {
+            place.check_idle()?;
+            let leaving = Standing {
+                state: State::Leaving,
+                id: id.clone(),
+                folder: path.display().to_string(),
+            };
+            place.go(&seen, leaving)?
+        }
+    };
+    place.store.follow(&leaving)?;
+    place.check_idle()?;
+    folder.clear()?;
+    let moved = fill_folder(&place.store, &folder, &id)?;
+    place.decide(&leaving, State::Gone)?;
+    folder.set_mark(None)?;
+    Ok(Some(moved))
+}
+
+fn fill_folder(store: &PostgresStore, folder: &Folder, id: &str) -> Result<Moved, MoveFault> {
+    let mut to = To::folder(folder)?;
+    let (mut content, mut moved) = (Content::default(), Moved::default());
+    let mut posts = Posts::new(1);
+    // Slot 0 comes last: the folder's outbox goes on from its own.
+    for number in (0..store.cluster.slots).rev() {
+        let term = store.take_to_move(number, id)?;
+        let (from, dead) = From::slot(store, number, term)?;
+        posts.each(&from, |_, post, names| to.put(post, names))?;
+        moved.letters += to.take_letters(&dead, |_| true)?;
+        if number == 0 {
+            to.begin(content.with(from).beginning(0, 1))?;
+            let first = content.from.iter().find(|from| from.number == 0);
+            moved.requests += first.map_or(Ok(0), |first| to.go_on(&first.outbox))?;
+        } else if from.waits() {
+            moved.requests += target::former(folder, number, &from.outbox)?;
+            content.with_known(&from);
+        } else {
+            content.with_known(&from);
+        }
+        store.release_moved(number, term)?;
+    }
+    to.end()?;
+    if let Some(sink) = KnownSink::of_line(&store.sink()?) {
+        folder.set_sink(sink)?;
+    }
+    (moved.posts, moved.series) = (posts.count, content.moved().series);
+    Ok(moved)
+}

@@ -1,0 +1,140 @@
+//! Posts that are in no group, each in parts for the slots of its resources.
+
+use super::content::From;
+use super::MoveFault;
+use crate::files::{Body, Fault, Names, Points, Post, Replayed};
+use crate::otlp::series::{only, posted};
+use crate::otlp::{slot_of_series, Encoding, Reading, Resources, Split};
+use bytes::Bytes;
+use std::collections::{BTreeSet, HashMap};
+use std::sync::Arc;
+
+pub struct Posts {
+    resources: Resources,
+    named: Named,
+    /// How many there were, whole.
+    pub count: u64,
+}
+
+/// What numbers stand for in the file that is read.
+#[derive(Default)]
+struct Named {
+    /// Another one where a number stands for something else than before.
+    generation: u64,
+    texts: HashMap<u64, (Bytes, u16)>,
+}
+
+impl Names for Named {
+    fn generation(&self) -> u64 {
+        self.generation
+    }
+
+    fn text(&self, number: u64) -> Bytes {
+        self.texts
+            .get(&number)
+            .map(|(text, _)| text.clone())
+            .unwrap_or_default()
+    }
+}
+
+impl Named {
+    fn forget(&mut self) {
+        self.generation += 1;
+        self.texts.clear();
+    }
+
+    fn note(&mut self, number: u64, text: Bytes, slots: u16) {
+        let slot = only(&text)
+            .and_then(|key| slot_of_series(&key, slots))
+            .unwrap_or(0);
+        let before = self.texts.insert(number, (text.clone(), slot));
+        self.generation += u64::from(before.is_some_and(|(before, _)| before != text));
+    }
+
+    fn slot(&self, number: u64) -> u16 {
+        self.texts.get(&number).map_or(0, |(_, slot)| *slot)
+    }
+}
+
+impl Posts {
+    /// For so many slots.
+    pub fn new(slots: u16) -> Posts {
+        Posts {
+            // What a resource is by the settings of the service is written in the journal's posts already.
+            resources: Resources::new(slots, Arc::new(Reading::default())),
+            named: Named {
+                generation: 1,
+                ..Named::default()
+            },
+            count: 0,
+        }
+    }
+
+    /// Gives the posts of a slot, in their order: to each slot its part.
+    pub fn each(
+        &mut self,
+        from: &From,
+        mut each: impl FnMut(u16, &Post, &dyn Names) -> Result<(), Fault>,
+    ) -> Result<(), MoveFault> {
+        let Some(journal) = &from.journal else {
+            return Ok(());
+        };
+        self.named.forget();
+        let mut ended = Ok(());
+        journal.posts(from.outbox.journal(), u64::MAX, |read| {
+            self.count += 1;
+            let parts = self.parts(read);
+            ended = parts
+                .iter()
+                .try_for_each(|(slot, post)| each(*slot, post, &self.named));
+            ended.is_ok()
+        })?;
+        Ok(ended?)
+    }
+
+    fn parts(&mut self, read: Replayed) -> Vec<(u16, Post)> {
+        let slots = self.resources.slots();
+        for (number, text) in read.named {
+            self.named.note(number, text, slots);
+        }
+        match &read.post.body {
+            _ if slots == 1 => vec![(0, read.post)],
+            Body::Text(body) => match self.resources.split(Encoding::Json, body) {
+                Split::Whole(slot) => vec![(slot, read.post)],
+                Split::Parts(parts) => {
+                    let part = |part: crate::otlp::Part| (part.slot, of_text(&read.post, part.body));
+                    parts.into_iter().map(part).collect()
+                }
+            },
+            Body::Points(points) => self.of_points(&read.post, points),
+        }
+    }
+
+    fn of_points(&self, post: &Post, points: &Points) -> Vec<(u16, Post)> {
+        let slots: BTreeSet<u16> = points.numbers().map(|number| self.named.slot(number)).collect();
+        // What is foreign is told by one of them.
+        let mut foreign = post.foreign;
+        let part = |slot| {
+            let points = points.of_numbers(|number| self.named.slot(number) == slot);
+            let part = Post {
+                sender: post.sender.clone(),
+                foreign: std::mem::take(&mut foreign),
+                body: Body::Points(points),
+            };
+            (slot, part)
+        };
+        slots.into_iter().map(part).collect()
+    }
+}
+
+/// Part of a text, with the points in it that the book does not take.
+fn of_text(post: &Post, body: Bytes) -> Post {
+    Post {
+        sender: post.sender.clone(),
+        foreign: posted(&body).map_or(post.foreign, |posted| posted.foreign),
+        body: Body::Text(body),
+    }
+}
+
+#[cfg(test)]
+mod tests;

@@ -1,0 +1,131 @@
+//! Where it is moved to.
+
+use super::MoveFault;
+use crate::files::drive::{self, Drive};
+use crate::files::{Beginning, Dead, Fault, Folder, Journal, Names, Outbox, Post};
+use crate::store::postgres::{PostgresDrive, PostgresStore};
+use std::path::Path;
+use std::sync::Arc;
+
+/// So much is written, about, before it is made durable.
+const PIECE: u64 = 8 << 20;
+
+pub struct To {
+    pub number: u16,
+    journal: Journal,
+    outbox: Outbox,
+    dead: Dead,
+    /// Bytes that may be in memory alone.
+    written: u64,
+}
+
+impl To {
+    /// A slot of a store, under a term: what an earlier try has left there is deleted.
+    pub fn slot(store: &PostgresStore, number: u16, term: u64) -> Result<To, MoveFault> {
+        let drive = store.drive(number, term).map_err(Fault::from)?;
+        wipe(&drive)?;
+        let (journal, outbox, dead) = drive::open(drive as Arc<dyn Drive>, &store.cluster.epoch)?;
+        Ok(To {
+            number,
+            journal,
+            outbox,
+            dead,
+            written: 0,
+        })
+    }
+
+    /// A folder that has nothing.
+    pub fn folder(folder: &Folder) -> Result<To, MoveFault> {
+        let (journal, outbox) = folder.slot(0)?;
+        Ok(To {
+            number: 0,
+            journal,
+            outbox,
+            dead: folder.dead()?,
+            written: 0,
+        })
+    }
+
+    pub fn begin(&mut self, beginning: Beginning) -> Result<(), Fault> {
+        self.outbox.begin_with(beginning)
+    }
+
+    /// Takes what waits in another outbox: how many requests.
+    pub fn go_on(&mut self, from: &Outbox) -> Result<u64, Fault> {
+        go_on(&self.outbox, from)
+    }
+
+    pub fn put(&mut self, post: &Post, names: &dyn Names) -> Result<(), Fault> {
+        self.journal.append(post, names);
+        self.written += post.body.bytes();
+        match self.written > PIECE {
+            true => self.settle(),
+            false => Ok(()),
+        }
+    }
+
+    /// Takes the letters that are wanted, by the slot of their keys: how many.
+    pub fn take_letters(&self, from: &Dead, is_wanted: impl Fn(u16) -> bool) -> Result<u64, Fault> {
+        let mut letters = 0;
+        from.each(|key, bytes| {
+            let slot = key.split('-').next().and_then(|slot| slot.parse().ok());
+            if !is_wanted(slot.unwrap_or(0)) {
+                return Ok(());
+            }
+            letters += 1;
+            self.dead.put(key, &bytes)
+        })?;
+        Ok(letters)
+    }
+
+    fn settle(&mut self) -> Result<(), Fault> {
+        self.written = 0;
+        self.journal.settle(self.journal.now());
+        self.outbox.settle()
+    }
+
+    /// All of it is durable then.
+    pub fn end(mut self) -> Result<(), Fault> {
+        self.settle()
+    }
+}
+
+fn go_on(to: &Outbox, from: &Outbox) -> Result<u64, Fault> {
+    let (mut requests, mut written) = (0, 0);
+    from.each_group(|waits| {
+        (requests, written) = (requests + waits.bodies.len() as u64, written + waits.bytes());
+        to.go_on_with(waits)?;
+        if written as u64 > PIECE {
+            written = 0;
+            to.settle()?;
+        }
+        Ok(())
+    })?;
+    Ok(requests)
+}
+
+/// The requests of a slot that a folder does not have: it delivers them beside those of its own.
+pub fn former(folder: &Folder, number: u16, from: &Outbox) -> Result<u64, Fault> {
+    let to = folder.outbox(number)?;
+    to.begin_with(Beginning {
+        next: from.first_number(),
+        series: Vec::new(),
+        quarantined: Default::default(),
+        since: from.since(),
+    })?;
+    go_on(&to, from)
+}
+
+/// Deletes all files of a slot.
+pub fn wipe(drive: &Arc<PostgresDrive>) -> Result<(), MoveFault> {
+    let wiped = ["journal", "outbox", "dead"].into_iter().try_for_each(|folder| {
+        let folder = Path::new(folder);
+        let mut names = drive.list(folder)?.into_iter();
+        names.try_for_each(|name| drive.remove(&folder.join(name)))
+    });
+    let wiped = wiped.and_then(|()| drive.sync());
+    wiped.map_err(|source| {
+        let path = format!("slot {}", drive.slot()).into();
+        Fault::Io { path, source }.into()
+    })
+}

@@ -1,0 +1,249 @@
+//! Whether what is in a store counts: where a folder's content is on its way here, or the store's into a folder, one row says
+//! which of both does. It is that of the first database; the others follow it.
+
+use super::doubt::{Backoff, Doubt};
+use super::fault::StoreFault;
+use super::session::{within, SILENT};
+use super::shared::Shared;
+use super::terms::RELEASE;
+use super::PostgresStore;
+use crate::cluster::terms::Instance;
+use std::future::Future;
+use std::sync::Arc;
+use std::time::Duration;
+use tokio_postgres::types::ToSql;
+
+/// How often a step is tried: who moves can be called again, wherever it ended.
+const TRIES: u32 = 12;
+/// So long a beat has to stand still: more than six of them.
+const STILL: Duration = Duration::from_millis(3500);
+
+#[derive(Clone, Copy, Debug, PartialEq, Eq)]
+pub enum State {
+    Counts,
+    /// A folder does, whose content is on its way here.
+    Filling,
+    /// It does, and what it has is on its way into a folder.
+    Leaving,
+    /// The folder does that has all now.
+    Gone,
+}
+
+const STATES: [(State, &str); 4] = [
+    (State::Counts, "counts"),
+    (State::Filling, "filling"),
+    (State::Leaving, "leaving"),
+    (State::Gone, "gone"),
+];
+
+#[derive(Clone, Debug, PartialEq, Eq)]
+pub struct Standing {
+    pub state: State,
+    /// The last move, where there was one, and the folder of it.
+    pub id: String,
+    pub folder: String,
+}
+
+/// A write, so that what it reads is there for good.
+const STANDING: &str = "update totxegun_store.cluster set place = place returning state, move, folder";
+const CHANGE: &str = "update totxegun_store.cluster set state = $1, move = $2, folder = $3
+    where state = $4 and move = $5";
+const FILES: &str = "select count(*) from totxegun_store.file";
+const TAKE: &str = "update totxegun_store.slot set term = term + 1, link = 0, owner = $3
+    where slot = $1 and term = $2
+    and exists (select from totxegun_store.cluster where move = $4 and state in ('filling', 'leaving'))";
+/// Who takes a slot to move it.
+const MOVER: &str = "store move";
+
+fn name_of(state: State) -> &'static str {
+    let found = STATES.iter().find(|(known, _)| *known == state);
+    found.map_or("", |(_, name)| name)
+}
+
+impl Standing {
+    /// Why no service starts on the store; none where one may.
+    pub fn refusal(&self) -> Option<String> {
+        let folder = &self.folder;
+        match self.state {
+            State::Counts => None,
+            State::Filling => Some(format!(
+                "what the folder {folder} has is on its way into this store, and until it is there the folder counts: end the \
+                 move by `totxegun store move --from {folder} ADDRESS`, or give it up by `--give-up --from {folder}`"
+            )),
+            State::Leaving => Some(format!(
+                "what this store has is on its way into the folder {folder}, and until it is there the store counts: end the \
+                 move by `totxegun store move --to {folder} ADDRESS`, or give it up by `totxegun store move --give-up ADDRESS`"
+            )),
+            State::Gone => Some(format!(
+                "what this store had was moved into the folder {folder}, which counts in its place: start with --data \
+                 {folder}. For another store: `drop schema totxegun_store cascade`, and `totxegun store init`"
+            )),
+        }
+    }
+}
+
+impl Shared {
+    async fn standing(&self) -> Result<Standing, Doubt> {
+        let session = self.session().await?;
+        let row = session.written(session.client.query_one(STANDING, &[])).await;
+        let row = self.heard(&session, row).await?;
+        let name: &str = row.get(0);
+        let state = STATES.iter().find(|(_, known)| *known == name);
+        Ok(Standing {
+            // What is not known here is of a later version: it must not be served.
+            state: state.map_or(State::Gone, |(state, _)| *state),
+            id: row.get(1),
+            folder: row.get(2),
+        })
+    }
+
+    async fn change(&self, seen: &Standing, to: &Standing) -> Result<(), Doubt> {
+        let (from, state) = (name_of(seen.state), name_of(to.state));
+        let values: [&(dyn ToSql + Sync); 5] = [&state, &to.id, &to.folder, &from, &seen.id];
+        self.write(CHANGE, &values).await.map(drop)
+    }
+
+    async fn has_files(&self) -> Result<bool, Doubt> {
+        let session = self.session().await?;
+        let row = within(SILENT, session.client.query_one(FILES, &[])).await;
+        Ok(self.heard(&session, row).await?.get::<_, i64>(0) > 0)
+    }
+}
+
+impl PostgresStore {
+    /// Tries until there is an answer, but not for ever.
+    fn tried<T, F>(&self, step: impl Fn(Vec<Arc<Shared>>) -> F + Send + 'static) -> Result<T, StoreFault>
+    where
+        T: Send + 'static,
+        F: Future<Output = Result<T, Doubt>> + Send,
+    {
+        let databases: Vec<Arc<Shared>> = self.databases.iter().map(|one| one.taker.clone()).collect();
+        let trying = async move {
+            let mut backoff = Backoff::default();
+            let mut last = Doubt::NotConnected(String::new());
+            for _ in 0..TRIES {
+                match step(databases.clone()).await {
+                    Ok(done) => return Ok(done),
+                    Err(doubt) => last = doubt,
+                }
+                backoff.wait().await;
+            }
+            Err(StoreFault::Doubt(last))
+        };
+        self.runtime.wait(trying).unwrap_or_else(|| Err(super::ended()))
+    }
+
+    pub fn standing(&self) -> Result<Standing, StoreFault> {
+        self.tried(|databases| async move { Ok(databases[0].standing().await?) })
+    }
+
+    /// Passes where the store counts. Databases that a move which was killed has not told so are told now.
+    pub(super) fn admit(&self) -> Result<(), StoreFault> {
+        let standing = self.standing()?;
+        match standing.refusal() {
+            Some(why) => Err(StoreFault::Moved(why)),
+            None => self.follow(&standing),
+        }
+    }
+
+    /// Changes the state, where it is as it was seen: the one that there is then.
+    pub fn change(&self, seen: &Standing, to: &Standing) -> Result<Standing, StoreFault> {
+        let (seen, to) = (seen.clone(), to.clone());
+        self.tried(move |databases| {
+            let (seen, to) = (seen.clone(), to.clone());
+            async move {
+                databases[0].change(&seen, &to).await?;
+                Ok(databases[0].standing().await?)
+            }
+        })
+    }
+
+    /// The other databases come to what the first says.
+    pub fn follow(&self, standing: &Standing) -> Result<(), StoreFault> {
+        let standing = standing.clone();
+        self.tried(move |databases| {
+            let standing = standing.clone();
+            async move {
+                for database in &databases[1..] {
+                    let there = database.standing().await?;
+                    if there != standing {
+                        database.change(&there, &standing).await?;
+                    }
+                }
+                Ok(())
+            }
+        })
+    }
+
+    /// Whether each database says the same.
+    pub fn all_say(&self, standing: &Standing) -> Result<bool, StoreFault> {
+        let standing = standing.clone();
+        self.tried(move |databases| {
+            let standing = standing.clone();
+            async move {
+                for database in &databases {
+                    if database.standing().await? != standing {
+                        return Ok(false);
+                    }
+                }
+                Ok(true)
+            }
+        })
+    }
+
+    /// Whether no slot ever had anything.
+    pub fn is_empty(&self) -> Result<bool, StoreFault> {
+        self.tried(|databases| async move {
+            for database in &databases {
+                if database.has_files().await? {
+                    return Ok(false);
+                }
+            }
+            Ok(true)
+        })
+    }
+
+    /// Instances whose beats go on. It takes some seconds where there were any.
+    pub fn running(&self) -> Result<Vec<String>, StoreFault> {
+        self.tried(|databases| async move {
+            let before = databases[0].instances().await?;
+            if before.is_empty() {
+                return Ok(Vec::new());
+            }
+            tokio::time::sleep(STILL).await;
+            let after = databases[0].instances().await?;
+            let goes_on = |one: &&Instance| !before.contains(one);
+            Ok(after.iter().filter(goes_on).map(|one| one.name.clone()).collect())
+        })
+    }
+
+    /// Takes a slot to move what it has. Nobody else can take it meanwhile.
+    pub fn take_to_move(&self, slot: u16, id: &str) -> Result<u64, StoreFault> {
+        let (id, place) = (id.to_string(), usize::from(slot) % self.databases.len());
+        let taken = self.tried(move |databases| {
+            let id = id.clone();
+            async move {
+                let taker = &databases[place];
+                let rows = taker.slots().await?;
+                let seen = rows.iter().find(|row| row.slot == slot).map_or(0, |row| row.term);
+                let values: [&(dyn ToSql + Sync); 4] = [&i32::from(slot), &(seen as i64), &MOVER, &id];
+                let taken = taker.write(TAKE, &values).await?;
+                Ok((taken == 1).then_some(seen + 1))
+            }
+        });
+        taken?.ok_or(StoreFault::Meanwhile)
+    }
+
+    /// Gives back a slot that was taken so.
+    pub fn release_moved(&self, slot: u16, term: u64) -> Result<(), StoreFault> {
+        let place = usize::from(slot) % self.databases.len();
+        let released = self.tried(move |databases| async move {
+            let values: [&(dyn ToSql + Sync); 2] = [&i32::from(slot), &(term as i64)];
+            databases[place].write(RELEASE, &values).await
+        });
+        match released? {
+            1 => Ok(()),
+            _ => Err(StoreFault::Meanwhile),
+        }
+    }
+}

@@ -1,0 +1,178 @@
+//! A sink in the database of the store: a request and what says that it was delivered are one transaction.
+
+use super::server::Server;
+use super::work::{take, wait};
+use super::{make, open};
+use std::sync::Arc;
+use totxegun::files::drive::{self, Drive};
+use totxegun::files::Runs;
+use totxegun::sinks::{self, Fate, Forwarded, Keep, Memory, Sink};
+use totxegun::store::postgres::{Copies, PostgresStore};
+
+/// It knows the store that the slots are in.
+struct OfStore(Arc<PostgresStore>);
+
+impl Memory for OfStore {
+    fn admit(&self, _: Option<&str>, _: bool) -> Result<(), String> {
+        Ok(())
+    }
+
+    fn databases(&self) -> Vec<Option<String>> {
+        self.0.databases()
+    }
+}
+
+fn sink(address: &str, store: &Arc<PostgresStore>) -> Arc<dyn Sink> {
+    let memory = Arc::new(OfStore(store.clone()));
+    sinks::open(&address.parse().unwrap(), Keep::default(), memory).unwrap()
+}
+
+fn request(slot: u16, number: u64, start: u64) -> Forwarded {
+    let body = format!(
+        r#"{{"resourceMetrics":[{{"resource":{{"attributes":[]}},"scopeMetrics":[{{"metrics":[{{"name":"m{slot}","sum":{{"aggregationTemporality":1,"dataPoints":[{{"asInt":"5","attributes":[],"startTimeUnixNano":"{start}","timeUnixNano":"{}"}}],"isMonotonic":false}},"unit":""}}],"scope":{{"attributes":[],"name":"","version":""}}}}]}}]}}"#,
+        start + 10
+    );
+    Forwarded {
+        slot,
+        epoch: "e".into(),
+        number,
+        body: body.into(),
+    }
+}
+
+/// Points of two series.
+fn of_two(slot: u16, number: u64, starts: [u64; 2]) -> Forwarded {
+    let [one, other] = starts.map(|start| String::from_utf8(request(slot, number, start).body).unwrap());
+    let resource = |body: &str| body["{\"resourceMetrics\":[".len()..body.len() - 2].to_string();
+    let other = resource(&other).replace("\"name\":\"m", "\"name\":\"n");
+    Forwarded {
+        body: format!(r#"{{"resourceMetrics":[{},{other}]}}"#, resource(&one)).into(),
+        ..request(slot, number, 0)
+    }
+}
+
+fn deliver(sink: &Arc<dyn Sink>, request: &Forwarded, term: u64) -> Fate {
+    let runtime = tokio::runtime::Builder::new_current_thread()
+        .enable_all()
+        .build()
+        .unwrap();
+    runtime.block_on(sink.deliver_of(request, Some(term)))
+}
+
+const NOTED: &str = "select coalesce(string_agg(slot || ':' || term || ':' || number, ' ' order by slot), '')
+    from totxegun_store.delivered";
+const TOTALS: &str =
+    "select coalesce(string_agg(name || '=' || total, ' ' order by name), '') from totxegun.totals";
+
+#[test]
+fn a_request_and_what_says_that_it_was_delivered_are_one_transaction_under_the_term() {
+    let Some(server) = Server::start("") else { return };
+    make(&[&server.address()]);
+    let store = Arc::new(open(&[&server.address()], Copies::One));
+    let by_other_name = server.address().replace("127.0.0.1", "localhost");
+    let sink = sink(&by_other_name, &store);
+    let first = take(&store, 3).0;
+    for number in 1..4 {
+        assert_eq!(
+            deliver(&sink, &request(3, number, number * 10), first.term()),
+            Fate::Taken
+        );
+    }
+    let repeated = deliver(&sink, &request(3, 3, 30), first.term());
+    assert_eq!(
+        (repeated, server.ask(NOTED), server.ask(TOTALS)),
+        (Fate::Taken, "3:1:3".into(), "m3=15".into())
+    );
+    assert_eq!(deliver(&sink, &request(3, 4, 40), first.term()), Fate::Taken);
+    for _ in 0..2 {
+        // A part that is left is kept first, so the request has to come again.
+        let partly = deliver(&sink, &of_two(3, 5, [45, 45]), first.term());
+        assert!(
+            matches!(partly, Fate::TakenPartly { rejected: 1, .. }),
+            "{partly:?}"
+        );
+        assert_eq!(server.ask(NOTED), "3:1:4");
+    }
+    let second = take(&store, 3).0;
+    assert_eq!(second.delivered(), 4, "the next owner knows");
+    let next = request(3, 6, 60);
+    assert_eq!(deliver(&sink, &next, second.term()), Fate::Taken);
+    match deliver(&sink, &request(3, 7, 70), first.term()) {
+        Fate::Again { reason, .. } => assert!(
+            reason.contains("slot 3 was taken by another instance"),
+            "{reason}"
+        ),
+        other => panic!("{other:?}"),
+    }
+    assert_eq!(
+        (server.ask(NOTED), server.ask(TOTALS)),
+        ("3:2:6".into(), "m3=25 n3=5".into()),
+        "nothing of it is there"
+    );
+    assert_eq!(
+        wait(sink.deliver(&request(3, 8, 80))),
+        Fate::Taken,
+        "a letter has no term"
+    );
+    assert_eq!(server.ask(NOTED), "3:2:6");
+}
+
+#[test]
+fn a_sink_elsewhere_has_keys_alone_whatever_its_address() {
+    let Some(server) = Server::start("") else { return };
+    for name in ["one", "other", "sink"] {
+        server.ask(&format!("create database {name}"));
+    }
+    let [one, other, elsewhere] = ["one", "other", "sink"].map(|name| server.address_of(name));
+    make(&[&one, &other]);
+    let store = Arc::new(open(&[&one, &other], Copies::One));
+    let [here, there] = [3, 4].map(|slot| take(&store, slot).0.term());
+    let in_second = sink(&other, &store);
+    assert_eq!(deliver(&in_second, &request(3, 1, 10), here), Fate::Taken);
+    assert_eq!(
+        deliver(&in_second, &request(4, 1, 10), there),
+        Fate::Taken,
+        "its slot is in the first"
+    );
+    let noted = |name: &str| {
+        server.ask_of(
+            name,
+            "select coalesce(string_agg(slot::text, ' '), '') from totxegun_store.delivered",
+        )
+    };
+    assert_eq!((noted("one"), noted("other")), (String::new(), "3".into()));
+    let apart = sink(&elsewhere, &store);
+    assert_eq!(deliver(&apart, &request(3, 1, 10), here), Fate::Taken);
+    assert_eq!(
+        deliver(&apart, &request(3, 2, 20), 0),
+        Fate::Taken,
+        "nobody looks at a term there"
+    );
+}
+
+/// As a start finds it where the answer of the sink, and with it the acknowledgement, was lost.
+#[test]
+fn what_was_noted_is_not_sent_again() {
+    let Some(server) = Server::start("") else { return };
+    make(&[&server.address()]);
+    let store = Arc::new(open(&[&server.address()], Copies::One));
+    let first = take(&store, 0).0;
+    let term = first.term();
+    let (journal, outbox, _dead) = drive::open(first as Arc<dyn Drive>, "e").unwrap();
+    let bodies: Vec<Vec<u8>> = (1..4)
+        .map(|number| request(0, number, number * 10).body)
+        .collect();
+    outbox
+        .commit_with(&bodies, journal.turn().0, Runs::new())
+        .unwrap();
+    outbox.settle().unwrap();
+    server.ask(&format!(
+        "insert into totxegun_store.delivered values (0, {term}, 2)"
+    ));
+    let next = take(&store, 0).0;
+    let (_journal, outbox, _dead) = drive::open(next as Arc<dyn Drive>, "e").unwrap();
+    assert_eq!(
+        (outbox.waiting().0, wait(outbox.first()).unwrap().1),
+        (1, bodies[2].clone())
+    );
+}

@@ -1,0 +1,194 @@
+#!/usr/bin/env python3
+"""Commands at any of two instances that share a store reach the slots of both.
+
+    tests/orders_anywhere.py TOTXEGUN
+
+Two instances share the eight slots of a store, and deliver to another database of the same server. At the one and at the
+other it is flushed, quarantined, lifted, asked, closed, repaired and forgotten: all of it is of all slots. One is stopped
+while the other is asked, and killed. Skipped without PostgreSQL.
+
+Each line is one check; the last line counts those that passed and failed, and the status is 0 where none failed.
+"""
+import datetime
+import json
+import os
+import signal
+import subprocess
+import sys
+import tempfile
+import time
+
+ROOT = os.path.dirname(os.path.dirname(os.path.abspath(__file__)))
+sys.path.insert(1, f"{ROOT}/demo")
+
+from checks import Checks  # noqa: E402
+from loopback import free_port  # noqa: E402
+from parts import initdb  # noqa: E402
+from servers import Server  # noqa: E402
+from service import DELTA, JSON, Service, ask, wait_until  # noqa: E402
+
+SLOTS, PROCESSES = 8, 24
+METRICS = ("slots_owned", "slot_term", "slots_without_owner", "longest_without_owner_seconds", "instances", "beat_age_seconds",
+           "store_copies", "store_copies_asked", "store_doubt_seconds", "forwarded_posts_total", "store_writes_total",
+           "takeovers_total", "hand_overs_total", "slots_lost_total")
+
+
+class Both:
+    """Instances a and b, and the server of their store."""
+
+    def __init__(self, program, folder):
+        self.program, self.server = program, Server()
+        self.server.make()
+        self.server.start()
+        self.server.ask("create database metrics")
+        at = f"postgres://postgres@127.0.0.1:{self.server.port}"
+        self.sink = f"{at}/metrics"
+        self.store = f"{at}/postgres"
+        self.made = self.run("store", "init", self.store, "--slots", str(SLOTS))
+        self.all = [self.instance(folder, name) for name in "ab"]
+
+    def instance(self, folder, name):
+        peer = f"127.0.0.1:{free_port()}"
+        return Service(self.program, f"{folder}/{name}", self.sink, "--store", self.store, "--store-copies", "1", "--instance",
+                       name, "--peer", peer, "--flush-every", "1h")
+
+    def run(self, *words, at=None):
+        """The status of a command, and what it prints; at an instance."""
+        place = [] if at is None else ["--data", at.data]
+        done = subprocess.run([self.program, *words, *place], capture_output=True, text=True, check=False, timeout=180)
+        return done.returncode, done.stdout + done.stderr
+
+    def status(self, at):
+        code, text = self.run("status", "--json", at=at)
+        return json.loads(text) if code == 0 else {"slots": [], "cluster": {"instances": []}}
+
+    def have_slots(self):
+        """Whether each instance has some, and nobody has none."""
+        status = self.status(self.all[0])
+        owners = [slot.get("owner") for slot in status["slots"] if "unknown" not in slot]
+        return len(owners) == SLOTS and set(owners) == {"a", "b"}
+
+    def post(self, at, second, sender="A"):
+        """A point of each process to one instance: the statuses."""
+        return [self.post_one(at, second, sender, number) for number in range(PROCESSES)]
+
+    @staticmethod
+    def post_one(at, second, sender, number):
+        end = (int(time.time()) - 40 * 86_400 + second) * 10**9
+        point = {"startTimeUnixNano": str(end - 10**9), "timeUnixNano": str(end), "asInt": "1"}
+        metric = {"name": "m", "sum": {"aggregationTemporality": DELTA, "isMonotonic": True, "dataPoints": [point]}}
+        resource = {"attributes": [{"key": "service.instance.id", "value": {"stringValue": f"p{number}"}}]}
+        body = json.dumps({"resourceMetrics": [{"resource": resource, "scopeMetrics": [{"metrics": [metric]}]}]}).encode()
+        return ask(at.listen, "POST", "/v1/metrics", body, {"Content-Type": JSON, "x-sender": sender})[0]
+
+    def total(self):
+        """What the sink has."""
+        words = ("-h", "127.0.0.1", "-p", str(self.server.port), "-U", "postgres", "-d", "metrics", "-XAtqc")
+        return self.server.run("psql", *words, "select coalesce(sum(total), 0) from totxegun.totals")
+
+    def close(self):
+        for one in self.all:
+            one.kill()
+        self.server.close()
+
+
+def flushes(checks, both, first, second):
+    checks.same("posts to one are taken, wherever their slots are", [200] * PROCESSES, both.post(first, 0))
+    code, text = both.run("flush", at=second)
+    checks.true("a flush at the other is of all slots", code == 0 and f"{SLOTS} requests went into the outbox" in text, text)
+    checks.true("the sink has all", wait_until(lambda: both.total() == str(PROCESSES)), both.total())
+
+
+def quarantines(checks, both, first, second):
+    checks.same("a sender is quarantined at one", 0, both.run("quarantine", "A", at=first)[0])
+    checks.same("and refused in all slots", [403] * PROCESSES, both.post(second, 10))
+    named = [slot["quarantined"] for slot in both.status(second)["slots"]]
+    checks.same("the status of the other has it in each", [["A"]] * SLOTS, named)
+    checks.same("it is lifted at the other", 0, both.run("lift", "A", at=second)[0])
+    checks.same("and taken in all", [200] * PROCESSES, both.post(first, 10))
+    for one, who in ((first, "(at "), (second, "(at ")):
+        with open(f"{one.data}/acts.jsonl", encoding="utf-8") as file:
+            acts = [json.loads(line) for line in file]
+        there = [act for act in acts if who in act["who"] and "outcome" in act]
+        checks.true(f"{one.data[-1]} has written down what the other was asked", len(there) == 1, acts)
+
+
+def shows(checks, both, first, second):
+    status = both.status(second)
+    instances = status["cluster"]["instances"]
+    checks.same("the status has both instances", {"a", "b"}, {one["name"] for one in instances})
+    checks.same("whose slots are all", SLOTS, sum(one["slots"] for one in instances))
+    checks.same("and the database", [1], [one["copies"] for one in status["cluster"]["databases"]])
+    code, text = both.run("status", at=first)
+    checks.true("it is printed", code == 0 and "last beat" in text and "database of the store" in text, text)
+    _, page = ask(first.operate, "GET", "/")
+    checks.true("the page has it", b"<h2>Instances</h2>" in page and b"<h2>Slots</h2>" in page, page[-2000:])
+    _, report = ask(second.operate, "GET", "/report")
+    series = [line for line in report.decode().splitlines() if line.startswith("series")]
+    checks.same("a report is of all slots", PROCESSES, len(series))
+    _, metrics = ask(first.operate, "GET", "/metrics")
+    missing = [name for name in METRICS if f"\ntotxegun_{name}" not in metrics.decode()]
+    checks.same("the metrics of the cluster are there", [], missing)
+
+
+def closes(checks, both, first, second):
+    month = (datetime.datetime.now(datetime.timezone.utc).replace(day=1) - datetime.timedelta(days=1)).strftime("%Y-%m")
+    code, text = both.run("close", month, at=second)
+    checks.true("what is not flushed at the other keeps a month open", code != 0 and "not flushed" in text, text)
+    code, text = both.run("close", month, "--flush", at=second)
+    checks.true("it is closed with a flush of both", code == 0, text)
+    checks.same("and opened at the other", 0, both.run("open", month, at=first)[0])
+    checks.same("the sink has all", str(2 * PROCESSES), both.total())
+
+
+def forgets(checks, both, first, second):
+    code, text = both.run("forget", "m", at=first)
+    checks.true("several are not meant", code != 0 and f"{PROCESSES} series are named so" in text, text)
+    for process in range(4):
+        code, text = both.run("forget", f"m{{service.instance.id=p{process}}}", at=(first, second)[process % 2])
+        checks.true("one is forgotten where it is", code == 0 and "1 series is forgotten" in text, text)
+    code, text = both.run("forget", "m", "--all", at=second)
+    checks.true("all others are", code == 0 and f"{PROCESSES - 4} series are forgotten" in text, text)
+    checks.same("another sender has them", [200] * PROCESSES, both.post(first, 20, "B"))
+
+
+def stops(checks, both, first, second):
+    second.signal(signal.SIGSTOP)
+    code, text = both.run("flush", at=first)
+    checks.true("a flush while one stands still is of all slots once they have moved", code == 0, text)
+    second.signal(signal.SIGCONT)
+    checks.true("both have slots again", wait_until(both.have_slots), both.run("status", at=first)[1])
+    second.kill()
+    text = both.run("status", at=first)[1]
+    checks.true("who does not answer is named", "b" in text and "nothing is known of slot" in text, text)
+    code, text = both.run("close", "2020-01", at=first)
+    checks.true("so nothing is closed, or all is known again", code != 0 or "done" in text, text)
+    code, text = both.run("flush", at=first)
+    checks.true("a flush waits for its slots", code == 0, text)
+    checks.true("the sink has all", wait_until(lambda: both.total() == str(3 * PROCESSES)), both.total())
+
+
+def main(words):
+    if len(words) != 1:
+        sys.exit(__doc__.split("\n\n")[1].strip())
+    checks = Checks()
+    if not checks.has("commands at any instance", *[] if initdb() else ["postgresql"]):
+        return checks.end()
+    with tempfile.TemporaryDirectory() as folder:
+        both = Both(os.path.abspath(words[0]), folder)
+        try:
+            checks.same("a store is made", 0, both.made[0])
+            for one in both.all:
+                one.start()
+            checks.true("they are ready", all(one.wait_ready() for one in both.all), [one.last_lines() for one in both.all])
+            checks.true("they share the slots", wait_until(both.have_slots), both.run("status", at=both.all[0])[1])
+            for tried in (flushes, quarantines, shows, closes, forgets, stops):
+                tried(checks, both, *both.all)
+            checks.same("no faults", [], both.all[0].faults())
+        finally:
+            both.close()
+    return checks.end()
+
+
+if __name__ == "__main__":
+    sys.exit(main(sys.argv[1:]))

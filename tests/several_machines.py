@@ -1,0 +1,344 @@
+#!/usr/bin/env python3
+"""Three instances over a store, each on a machine of its own, while machines and what is between them fail.
+
+    tests/several_machines.py TOTXEGUN [SECONDS [SEED,..]] [--sink otlp|postgres] [--long] [--other TOTXEGUN]
+
+Machines are network namespaces: three instances, a primary and its synchronous standby, and haproxy, which shares posts out in
+turn. Senders post requests of two resources, and so for two slots, by way of haproxy or each to one instance for a while, and
+repeat each post until it is answered. For SECONDS (90) it befalls machines, drawn by SEED, each kind once before one comes again:
+
+  - an instance is killed, with its folder or without; all are; one is stopped for a while and goes on; one is ended, and hands over
+  - one is a zombie: it is stopped while it delivers, until others have its slots, and goes on with the sink's answers
+  - what goes from one machine to another is lost: instance and servers, instance and instance, haproxy and instance, instance and
+    sink, one way only too
+  - the primary is killed; it is lost, unplugged, or cut off while it lives, and the standby is promoted; its commits are cancelled
+    in the wait for the standby, and then it is lost; the standby goes and comes back; the two are cut off from each other; both are
+    away
+
+The clocks of two instances are an hour ahead and an hour late, and instances are of two versions: TOTXEGUN, and a copy that says
+another version, or the program after --other. For half of the time the sink is one of OTLP, and then the database that the store is
+in, on other machines. With --long what goes wrong lasts up to a minute, and the store is away for two; each four minutes it is looked
+what the sink has.
+
+At the end the sink has, series by series and bucket by bucket, what senders were told; no spans overlap, and each key brought the
+same bytes. It needs root, for the machines, PostgreSQL, haproxy, ip and gcc; where one is missing a line says so, and the status is
+77. Each other line is one check; the last one counts those that passed and failed, and the status is 1 where one failed.
+"""
+import argparse
+import collections
+import contextlib
+import itertools
+import json
+import os
+import random
+import shutil
+import signal
+import subprocess
+import sys
+import tempfile
+import time
+
+from checks import Checks
+from clock_jumps import HOUR, Clock
+from machines import LED, OWN, Router, may_have_machines
+from servers import LIMIT, Pair, initdb
+from service import OtlpSink, Service, add_points, differences, overlaps, told_to_all, wait_until
+from several_trouble import OfMachines, OfServers, befall
+from store import OfTwoSlots, post_while
+
+
+LISTEN, OPERATE, PEER = 4318, 4319, 4320
+SLOTS, SENDERS = "12", 8
+SINKS = ("otlp", "postgres")
+# Of each sink one. By these two each kind of trouble comes once, where either has most of a minute.
+SEEDS = "59,28"
+# By the balancer; the others stay with an instance for so many seconds.
+BALANCED = 5
+PATIENCE = [0, 1, 5, 15]
+LONG_PHASE = 240
+# Whatever a machine has to do beside.
+IN_THE_END = 300
+MOODS = ["well"] * 6 + ["late", "busy", "lose"]
+VERSIONS = "select string_agg(distinct version, ' and ') from totxegun_store.instance"
+# What an instance never writes.
+NEVER = ("panicked", "has lost what it said is durable", "another process beats under this instance's name")
+HAPROXY = """
+global
+    maxconn 1000
+defaults
+    mode http
+    timeout connect 2s
+    timeout client 60s
+    timeout server 30s
+    timeout queue 5s
+    retries 3
+    retry-on conn-failure
+    option redispatch
+frontend senders
+    bind {address}:{listen}
+    default_backend instances
+backend instances
+    balance roundrobin
+    option httpchk GET /ready
+    default-server check port {operate} inter 500ms fall 2 rise 1
+"""
+
+
+class Balancer:
+    """It asks each instance whether it takes posts, and shares them out in turn."""
+
+    def __init__(self, machine, folder, instances):
+        self.host, self.listen, self.machine = machine.address, LISTEN, machine
+        text = HAPROXY.format(address=machine.address, listen=LISTEN, operate=OPERATE)
+        text += "".join(f"    server {one.machine.name} {one.host}:{LISTEN}\n" for one in instances)
+        with open(f"{folder}/haproxy.cfg", "w", encoding="ascii") as file:
+            file.write(text)
+        with open(f"{folder}/haproxy.log", "wb") as log:
+            words = machine.on("haproxy", "-db", "-f", file.name)
+            self.process = subprocess.Popen(words, stdin=subprocess.DEVNULL, stdout=log, stderr=log)
+
+
+class Instance(Service):
+    """On a machine of its own; what starts it anew where it has ended stands for its unit."""
+
+    def __init__(self, machine, folder, store, sink, clock, programs):
+        options = ["--store", store.address, "--instance", machine.name, "--peer", f"{machine.address}:{PEER}", "--peer-plain"]
+        options += ["--flush-every", "1s"]
+        super().__init__(programs[0], f"{folder}/{machine.name}", sink.address, *options, host=machine.address, ports=(LISTEN, OPERATE),
+                         before=machine.on())
+        self.machine, self.clock, self.programs = machine, clock, programs
+        self.place = self.words.index(programs[0])
+        self.is_wanted, self.starts = False, 0
+
+    def begin(self, chance):
+        """In either version."""
+        self.words[self.place] = chance.choice(self.programs)
+        self.is_wanted = True
+        self.go_on()
+
+    def go_on(self):
+        if self.is_wanted and not self.is_running():
+            self.starts += 1
+            self.start(self.clock.environment())
+
+    def vanish(self, with_folder):
+        self.is_wanted = False
+        self.kill()
+        if with_folder:
+            shutil.rmtree(self.data, ignore_errors=True)
+
+
+class OverMachines(OfTwoSlots):
+    """Posts to one address; where it stays with an instance that gives no answer, to another one after a while."""
+
+    def __init__(self, doors, number, seed):
+        super().__init__(doors[0], number, seed)
+        self.doors, self.refused = doors, 0
+        self.choose()
+
+    def choose(self):
+        self.service, self.patience = self.chance.choice(self.doors), self.chance.choice(PATIENCE)
+        self.host = self.service.host
+
+    def try_once(self, body, headers):
+        answer = super().try_once(body, headers)
+        self.refused = self.refused + 1 if answer[0] in (None, 503) else 0
+        # A repeat comes each 0.2 s.
+        if self.refused > 5 * self.patience:
+            self.close()
+            self.connection, self.refused = None, 0
+            self.choose()
+        return answer
+
+
+def other_version(program, folder):
+    """A copy that says another version: instances have no other than what each writes of itself."""
+    with open(program, "rb") as file:
+        text = file.read()
+    with open(os.path.join(os.path.dirname(os.path.dirname(os.path.abspath(__file__))), "VERSION"), "rb") as file:
+        version = file.read().strip()
+    copy = f"{folder}/totxegun"
+    with open(copy, "wb") as file:
+        file.write(text.replace(version, version[:-1] + bytes([version[-1] ^ 1])))
+    os.chmod(copy, 0o755)
+    return copy
+
+
+class PostgresSink:
+    """The database that the store is in, at the address that is led to whatever server writes."""
+
+    SPANS = """select coalesce(json_agg(json_build_array(name, start_ns::text, end_ns::text, value::text, sum, buckets::bigint[])), '[]')
+        from totxegun.span join totxegun.series on series.id = span.series"""
+
+    def __init__(self, store):
+        self.store, self.moods = store, []
+        self.address = f"postgres://postgres@{LED}/postgres"
+
+    def points(self):
+        return [(name, int(start), int(end), int(value) if buckets is None else (tuple(map(int, buckets)), total))
+                for name, start, end, value, total, buckets in json.loads(self.store.ask(self.SPANS) or "[]")]
+
+    def mood(self, moods):
+        """It has none."""
+
+    def wrong(self):
+        return []
+
+    def close(self):
+        pass
+
+
+class World:
+    """All machines, and what runs there."""
+
+    def __init__(self, stack, what, arguments, seed, store, machines, sink="otlp"):
+        self.what, self.program, self.has_others = what, arguments.totxegun, False
+        self.folder = stack.enter_context(tempfile.TemporaryDirectory(prefix="machines-"))
+        self.router = Router(stack)
+        self.store = store(*map(self.router.machine, machines))
+        stack.callback(self.store.close)
+        self.sink = OtlpSink(seed, OWN) if sink == "otlp" else PostgresSink(self.store)
+        stack.callback(self.sink.close)
+        programs = [self.program, arguments.other or other_version(self.program, self.folder)]
+        self.instances = [self.instance(name, ahead, programs) for name, ahead in zip("abc", (0, HOUR, -HOUR))]
+        self.balancer = Balancer(self.router.machine("balancer"), self.folder, self.instances)
+        doors = [[self.balancer]] * BALANCED + [self.instances] * (SENDERS - BALANCED)
+        self.senders = [OverMachines(these, number, seed) for number, these in enumerate(doors)]
+
+    def instance(self, name, ahead, programs):
+        os.mkdir(f"{self.folder}/clock-{name}")
+        clock = Clock(f"{self.folder}/clock-{name}")
+        clock.set(ahead)
+        return Instance(self.router.machine(name), self.folder, self.store, self.sink, clock, programs)
+
+    def ask(self, query):
+        return self.store.ask(query)
+
+    def points(self):
+        """What the sink has of all that these senders alone have posted."""
+        return [point for point in self.sink.points() if not self.has_others or point[0].startswith("sender-")]
+
+    def missing(self):
+        """The series of which the sink has something else than senders were told."""
+        found = {}
+        add_points(found, self.points())
+        return differences(told_to_all(self.senders), found)
+
+    def is_ready(self):
+        return all(one.is_ready() for one in self.instances)
+
+    def last_lines(self):
+        return "".join(f"\n{one.machine.name}: {one.last_lines(8)}" for one in self.instances)
+
+    def wrote(self):
+        """Lines that no instance writes."""
+        found = []
+        for one in self.instances:
+            with open(one.log, encoding="utf-8", errors="replace") as file:
+                found += [line.strip() for line in file if any(words in line for words in NEVER)]
+        return found[:5]
+
+
+def wait_for(what, seconds=IN_THE_END):
+    """As wait_until, for what takes time to look at."""
+    return wait_until(lambda: what() or time.sleep(0.5), seconds)
+
+
+def compare(checks, world):
+    world.sink.mood(["well"])
+    checks.true(f"{world.what}: the sink has what senders were told", wait_for(lambda: not world.missing()),
+                [world.missing(), world.last_lines()])
+    senders = world.senders
+    checks.same(f"{world.what}: no spans overlap", [], overlaps(world.points()))
+    checks.same(f"{world.what}: a key brings the same bytes", [], world.sink.wrong())
+    checks.same(f"{world.what}: no post was answered otherwise", [], [it for sender in senders for it in sender.surprises][:3])
+    checks.same(f"{world.what}: the service found nothing wrong", [], [fault for one in world.instances for fault in one.faults()])
+    checks.same(f"{world.what}: what no instance writes", [], world.wrote())
+
+
+def phase(checks, world, troubles, seconds):
+    faults = []
+    world.sink.mood(MOODS)
+    answered = post_while(world.senders, lambda: faults.extend(befall(world, troubles, seconds)), IN_THE_END)
+    checks.same(f"{world.what}: what befell them was done", [], faults)
+    checks.same(f"{world.what}: posts are answered", [], [it for one in troubles for it in one.silences])
+    checks.true(f"{world.what}: each post is answered", answered, world.last_lines())
+    checks.true(f"{world.what}: all are ready", wait_for(world.is_ready), world.last_lines())
+    compare(checks, world)
+
+
+@contextlib.contextmanager
+def serving(checks, world, seed):
+    """The instances over a new store, as long as they are needed: whether they serve."""
+    words = [world.program, "store", "init", world.store.address, "--slots", SLOTS]
+    made = subprocess.run(words, capture_output=True, text=True, check=False, timeout=LIMIT)
+    checks.same(f"{world.what}: a store is made", (0, ""), (made.returncode, made.stderr))
+    world.store.make_standby()
+    for one in world.instances:
+        one.begin(random.Random(seed))
+    serves = wait_for(world.is_ready)
+    checks.true(f"{world.what}: they serve", serves, world.last_lines())
+    yield serves
+    if not serves:
+        return
+    terms, versions = world.ask("select sum(term) from totxegun_store.slot"), world.ask(VERSIONS)
+    print(f"note: {sum(one.posts for one in world.senders)} posts, {sum(one.repeats for one in world.senders)} repeats, {terms} terms,"
+          f" {sum(one.starts for one in world.instances)} starts, versions {versions}", flush=True)
+    for one in world.instances:
+        one.is_wanted = False
+        status, seconds = one.end(IN_THE_END)
+        checks.true(f"{world.what}: {one.machine.name} ends", status == 0, f"status {status} after {seconds:.0f} s: {one.last_lines()}")
+    owners = world.ask("select string_agg(distinct owner, ',') from totxegun_store.slot")
+    checks.same(f"{world.what}: all slots are handed over", "", owners)
+
+
+def run_over(checks, arguments, stack, sink, seed, seconds):
+    world = World(stack, f"several machines, {sink}", arguments, seed, Pair, "ps", sink)
+    troubles = [of(world, seed, arguments.long) for of in (OfMachines, OfServers)]
+    with serving(checks, world, seed) as serves:
+        until = time.monotonic() + seconds
+        while serves and (left := until - time.monotonic()) > 0 and not checks.failed:
+            phase(checks, world, troubles, min(left, LONG_PHASE))
+    counts = collections.Counter(kind for one in troubles for kind in one.done)
+    print("note: " + ", ".join(f"{kind} {count}" for kind, count in sorted(counts.items())), flush=True)
+
+
+def work(checks, arguments, _):
+    seeds = itertools.cycle(arguments.seed.split(","))
+    for sink, seed in zip(arguments.sink, seeds):
+        with contextlib.ExitStack() as of_it:
+            run_over(checks, arguments, of_it, sink, seed, arguments.seconds / len(arguments.sink))
+
+
+def missing(*more):
+    """Which programs that are needed are not there."""
+    programs = ("haproxy", "gcc", "setpriv", *more)
+    return [*([] if initdb() else ["postgresql"]), *(program for program in programs if not shutil.which(program)),
+            *([] if may_have_machines() else ["network namespaces"])]
+
+
+def options(about, seconds=90):
+    parser = argparse.ArgumentParser(description=about.split("\n", maxsplit=1)[0])
+    parser.add_argument("totxegun", type=os.path.abspath)
+    parser.add_argument("seconds", type=float, nargs="?", default=seconds)
+    parser.add_argument("seed", nargs="?", default=SEEDS)
+    parser.add_argument("--sink", choices=SINKS, action="append")
+    parser.add_argument("--long", action="store_true")
+    parser.add_argument("--other", type=os.path.abspath)
+    arguments = parser.parse_args()
+    arguments.sink = arguments.sink or SINKS
+    return arguments
+
+
+def run(what, work, arguments, *lacking):
+    """Does the work, and ends all that it started, also where it is stopped."""
+    checks = Checks()
+    if checks.has(what, *lacking):
+        signal.signal(signal.SIGTERM, lambda *_: sys.exit(1))
+        with contextlib.ExitStack() as stack:
+            work(checks, arguments, stack)
+    return checks.end()
+
+
+if __name__ == "__main__":
+    sys.exit(run("several machines", work, options(__doc__), *missing()))

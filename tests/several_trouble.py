@@ -1,0 +1,216 @@
+"""What befalls several machines, drawn by chance: to instances and the network between all, and to the two servers of a store."""
+import contextlib
+import random
+import signal
+import threading
+import time
+
+from machines import OWN, both_ways
+from service import wait_until
+
+SHORT, LONG = [0.5, 1, 2, 4], [1, 2, 5, 10, 20, 40, 60]
+AWAY = {False: 6, True: 120}
+# Between two troubles.
+POSTS, POST_WITHIN = [0, 10, 50], 5
+# After a silence of what is unplugged, which takes half a minute to be noticed.
+ANSWERED_WITHIN = 150
+CANCEL = "select count(pg_cancel_backend(pid)) from pg_stat_activity where wait_event = 'SyncRep'"
+# Until others have a zombie's slots; it goes on anyway after that.
+TAKEN_WITHIN = 30
+
+
+class Trouble:
+    """Kinds, one after another, each once before one comes again."""
+
+    def __init__(self, world, seed, is_long):
+        self.world, self.is_long = world, is_long
+        self.chance = random.Random(f"{type(self).__name__} {seed}")
+        self.left, self.done, self.fault, self.silences = [], [], None, []
+
+    def go_on(self, until):
+        while time.monotonic() < until:
+            if not self.left:
+                self.left = self.kinds()
+                self.chance.shuffle(self.left)
+            kind = self.left.pop()
+            self.done.append(kind.__name__)
+            kind()
+            self.let_post(self.chance.choice(POSTS))
+
+    def let_post(self, count, seconds=POST_WITHIN):
+        """Whether so many posts more were answered within so many seconds."""
+        def posts():
+            return sum(sender.posts for sender in self.world.senders)
+        wanted = posts() + count
+        return wait_until(lambda: posts() >= wanted or time.sleep(0.1), seconds)
+
+    def guarded(self, until):
+        try:
+            self.go_on(until)
+        except Exception as error:  # noqa: BLE001 A thread's: who waits for it says so.
+            self.fault = f"{self.done[-1:]}: {type(error).__name__} {error}"
+
+    def wait(self):
+        time.sleep(self.chance.choice(LONG if self.is_long else SHORT))
+
+    def cut(self, *ways):
+        with self.world.router.cut(*ways):
+            self.wait()
+
+
+class OfMachines(Trouble):
+    """To instances, one at a time or all, and to what goes from one machine to another."""
+
+    def kinds(self):
+        return [self.killed, self.all_killed, self.stopped, self.ended, self.zombie, self.without_servers, self.without_each_other,
+                self.without_balancer, self.without_sink, self.one_way]
+
+    def one(self):
+        return self.chance.choice(self.world.instances)
+
+    def servers(self):
+        return [server.machine for server in self.world.store.all]
+
+    def killed(self):
+        """As a machine that is lost, with its folder."""
+        one = self.one()
+        one.vanish(with_folder=self.chance.random() < 0.5)
+        self.wait()
+        one.begin(self.chance)
+
+    def all_killed(self):
+        for one in self.world.instances:
+            one.vanish(with_folder=False)
+        for one in self.world.instances:
+            one.begin(self.chance)
+
+    def stopped(self):
+        one = self.one()
+        one.signal(signal.SIGSTOP)
+        self.wait()
+        one.signal(signal.SIGCONT)
+
+    def ended(self):
+        """It hands its slots over, and is started in either version."""
+        one = self.one()
+        one.is_wanted = False
+        one.end(2 * TAKEN_WITHIN)
+        one.begin(self.chance)
+
+    def zombie(self):
+        """It has sent requests whose answers come while it is stopped."""
+        one, usual = self.one(), self.world.sink.moods
+        self.world.sink.mood(["late"])
+        time.sleep(1.2)
+        one.signal(signal.SIGSTOP)
+        self.world.sink.mood(usual)
+        query = f"select count(*) from totxegun_store.slot where owner = '{one.machine.name}'"
+        wait_until(lambda: self.world.ask(query) == "0", TAKEN_WITHIN)
+        self.wait()
+        one.signal(signal.SIGCONT)
+
+    def without_servers(self):
+        """Its senders, and the other instances, still have it."""
+        servers = self.servers()
+        self.cut(*both_ways(self.one().machine, *self.chance.choice([servers, servers[:1], servers[1:]])))
+
+    def without_each_other(self):
+        one, other = self.chance.sample(self.world.instances, 2)
+        self.cut(*both_ways(one.machine, other.machine))
+
+    def without_balancer(self):
+        self.cut(*both_ways(self.one().machine, self.world.balancer.machine))
+
+    def without_sink(self):
+        self.cut((self.one().machine.address, OWN))
+
+    def one_way(self):
+        machines = [one.machine for one in self.world.instances]
+        one, other = self.chance.choice(machines), self.chance.choice([*machines, self.world.balancer.machine, *self.servers()])
+        ways = [(one.address, other.address), (other.address, one.address)]
+        self.cut(self.chance.choice(ways))
+
+
+class OfServers(Trouble):
+    """To the servers: at the end of each kind one writes and the other is its synchronous standby."""
+
+    def kinds(self):
+        return [self.restarted, self.lost, self.unplugged, self.cut_off, self.cancelled, self.standby_gone, self.apart, self.away]
+
+    def restarted(self):
+        self.world.store.restart()
+
+    def lost(self):
+        """Its machine comes back as the standby."""
+        store = self.world.store
+        store.primary.kill()
+        store.promote()
+        self.wait()
+        store.make_standby()
+
+    def unplugged(self):
+        """No instance hears of it: it is silent from one moment to another, and the other server has a standby on its machine."""
+        store = self.world.store
+        with self.world.router.cut(*both_ways(store.primary.machine, *(one.machine for one in self.world.instances))):
+            store.primary.kill()
+            store.promote()
+            store.make_standby()
+            if not self.let_post(1 + len(self.world.senders), ANSWERED_WITHIN):
+                self.silences.append(f"no posts were answered {ANSWERED_WITHIN} s after a server was unplugged")
+
+    def cancelled(self):
+        """The standby is away, and who waits for it is told that his commit is done: then the primary is lost with that."""
+        store = self.world.store
+        with self.world.router.cut(*both_ways(store.primary.machine, store.standby.machine)):
+            self.wait()
+            for _ in range(3):
+                store.ask(CANCEL)
+                self.wait()
+            store.primary.kill()
+        store.promote()
+        store.make_standby()
+
+    def cut_off(self):
+        """The old primary lives, and one instance still has it, while the standby takes its place."""
+        store = self.world.store
+        old, stays = store.primary.machine, self.chance.choice(self.world.instances).machine
+        others = [one.machine for one in self.world.instances if one.machine is not stays]
+        with self.world.router.cut(*both_ways(old, store.standby.machine, *others)):
+            self.wait()
+            store.promote()
+            self.wait()
+        store.standby.kill()
+        store.make_standby()
+
+    def standby_gone(self):
+        standby = self.world.store.standby
+        standby.kill()
+        self.wait()
+        standby.start()
+
+    def apart(self):
+        store = self.world.store
+        ways = both_ways(store.primary.machine, store.standby.machine)
+        self.cut(*self.chance.choice([ways, ways[:1], ways[1:]]))
+
+    def away(self):
+        store = self.world.store
+        for server in store.all:
+            server.kill()
+        time.sleep(AWAY[self.is_long])
+        for server in (store.primary, store.standby):
+            server.start()
+
+
+def befall(world, troubles, seconds):
+    """For so long, side by side, while instances that have ended are started anew. What went wrong with that itself."""
+    until = time.monotonic() + seconds
+    threads = [threading.Thread(target=one.guarded, args=(until,), daemon=True) for one in troubles]
+    for thread in threads:
+        thread.start()
+    while any(thread.is_alive() for thread in threads):
+        time.sleep(0.2)
+        for one in world.instances:
+            with contextlib.suppress(OSError):
+                one.go_on()
+    return [one.fault for one in troubles if one.fault]

@@ -1,0 +1,182 @@
+#!/usr/bin/env python3
+"""Two instances over a store in two databases, of which one is down for a while, killed or held.
+
+    tests/store_databases.py PROGRAM
+
+Senders of one resource each post to either instance. While a database is down, posts of its slots get 503, those of the other go
+on, no slot moves, and `totxegun status` names it; the same of the other database, in which the other half is. Then all are
+answered, and the sink has what senders were told. A start refuses databases in another order, or another number of them. Skipped
+without PostgreSQL.
+
+Each line is one check; the last line counts those that passed and failed, and the status is 0 where none failed.
+"""
+import json
+import os
+import signal
+import subprocess
+import sys
+import tempfile
+import time
+
+ROOT = os.path.dirname(os.path.dirname(os.path.abspath(__file__)))
+sys.path.insert(1, f"{ROOT}/demo")
+
+from checks import Checks  # noqa: E402
+from loopback import free_port  # noqa: E402
+from parts import initdb  # noqa: E402
+from service import JSON, OUT_OF_ORDER, OtlpSink, Sender, Service, add_points, differences, in_json, overlaps, told_to_all, wait_until  # noqa: E402
+from servers import Server, send  # noqa: E402
+
+SENDERS = 16
+ONE_COPY = ("--store-copies", "1")
+# An instance finds within these that a database does not answer, and that it does again.
+FINDS = 6
+
+
+class OfOneSlot(Sender):
+    # The points that no 200 was heard of yet, and whether they were posted before.
+    pending = None
+
+    def encoded(self, points):
+        [part] = json.loads(in_json(points))["resourceMetrics"]
+        part["resource"] = {"attributes": [{"key": "service.instance.id", "value": {"stringValue": self.name}}]}
+        return json.dumps({"resourceMetrics": [part]}).encode(), {"Content-Type": JSON, "x-sender": self.name}
+
+
+class Cluster:
+    def __init__(self, program, folder, checks):
+        self.program, self.checks, self.sink = program, checks, OtlpSink()
+        self.servers = [Server(), Server()]
+        for server in self.servers:
+            server.make()
+            server.start()
+        self.addresses = [f"postgres://postgres@127.0.0.1:{server.port}/postgres" for server in self.servers]
+        self.run("store", "init", *self.addresses, "--slots", "8")
+        self.instances = [self.instance(folder, name) for name in "ab"]
+        self.senders = [OfOneSlot(self.instances[number % 2], number) for number in range(SENDERS)]
+
+    def run(self, *words):
+        done = subprocess.run([self.program, *words], capture_output=True, text=True, check=False, timeout=60)
+        return done.returncode, done.stdout + done.stderr
+
+    def instance(self, folder, name):
+        stores = [word for address in self.addresses for word in ("--store", address)]
+        return Service(self.program, f"{folder}/{name}", self.sink.address, *stores, "--instance", name, "--peer",
+                       f"127.0.0.1:{free_port()}", "--flush-every", "1s", *ONE_COPY)
+
+    def refusals(self, folder):
+        for what, addresses, part in (("the databases in another order", self.addresses[::-1], "is database 1 of its store, not 0"),
+                                      ("one of two databases", self.addresses[:1], "the store has 2 databases, and 1 are given"),
+                                      ("a database twice", [self.addresses[0]] * 2, "is database 0 of its store, not 1")):
+            stores = [word for address in addresses for word in ("--store", address)]
+            places = [word for option in ("--listen", "--operate", "--peer") for word in (option, f"127.0.0.1:{free_port()}")]
+            status, text = self.run("serve", "--data", f"{folder}/x", "--sink", self.sink.address, *stores, *places, "--instance",
+                                    "x", *ONE_COPY)
+            self.checks.true(f"{what} are refused by name", status == 1 and part in text, text)
+
+    def answers(self):
+        """What each sender is told at one try: of the post that was not taken last, or of the next."""
+        found = {}
+        for sender in self.senders:
+            points, before = sender.pending or (sender.next_points(), False)
+            body, headers = sender.encoded(points)
+            status, sender.said = sender.try_once(body, headers)
+            if status == 200 or status == 400 and OUT_OF_ORDER in sender.said and before:
+                sender.note(points, (body, headers))
+                sender.pending, status = None, 200
+            else:
+                sender.pending = (points, True)
+            found[sender.name] = status
+        return found
+
+    def terms(self, server):
+        return server.ask("select string_agg(slot || ':' || term || owner, ' ' order by slot) from totxegun_store.slot")
+
+    def down(self, number, how):
+        """Senders whose posts get 503 while a database does not answer."""
+        server, other = self.servers[number], self.servers[1 - number]
+        before = self.terms(server), self.terms(other)
+        if how == "held":
+            pids = [server.process.pid, *server.kinds("")]
+            for pid in pids:
+                send(pid, signal.SIGSTOP)
+        else:
+            server.kill()
+        began = time.monotonic()
+        time.sleep(FINDS)
+        all_found = [self.answers() for _ in range(3)]
+        what = f"while database {number} is {how}"
+        refused = {name for name, status in all_found[-1].items() if status != 200}
+        self.checks.true(f"{what} some posts get 503, and others are taken", 0 < len(refused) < SENDERS, all_found)
+        self.checks.true(f"{what} it is the same senders each time",
+                         all({name for name, status in found.items() if status != 200} == refused for found in all_found), all_found)
+        self.checks.same(f"{what} they get 503", {503}, {all_found[-1][name] for name in refused})
+        status = [self.run("status", "--operate", f"unix:{one.socket}")[1] for one in self.instances]
+        port = str(server.port)
+        named = [[line for line in text.splitlines() if "get 503" in line and port in line] for text in status]
+        self.checks.true(f"{what} `status` of both names it", all(named), status)
+        self.checks.same(f"{what} no slot of the other moves", before[1], self.terms(other))
+        print(f"note: down for {time.monotonic() - began:.0f} s", flush=True)
+        if how == "held":
+            for pid in pids:
+                send(pid, signal.SIGCONT)
+        else:
+            server.start()
+        is_back = wait_until(lambda: set(self.answers().values()) == {200}, 60)
+        self.checks.true(f"after database {number} was {how} each post is taken", is_back,
+                         [{sender.name: sender.said for sender in self.senders}, *[one.last_lines() for one in self.instances]])
+        if how == "killed":
+            self.checks.same(f"after database {number} was {how} its slots are where they were", before[0], self.terms(server))
+        return refused
+
+    def compare(self):
+        def missing():
+            found = {}
+            add_points(found, self.sink.points())
+            return differences(told_to_all(self.senders), found)
+
+        wait_until(lambda: not missing())
+        self.checks.same("the sink has what senders were told", [], missing())
+        self.checks.same("nothing counts twice", [], overlaps(self.sink.points()))
+        self.checks.same("no faults", [], [fault for one in self.instances for fault in one.faults()])
+
+    def close(self):
+        for one in self.instances:
+            one.kill()
+        for server in self.servers:
+            server.close()
+        self.sink.close()
+
+
+def main(words):
+    if len(words) != 1:
+        sys.exit(__doc__.split("\n\n")[1].strip())
+    checks = Checks()
+    if not checks.has("a store", *[] if initdb() else ["postgresql"]):
+        return checks.end()
+    with tempfile.TemporaryDirectory(prefix="databases-") as folder:
+        cluster = Cluster(os.path.abspath(words[0]), folder, checks)
+        try:
+            cluster.refusals(folder)
+            for one in cluster.instances:
+                one.start()
+                checks.true("an instance serves", one.wait_ready(), one.last_lines())
+            checks.true("both have slots",
+                        wait_until(lambda: all("a" in cluster.terms(one) and "b" in cluster.terms(one) for one in cluster.servers)
+                                   and set(cluster.answers().values()) == {200}), [cluster.terms(one) for one in cluster.servers])
+            time.sleep(2)
+            second = cluster.down(1, "killed")
+            first = cluster.down(0, "killed")
+            checks.same("each sender has its slot in one of both", ({sender.name for sender in cluster.senders}, set()),
+                        (first | second, first & second))
+            checks.same("a database that is held and not dead is the same", second, cluster.down(1, "held"))
+            cluster.compare()
+            for one in cluster.instances:
+                checks.same("it ends", 0, one.end()[0])
+        finally:
+            cluster.close()
+    return checks.end()
+
+
+if __name__ == "__main__":
+    sys.exit(main(sys.argv[1:]))

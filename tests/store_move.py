@@ -1,0 +1,530 @@
+#!/usr/bin/env python3
+"""A folder is moved into a store and back, and killed at each step.
+
+    tests/store_move.py PROGRAM [EVERY]
+
+A folder has all that there can be: series whose senders go on, cumulative ones among them, posts that are in no group, requests
+that wait, of which the sink has one already, a request that was refused for good, a quarantined sender with posts, and the sink
+that it was told. `totxegun store move` brings it into a store of PostgreSQL and from there into another folder. For each call on
+the folder's files (by the library interrupt_files.c, which needs gcc), and each request to the server, or each EVERY-th (17), it is
+killed there, before it or after it: then exactly one of both counts by `check` and `store check`, no service starts on the other,
+and the same command again brings all of it there. At last services go on over the store, and over the folder that it was moved
+back to: each series has in the sink what its sender was told.
+
+The same of a folder that totxegun 0.5.0 has left with three slots. Skipped without PostgreSQL.
+
+Each line is one check; the last line counts those that passed and failed, and the status is 0 where none failed.
+"""
+import concurrent.futures
+import contextlib
+import itertools
+import json
+import os
+import shutil
+import signal
+import socket
+import subprocess
+import sys
+import tarfile
+import tempfile
+import threading
+import time
+
+ROOT = os.path.dirname(os.path.dirname(os.path.abspath(__file__)))
+sys.path.insert(1, f"{ROOT}/demo")
+
+from checks import Checks  # noqa: E402
+from loopback import free_port  # noqa: E402
+from parts import initdb  # noqa: E402
+from service import (JSON, PROTOBUF, OtlpSink, Sender, Service, add_points, ask, differences, field, fixed, in_json,  # noqa: E402
+                     in_protobuf, overlaps, told_to_all, wait_until)
+from service_interrupted import THREE_SLOTS, build  # noqa: E402
+from servers import Server  # noqa: E402
+
+SLOTS = "4"
+SENDERS = 4
+ONE_COPY = ("--store-copies", "1")
+CUMULATIVE = 2
+# Of databases: each move has its own.
+NUMBERS = itertools.count(1)
+# What a copy of a folder does not have.
+LEFT = shutil.ignore_patterns("lock", "operate")
+
+
+class OfSlots(Sender):
+    """Its sums and its histograms have a resource each, in both encodings."""
+
+    def encoded(self, points):
+        is_json = self.chance.random() < 0.5
+        parts = [self.resource(kind, [point for point in points if f".{kind}." in point[0]], is_json)
+                 for kind in ("sum", "histogram")]
+        body = json.dumps({"resourceMetrics": parts}).encode() if is_json else b"".join(parts)
+        return body, {"Content-Type": JSON if is_json else PROTOBUF, "x-sender": self.name}
+
+    def resource(self, kind, points, is_json):
+        name = f"{self.name}.{kind}"
+        if is_json:
+            [part] = json.loads(in_json(points))["resourceMetrics"]
+            attribute = {"key": "service.instance.id", "value": {"stringValue": name}}
+            return {"resource": {"attributes": [attribute]}, **part}
+        attribute = field(1, field(1, b"service.instance.id") + field(2, field(1, name.encode())))
+        return field(1, field(1, attribute) + scopes(in_protobuf(points)))
+
+
+def scopes(request):
+    """What is in the one message of a short request."""
+    at = 1
+    while request[at] > 127:
+        at += 1
+    return request[at + 1:]
+
+
+class Running(Sender):
+    """It posts how much it has come to since its start."""
+
+    def __init__(self, service, number):
+        super().__init__(service, number)
+        self.name = f"running-{number}"
+        self.begun = self.at = time.time_ns()
+        self.value = 0
+
+    def next_points(self):
+        self.at = max(self.at + 1000, time.time_ns())
+        add = self.chance.randrange(1, 100)
+        self.value += add
+        return [(f"{self.name}.total", self.begun, self.at, add)]
+
+    def encoded(self, points):
+        [(name, start, end, _)] = points
+        point = fixed(2, "<Q", start) + fixed(3, "<Q", end) + fixed(6, "<q", self.value)
+        data = field(7, field(1, point) + field(2, CUMULATIVE) + field(3, 1))
+        attribute = field(1, field(1, b"service.instance.id") + field(2, field(1, self.name.encode())))
+        request = field(1, field(1, attribute) + field(2, field(2, field(1, name.encode()) + data)))
+        return request, {"Content-Type": PROTOBUF, "x-sender": self.name}
+
+
+def post_all(senders, times=1):
+    for _ in range(times):
+        for sender in senders:
+            def between(sender=sender):
+                if not sender.service.is_running():
+                    raise Failed(f"it has ended: {sender.service.last_lines()}")
+            sender.post(sender.next_points(), between)
+
+
+class Filled:
+    """A folder with all that there can be."""
+
+    def __init__(self, program, folder, checks):
+        self.sink, self.data = OtlpSink(), f"{folder}/filled"
+        service = Service(program, self.data, self.sink.address, "--flush-every", "1h", "--cumulative", "on")
+        service.start()
+        checks.true("a service fills a folder", service.wait_ready(), service.last_lines())
+        self.senders = [OfSlots(service, number) for number in range(SENDERS)] + [Running(service, number) for number in range(2)]
+        post_all(self.senders, 3)
+        service.order("/flush")
+        wait_until(service.is_drained)
+        self.sink.mood(["refuse"])
+        post_all(self.senders)
+        service.order("/flush")
+        wait_until(lambda: service.is_drained() and os.listdir(f"{self.data}/dead"))
+        self.sink.mood(["lose"])
+        post_all(self.senders)
+        service.order("/flush")
+        wait_until(lambda: len(self.sink.taken) > 1)
+        self.sink.mood(["busy"])
+        post_all(self.senders)
+        service.order("/flush")
+        self.held = self.senders[SENDERS - 1]
+        post_all([self.held], 2)
+        service.order(f"/quarantine/{self.held.name}")
+        others = [sender for sender in self.senders if sender is not self.held]
+        post_all(others)
+        service.order("/flush")
+        post_all(others, 2)
+        service.kill()
+        self.sink.mood(["well"])
+
+    def go_on(self, checks, what, instance):
+        """A service over what was moved: nothing is missing, and nothing twice."""
+        instance.start()
+        checks.true(f"{what}: it serves", instance.wait_ready(), instance.last_lines())
+        for sender in self.senders:
+            sender.close()
+            sender.connection, sender.service = None, instance
+        body, headers = self.held.encoded(self.held.next_points())
+        wait_until(lambda: self.held.try_once(body, headers)[0] != 503)  # until its slot is taken
+        checks.same(f"{what}: a quarantined sender stays so", 403, self.held.try_once(body, headers)[0])
+        post_all([sender for sender in self.senders if sender is not self.held], 2)
+
+    def compare(self, checks, what, instance, held_too):
+        instance.order("/flush")
+
+        def missing():
+            found, told = {}, told_to_all(self.senders)
+            add_points(found, self.sink.points())
+            if not held_too:
+                told = {name: value for name, value in told.items() if not name.startswith(f"{self.held.name}.")}
+                found = {name: value for name, value in found.items() if not name.startswith(f"{self.held.name}.")}
+            return differences(told, found)
+
+        wait_until(lambda: not missing(), 30)
+        checks.same(f"{what}: the sink has what senders were told", [], missing())
+        checks.same(f"{what}: nothing counts twice", [], overlaps(self.sink.points()))
+        checks.same(f"{what}: a key brings the same bytes", [], self.sink.wrong())
+        checks.same(f"{what}: no faults", [], instance.faults())
+
+
+# --------------------------------------------------------------------------------------------------------------------
+# What is there
+
+
+def run(program, *words, environment=None, seconds=120):
+    done = subprocess.run([program, *words], capture_output=True, text=True, check=False, timeout=seconds,
+                          env=dict(os.environ, **environment or {}))
+    return done.returncode, done.stdout + done.stderr
+
+
+def content(program, data):
+    """What `check` says of a folder, less what hangs on how it is kept."""
+    status, text = run(program, "check", data, "--json")
+    if status:
+        return text
+    found = json.loads(text)
+    posts = subprocess.run([program, "check", data, "--posts"], capture_output=True, text=True, check=False).stdout
+    points = sorted(point for line in posts.splitlines() for point in points_of(json.loads(line)))
+    return {**{name: found[name] for name in ("sink", "waiting", "series", "series_without_owner", "quarantined", "dead", "faults")},
+            "points": points}
+
+
+def points_of(line):
+    """Of each point of a post who sent it, its series' name, its span and what it says."""
+    for resource in line.get("body", {}).get("resourceMetrics", ()):
+        for scope in resource["scopeMetrics"]:
+            for metric in scope["metrics"]:
+                for kind in ("sum", "histogram"):
+                    for one in metric.get(kind, {}).get("dataPoints", ()):
+                        yield (line["sender"], metric["name"], int(one["startTimeUnixNano"]), int(one["timeUnixNano"]),
+                               str(one.get("asInt", one.get("count"))), "")
+    for one in line.get("points", ()):
+        yield (line["sender"], one["series"][4], one["start"], one["end"], str(one.get("value", one.get("count"))),
+               json.dumps(one.get("run")))
+
+
+# --------------------------------------------------------------------------------------------------------------------
+# Kills
+
+
+class Counting:
+    """Passes what a program asks of a server on, counts the requests, and ends the program at one of them: before the server has
+    it, or once the server has done it."""
+
+    def __init__(self, port):
+        self.to, self.at, self.way = port, 0, "before"
+        self.lock, self.count, self.process = threading.Lock(), 0, None
+        self.listener = socket.create_server(("127.0.0.1", 0))
+        self.port = self.listener.getsockname()[1]
+        threading.Thread(target=self.accept, daemon=True).start()
+
+    def accept(self):
+        with contextlib.suppress(OSError):
+            while True:
+                client, _ = self.listener.accept()
+                server = socket.create_connection(("127.0.0.1", self.to))
+                threading.Thread(target=self.up, args=(client, server), daemon=True).start()
+
+    def begin(self, process, at, way):
+        with self.lock:
+            self.process, self.at, self.way, self.count = process, at, way, 0
+
+    def end(self):
+        with self.lock:
+            self.at = 0
+            return self.count
+
+    def is_due(self):
+        with self.lock:
+            self.count += 1
+            return self.count == self.at
+
+    def kill(self):
+        with contextlib.suppress(ProcessLookupError):
+            os.kill(self.process.pid, signal.SIGKILL)
+
+    def up(self, client, server):
+        held = threading.Event()
+        threading.Thread(target=self.down, args=(server, client, held), daemon=True).start()
+        try:
+            rest = exactly(client, 4)
+            server.sendall(rest + exactly(client, int.from_bytes(rest, "big") - 4))
+            while True:
+                head = exactly(client, 5)
+                message = head + exactly(client, int.from_bytes(head[1:], "big") - 4)
+                if head[:1] in (b"S", b"Q") and self.is_due():
+                    if self.way == "after":
+                        held.set()
+                        server.sendall(message)
+                        time.sleep(0.2)
+                    self.kill()
+                    raise EOFError
+                server.sendall(message)
+        except (OSError, EOFError):
+            for one in (client, server):
+                with contextlib.suppress(OSError):
+                    one.shutdown(socket.SHUT_RDWR)
+
+    @staticmethod
+    def down(server, client, held):
+        with contextlib.suppress(OSError):
+            while piece := server.recv(1 << 16):
+                if held.is_set():
+                    continue
+                client.sendall(piece)
+
+    def close(self):
+        self.listener.close()
+
+
+def exactly(source, length):
+    found = b""
+    while len(found) < length:
+        piece = source.recv(length - len(found))
+        if not piece:
+            raise EOFError
+        found += piece
+    return found
+
+
+class Failed(Exception):
+    """What is wrong with a run."""
+
+
+class Moves:
+    """Moves of copies of a folder, each with a database of its own."""
+
+    def __init__(self, program, server, folder, base, checks):
+        self.program, self.server, self.folder, self.base, self.checks = program, server, folder, base, checks
+        self.library = build(folder)
+        self.wanted = content(program, base)
+
+    def address(self, name, port=None):
+        return f"postgres://postgres@127.0.0.1:{port or self.server.port}/{name}"
+
+    def database(self):
+        name = f"m{next(NUMBERS)}"
+        self.server.ask(f"create database {name}")
+        status, text = run(self.program, "store", "init", self.address(name), "--slots", SLOTS)
+        if status:
+            raise Failed(text)
+        return name
+
+    def move(self, words, proxy=None, kill=(0, "before"), environment=None):
+        """A move that may be killed: its status and text, and how many requests it made."""
+        with subprocess.Popen([self.program, "store", "move", *words, *ONE_COPY], stdout=subprocess.PIPE, stderr=subprocess.STDOUT,
+                              text=True, env=dict(os.environ, **environment or {})) as process:
+            if proxy:
+                proxy.begin(process, *kill)
+            try:
+                text = process.communicate(timeout=120)[0]
+            finally:
+                process.kill()
+        return process.returncode, text, proxy.end() if proxy else 0
+
+    def look(self, address, folder):
+        """Exactly one counts of those that are told of a move; and no service starts on the other."""
+        status, text = run(self.program, "store", "check", address)
+        if status:
+            raise Failed(f"store check: {text}")
+        is_told, starts = "folder" in text, text.startswith("the store")
+        store = starts or "the store counts" in text
+        status, said = run(self.program, "check", folder, "--json")
+        found = json.loads(said) if status == 0 else {"counts": False, "moved": None}
+        if found["moved"] is None:
+            return  # nothing was done to it
+        if is_told and store == found["counts"] or found["counts"] is None:
+            raise Failed(f"which of both counts? {text} {found['counts']} {found['moved']}")
+        if self.starts_on("--data", folder) or self.starts_on("--data", f"{folder}.x", "--store", address) != starts:
+            raise Failed(f"a service starts on the wrong one: {text} {found['counts']} {found['moved']}")
+
+    def starts_on(self, *words):
+        """Whether a service would start there."""
+        words = [*words, "--sink", "http://127.0.0.1:1/", "--listen", f"127.0.0.1:{free_port()}", "--operate", f"127.0.0.1:{free_port()}"]
+        if "--store" in words:
+            words += ["--instance", "x", "--peer", f"127.0.0.1:{free_port()}", *ONE_COPY]
+        try:
+            status, text = run(self.program, "serve", *words, seconds=3)
+        except subprocess.TimeoutExpired:
+            return True
+        if status == 1 and ("store move" in text or "moved into" in text or "delivers to" in text):
+            return "delivers to" in text
+        raise Failed(f"it did not start, and did not say why: {text}")
+
+    def one(self, direction, kill=None, calls=None):
+        """A move that is killed and called again; how many requests and calls it made."""
+        place, proxy = tempfile.mkdtemp(dir=self.folder), Counting(self.server.port)
+        folder, other, log = (f"{place}/{name}" for name in ("data", "other", "calls"))
+        name = self.database()
+        address = self.address(name, proxy.port)
+        shutil.copytree(self.base, folder, ignore=LEFT)
+        into, back = ["--from", folder, address], ["--to", other, address]
+        if direction == "back" and self.move(into)[0]:
+            raise Failed("the first move")
+        words, at = (into, folder) if direction == "into" else (back, other)
+        os.makedirs(at, exist_ok=True)
+        environment = {"LD_PRELOAD": self.library, "INTERRUPT_FOLDER": at, "INTERRUPT_LOG": log, "INTERRUPT_AT": "0", **(calls or {})}
+        status, text, requests = self.move(words, proxy, kill or (0, "before"), environment)
+        if status and not kill and not calls:
+            raise Failed(text)
+        if status:
+            self.look(address, at)
+            status, text, _ = self.move(words)
+            if status:
+                raise Failed(f"called again: {text}")
+        self.look(address, at)
+        if direction == "into":
+            status, text, _ = self.move(back)
+            if status:
+                raise Failed(f"back: {text}")
+        found = content(self.program, other)
+        if found != self.wanted:
+            raise Failed(f"{difference(self.wanted, found)}")
+        proxy.close()
+        self.server.ask(f"drop database {name} with (force)")
+        made = 0
+        with contextlib.suppress(FileNotFoundError), open(log, encoding="utf-8") as file:
+            made = len(file.read().splitlines())
+        shutil.rmtree(place)
+        return requests, made
+
+    def kills(self, direction, every):
+        try:
+            requests, calls = self.one(direction)
+        except Failed as failed:
+            return self.checks.true(f"{direction}: it is moved", False, failed)
+        self.checks.true(f"{direction}: it is moved, by {requests} requests and {calls} calls on files", True, "")
+        ways = [(way, (at, way), None) for at in range(1, requests + 1, every) for way in ("before", "after")]
+        ways += [(f"{way} call", None, {"INTERRUPT_AT": str(at), "INTERRUPT_HOW": way}) for at in range(1, calls + 1, every)
+                 for way in ("before", "middle", "behind", "ENOSPC")]
+
+        def try_one(way):
+            try:
+                self.one(direction, *way[1:])
+                return None
+            except Failed as failed:
+                return f"{way}: {failed}"
+            except Exception as error:  # A test that breaks is a failure with its place.
+                return f"{way}: {type(error).__name__} {error}"
+
+        with concurrent.futures.ThreadPoolExecutor(4) as pool:
+            faults = [fault for fault in pool.map(try_one, ways) if fault]
+        return self.checks.same(f"{direction}: {len(ways)} times it was killed, and then went on", [], faults[:5])
+
+
+def difference(wanted, found):
+    if not isinstance(found, dict) or not isinstance(wanted, dict):
+        return f"{wanted} {found}"
+    return {name: (wanted[name], found[name]) for name in wanted if wanted[name] != found[name]}
+
+
+# --------------------------------------------------------------------------------------------------------------------
+
+
+def go_there_and_back(checks, program, moves, filled, folder):
+    """Services go on over the store, and then over the folder that it was moved back to."""
+    data, other = f"{folder}/data", f"{folder}/other"
+    shutil.copytree(filled.data, data, ignore=LEFT)
+    name = moves.database()
+    address = moves.address(name)
+    running = Service(program, data, filled.sink.address, "--cumulative", "on", "--flush-every", "1h")
+    running.start()
+    running.wait_ready()
+    checks.true("a folder in use is refused", "in use" in moves.move(["--from", data, address])[1], "")
+    running.kill()
+    shutil.rmtree(data)
+    shutil.copytree(filled.data, data, ignore=LEFT)
+    status, text, _ = moves.move(["--from", data, address])
+    checks.true("it is moved", status == 0 and "counts in its place" in text, text)
+    checks.true("no service starts on the folder any more", not moves.starts_on("--data", data), "it went on")
+    peer = f"127.0.0.1:{free_port()}"
+    options = ["--store", address, "--instance", "a", "--peer", peer, "--cumulative", "on", "--flush-every", "1h", *ONE_COPY]
+    status, text = run(program, "serve", "--data", f"{folder}/x", "--sink", "http://127.0.0.1:1/", *options, "--listen",
+                       f"127.0.0.1:{free_port()}", "--operate", f"127.0.0.1:{free_port()}")
+    checks.true("another sink than the folder's is refused", status == 1 and "this store delivers to" in text, text)
+    over = Service(program, f"{folder}/a", filled.sink.address, *options)
+    filled.go_on(checks, "over the store", over)
+    letters = json.loads(over.asked("GET", "/dead")[1])
+    for letter in letters:
+        over.asked("POST", f"/dead/{letter['key']}/resend")
+    checks.true("a request that was refused is sent again", letters, letters)
+    checks.true("an instance that runs is named", "in use by a" in moves.move(["--to", other, address])[1], "")
+    filled.compare(checks, "over the store", over, False)
+    post_all([sender for sender in filled.senders if sender is not filled.held])
+    over.kill()
+    status, text, _ = moves.move(["--to", other, address])
+    checks.true("it is moved back", status == 0 and "counts in its place" in text, text)
+    status, text = run(program, "serve", "--data", f"{folder}/x", "--sink", filled.sink.address, *options, "--listen",
+                       f"127.0.0.1:{free_port()}", "--operate", f"127.0.0.1:{free_port()}")
+    checks.true("no instance starts on the store any more", status == 1 and "was moved into the folder" in text, text)
+    again = Service(program, other, filled.sink.address, "--cumulative", "on", "--flush-every", "1h")
+    filled.go_on(checks, "over the folder", again)
+    filled.compare(checks, "over the folder", again, False)
+    again.order(f"/lift/{filled.held.name}")
+    post_all([filled.held])
+    filled.compare(checks, "with what was held", again, True)
+    checks.same("it ends", 0, again.end()[0])
+
+
+def try_giving_up(checks, program, moves):
+    place = tempfile.mkdtemp(dir=moves.folder)
+    folder, name = f"{place}/data", moves.database()
+    shutil.copytree(moves.base, folder, ignore=LEFT)
+    proxy = Counting(moves.server.port)
+    requests = moves.move(["--from", folder, moves.address(name, proxy.port)], proxy, (60, "after"))[2]
+    checks.true("a move is killed half-way", requests >= 60, requests)
+    status, text, _ = moves.move(["--give-up", "--from", folder, moves.address(name)])
+    checks.true("it is given up", status == 0, text)
+    checks.same("the folder has what it had", moves.wanted, content(program, folder))
+    checks.true("the store has nothing", moves.starts_on("--data", f"{place}/x", "--store", moves.address(name)), "")
+    time.sleep(4)
+    status, text, _ = moves.move(["--from", folder, moves.address(name)])
+    checks.true("it is used: no folder is moved into it", status == 1 and "something already" in text, text)
+
+
+def old_folder(checks, moves):
+    """What the three slots of 0.5.0 had is there, whichever way it went."""
+    try:
+        moves.one("into")
+        checks.true("a folder of 0.5.0 with three slots is moved, and back", True, "")
+    except Failed as failed:
+        checks.true("a folder of 0.5.0 with three slots is moved, and back", False, failed)
+
+
+def main(words):
+    if not 1 <= len(words) <= 2:
+        sys.exit(__doc__.split("\n\n")[1].strip())
+    program, every = os.path.abspath(words[0]), int((words[1:] + ["17"])[0])
+    checks = Checks()
+    if not checks.has("a store", *[] if initdb() else ["postgresql"]):
+        return checks.end()
+    server = Server()
+    with tempfile.TemporaryDirectory(prefix="moved-") as folder:
+        try:
+            server.make()
+            server.start()
+            filled = Filled(program, folder, checks)
+            moves = Moves(program, server, folder, filled.data, checks)
+            go_there_and_back(checks, program, moves, filled, folder)
+            try_giving_up(checks, program, moves)
+            with tarfile.open(THREE_SLOTS) as archive:
+                archive.extractall(f"{folder}/three", filter="data")
+            old_folder(checks, Moves(program, server, folder, f"{folder}/three", checks))
+            for direction in ("into", "back"):
+                moves.kills(direction, every)
+            filled.sink.close()
+        finally:
+            server.close()
+    return checks.end()
+
+
+if __name__ == "__main__":
+    sys.exit(main(sys.argv[1:]))

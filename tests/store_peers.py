@@ -1,0 +1,321 @@
+#!/usr/bin/env python3
+"""Instances beside each other over one store, and what they do where one of them is in trouble.
+
+    tests/store_peers.py PROGRAM
+
+They speak TLS with each other, and let nobody else in; a start waits for the store; without it posts are turned away at
+once; a slot that one can't open goes to another; what `--whole auto` has decided stays where the slot goes; the sink is the
+one that the store knows. Skipped without PostgreSQL or openssl.
+
+Each line is one check; the last line counts those that passed and failed, and the status is 0 where none failed.
+"""
+import http.client
+import json
+import os
+import shutil
+import signal
+import subprocess
+import sys
+import tempfile
+import time
+
+ROOT = os.path.dirname(os.path.dirname(os.path.abspath(__file__)))
+sys.path.insert(1, f"{ROOT}/demo")
+
+from checks import Checks  # noqa: E402
+from loopback import free_port  # noqa: E402
+from parts import initdb  # noqa: E402
+from service import DELTA, JSON, OtlpSink, Service, wait_until  # noqa: E402
+from servers import Server  # noqa: E402
+
+SLOTS = 8
+SECOND = 1_000_000_000
+
+
+class Store:
+    """One server, which is said to be enough."""
+
+    def __init__(self):
+        self.server = Server()
+        self.server.make()
+        self.server.start()
+        self.address = f"postgres://postgres@127.0.0.1:{self.server.port}/postgres"
+
+    def ask(self, query):
+        return self.server.ask(query)
+
+    def owners(self):
+        return (self.ask("select string_agg(owner, ',' order by slot) from totxegun_store.slot") or "").split(",")
+
+
+class Instance(Service):
+    """One over the store, under a name."""
+
+    def __init__(self, program, folder, name, store, sink, *words):
+        self.name, self.peer = name, f"localhost:{free_port()}"
+        super().__init__(program, f"{folder}/{name}", sink, "--store", store.address, "--store-copies", "1", "--instance", name,
+                         "--peer", self.peer, "--flush-every", "1s", *words)
+
+    def post(self, resource, value, name="a", unit="1", sender="s"):
+        """The status and the text of an answer, or None."""
+        return post(self.listen, request(resource, value, name, unit), sender)
+
+    def slots(self):
+        answer = self.asked("GET", "/status")
+        return [slot["slot"] for slot in json.loads(answer[1])["slots"]] if answer and answer[0] == 200 else []
+
+
+LAST = {}
+
+
+def request(resource, value, name="a", unit="1"):
+    """A point that goes on where the last one of this series ended."""
+    key = (resource, name)
+    start = LAST.get(key, int(time.time()) * SECOND - 100 * SECOND)
+    LAST[key] = start + SECOND // 100
+    point = {"startTimeUnixNano": str(start), "timeUnixNano": str(LAST[key])}
+    point |= {"asDouble": value} if isinstance(value, float) else {"asInt": str(value)}
+    metric = {"name": name, "unit": unit, "sum": {"aggregationTemporality": DELTA, "isMonotonic": True, "dataPoints": [point]}}
+    attributes = [{"key": "service.instance.id", "value": {"stringValue": resource}}]
+    return json.dumps({"resourceMetrics": [{"resource": {"attributes": attributes}, "scopeMetrics": [{"metrics": [metric]}]}]})
+
+
+def post(port, body, sender="s"):
+    connection = http.client.HTTPConnection("127.0.0.1", port, timeout=15)
+    try:
+        connection.request("POST", "/v1/metrics", body, {"Content-Type": JSON, "x-sender": sender})
+        answer = connection.getresponse()
+        return answer.status, answer.read().decode()
+    except OSError:
+        return None, ""
+    finally:
+        connection.close()
+
+
+def openssl(folder, line):
+    subprocess.run(["openssl", *line.split()], cwd=folder, check=True, capture_output=True)
+
+
+def certificates(folder):
+    """`ca` with `a` and `b` of it for localhost, and `x` of `strange`."""
+    new = "-x509 -newkey ec -pkeyopt ec_paramgen_curve:prime256v1 -nodes -days 2"
+    for name in ("ca", "strange"):
+        openssl(folder, f"req {new} -keyout {name}.key -out {name}.pem -subj /CN={name}")
+    for name, by in (("a", "ca"), ("b", "ca"), ("x", "strange")):
+        openssl(folder, f"req {new} -keyout {name}.key -out {name}.pem -subj /CN={name} -CA {by}.pem -CAkey {by}.key"
+                        " -addext basicConstraints=CA:FALSE -addext subjectAltName=DNS:localhost")
+
+
+def of_tls(folder, name, by="ca"):
+    return ["--peer-ca", f"{folder}/{by}.pem", "--peer-cert", f"{folder}/{name}.pem", "--peer-key", f"{folder}/{name}.key"]
+
+
+def settled(store, *names):
+    """Each slot has an owner of these, and each of these has some."""
+    return wait_until(lambda: set(store.owners()) == set(names), 120)
+
+
+def ended(checks, what, *instances):
+    for one in instances:
+        checks.same(f"{what}: {one.name} ends", 0, one.end()[0])
+
+
+def try_refused(checks, program, folder, store, sink):
+    """Starts that end at once, each with what to do."""
+    words = ["serve", "--data", f"{folder}/r", "--store", store.address, "--store-copies", "1", "--instance", "r", "--listen",
+             f"127.0.0.1:{free_port()}", "--operate", f"127.0.0.1:{free_port()}", "--sink", sink.address]
+    port = free_port()
+    wrong = store.address.replace("/postgres", "/nowhere")
+    for what, line, status, part in (
+            ("a peer's address beyond loopback", [*words, "--peer", f"0.0.0.0:{port}"], 2, "--peer-ca"),
+            ("TLS for an IP address", [*words, "--peer", f"127.0.0.1:{port}", *of_tls(folder, "a")], 1, "no IP address"),
+            ("a certificate of a root that others do not know",
+             [*words, "--peer", f"localhost:{port}", *of_tls(folder, "x")], 1, "--peer-ca can't be used"),
+            ("a database that is not there", [*words, "--peer", f"127.0.0.1:{port}", "--store", wrong], 1, "3D000"),
+            ("a store that was not made", [*words, "--peer", f"127.0.0.1:{port}"], 1, "store init")):
+        if what.startswith("a database"):
+            line[line.index("--store") + 1] = wrong
+            line = line[:-2]
+        done = subprocess.run([program, *line], capture_output=True, text=True, check=False, timeout=60)
+        text = done.stdout + done.stderr
+        checks.true(f"{what} is refused by name", done.returncode == status and part in text, f"{done.returncode}: {text}")
+
+
+def try_tls(checks, program, folder, store, sink):
+    """Two talk; a third with a stranger's certificate, and who speaks plainly, are told nothing."""
+    one, other = (Instance(program, folder, name, store, sink.address, *of_tls(folder, name)) for name in "ab")
+    for instance in (one, other):
+        instance.start()
+    checks.true("two over TLS have their slots", settled(store, "a", "b"), [one.last_lines(), other.last_lines()])
+    resources = [f"r{number}" for number in range(40)]
+    answers = [instance.post(resource, 1) for resource in resources for instance in (one, other)]
+    checks.same("posts are brought over TLS", {200}, {status for status, _ in answers})
+    secret = store.ask("select secret from totxegun_store.cluster")
+    for what, line in (("a stranger's certificate", ["--cacert", "ca.pem", "--cert", "x.pem", "--key", "x.key"]),
+                       ("none", ["--cacert", "ca.pem"])):
+        done = subprocess.run(["curl", "-sS", *line, "-H", f"totxegun-secret: {secret}", "-d", "{}",
+                               f"https://{other.peer}/internal/post"], cwd=folder, capture_output=True, text=True, check=False)
+        checks.true(f"with the secret, but {what}, nobody is let in", done.returncode != 0, done.stdout)
+    for what, head, wanted in (("the secret", secret, "400"), ("another", "another", "401")):
+        done = subprocess.run(["curl", "-sS", "-o", "/dev/null", "-w", "%{http_code}", "--cacert", "ca.pem", "--cert", "a.pem",
+                               "--key", "a.key", "-H", f"totxegun-secret: {head}", "-d", "{}",
+                               f"https://{other.peer}/internal/post"], cwd=folder, capture_output=True, text=True, check=False)
+        checks.same(f"with a certificate and {what}", wanted, done.stdout)
+    ended(checks, "over TLS", one, other)
+
+
+def try_no_store(checks, program, folder, store, sink):
+    """A start waits for the store, and a running instance says no at once."""
+    store.server.kill()
+    one = Instance(program, folder, "a", store, sink.address)
+    one.start()
+    asked = wait_until(lambda: one.asked("GET", "/health") and one.asked("GET", "/health")[0] == 200)
+    checks.true("it starts without the store, and is well", asked, one.last_lines())
+    checks.same("it is not ready", 503, one.asked("GET", "/ready")[0])
+    status, text = one.post("r0", 1)
+    checks.true("posts are turned away", status == 503 and "the store does not answer" in text, (status, text))
+    checks.true("the log says so", "is waited for" in one.last_lines(50), one.last_lines())
+    store.server.start()
+    checks.true("it goes on once the store is there", one.wait_ready() and settled(store, "a"), one.last_lines())
+    checks.true("posts are taken", wait_until(lambda: one.post("r0", 1)[0] == 200), one.last_lines())
+    for pid in [store.server.process.pid, *store.server.kinds("")]:
+        os.kill(pid, signal.SIGSTOP)
+    time.sleep(4)
+    begun = time.monotonic()
+    answers = [one.post(f"r{number}", 1) for number in range(10)]
+    took = time.monotonic() - begun
+    checks.same("a store that stands still is seen at the door", {503}, {status for status, _ in answers})
+    checks.true("at once", took < 10, f"10 posts in {took:.1f} s")
+    for pid in [store.server.process.pid, *store.server.kinds("")]:
+        os.kill(pid, signal.SIGCONT)
+    checks.true("all goes on", wait_until(lambda: one.post("r1", 1)[0] == 200), one.last_lines())
+    ended(checks, "after the store was away", one)
+
+
+def try_broken_slot(checks, program, folder, store, sink):
+    """The book of one instance has no room for what a slot has."""
+    one = Instance(program, folder, "a", store, sink.address)
+    one.start()
+    checks.true("one has all", settled(store, "a") and one.wait_ready(), one.last_lines())
+    checks.true("posts are taken", wait_until(lambda: one.post("r2", 1)[0] == 200), one.last_lines())
+    slot = max(one.slots(), key=lambda slot: int(store.ask(
+        f"select coalesce(sum(length), 0) from totxegun_store.piece where slot = {slot}")))
+    ended(checks, "before a slot is broken", one)
+    # A byte of its journal is another, whoever reads it.
+    saved = store.ask("select string_agg(format('(%s,%s,%s,%s,%s,%L)', slot, file, number, place, length, bytes), ',')"
+                      f" from totxegun_store.piece where slot = {slot}")
+    store.ask(f"update totxegun_store.piece set length = octet_length(bytes) where slot = {slot};"
+              f" update totxegun_store.piece set bytes = set_byte(bytes, 0, 255 - get_byte(bytes, 0)) where slot = {slot}")
+    one, other = (Instance(program, folder, name, store, sink.address) for name in "ab")
+    for instance in (one, other):
+        instance.start()
+    refused = "select count(*) from totxegun_store.instance where refused like '%" + f'"{slot}":' + "%'"
+    checks.true("both refuse a slot that nobody can open", wait_until(lambda: store.ask(refused) == "2", 60),
+                [store.ask("select * from totxegun_store.instance"), one.last_lines(), other.last_lines()])
+    checks.true("the others are served", wait_until(lambda: store.owners().count("") == 1
+                                                    and {"a", "b"} <= set(store.owners()), 60), store.owners())
+    term = int(store.ask(f"select term from totxegun_store.slot where slot = {slot}"))
+    time.sleep(5)
+    checks.true("it is not thrown to and fro", int(store.ask(f"select term from totxegun_store.slot where slot = {slot}"))
+                - term <= 3, term)
+    checks.true("both go on", one.is_running() and other.is_running(), [one.last_lines(), other.last_lines()])
+    store.ask(f"delete from totxegun_store.piece where slot = {slot};"
+              f" insert into totxegun_store.piece (slot, file, number, place, length, bytes) values {saved}")
+    checks.true("once it is mended it is opened", wait_until(lambda: "" not in store.owners(), 150), store.owners())
+    checks.true("and serves", wait_until(lambda: one.post("r2", 1)[0] == 200, 60), one.last_lines())
+    ended(checks, "after a slot was mended", one, other)
+
+
+def slot_of(instances, resource):
+    """The slot that a resource is in, by where its series is."""
+    def series():
+        return {slot["slot"]: slot["series"] for one in instances for slot in (one.status() or {"slots": []})["slots"]}
+
+    before = series()
+    found = []
+
+    def is_seen():
+        now = series()
+        found[:] = [slot for slot in now if now[slot] > before.get(slot, 0)]
+        return bool(found)
+
+    if not wait_until(lambda: instances[0].post(resource, 1, "probe")[0] == 200) or not wait_until(is_seen):
+        return None
+    return found[0]
+
+
+def try_units(checks, program, folder, store, sink):
+    """What was decided at one instance is so at the next: else its series would be another, and a repeat would count twice."""
+    one, other = (Instance(program, folder, name, store, sink.address) for name in "ab")
+    for instance in (one, other):
+        instance.start()
+    checks.true("two have their slots", settled(store, "a", "b"), [one.last_lines(), other.last_lines()])
+    owners, homes = store.owners(), {}
+    for number in range(60):
+        slot = slot_of((one, other), f"u{number}")
+        if slot is not None:
+            homes.setdefault(owners[slot], f"u{number}")
+        if set(homes) == {"a", "b"}:
+            break
+    checks.same("each has a resource", {"a", "b"}, set(homes))
+    # The one that takes over has taken the name in whole seconds, in a slot of its own.
+    checks.same("whole numbers come first at the one", 200, other.post(homes["b"], 7, "whole", "s")[0])
+    body = request(homes["a"], 0.25, "whole", "s")
+    status, text = post(one.listen, body)
+    checks.true("and doubles at the other", status == 200 and "rejected" not in text, (status, text))
+    one.kill()
+    checks.true("it takes over", settled(store, "b") and wait_until(other.is_ready), other.last_lines())
+    status, text = post(other.listen, body)
+    checks.true("the repeat is known", status == 400 and "out of order" in text, (status, text))
+    ended(checks, "units", other)
+
+
+def try_sink(checks, program, folder, store, sink):
+    """The store remembers the sink, and another is taken while nobody else runs."""
+    second = OtlpSink(2)
+    one, other = (Instance(program, folder, name, store, sink.address) for name in "ab")
+    try:
+        one.start()
+        checks.true("one has all", settled(store, "a") and one.wait_ready(), one.last_lines())
+        for words, part in (([], "--new-sink"), (["--new-sink"], "stop all first")):
+            wrong = Instance(program, folder, "b", store, second.address, *words)
+            wrong.start()
+            checks.true("another sink is refused by name", wait_until(lambda: not wrong.is_running(), 90)
+                        and part in wrong.last_lines(20), wrong.last_lines())
+        ended(checks, "with the former sink", one)
+        new = Instance(program, folder, "b", store, second.address, "--new-sink")
+        new.start()
+        checks.true("it is taken while nobody runs", settled(store, "b") and new.wait_ready(), new.last_lines())
+        other.start()
+        checks.true("the former one is refused from then on", wait_until(lambda: not other.is_running(), 90),
+                    other.last_lines())
+        ended(checks, "with the new sink", new)
+    finally:
+        second.close()
+
+
+def main(words):
+    if len(words) != 1:
+        sys.exit(__doc__.split("\n\n")[1].strip())
+    program = os.path.abspath(words[0])
+    checks = Checks()
+    missing = [name for name, there in (("postgresql", initdb()), ("openssl", shutil.which("openssl"))) if not there]
+    if not checks.has("a store", *missing):
+        return checks.end()
+    store, sink = Store(), OtlpSink(1)
+    with tempfile.TemporaryDirectory() as folder:
+        try:
+            certificates(folder)
+            try_refused(checks, program, folder, store, sink)
+            done = subprocess.run([program, "store", "init", store.address, "--slots", str(SLOTS)], check=False)
+            checks.same("a store is made", 0, done.returncode)
+            for part in (try_tls, try_no_store, try_broken_slot, try_units, try_sink):
+                part(checks, program, folder, store, sink)
+        finally:
+            sink.close()
+            store.server.close()
+    return checks.end()
+
+
+if __name__ == "__main__":
+    sys.exit(main(sys.argv[1:]))
