@@ -32,16 +32,6 @@ fn reply_of<'b>(source: &mut Script, head: &'b mut [u8; MAX_HEAD]) -> Result<Rep
     read_response(source, head)
 }
 
-fn write(
-    tape: &mut Tape,
-    status: StatusCode,
-    content_type: &str,
-    allow: Option<&str>,
-    body: &[u8],
-) -> Written {
-    write_response(tape, status, content_type, allow, body)
-}
-
 /// The fault of the bytes, and None where they are read.
 fn fault_of(alloc: Global, bytes: &[u8]) -> Option<HttpFault> {
     let mut source = Script::new(bytes, &[]);
@@ -353,13 +343,13 @@ const RESPONSE: &[u8] =
 fn written_responses(rt: HostRuntime) -> Result<(), Fail> {
     let mut tape = Tape::new(rt.alloc(), &[]);
     let kind = "application/json";
-    let done = write(&mut tape, StatusCode::OK, kind, None, b"{}");
+    let done = write_response(&mut tape, StatusCode::OK, kind, None, b"{}");
     assert_eq!(rt; done, Written::All);
     assert!(rt; tape.taken() == RESPONSE);
 
     let mut tape = Tape::new(rt.alloc(), &[]);
     let wrong = StatusCode::METHOD_NOT_ALLOWED;
-    let done = write(&mut tape, wrong, "text/plain", Some("POST"), b"");
+    let done = write_response(&mut tape, wrong, "text/plain", Some("POST"), b"");
     assert_eq!(rt; done, Written::All);
     let text =
         b"HTTP/1.1 405 Method Not Allowed\r\nContent-Type: text/plain\r\nContent-Length: 0\r\nAllow: POST\r\nConnection: close\r\n\r\n";
@@ -377,7 +367,7 @@ fn a_failing_writer(rt: HostRuntime) -> Result<(), Fail> {
             steps[n] = Step::Fail;
         }
         let mut tape = Tape::new(rt.alloc(), &steps);
-        let done = write(&mut tape, StatusCode::OK, kind, None, b"{}");
+        let done = write_response(&mut tape, StatusCode::OK, kind, None, b"{}");
         assert_eq!(rt; done, Written::Part(n));
         assert!(rt; tape.taken() == &RESPONSE[..n]);
     }
@@ -398,13 +388,13 @@ fn calls_of_a_writer(rt: HostRuntime) -> Result<(), Fail> {
         (940, Written::Part(91)),
     ] {
         let mut tape = Tape::new(rt.alloc(), &once);
-        let done = write(&mut tape, StatusCode::OK, kind, None, &spaces[..size]);
+        let done = write_response(&mut tape, StatusCode::OK, kind, None, &spaces[..size]);
         assert_eq!(rt; done, written, "{size} bytes");
     }
     let twice = [Step::AtMost(4_096), Step::AtMost(4_096), Step::Fail];
     for size in [940, 1_024, 1_025, 2_000] {
         let mut tape = Tape::new(rt.alloc(), &twice);
-        let done = write(&mut tape, StatusCode::OK, kind, None, &spaces[..size]);
+        let done = write_response(&mut tape, StatusCode::OK, kind, None, &spaces[..size]);
         assert_eq!(rt; done, Written::All, "{size} bytes");
     }
     Ok(())

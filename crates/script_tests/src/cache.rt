@@ -279,7 +279,7 @@ fn read_thousand<R: Abort + AllocGlobal>(
 #[test]
 fn a_cache_takes_in_what_is_new(rt: HostRuntime) -> Result<(), Fail> {
     let mut cache = IdentityCache::new(rt.alloc());
-    for part in 0..100u32 {
+    for part in 0..200u32 {
         read_thousand(&rt, part, &mut cache)?;
     }
     for key in ["a", "b", "c", "d", "e", "f", "g", "h"] {
