@@ -13,7 +13,7 @@ import sys
 import tempfile
 
 ROOT = os.path.dirname(os.path.dirname(os.path.abspath(__file__)))
-sys.path[1:1] = [f"{ROOT}/tests", f"{ROOT}/demo"]
+sys.path[:1] = [f"{ROOT}/tests", f"{ROOT}/demo"]  # another service.py is beside this
 
 from loopback import free_port  # noqa: E402
 from service import JSON, Service, ask, in_json, wait_until  # noqa: E402
@@ -48,6 +48,10 @@ def deliver(program, server, folder, sink, requests):
     server.ask("select pg_stat_statements_reset()")
     for number in range(1, requests + 1):
         post(number)
+    taken = server.run("psql", f"postgresql://postgres@127.0.0.1:{server.port}/{where}", "-XAtqc",
+                       "select count(*) from totxegun.request")
+    # Those of the first flush are not among them.
+    requests = int(taken) * requests // (requests + 1)
     query = "select coalesce(sum(calls), 0), coalesce(sum(wal_bytes), 0) from pg_stat_statements where "
     found = [[int(one) / requests for one in server.ask(query + of).split("|")] for of in (OF_SINK, OF_NOTE)]
     service.end()

@@ -51,7 +51,7 @@ class Cluster:
             server.make()
             server.start()
         self.addresses = [f"postgres://postgres@127.0.0.1:{server.port}/postgres" for server in self.servers]
-        self.run("store", "init", *self.addresses, "--slots", "8")
+        self.run("store", "init", *self.addresses, "--slots", "16")
         self.instances = [self.instance(folder, name) for name in "ab"]
         self.senders = [OfOneSlot(self.instances[number % 2], number) for number in range(SENDERS)]
 
@@ -162,7 +162,7 @@ def main(words):
                 one.start()
                 checks.true("an instance serves", one.wait_ready(), one.last_lines())
             checks.true("both have slots",
-                        wait_until(lambda: all("a" in cluster.terms(one) and "b" in cluster.terms(one) for one in cluster.servers)
+                        wait_until(lambda: {"a", "b"} <= {row[-1] for one in cluster.servers for row in cluster.terms(one).split()}
                                    and set(cluster.answers().values()) == {200}), [cluster.terms(one) for one in cluster.servers])
             time.sleep(2)
             second = cluster.down(1, "killed")

@@ -25,8 +25,8 @@ sys.path.insert(1, f"{ROOT}/demo")
 from checks import Checks  # noqa: E402
 from loopback import free_port  # noqa: E402
 from parts import initdb  # noqa: E402
-from service import DELTA, JSON, OtlpSink, Service, wait_until  # noqa: E402
 from servers import Server  # noqa: E402
+from service import DELTA, JSON, OtlpSink, Service, wait_until  # noqa: E402
 
 SLOTS = 8
 SECOND = 1_000_000_000
@@ -125,7 +125,7 @@ def try_refused(checks, program, folder, store, sink):
     words = ["serve", "--data", f"{folder}/r", "--store", store.address, "--store-copies", "1", "--instance", "r", "--listen",
              f"127.0.0.1:{free_port()}", "--operate", f"127.0.0.1:{free_port()}", "--sink", sink.address]
     port = free_port()
-    wrong = store.address.replace("/postgres", "/nowhere")
+    wrong = store.address.rpartition("/")[0] + "/nowhere"
     for what, line, status, part in (
             ("a peer's address beyond loopback", [*words, "--peer", f"0.0.0.0:{port}"], 2, "--peer-ca"),
             ("TLS for an IP address", [*words, "--peer", f"127.0.0.1:{port}", *of_tls(folder, "a")], 1, "no IP address"),

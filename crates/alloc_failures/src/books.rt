@@ -7,7 +7,7 @@ use crate::making::text_of;
 use crate::values::answer;
 use delta_book::book::Book;
 use delta_book::faults::RoundFault;
-use delta_book::totals::{PastTotals, SeriesTotals, all_totals};
+use delta_book::totals::all_totals;
 use gate_workers::SeatedBook;
 use out_texts::{past_text, put_past, put_report, report_text};
 use std::alloc::{AllocError, Global};
@@ -38,36 +38,19 @@ fn close_round<R: Print>(caller: &mut BookCaller<'_, R>) -> Result<(), AllocErro
     Ok(())
 }
 
-/// The totals of a book's cells are as if no sender were quarantined.
-fn print_cells(rt: &impl Print, alloc: Global, book: &Book) -> Result<(), AllocError> {
+/// All calls on a book's rows. The totals of its cells are as if no sender were quarantined.
+fn print_rows(rt: &impl Print, alloc: Global, book: &Book) -> Result<(), AllocError> {
     let cells = twice!(rt, "all_totals", all_totals(alloc, book.cells(), &[]))?;
     print_number(rt, "all_totals", cells.len() as u64);
-    Ok(())
-}
-
-fn print_totals(rt: &impl Print, alloc: Global, totals: &[SeriesTotals]) -> Result<(), AllocError> {
-    calls!(answer, rt;
-        "report_text" => text_of(alloc, report_text(alloc, totals)?),
-        "put_report" => put!(alloc, put_report, totals),
-    );
-    Ok(())
-}
-
-fn print_past(rt: &impl Print, alloc: Global, past: &[PastTotals]) -> Result<(), AllocError> {
-    calls!(answer, rt;
-        "past_text" => text_of(alloc, past_text(alloc, past)?),
-        "put_past" => put!(alloc, put_past, past),
-    );
-    Ok(())
-}
-
-/// All calls on a book's rows.
-fn print_rows(rt: &impl Print, alloc: Global, book: &Book) -> Result<(), AllocError> {
-    print_cells(rt, alloc, book)?;
     let totals = twice!(rt, "totals", book.totals())?;
     let past = twice!(rt, "past", book.past())?;
-    print_totals(rt, alloc, totals.as_slice())?;
-    print_past(rt, alloc, past.as_slice())
+    calls!(answer, rt;
+        "report_text" => text_of(alloc, report_text(alloc, totals.as_slice())?),
+        "put_report" => put!(alloc, put_report, totals.as_slice()),
+        "past_text" => text_of(alloc, past_text(alloc, past.as_slice())?),
+        "put_past" => put!(alloc, put_past, past.as_slice()),
+    );
+    Ok(())
 }
 
 fn make_calls<R: Print>(caller: &mut BookCaller<'_, R>) -> Result<(), AllocError> {

@@ -65,63 +65,23 @@ impl<'a, R: Print, S: Store + Drop> Caller<'a, R, S> {
         print_right(self.rt, call, right);
     }
 
-    /// The points of a body, twice.
-    fn two_batches(&self, body: &[u8]) -> Result<(Batch, Batch), AllocError> {
-        let batch = twice!(self.rt, "the batch", batch_of(self.alloc, body))?;
+    /// Admits a batch, and confirms it.
+    pub fn admit(&mut self, body: &[u8]) -> Result<(), AllocError> {
+        let before = look_at(self.rt, self.alloc, &mut self.store)?;
+        let mut batch = twice!(self.rt, "the batch", batch_of(self.alloc, body))?;
         let copy = twice!(self.rt, "the batch", batch.copy(self.alloc))?;
-        Ok((batch, copy))
-    }
-
-    /// Admits a batch: its number.
-    fn admit_batch(
-        &mut self,
-        batch: Batch,
-        copy: &Batch,
-        before: &[u8],
-    ) -> Result<u64, AllocError> {
-        let mut batch = batch;
-        twice!(self.rt, "admit", {
+        let admitted = twice!(self.rt, "admit", {
             if batch.points.as_slice().is_empty() {
                 return Err(AllocError);
             }
             self.store.admit(batch)
         }, (AdmitFault::NoMemory, back) => {
             batch = back;
-            batch.is_same(copy) && is_as_before(self.alloc, &mut self.store, before)
-        }, _)
-    }
-
-    /// Admits the points of a body: the batch's number.
-    fn admit_body(&mut self, body: &[u8], before: &[u8]) -> Result<u64, AllocError> {
-        let (batch, copy) = self.two_batches(body)?;
-        self.admit_batch(batch, &copy, before)
-    }
-
-    /// Admits a batch, and confirms it.
-    pub fn admit(&mut self, body: &[u8]) -> Result<(), AllocError> {
-        let before = look_at(self.rt, self.alloc, &mut self.store)?;
-        let admitted = self.admit_body(body, &before)?;
+            batch.is_same(&copy) && is_as_before(self.alloc, &mut self.store, &before)
+        }, _)?;
         self.count("admit", admitted);
         let confirmed = self.store.confirm(admitted).is_ok();
         self.note("confirm", confirmed);
-        Ok(())
-    }
-
-    /// Takes a flush.
-    fn take_flush(&mut self, most: usize, before: &[u8]) -> Result<Flush, AllocError>
-        requires low { 1 ≤ most }
-        requires high { most ≤ 1000 }
-    {
-        let taken = twice!(self.rt, "take", self.store.take(most), TakeFault::NoMemory => {
-            is_as_before(self.alloc, &mut self.store, before)
-        }, _)?;
-        taken.ok_or(AllocError)
-    }
-
-    /// Prints the request of a flush.
-    fn print_request(&self, flush: &Flush) -> Result<(), AllocError> {
-        let request = twice!(self.rt, "request_text", request_text(self.alloc, flush))?;
-        print_bytes(self.rt, "request_text", request.as_slice());
         Ok(())
     }
 
@@ -131,22 +91,22 @@ impl<'a, R: Print, S: Store + Drop> Caller<'a, R, S> {
         requires high { most ≤ 1000 }
     {
         let before = look_at(self.rt, self.alloc, &mut self.store)?;
-        let flush = self.take_flush(most, &before)?;
+        let taken = twice!(self.rt, "take", self.store.take(most), TakeFault::NoMemory => {
+            is_as_before(self.alloc, &mut self.store, &before)
+        }, _)?;
+        let flush = taken.ok_or(AllocError)?;
         self.count("take", flush.number);
-        self.print_request(&flush)?;
+        let request = twice!(self.rt, "request_text", request_text(self.alloc, &flush))?;
+        print_bytes(self.rt, "request_text", request.as_slice());
         Ok(flush)
-    }
-
-    fn hold(&mut self, before: &[u8]) -> Result<(), AllocError> {
-        twice!(self.rt, "quarantine", {
-            let sender = twice!(self.rt, "the sender", name_of(self.alloc, b"H"))?;
-            self.store.quarantine(sender)
-        }, QuarantineFault::NoMemory => is_as_before(self.alloc, &mut self.store, before), _)
     }
 
     fn quarantine(&mut self) -> Result<(), AllocError> {
         let before = look_at(self.rt, self.alloc, &mut self.store)?;
-        self.hold(&before)?;
+        twice!(self.rt, "quarantine", {
+            let sender = twice!(self.rt, "the sender", name_of(self.alloc, b"H"))?;
+            self.store.quarantine(sender)
+        }, QuarantineFault::NoMemory => is_as_before(self.alloc, &mut self.store, &before), _)?;
         self.note("quarantine", true);
         Ok(())
     }

@@ -6,7 +6,6 @@ use crate::bodies::{MIXED, NO_POINTS, SUMS};
 use crate::lines::{no_memory, print_right};
 use crate::making::{first_point, name_of, own_series, points_of};
 use bucket_lanes::{fits, is_zero};
-use metric_events::point::Point;
 use metric_events::points::Points;
 use series_cell::cell::Cell;
 use series_id::{SeriesId, SharedId};
@@ -35,23 +34,13 @@ fn share(rt: &impl Print, alloc: Global) -> Result<(), AllocError> {
 }
 
 /// Points without memory for one more are as before.
-fn push_one(
-    rt: &impl Print,
-    alloc: Global,
-    points: &mut Points,
-    point: &Point,
-) -> Result<(), AllocError> {
-    let before = points.copy(alloc)?;
-    let call = "Points::push";
-    twice!(rt, call, points.push(point.copy(alloc)?), _ => points.is_same(&before))
-}
-
-/// The points of a body, one after another.
 fn push(rt: &impl Print, alloc: Global) -> Result<(), AllocError> {
     let mut points = Points::new(alloc);
     let sums = points_of(alloc, SUMS)?;
     for point in sums.as_slice() {
-        push_one(rt, alloc, &mut points, point)?;
+        let before = points.copy(alloc)?;
+        let call = "Points::push";
+        twice!(rt, call, points.push(point.copy(alloc)?), _ => points.is_same(&before))?;
     }
     print_right(rt, "Points::push", points.is_same(&sums));
     Ok(())
@@ -72,7 +61,9 @@ fn cell_of(alloc: Global, series: SeriesId) -> Result<Cell, AllocError> {
 }
 
 /// A cell without memory for a point is as before.
-fn put_into(rt: &impl Print, cell: &mut Cell, point: &Point) -> Result<(), AllocError> {
+fn put(rt: &impl Print, alloc: Global) -> Result<(), AllocError> {
+    let point = first_point(alloc, MIXED)?;
+    let mut cell = cell_of(alloc, point.series().copy(alloc)?)?;
     twice!(rt, "Cell::put", {
         if !cell.id().is_same(point.series())
             || cell.frontier() > point.span().start()
@@ -82,33 +73,23 @@ fn put_into(rt: &impl Print, cell: &mut Cell, point: &Point) -> Result<(), Alloc
             print_right(rt, "Cell::put", false);
             return Ok(());
         }
-        cell.put(point, 1)
+        cell.put(&point, 1)
     }, _ => is_zero(cell.accepted()) && cell.frontier() == 0)?;
     print_right(rt, "Cell::put", cell.accepted() == point.row());
     Ok(())
 }
 
-fn put(rt: &impl Print, alloc: Global) -> Result<(), AllocError> {
+/// A cell without memory for the span of a point is as before.
+fn put_span(rt: &impl Print, alloc: Global) -> Result<(), AllocError> {
     let point = first_point(alloc, MIXED)?;
     let mut cell = cell_of(alloc, point.series().copy(alloc)?)?;
-    put_into(rt, &mut cell, &point)
-}
-
-/// A cell without memory for the span of a point is as before.
-fn put_span_into(rt: &impl Print, cell: &mut Cell, point: &Point) -> Result<(), AllocError> {
     twice!(rt, "Cell::put_span", {
         if !cell.id().is_same(point.series()) || cell.frontier() > point.span().start() {
             print_right(rt, "Cell::put_span", false);
             return Ok(());
         }
-        cell.put_span(point, 1)
+        cell.put_span(&point, 1)
     }, _ => cell.frontier() == 0)?;
     print_right(rt, "Cell::put_span", cell.frontier() == point.span().end());
     Ok(())
-}
-
-fn put_span(rt: &impl Print, alloc: Global) -> Result<(), AllocError> {
-    let point = first_point(alloc, MIXED)?;
-    let mut cell = cell_of(alloc, point.series().copy(alloc)?)?;
-    put_span_into(rt, &mut cell, &point)
 }

@@ -112,99 +112,6 @@ fn finish<L: Round>(
     Ok(())
 }
 
-/// What is made before the calls: the quarantined sender, and an identity.
-struct Made {
-    quarantined: SenderName,
-    identity: SharedId,
-}
-
-// Written by hand: a derived `drop` is proved again at each exit.
-impl Drop for Made {
-    fn drop(self) {
-        let Made {
-            quarantined: _,
-            identity: _,
-        } = self;
-    }
-}
-
-fn made(alloc: Global) -> Result<Made, AllocError> {
-    let quarantined = name_of(alloc, b"H")?;
-    let identity = first_point(alloc, MIXED)?.shared_series().share()?;
-    Ok(Made {
-        quarantined,
-        identity,
-    })
-}
-
-/// Ends all that is open in the book of its own, and prints what it has then.
-fn end_own(rt: &impl Print, alloc: Global, seated: &mut SeatedBook, made: &Made) {
-    end(rt, seated, &made.quarantined);
-    let book = &seated.book;
-    print_number(rt, "end: Book::journal", book.journal().len() as u64);
-    print_right(rt, "end: Book::acknowledged", book.acknowledged() == 1);
-    print_right(rt, "end: Book::cells", are_ended(book.cells()));
-    let is_same = is_copied(alloc, &made.identity);
-    print_right(rt, "end: copies of an identity", is_same);
-    print_right(rt, "end: read_response", is_read());
-}
-
-/// Has all calls made, and ends what is open in both stores.
-fn call_and_end<R: Print + Wait>(
-    rt: &R,
-    alloc: Global,
-    seated: &mut SeatedBook,
-    store: &mut impl Store,
-) -> Result<(), AllocError> {
-    let made = made(alloc)?;
-    make_calls(rt, alloc);
-    end_own(rt, alloc, seated, &made);
-    end(rt, store, &made.quarantined);
-    Ok(())
-}
-
-/// Fills the shared book from a seat, which comes back at the end.
-fn from_seat<L: Round, R: Print + Wait>(
-    rt: &R,
-    alloc: Global,
-    shared: &SharedBook<L>,
-    seat: Seat<L>,
-    seated: &mut SeatedBook,
-) -> Result<Seat<L>, AllocError> {
-    let mut keeper = SharedKeeper::new(rt, alloc, shared, seat, None);
-    fill(alloc, &mut keeper)?;
-    call_and_end(rt, alloc, seated, &mut keeper)?;
-    let seat = keeper.into_seat();
-    print_number(rt, "end: Seat::receipts", seat.receipts().len() as u64);
-    Ok(seat)
-}
-
-/// Shares a book beside the one of its own, has all calls made, and ends both.
-fn beside<L: Round, R: Print + Wait>(
-    rt: &R,
-    alloc: Global,
-    blank: Blank,
-    seated: &mut SeatedBook,
-) -> Result<(), AllocError>
-    requires name { blank.name ≡ L.name }
-    requires ledger { blank.parts ≡ L.parts }
-    requires parts { blank.parts ≡ 2 }
-    requires opening { L.opening ≡ first_opening }
-{
-    let Ok((shared, seats)) = SharedBook::<L>::new(alloc, Book::new(alloc)?, blank, 2) else {
-        return Err(AllocError);
-    };
-    let mut seats = seats;
-    let (Some(idle), Some(seat)) = (seats.pop(), seats.pop()) else {
-        return Err(AllocError);
-    };
-    let seat = from_seat(rt, alloc, &shared, seat, seated)?;
-    if seats.push(seat).is_err() || finish(rt, &seated.book, shared, seats, idle).is_err() {
-        print_right(rt, "end: SharedBook::finish", false);
-    }
-    Ok(())
-}
-
 /// Makes both, has all calls made, and ends both.
 pub fn run<L: Round, R: Print + Wait>(rt: &R, alloc: Global, blank: Blank) -> Result<(), AllocError>
     requires name { blank.name ≡ L.name }
@@ -215,5 +122,34 @@ pub fn run<L: Round, R: Print + Wait>(rt: &R, alloc: Global, blank: Blank) -> Re
     let book = Book::new(alloc)?;
     let mut seated = SeatedBook { book, seat: 0 };
     fill(alloc, &mut seated)?;
-    beside::<L, R>(rt, alloc, blank, &mut seated)
+    let Ok((shared, seats)) = SharedBook::<L>::new(alloc, Book::new(alloc)?, blank, 2) else {
+        return Err(AllocError);
+    };
+    let mut seats = seats;
+    let (Some(idle), Some(seat)) = (seats.pop(), seats.pop()) else {
+        return Err(AllocError);
+    };
+    let mut keeper = SharedKeeper::new(rt, alloc, &shared, seat, None);
+    fill(alloc, &mut keeper)?;
+    let quarantined = name_of(alloc, b"H")?;
+    let identity = first_point(alloc, MIXED)?.shared_series().share()?;
+    make_calls(rt, alloc);
+    end(rt, &mut seated, &quarantined);
+    let book = &seated.book;
+    print_number(rt, "end: Book::journal", book.journal().len() as u64);
+    print_right(rt, "end: Book::acknowledged", book.acknowledged() == 1);
+    print_right(rt, "end: Book::cells", are_ended(book.cells()));
+    print_right(
+        rt,
+        "end: copies of an identity",
+        is_copied(alloc, &identity),
+    );
+    print_right(rt, "end: read_response", is_read());
+    end(rt, &mut keeper, &quarantined);
+    let seat = keeper.into_seat();
+    print_number(rt, "end: Seat::receipts", seat.receipts().len() as u64);
+    if seats.push(seat).is_err() || finish(rt, book, shared, seats, idle).is_err() {
+        print_right(rt, "end: SharedBook::finish", false);
+    }
+    Ok(())
 }

@@ -69,22 +69,7 @@ fn serve_twice(
     Ok(())
 }
 
-/// Serves requests in turn, and prints the report.
-fn serve_each(
-    rt: &impl Print,
-    alloc: Global,
-    keeper: &mut BookKeeper<Fixed>,
-    requests: &[(&str, &[u8], &[Step])],
-) -> Result<(), AllocError> {
-    for request in requests {
-        serve_twice(rt, alloc, keeper, *request)?;
-    }
-    let report = look_at(rt, alloc, keeper)?;
-    print_bytes(rt, "report_text", report.as_slice());
-    Ok(())
-}
-
-/// Serves them over a book of its own.
+/// Serves requests in turn over a book of its own, and prints its report.
 fn serve_all(
     rt: &impl Print,
     alloc: Global,
@@ -93,21 +78,26 @@ fn serve_all(
     let book = twice!(rt, "the value", Book::new(alloc))?;
     let answer = Answer::Success;
     let mut keeper = BookKeeper::new(alloc, book, 0, Fixed { answer }, 1000);
-    serve_each(rt, alloc, &mut keeper, requests)
-}
-
-/// Serves a post of this body.
-fn serve_body(rt: &impl Print, alloc: Global, call: &str, body: &[u8]) -> Result<(), AllocError> {
-    let request = twice!(rt, "the value", post(alloc, body))?;
-    serve_all(rt, alloc, &[(call, request.as_slice(), &[])])
+    for request in requests {
+        serve_twice(rt, alloc, &mut keeper, *request)?;
+    }
+    let report = look_at(rt, alloc, &mut keeper)?;
+    print_bytes(rt, "report_text", report.as_slice());
+    Ok(())
 }
 
 /// All requests. The last one comes to writers that take nothing, one byte and all, over one book:
 /// its points are undone, then they stay, and then they are out of order.
 pub fn make_all(rt: &impl Print, alloc: Global) -> Result<(), AllocError> {
-    serve_body(rt, alloc, "serve of no points", NO_POINTS)?;
-    serve_body(rt, alloc, "serve of foreign points", FOREIGN)?;
-    serve_body(rt, alloc, "serve of a sum that is too large", TOO_LARGE)?;
+    let bodies: [(&str, &[u8]); 3] = [
+        ("serve of no points", NO_POINTS),
+        ("serve of foreign points", FOREIGN),
+        ("serve of a sum that is too large", TOO_LARGE),
+    ];
+    for (call, body) in bodies {
+        let request = twice!(rt, "the value", post(alloc, body))?;
+        serve_all(rt, alloc, &[(call, request.as_slice(), &[])])?;
+    }
     serve_all(rt, alloc, &[("serve of a chunked body", CHUNKED, &[])])?;
     let requests: [(&str, &[u8], &[Step]); 3] = [
         ("serve to a refusing writer", POSTED, &[Step::Fail]),

@@ -198,8 +198,8 @@ fn make_texts(rt: &impl Print, alloc: Global) -> Result<(), AllocError> {
     Ok(())
 }
 
-/// Parts of identities, and rows.
-fn make_parts(rt: &impl Print, alloc: Global) -> Result<(), AllocError> {
+/// All calls: first those that make identities, events and cells, and read messages.
+pub fn make_all(rt: &impl Print, alloc: Global) -> Result<(), AllocError> {
     calls!(same, rt;
         "Text::copy" => copied!(alloc, text(alloc, "x")?, copy => copy.as_str() == "x"),
         "Scalar::copy" => copied!(alloc, word(alloc, "x")?, copy => is_word(&copy, "x")),
@@ -211,13 +211,6 @@ fn make_parts(rt: &impl Print, alloc: Global) -> Result<(), AllocError> {
         }),
         "row_of" => Ok(row_of(alloc, &[1, 0, 3])?.as_slice() == [1, 0, 3].as_slice()),
         "SeriesList::copy" => series_list_copy(alloc),
-    );
-    Ok(())
-}
-
-/// Identities and senders.
-fn make_identities(rt: &impl Print, alloc: Global) -> Result<(), AllocError> {
-    calls!(same, rt;
         "AttrSet::from_pairs" => set_of_pairs(alloc),
         "AttrValue::copy" => copied!(alloc, AttrValue::One(word(alloc, "x")?), copy => {
             is_one_word(&copy, "x")
@@ -226,13 +219,6 @@ fn make_identities(rt: &impl Print, alloc: Global) -> Result<(), AllocError> {
         "SeriesId::copy" => copied!(alloc, own_series(alloc)?),
         "SenderName::new" => Ok(name_of(alloc, b"A")?.as_bytes() == b"A".as_slice()),
         "SenderName::copy" => copied!(alloc, name_of(alloc, b"A")?),
-    );
-    Ok(())
-}
-
-/// Points, batches and cells, and messages that are read.
-fn make_points(rt: &impl Print, alloc: Global) -> Result<(), AllocError> {
-    calls!(same, rt;
         "Point::sum" => Ok(first_point(alloc, SUMS)?.row() == [1, 1, 0].as_slice()),
         "Point::histogram" => {
             Ok(first_point(alloc, LATER)?.row() == [1, 1, 0, 1, 0, 0, 0].as_slice())
@@ -245,13 +231,5 @@ fn make_points(rt: &impl Print, alloc: Global) -> Result<(), AllocError> {
         "read_message" => message(alloc),
         "Decoder::feed" => decoded(alloc),
     );
-    Ok(())
-}
-
-/// All calls.
-pub fn make_all(rt: &impl Print, alloc: Global) -> Result<(), AllocError> {
-    make_parts(rt, alloc)?;
-    make_identities(rt, alloc)?;
-    make_points(rt, alloc)?;
     make_texts(rt, alloc)
 }

@@ -108,9 +108,9 @@ fn said(moved: Option<Moved>, from: &str, to: &str) -> Vec<u8> {
     match moved {
         None => line(format!("all of {from} was in {to} before, and {to} counts")),
         Some(moved) => line(format!(
-            "{to} has all of {from}, and counts in its place: {} series, {}, {} not flushed, {} refused for good",
+            "{to} has all of {from}, and counts in its place: {} series, {} for the sink, {} not flushed, {} refused for good",
             moved.series,
-            counted(moved.requests, "request for the sink"),
+            counted(moved.requests, "request"),
             counted(moved.posts, "post"),
             counted(moved.letters, "request"),
         )),

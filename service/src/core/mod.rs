@@ -176,8 +176,12 @@ impl Book {
         Ok(())
     }
 
-    /// Of one book, where one is to be closed: what is over is forgotten, and sums begin at what they are.
+    /// Of one book, where one is to be closed: what is over is forgotten, and sums begin at what they are. While something is
+    /// in flight none can be, and who is next waits: else its book had more in its journal than is known here.
     fn close_next_round(&mut self) {
+        if self.earlier.in_flight > 0 {
+            return;
+        }
         if let Some(book) = self.rounds.next() {
             self.close_round(book);
         }

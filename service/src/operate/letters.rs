@@ -32,7 +32,7 @@ impl Desk {
     pub(super) async fn letters(self: &Arc<Self>) -> Response<Body> {
         let answers = match self.in_all_slots("", &Command::Letters).await.all() {
             Ok(answers) => answers,
-            Err(not_all) => return not_all,
+            Err(not_all) => return not_all.into(),
         };
         match answers.iter().find(|(_, answer)| answer.status != 200) {
             Some((_, faulty)) => faulty.clone().into(),
@@ -55,7 +55,7 @@ impl Desk {
                 let answer = answers.into_iter().next();
                 answer.map_or_else(no_such, |(_, answer)| answer).into()
             }
-            Err(left) => left,
+            Err(left) => left.into(),
         }
     }
 

@@ -19,14 +19,14 @@ impl Desk {
     pub(super) async fn order(self: &Arc<Self>, who: &str, order: &Command) -> Response<Body> {
         match self.in_all_slots(who, order).await.all() {
             Ok(answers) => together(&answers).into(),
-            Err(not_all) => not_all,
+            Err(not_all) => not_all.into(),
         }
     }
 
     pub(super) async fn report(self: &Arc<Self>) -> Response<Body> {
         let answers = match self.in_all_slots("", &Command::Report).await.all() {
             Ok(answers) => answers,
-            Err(not_all) => return not_all,
+            Err(not_all) => return not_all.into(),
         };
         match answers.iter().find(|(_, answer)| answer.status != 200) {
             Some((_, refused)) => reply(refused.status, JSON, refused.body.clone()),

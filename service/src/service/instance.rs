@@ -54,7 +54,7 @@ pub(super) struct Joining {
     secret: Secret,
     peers: Peers,
     /// Of who is shown the cluster.
-    metrics: Option<OfCluster>,
+    metrics: Option<Box<OfCluster>>,
 }
 
 impl Joining {
@@ -74,14 +74,16 @@ impl Joining {
             forward,
             secret,
             peers,
-            metrics: Some(OfCluster::new(&metrics.registry).context("no metrics can be made")?),
+            metrics: Some(Box::new(
+                OfCluster::new(&metrics.registry).context("no metrics can be made")?,
+            )),
         })
     }
 
     /// How operators reach the other instances; once.
     pub fn others(&mut self, of: &OfStore) -> Option<Others> {
         Some(Others {
-            metrics: self.metrics.take()?,
+            metrics: *self.metrics.take()?,
             cluster: self.cluster.clone(),
             asks: self.forward.clone(),
             databases: Databases::begin(&self.store, of.copies),

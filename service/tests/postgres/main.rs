@@ -240,8 +240,8 @@ async fn what_is_told() {
             .to_string();
         assert!(error.contains(part) && error.contains(database), "{error}");
     };
-    server.ask_of("d1", "update totxegun.version set version = 7");
-    refuses("d1", "schema 7; this one knows 6");
+    server.ask_of("d1", "update totxegun.version set version = 8");
+    refuses("d1", "schema 8; this one knows 7");
     again(&*lame, 2, body(), "version").await;
     again(&*lame, 2, body(), "later version").await;
     server.ask_of(

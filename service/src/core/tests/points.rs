@@ -146,20 +146,37 @@ fn a_block_that_is_refused_names_nothing_and_reads_nothing() {
     assert_eq!(taken(&core).len(), 21);
 }
 
-/// No post waits for the rounds of two books.
-#[test]
-fn rounds_are_closed_book_by_book() {
-    let core = Core::new(24_000).unwrap();
-    let all = names("s", 20); // of each book some
-    let by = named(&all);
+/// Which of these posts have closed rounds, and of how many books.
+fn closing(core: &Arc<Core>, by: &Arc<Names>, posts: std::ops::Range<u64>) -> Vec<(u64, usize)> {
     let mut closed = Vec::new();
-    for number in 1..=2_700 {
-        assert_eq!(put(&core, &by, "A", of(0..20, number * 10, 1)), Ok(0));
+    for number in posts {
+        assert_eq!(put(core, by, "A", of(0..20, number * 10, 1)), Ok(0));
         match core.lock().rounds_closed() {
             0 => {}
             rounds => closed.push((number, rounds)),
         }
     }
+    closed
+}
+
+/// No post waits for the rounds of two books.
+#[test]
+fn rounds_are_closed_book_by_book() {
+    let core = Core::new(24_000).unwrap();
+    let by = named(&names("s", 20)); // of each book some
+    let closed = closing(&core, &by, 1..2_701);
     assert_eq!(closed, [(2_000, 1), (2_334, 1), (2_667, 1)]);
     assert!(taken(&core).values().all(|one| *one == (2_700, 27_010)));
+}
+
+/// A book whose turn was passed over would have twice as much in its journal.
+#[test]
+fn while_something_is_in_flight_rounds_wait() {
+    let core = Core::new(24_000).unwrap();
+    let by = named(&names("s", 20));
+    assert_eq!(closing(&core, &by, 1..2_101), [(2_000, 1)]);
+    let flushed = core.lock().take_all().unwrap();
+    assert_eq!(closing(&core, &by, 2_101..2_701), []);
+    core.lock().settle(flushed).unwrap();
+    assert_eq!(closing(&core, &by, 2_701..2_704), [(2_701, 1), (2_702, 1)]);
 }

@@ -65,7 +65,7 @@ impl Desk {
         let found = match found.map(|answers| Found::read(&answers)) {
             Ok(Ok(found)) => found,
             Ok(Err(refused)) => return refused.into(),
-            Err(not_all) => return not_all,
+            Err(not_all) => return not_all.into(),
         };
         match found.meant(&sought) {
             Ok(meant) => self.carried_out(&who, &sought, meant).await,
@@ -81,7 +81,7 @@ impl Desk {
             .all()
         {
             Ok(answers) => answers,
-            Err(not_all) => return not_all,
+            Err(not_all) => return not_all.into(),
         };
         if let Some((_, refused)) = answers.iter().find(|(_, answer)| answer.status != 200) {
             return refused_by(refused, &answers);

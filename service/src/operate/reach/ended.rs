@@ -1,8 +1,6 @@
 //! What came of a command in slots: all of it, or by slot what was done and what was not.
 
 use super::{Answer, Command, ENDING};
-use crate::operate::message;
-use hyper::{Body, Response};
 use std::collections::BTreeMap;
 
 /// Why a slot has not done it.
@@ -52,11 +50,11 @@ impl Ended {
 
     /// The answers of all slots, in their order; the error is that some have not done it. Of a single slot its own answer
     /// says that.
-    pub fn all(self) -> Result<Vec<(u16, Answer)>, Response<Body>> {
+    pub fn all(self) -> Result<Vec<(u16, Answer)>, Answer> {
         let left = self.left();
         match left.is_empty() {
             true => Ok(self.answers()),
-            false => Err(message(503, &self.told(&left))),
+            false => Err(Answer::told(503, &self.told(&left))),
         }
     }
 

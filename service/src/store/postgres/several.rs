@@ -173,6 +173,7 @@ impl Known {
         instances.push(Instance {
             name: me.into(),
             address: address.into(),
+            version: env!("CARGO_PKG_VERSION").into(),
             beat: self.own,
             version: env!("CARGO_PKG_VERSION").into(),
             refused: Refused::new(),
@@ -272,6 +273,7 @@ mod tests {
         let instance = |(name, beat): &(&str, u64)| Instance {
             name: name.to_string(),
             address: format!("{name}:1"),
+            version: "1".into(),
             beat: *beat,
             version: "0".into(),
             refused: Refused::new(),
