@@ -9,7 +9,6 @@ use crate::making::{batch_of, name_of};
 use delta_book::faults::{AdmitFault, QuarantineFault, TakeFault};
 use delta_book::flush::Flush;
 use gate_workers::Store;
-use metric_events::batch::Batch;
 use out_texts::{report_text, request_text};
 use std::alloc::{AllocError, Global};
 
