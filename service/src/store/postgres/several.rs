@@ -272,6 +272,7 @@ mod tests {
         let instance = |(name, beat): &(&str, u64)| Instance {
             name: name.to_string(),
             address: format!("{name}:1"),
+            version: "1".into(),
             beat: *beat,
             refused: Refused::new(),
         };
