@@ -1,4 +1,0 @@
-pub mod Views
-pub mod SumViews
-pub mod RefViews
-pub mod PairViews
