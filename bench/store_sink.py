@@ -17,7 +17,7 @@ sys.path[:1] = [f"{ROOT}/tests", f"{ROOT}/demo"]  # another service.py is beside
 
 from loopback import free_port  # noqa: E402
 from service import JSON, Service, ask, in_json, wait_until  # noqa: E402
-from store import Server  # noqa: E402
+from by_hour import Server  # noqa: E402
 
 SERIES = 20
 OF_SINK = "query like '%totxegun.%' and query not like 'create %'"
