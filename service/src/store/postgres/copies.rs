@@ -16,9 +16,9 @@ pub enum Copies {
 /// None where the server has no such setting: then it is no PostgreSQL, and only its operator knows.
 const SETTINGS: &str = "select current_setting('fsync', true), current_setting('synchronous_commit', true),
     current_setting('synchronous_standby_names', true)";
-/// Who may not look at them sees no state.
+/// Who may not look at them sees no state. A backup that is under way takes what it gets with it: nobody can promote it.
 const STANDBYS: &str = "select count(*) filter (where sync_state in ('sync', 'quorum')),
-    count(*) filter (where sync_state is null) from pg_stat_replication";
+    count(*) filter (where sync_state is null) from pg_stat_replication where application_name <> 'pg_basebackup'";
 
 struct Settings {
     fsync: Option<String>,
