@@ -54,12 +54,9 @@ fn a_start_refuses_what_is_no_store_or_another_or_can_lose() {
     refused(&[&one, &other], Copies::Two, "a", "of another version");
     server.ask("set synchronous_commit = 'local'; update totxegun_store.cluster set version = 1");
     let servers = [address(&one).unwrap(), address(&other).unwrap()];
-    let store = PostgresStore::open(&servers, Copies::Two, "a").unwrap();
-    assert_eq!(
-        wait(store.copies(0)).unwrap(),
-        Some(1),
-        "nobody is there, so no commit ends"
-    );
+    // A start would wait: nobody is there, so no commit ends.
+    let store = PostgresStore::look_into(&servers, Copies::Two).unwrap();
+    assert_eq!(wait(store.copies(0)).unwrap(), Some(1));
 }
 
 #[test]
