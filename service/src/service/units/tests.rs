@@ -48,6 +48,11 @@ impl Sink for Taken {
     }
 }
 
+/// It stays there when the test ends: a slot that still writes then would end the process of all tests.
+fn folder() -> PathBuf {
+    tempfile::tempdir().unwrap().into_path()
+}
+
 fn settings(place: &Path) -> Settings {
     Settings {
         store: None,
@@ -232,8 +237,8 @@ fn request(slots: &[u16], end: u64) -> Bytes {
 /// All that was taken is in its outbox then, and its files are another's.
 #[tokio::test]
 async fn a_slot_is_handed_over_while_the_others_go_on() {
-    let place = tempfile::tempdir().unwrap();
-    let service = Service::new(place.path());
+    let place = folder();
+    let service = Service::new(&place);
     for slot in 0..SLOTS {
         service.open(slot).await;
     }
@@ -260,8 +265,8 @@ async fn a_slot_is_handed_over_while_the_others_go_on() {
 
 #[tokio::test]
 async fn a_slot_that_is_lost_ends_alone() {
-    let place = tempfile::tempdir().unwrap();
-    let mut service = Service::new(place.path());
+    let place = folder();
+    let mut service = Service::new(&place);
     for slot in 0..SLOTS {
         service.open(slot).await;
     }
@@ -281,11 +286,11 @@ async fn a_slot_that_is_lost_ends_alone() {
 
 #[tokio::test]
 async fn what_ends_by_itself_is_told_with_its_slot() {
-    let (first, second) = (tempfile::tempdir().unwrap(), tempfile::tempdir().unwrap());
+    let (first, second) = (folder(), folder());
     let (at_work, mut ends) = AtWork::new(operate::Units::of(2));
     let (fail, failing) = tokio::sync::oneshot::channel::<()>();
-    at_work.start(unit(first.path(), 0, async { Ok(()) }));
-    let broken = unit(second.path(), 1, std::future::pending());
+    at_work.start(unit(&first, 0, async { Ok(()) }));
+    let broken = unit(&second, 1, std::future::pending());
     at_work.start(broken.with_keeper(async {
         let _ = failing.await;
         Err(no_disk())
@@ -301,8 +306,8 @@ async fn what_ends_by_itself_is_told_with_its_slot() {
 /// Else a sender would be taken by one slot that another refuses, and nobody would know.
 #[tokio::test]
 async fn orders_are_all_slots_and_503_where_one_is_not_here() {
-    let place = tempfile::tempdir().unwrap();
-    let service = Service::new(place.path());
+    let place = folder();
+    let service = Service::new(&place);
     service.open(0).await;
     service.open(2).await;
     let quarantine = ("POST", "/quarantine/A");
@@ -333,8 +338,8 @@ async fn orders_are_all_slots_and_503_where_one_is_not_here() {
 
 #[tokio::test]
 async fn what_is_shown_is_of_all_slots() {
-    let place = tempfile::tempdir().unwrap();
-    let service = Service::new(place.path());
+    let place = folder();
+    let service = Service::new(&place);
     for slot in 0..SLOTS {
         service.open(slot).await;
     }

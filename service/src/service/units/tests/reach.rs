@@ -63,7 +63,6 @@ impl Asks for Through {
 
 /// Instances a and b: a has slots 0 and 2, b has slot 1.
 struct Both {
-    _places: [tempfile::TempDir; 2],
     net: Arc<Net>,
     a: Service,
     b: Service,
@@ -116,10 +115,10 @@ fn seen() -> Seen {
 
 impl Both {
     async fn new() -> Both {
-        let places = [tempfile::tempdir().unwrap(), tempfile::tempdir().unwrap()];
+        let places = [folder(), folder()];
         let net = Arc::<Net>::default();
-        let (a, of_a) = instance("a", places[0].path(), &net);
-        let (b, of_b) = instance("b", places[1].path(), &net);
+        let (a, of_a) = instance("a", &places[0], &net);
+        let (b, of_b) = instance("b", &places[1], &net);
         let here = Whose::Here { term: 1 };
         of_a.knows(&[(0, here.clone()), (1, there("b")), (2, here.clone())]);
         of_b.knows(&[(0, there("a")), (1, here), (2, there("a"))]);
@@ -130,7 +129,6 @@ impl Both {
         a.open(2).await;
         b.open(1).await;
         Both {
-            _places: places,
             net,
             a,
             b,
