@@ -1,6 +1,6 @@
 # The commands of the README. Their scripts are in tools/; what they log is in out/logs.
 
-.PHONY: help run serve demo build check quick fmt test edits tried wrong soak bench install deb image life version release reproduce
+.PHONY: help run serve demo build check quick fmt test edits tried wrong soak several bench install deb image life version release reproduce
 
 # The first one: what there is to make. Each line is the text behind ## at a target.
 help:
@@ -61,6 +61,14 @@ wrong: ## tries wrong copies of the service
 soak: ## the service under load for an hour: STALLS=1, STORE=1
 	@[ -x bin/totxegun ] || { echo "there is no bin/totxegun: make build makes it" >&2; exit 1; }
 	@$(if $(STORE),tests/several_machines.py bin/totxegun 3600 $(SEED) --long,tests/service_load.py bin/totxegun 3600 $(if $(STALLS),--stalls))
+
+# With what make build has built. Not in the gate: they wait for instances' beats, and a machine with much else to do is late.
+SEVERAL = orders_anywhere.py store_peers.py several_machines.py:90 under_patroni.py store_move.py:29 store_databases.py
+several: ## the tests of several machines over a store, in half an hour
+	@[ -x bin/totxegun ] || { echo "there is no bin/totxegun: make build makes it" >&2; exit 1; }
+	@tools/needs several
+	@wrong=0; for it in $(SEVERAL); do echo "$$it"; words=$${it#*.py}; \
+		tools/own_network.py tests/$${it%%:*} "$$PWD/bin/totxegun" $${words#:} || wrong=1; done; exit $$wrong
 
 # DESTDIR, PREFIX (/usr/local), SYSCONFDIR (/etc) and UNITDIR (PREFIX/lib/systemd/system) say where.
 install: ## installs what make build has built: DESTDIR=, PREFIX=/usr/local

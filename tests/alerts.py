@@ -45,7 +45,7 @@ SERIES = 20
 # The alert on series fires over so many of them; one book takes 10,000.
 MOST_SERIES, TAKES = 1_000, 10_000
 TOO_MANY = in_json([(f"more.{number}", 10, 20, 1) for number in range(TAKES + 1)])
-RAISE = "update totxegun_store.slot set term = term + 3 where slot = 1"
+RAISE = "update totxegun_store.slot set term = term + 9 where slot = 1"
 # Points a second that a sender may post, and of one post.
 POINTS, MUCH = 100, 3_000
 SHORT = ((r"for: \d+[mh]", "for: 1s"), (r"\[\d+[mhd]\]", "[6s]"), (r"offset 1[hd]", "offset 6s"), (r"> 300", "> 3"),
@@ -243,7 +243,7 @@ class Causes:
         walreceivers = store.standby.kinds("walreceiver")
         self.sees("StoreInDoubt FewCopies", "a standby that stands still", lambda: stop(walreceivers, signal.SIGSTOP),
                   lambda: stop(walreceivers, signal.SIGCONT))
-        self.sees_repeated("TermsGoUp", "a slot that is taken again and again", lambda: store.primary.ask(RAISE), every=1)
+        self.sees_repeated("TermsGoUp", "a slot that is taken again and again", lambda: store.primary.ask(RAISE), every=12)
         self.service.kill()
         holder = hold_row(store)
         self.service.start()
