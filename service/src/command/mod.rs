@@ -289,14 +289,9 @@ mod tests {
             ("store init", "<ADDRESS>"),
             ("serve --data d --store postgres://u@h/d --instance a", "--peer"),
             ("serve --data d --instance a", "--store"),
-            ("serve --data d --peer-plain", "--store"),
             (
                 "serve --data d --store postgres://u@h/d --instance a --peer h:1 --peer-cert c",
                 "--peer-key",
-            ),
-            (
-                "serve --data d --store postgres://u@h/d --instance a --peer h:1 --peer-ca c --peer-plain",
-                "--peer-plain",
             ),
             (
                 "serve --data d --store postgres://u@h/d --peer h:1 --instance a/b",

@@ -33,12 +33,7 @@ pub(super) struct OfStore {
     #[arg(long, env = "TOTXEGUN_PEER_KEY", value_name = "FILE", requires = "peer_cert")]
     peer_key: Option<PathBuf>,
     /// Takes posts of other instances beyond loopback without TLS: where nobody else reaches their network, or reads along
-    #[arg(
-        long,
-        env = "TOTXEGUN_PEER_PLAIN",
-        requires = "store",
-        conflicts_with = "peer_ca"
-    )]
+    #[arg(long, env = "TOTXEGUN_PEER_PLAIN")]
     peer_plain: bool,
     /// On how many servers of the store an answered post has to be: 1 takes a store without a synchronous standby too
     #[arg(long, env = "TOTXEGUN_STORE_COPIES", value_name = "N", default_value_t = 2, value_parser = value_parser!(u8).range(1..=2))]
@@ -64,6 +59,7 @@ impl OfStore {
         sink: &Address,
         pair: Option<(PathBuf, PathBuf)>,
     ) -> anyhow::Result<Option<Settings>> {
+        self.check_plain()?;
         let peer_tls = self.peer_tls(pair)?;
         let (Some(instance), Some(peer)) = (self.instance, self.peer) else {
             return Ok(None);
@@ -87,6 +83,17 @@ impl OfStore {
 }
 
 impl OfStore {
+    /// By its value: settings may say that it is false.
+    fn check_plain(&self) -> anyhow::Result<()> {
+        if self.peer_plain && !self.is_given() {
+            bail!("--peer-plain is for instances of a store: give --store, or leave it out");
+        }
+        if self.peer_plain && self.peer_ca.is_some() {
+            bail!("instances speak TLS by --peer-ca, or none by --peer-plain: give one of them");
+        }
+        Ok(())
+    }
+
     /// The files of TLS between instances, if they speak it.
     fn peer_tls(&self, pair: Option<(PathBuf, PathBuf)>) -> anyhow::Result<Option<Files>> {
         let Some(ca) = self.peer_ca.clone() else {
@@ -140,4 +147,37 @@ pub(super) fn likeness(
 /// No folder is beside a store, in which a file could be the sink.
 pub(super) fn needs_sink() -> anyhow::Error {
     anyhow!("--store has no sink of its own: give --sink postgres://.. or http://.. too")
+}
+
+#[cfg(test)]
+mod tests {
+    use super::*;
+    use clap::Parser;
+
+    #[derive(Parser)]
+    struct Line {
+        #[command(flatten)]
+        of_store: OfStore,
+    }
+
+    fn settings(words: &str) -> Result<Option<Settings>, String> {
+        let words = ["serve"].into_iter().chain(words.split_whitespace());
+        let of_store = Line::try_parse_from(words).unwrap().of_store;
+        let sink = Address::Sqlite("metrics.db".into());
+        let settings = of_store.settings(String::new(), &sink, None);
+        settings.map_err(|why| why.to_string())
+    }
+
+    #[test]
+    fn without_tls_there_is_a_store_and_no_roots() {
+        const STORE: &str = "--store postgres://u@h/d --instance a --peer h:1";
+        let refused = |words: &str| settings(words).err().unwrap();
+        assert!(refused("--peer-plain").contains("give --store"));
+        assert!(refused(&format!("{STORE} --peer-plain --peer-ca c")).contains("--peer-ca"));
+        assert!(
+            refused(&format!("{STORE} --peer-plain")).contains("SQLite"),
+            "that passes"
+        );
+        assert!(settings("").unwrap().is_none());
+    }
 }
