@@ -6,11 +6,12 @@ NAMES = {"shop.orders": "shop_orders_total", "shop.order.value": "shop_order_val
          "shop.request.duration": "shop_request_duration_microseconds", "shop.carts": "shop_carts",
          "shop.visits": "shop_visits_total", "shop.stock": "shop_stock"}
 HISTOGRAMS = ("shop.order.value", "shop.request.duration")
-# Each point of each request, in the order in which they were taken: a request is one transaction.
+# Each point of each request, in the order in which they were taken: a request is one transaction, and a view has no xmin.
 POINTS = """
-select coalesce(json_agg(json_build_array(span.xmin::text::bigint, name, resource->>'service.instance.id', attributes,
-    coalesce(value, sum), coalesce(span.count, 0)) order by span.xmin::text::bigint), '[]')
-from totxegun.span join totxegun.series on series.id = span.series"""
+select coalesce(json_agg(json_build_array(span_row.xmin::text::bigint, name, resource->>'service.instance.id', attributes,
+    coalesce(value, sum), coalesce(span_row.count, (select sum(one) from unnest(totxegun.bucket_counts(counts)) as one), 0))
+    order by span_row.xmin::text::bigint), '[]')
+from totxegun.span_row join totxegun.series on series.id = span_row.series"""
 
 
 def attributes_of(labels):
