@@ -33,10 +33,14 @@ pub async fn within<T>(time: Duration, future: impl Future<Output = T>) -> Optio
 /// So many threads at most: more wait for each other.
 const MOST_THREADS: usize = 8;
 
+/// How many there are of those that compute side by side.
+pub fn threads() -> usize {
+    thread::available_parallelism().map_or(1, |most| most.get().min(MOST_THREADS))
+}
+
 /// Does something with each, on as many threads as there are processors. Returns once all is done.
 pub fn side_by_side<T: Send>(all: &mut [T], each: impl Fn(&mut T) + Sync) {
-    let threads = thread::available_parallelism().map_or(1, |most| most.get().min(MOST_THREADS));
-    let of_one = all.len().div_ceil(threads).max(1);
+    let of_one = all.len().div_ceil(threads()).max(1);
     let each = &each;
     thread::scope(|scope| {
         let mut parts = all.chunks_mut(of_one);
