@@ -6,9 +6,8 @@
 //! before. Then it gets the posts in the journal's order, which was the order of the book that is gone, but for those of
 //! quarantined senders, which come last.
 //!
-//! What comes is read side by side, on threads that last as long as it does, and goes in one after the other (`line`).
+//! What comes is read side by side, on threads that last as long as it does, and goes in one after the other.
 
-use super::line::{in_line, Line};
 use super::numbers::Numbers;
 use super::Trouble;
 use crate::core::{free_spare_readers, Book, Core, Read, Refused};
@@ -16,6 +15,7 @@ use crate::files::{Body, Outbox, Post};
 use crate::otlp::series::{zeros, NotForwarded, SeriesKey};
 use crate::runs::State;
 use crate::slot::Slot;
+use crate::work::{in_line, Line};
 use std::collections::{BTreeMap, BTreeSet};
 use std::sync::Arc;
 use std::time::{Duration, Instant};

@@ -1,16 +1,14 @@
 //! Keeps the book: checkpoints, quarantines, what is forgotten, and its start.
 //!
 //! One task does all of this, one after the other: `run` waits for what is to be done, `checkpoint` moves what the book
-//! has to the outbox, `forget` leaves out series or puts their ends back, `fill` gives a fresh book what the files say (`line`
-//! has posts read for it side by side), `owners` finds whose
-//! series these are, `series` says which ones a post has, `numbers` gives them numbers for the book, `drain` brings all into
-//! the outbox, `rest` gives back memory where nobody posts. What takes long is done on threads beside the runtime's.
+//! has to the outbox, `forget` leaves out series or puts their ends back, `fill` gives a fresh book what the files say, `owners`
+//! finds whose series these are, `series` says which ones a post has, `numbers` gives them numbers for the book, `drain` brings
+//! all into the outbox, `rest` gives back memory where nobody posts. What takes long is done on threads beside the runtime's.
 
 mod checkpoint;
 mod drain;
 mod fill;
 mod forget;
-mod line;
 mod numbers;
 mod orders;
 mod owners;

@@ -6,12 +6,8 @@ use super::Whole;
 use crate::files::{Body, Fault, Journal, Outbox};
 use crate::otlp::json::{Document, Value};
 use crate::otlp::series::visit;
-use crate::work::side_by_side;
+use crate::work::in_line;
 use bytes::Bytes;
-
-/// So many bytes, or texts, are read at once, on several threads.
-const AT_ONCE: usize = 1 << 20;
-const MOST_AT_ONCE: usize = 1000;
 
 impl Whole {
     /// Notes the units of all series of a folder.
@@ -22,27 +18,22 @@ impl Whole {
         for key in outbox.series().keys() {
             self.know_series(&key.0);
         }
-        let (mut texts, mut bytes) = (Vec::new(), 0);
-        journal.posts(outbox.journal(), u64::MAX, |read| {
-            texts.extend(read.named.into_iter().map(|(_, text)| text));
-            if let Body::Text(text) = read.post.body {
-                bytes += text.len();
-                texts.push(text);
-            }
-            if bytes >= AT_ONCE || texts.len() >= MOST_AT_ONCE {
-                bytes = 0;
-                self.know_requests(&mut texts);
-            }
-            true
-        })?;
-        self.know_requests(&mut texts);
-        Ok(())
-    }
-
-    /// In whatever order: what is known of a metric is a set of units.
-    fn know_requests(&self, texts: &mut Vec<Bytes>) {
-        side_by_side(texts, |text| self.know_request(text));
-        texts.clear();
+        // Side by side: what is known of a metric is a set of units.
+        let know = |text: &mut Bytes| self.know_request(text);
+        in_line(
+            know,
+            |_| Ok(()),
+            |line| {
+                journal.posts(outbox.journal(), u64::MAX, |read| {
+                    let named = read.named.into_iter().map(|(_, text)| text);
+                    let text = match read.post.body {
+                        Body::Text(text) => Some(text),
+                        Body::Points(_) => None,
+                    };
+                    named.chain(text).all(|text| line.push(text))
+                })
+            },
+        )
     }
 
     pub(super) fn know_series(&self, key: &str) {

@@ -3,6 +3,7 @@
 //! Each thread works at the next one that waits. Whoever has done one puts it, and what follows, as far as that is done: so no
 //! thread waits for another's work, and few are under way at a time.
 
+use super::threads;
 use std::collections::VecDeque;
 use std::sync::{Condvar, Mutex, MutexGuard, PoisonError};
 use std::thread;
@@ -10,7 +11,7 @@ use std::thread;
 /// So many wait, or are under way, for each thread.
 const FOR_A_THREAD: usize = 8;
 
-pub(super) struct Line<T> {
+pub struct Line<T> {
     most: usize,
     state: Mutex<State<T>>,
     /// Something came, or nothing comes any more.
@@ -36,12 +37,12 @@ struct State<T> {
 
 /// Gives `work` each that `give` puts into the line, side by side, and then `put`, in order, until that fails. Returns once all
 /// is done, with the first fault of `put`, or else that of `give`.
-pub(super) fn in_line<T: Send, E: Send>(
+pub fn in_line<T: Send, E: Send>(
     work: impl Fn(&mut T) + Sync,
     put: impl FnMut(T) -> Result<(), E> + Send,
     give: impl FnOnce(&Line<T>) -> Result<(), E>,
 ) -> Result<(), E> {
-    let threads = crate::work::threads();
+    let threads = threads();
     let line = Line::new(FOR_A_THREAD * threads);
     let putting = Mutex::new((put, Ok(())));
     let put_one = |one| {
@@ -137,7 +138,11 @@ impl<T> Line<T> {
     }
 
     /// Puts all that is next and done.
-    fn put<'s>(&'s self, mut state: MutexGuard<'s, State<T>>, put: &impl Fn(T) -> bool) -> MutexGuard<'s, State<T>> {
+    fn put<'s>(
+        &'s self,
+        mut state: MutexGuard<'s, State<T>>,
+        put: &impl Fn(T) -> bool,
+    ) -> MutexGuard<'s, State<T>> {
         while let Some(one) = state.next_done() {
             state.is_putting = true;
             drop(state);
@@ -184,7 +189,9 @@ impl<T> State<T> {
 
     fn note_done(&mut self, number: u64, one: T) {
         // None is there any more where all was stopped.
-        let place = number.checked_sub(self.first).and_then(|place| self.begun.get_mut(place as usize));
+        let place = number
+            .checked_sub(self.first)
+            .and_then(|place| self.begun.get_mut(place as usize));
         if let Some(place) = place {
             *place = Some(one);
         }
@@ -264,7 +271,7 @@ mod tests {
         };
         assert_eq!(in_line(work, put_one, give), Err(100));
         assert_eq!(put.load(SeqCst), 101);
-        assert!(given.load(SeqCst) <= 100 + FOR_A_THREAD * crate::work::threads() + 2);
+        assert!(given.load(SeqCst) <= 100 + FOR_A_THREAD * threads() + 2);
     }
 
     #[test]
