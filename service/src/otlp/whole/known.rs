@@ -48,15 +48,40 @@ impl Whole {
 
     /// Of a request in the book's form the metrics with points that are taken.
     pub(super) fn know_request(&self, request: &[u8]) {
-        if let Ok(document) = Document::parse(request) {
-            let _ = visit(&document, |seen| {
-                if let (Ok(_), Some([Some(name), Some(unit)])) =
-                    (seen.found, seen.metric.named(["name", "unit"]))
-                {
-                    self.know_unit(name, unit);
-                }
-            });
+        let Ok(document) = Document::parse(request) else {
+            return;
+        };
+        // Most say what is known already, and a look at their points takes several times as long.
+        if self.is_known(&document) == Some(true) {
+            return;
         }
+        let _ = visit(&document, |seen| {
+            if let (Ok(_), Some([Some(name), Some(unit)])) = (seen.found, seen.metric.named(["name", "unit"]))
+            {
+                self.know_unit(name, unit);
+            }
+        });
+    }
+
+    /// Whether all metrics are, whatever points they have; none where the request is of another form.
+    fn is_known(&self, document: &Document<'_>) -> Option<bool> {
+        for resource in elements(document.root(), "resourceMetrics")? {
+            for scope in elements(resource, "scopeMetrics")? {
+                for metric in elements(scope, "metrics")? {
+                    if !self.is_unit_known(metric)? {
+                        return Some(false);
+                    }
+                }
+            }
+        }
+        Some(true)
+    }
+
+    fn is_unit_known(&self, metric: Value<'_>) -> Option<bool> {
+        let [name, unit] = metric.named(["name", "unit"])?;
+        let unit = unit.and_then(|unit| Unit::of(&unit.text()?));
+        let known = |unit| Some(self.units.as_ref()?.has(&name?.text()?, unit));
+        Some(unit.is_none_or(|unit| known(unit).unwrap_or(false)))
     }
 
     fn know_unit(&self, name: Value<'_>, unit: Value<'_>) {
@@ -65,4 +90,14 @@ impl Whole {
             units.note(&name, unit);
         }
     }
+}
+
+/// The elements of a list that an object has under this name, and none where it has none.
+fn elements<'d>(object: Value<'d>, name: &str) -> Option<impl Iterator<Item = Value<'d>>> {
+    let [list] = object.named([name])?;
+    let elements = match list {
+        None => None,
+        Some(list) => Some(list.elements()?),
+    };
+    Some(elements.into_iter().flatten())
 }
