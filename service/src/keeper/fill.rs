@@ -20,8 +20,8 @@ use std::collections::{BTreeMap, BTreeSet};
 use std::sync::Arc;
 use std::time::{Duration, Instant};
 
-/// So that no post takes long.
-const SERIES_OF_A_POST: usize = 250;
+/// So that no post takes long. What its series share is in memory once.
+const SERIES_OF_A_POST: usize = 1000;
 /// How often it is said how far it is.
 const PROGRESS: Duration = Duration::from_secs(1);
 
@@ -341,8 +341,8 @@ fn not_taken(refused: Refused) -> Trouble {
     ))
 }
 
-/// The series whose owners are known, by these, each with where it ends. In the book's own order, as far as their keys have that:
-/// so each goes behind those that are there.
+/// The series whose owners are known, by these, each with where it ends. In the order of their keys: so neighbours share most, and
+/// each goes behind those that a book has, or near their end.
 fn owned(outbox: &Outbox) -> BTreeMap<String, Vec<(SeriesKey, u64)>> {
     let mut owned: BTreeMap<String, Vec<(SeriesKey, u64)>> = BTreeMap::new();
     for (key, series) in outbox.series() {

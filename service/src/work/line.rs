@@ -244,7 +244,7 @@ mod tests {
     fn all_are_worked_at_and_put_in_order() {
         for count in [0, 1, 3, 1_000] {
             let mut all = Vec::new();
-            let put = |(number, is_done)| {
+            let put = |(number, is_done): (usize, bool)| {
                 assert!(is_done);
                 all.push(number);
                 Ok::<(), ()>(())
@@ -261,7 +261,7 @@ mod tests {
     #[test]
     fn a_fault_of_one_ends_all() {
         let (put, given) = (AtomicUsize::new(0), AtomicUsize::new(0));
-        let put_one = |(number, _)| {
+        let put_one = |(number, _): (usize, bool)| {
             assert_eq!(put.fetch_add(1, SeqCst), number);
             (number < 100).then_some(()).ok_or(number)
         };
@@ -277,7 +277,7 @@ mod tests {
     #[test]
     fn whoever_gives_may_wait_for_all_before() {
         let put = AtomicUsize::new(0);
-        let put_one = |_| {
+        let put_one = |_: (usize, bool)| {
             put.fetch_add(1, SeqCst);
             Ok::<(), ()>(())
         };
