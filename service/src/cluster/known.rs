@@ -75,7 +75,9 @@ impl Cluster {
 
     /// Has the slots looked at again.
     pub fn look(&self) {
-        self.databases.iter().for_each(|database| database.look.notify_one());
+        self.databases
+            .iter()
+            .for_each(|database| database.look.notify_one());
     }
 
     /// Whether no database has taken a beat for so long that posts are turned away.
@@ -133,7 +135,9 @@ impl Cluster {
     #[cfg(test)]
     pub(crate) fn knows(&self, places: &[(u16, Whose)]) {
         let later = Instant::now() + Duration::from_secs(3600);
-        self.databases.iter().for_each(|database| database.has_beaten(later));
+        self.databases
+            .iter()
+            .for_each(|database| database.has_beaten(later));
         self.places
             .send_replace(Arc::new(places.iter().cloned().collect()));
     }

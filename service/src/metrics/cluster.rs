@@ -147,7 +147,8 @@ impl OfCluster {
         self.longest_without_owner
             .set(seen.longest_without_owner.as_secs_f64());
         self.instances.set(seen.instances() as i64);
-        self.beat_age.set(seen.beat_age().unwrap_or_default().as_secs_f64());
+        self.beat_age
+            .set(seen.beat_age().unwrap_or_default().as_secs_f64());
         self.set_databases(databases);
         for (result, count) in [
             ("answered", forwarded.answered),

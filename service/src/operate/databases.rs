@@ -61,7 +61,8 @@ impl Databases {
     /// Each that does not answer, and why not, where it is known of each.
     pub fn silent(&self, known: &[Option<String>]) -> Vec<String> {
         let each = self.names.iter().zip(known);
-        let silent = each.filter_map(|(name, why)| Some(format!("{name} does not answer: {}", why.as_ref()?)));
+        let silent =
+            each.filter_map(|(name, why)| Some(format!("{name} does not answer: {}", why.as_ref()?)));
         silent.collect()
     }
 

@@ -194,7 +194,9 @@ impl Desk {
 
     /// Of several.
     fn silent_databases(&self) -> Vec<String> {
-        let Some(others) = &self.others else { return Vec::new() };
+        let Some(others) = &self.others else {
+            return Vec::new();
+        };
         let silent = others.cluster.status().silent;
         match silent.len() {
             1 => Vec::new(), // then all get 503, and it is said so

@@ -119,12 +119,7 @@ impl Joining {
         });
         let beats_in = |database| {
             let member = Member::new(&self.store, database, &of.instance, &of.peer);
-            Beats::new(
-                self.cluster.clone(),
-                database,
-                Arc::new(member),
-                instance.clone(),
-            )
+            Beats::new(self.cluster.clone(), database, Arc::new(member), instance.clone())
         };
         let beats = (0..of.databases.len()).map(beats_in).collect();
         Joined {

@@ -223,7 +223,8 @@ impl PostgresStore {
             tokio::time::sleep(STILL).await;
             let after = instances(&databases).await?;
             let changed = before.iter().zip(&after);
-            let goes_on = changed.flat_map(|(before, after)| after.iter().filter(|one| !before.contains(one)));
+            let goes_on =
+                changed.flat_map(|(before, after)| after.iter().filter(|one| !before.contains(one)));
             let names: BTreeSet<String> = goes_on.map(|one| one.name.clone()).collect();
             Ok(names.into_iter().collect())
         })
