@@ -108,12 +108,8 @@ enum Unprimed {
     NotForwarded(#[from] NotForwarded),
 }
 
-/// What comes of the journal.
-enum Coming {
-    Post(Again),
-    /// Nothing that is read, but room that is made.
-    Room,
-}
+/// What comes of the journal; none where room is to be made ahead of what is next.
+type Coming = Option<Again>;
 
 /// A post that a book had, and is to have again.
 struct Again {
@@ -151,8 +147,11 @@ impl<S: Fn() -> bool> Filling<'_, S> {
         let (slot, fresh) = (self.slot, &mut self.fresh);
         let (numbers, stops) = (&mut self.numbers, &self.stops);
         in_line(
-            Coming::be_read,
-            |coming| fresh.put_next(coming, admit),
+            |coming: &mut Coming| coming.iter_mut().for_each(Again::be_read),
+            |coming| match coming {
+                Some(again) => fresh.replay_one(again, admit),
+                None => fresh.make_room(),
+            },
             |line| {
                 let first = slot.outbox.journal();
                 slot.journal.posts(first, u64::MAX, |read| {
@@ -160,7 +159,7 @@ impl<S: Fn() -> bool> Filling<'_, S> {
                     numbers.note(read.named);
                     if is_wanted(&read.post) {
                         let again = Again::of(numbers, read.post, line);
-                        return line.push(Coming::Post(again)) && !stops();
+                        return line.push(Some(again)) && !stops();
                     }
                     !stops()
                 })?;
@@ -195,7 +194,7 @@ impl Again {
     fn of(numbers: &mut Numbers, post: Post, line: &Line<Coming>) -> Again {
         let mut read = numbers.unread(&post);
         if read.as_ref().is_err_and(|refused| refused.status() == 503) {
-            line.push(Coming::Room);
+            line.push(None);
             line.wait_until_empty();
             read = numbers.unread(&post);
         }
@@ -220,14 +219,6 @@ impl Again {
     }
 }
 
-impl Coming {
-    fn be_read(&mut self) {
-        if let Coming::Post(again) = self {
-            again.be_read();
-        }
-    }
-}
-
 impl Fresh<'_> {
     fn prime(&mut self, mut priming: Priming) -> Result<(), Trouble> {
         if matches!(priming.posts, Err(Unprimed::Refused(_))) {
@@ -241,13 +232,6 @@ impl Fresh<'_> {
             Unprimed::Refused(refused) => self.not_filled(&priming.owner, refused),
             why => Trouble::NotFilled(format!("the outbox has a series that can't be primed: {why}")),
         })
-    }
-
-    fn put_next(&mut self, coming: Coming, admit: Admit) -> Result<(), Trouble> {
-        match coming {
-            Coming::Post(again) => self.replay_one(again, admit),
-            Coming::Room => self.make_room(),
-        }
     }
 
     /// A post that a limit refuses is put after a flush.
