@@ -21,11 +21,11 @@ import time
 ROOT = os.path.dirname(os.path.dirname(os.path.abspath(__file__)))
 sys.path.insert(1, f"{ROOT}/demo")
 
-from checks import Checks  # noqa: E402
-from loopback import free_port  # noqa: E402
-from parts import initdb  # noqa: E402
-from servers import Server  # noqa: E402
-from service import DELTA, JSON, Service, ask, wait_until  # noqa: E402
+from testing.checks import Checks  # noqa: E402
+from testing.loopback import free_port  # noqa: E402
+from testing.database import initdb  # noqa: E402
+from testing.servers import Server  # noqa: E402
+from testing.service import DELTA, JSON, Service, ask, wait_until  # noqa: E402
 
 SLOTS, PROCESSES = 8, 24
 METRICS = ("slots_owned", "slot_term", "slots_without_owner", "longest_without_owner_seconds", "instances", "beat_age_seconds",

@@ -14,11 +14,12 @@ import subprocess
 import sys
 import time
 
-import prover
+from tooling import prover
 from build import MOST_JOBS, SERVICE_MADE
-from crates import OUT, ROOT, content, read_crates
-from proved import said, write_proof
-from steps import Failed, Step, Steps, end_of, end_of_lines, locked, shown
+from tooling.crates import OUT, ROOT, read_crates
+from tooling.files import content
+from tooling.proved import said, write_proof
+from tooling.steps import Failed, Step, Steps, end_of, end_of_lines, locked, shown
 
 PLAY = "crates/play/out/play"
 GATEWAY = "crates/gateway/out/gateway"

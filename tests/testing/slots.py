@@ -1,0 +1,25 @@
+"""Who has which slot of a store, asked of its databases."""
+import hashlib
+import json
+import time
+
+from testing.service import SECONDS, wait_until
+
+OWNERS = "select json_object_agg(slot, owner) from totxegun_store.slot"
+
+
+def place(slot, names):
+    """The instance at which a slot belongs, of those of these names: as service/src/cluster/places.rs says."""
+    return max(names, key=lambda name: (hashlib.sha256(slot.to_bytes(2, "big") + name.encode()).digest(), name))
+
+
+def owners(*databases):
+    """Of each slot the instance that has it, or nothing; of a database that does not answer it is not known."""
+    said = [json.loads(database.ask(OWNERS) or "{}") for database in databases]
+    return {int(slot): owner for each in said for slot, owner in each.items()}
+
+
+def come_to_rest(databases, slots, names, seconds=SECONDS):
+    """Waits until each slot is where it belongs, so that none moves by itself any more: whether that came."""
+    places = {slot: place(slot, names) for slot in range(slots)}
+    return wait_until(lambda: owners(*databases) == places or time.sleep(0.5), seconds)
