@@ -1,15 +1,18 @@
 #!/usr/bin/env python3
 """Prints how long the service takes for what happens seldom, and what it writes.
 
-    bench/service_times.py checkpoint|kill|replay|backlog|bytes [--totxegun FILE] [--earlier FOLDER] [--series N,..] [--posts N,..]
-                           [--points N,..] [--requests N] [--times N] [--durable WHAT] [--data DIR] [--options WORDS]
+    bench/service_times.py checkpoint|kill|replay|memory|backlog|bytes [--totxegun FILE] [--earlier FOLDER] [--series N,..]
+                           [--posts N,..] [--points N,..] [--among N] [--requests N] [--times N] [--durable WHAT] [--data DIR]
+                           [--options WORDS]
 
   checkpoint  the pause of a checkpoint in which each series (1,000, 10,000 and 100,000) has a new point, as the service counts it,
               and how long the order takes
   kill        kill -9 after a checkpoint, and a start: until the books are primed with so many series, as the service counts it;
               and until a post is answered 200 again
-  replay      kill -9 with so many posts (10,000 and 100,000) of so many points (1, 20 and 103, 800 series) in no group, and a
-              start: the same two times, and the posts that were replayed
+  replay      kill -9 with so many posts (10,000 and 100,000) of so many points (1, 20 and 103) in no group, over so many series
+              (`--among`, 800), each of which a group has, and a start: the same two times, and the posts that were replayed
+  memory      what is resident, and what the book counts, with so many series (1,000, 10,000 and 100,000) that each had a point
+              three times, which SQLite has: half a minute behind the last, in JSON and in protobuf, and behind a kill and a start
   backlog     a start with so many requests (1,000,000) in the outbox, which this script writes: until it is ready
   bytes       bytes on disk for each point (10,000 posts of 20 points, 800 series, a flush after each tenth of them): of the
               journal, and of the outbox against the bytes that were forwarded
@@ -31,8 +34,8 @@ import zlib
 from collections.abc import Iterator
 
 from measuring import loading
-from measuring.loading import Loaded, Posts, Senders
-from measuring.process import numbers, spread
+from measuring.loading import MOST_POINTS, Loaded, Posts, Senders
+from measuring.process import memory, numbers, spread
 from measuring.running import Measured, options, service, serving, start
 from testing.loopback import free_port
 from testing.service import ask
@@ -41,6 +44,10 @@ from testing.service import ask
 BY_ORDER = ("--flush-every", "1h")
 CLIENTS = 8
 SERIES = 800
+# How long nothing is posted before memory is looked at.
+REST = 30
+# As the service has room for where nothing is said.
+MOST_SERIES = 100_000
 # So many series an earlier service takes.
 EARLIER_SERIES = 10_000
 # Of the outbox that is written.
@@ -135,19 +142,46 @@ def kill(arguments: argparse.Namespace) -> None:
 
 
 def replay(arguments: argparse.Namespace) -> None:
+    series = arguments.among
     for posts in arguments.posts:
         for points in arguments.points:
-            for name, is_earlier in parties(arguments, SERIES):
+            for name, is_earlier in parties(arguments, series):
                 with started(arguments, is_earlier) as one:
-                    posted_all(Senders(one.listen, CLIENTS, Posts("sum", points, SERIES, "json", "kept")), posts)
+                    senders = Senders(one.listen, CLIENTS, Posts("sum", points, series, "json", "kept"))
+                    senders.make_series()
+                    order(one, "/flush")
+                    posted_all(senders, posts)
                     counted, answered = killed(one, 0)
                     replayed = re.findall(r"posts of the journal: (\d+)", one.last_lines())[-1]
-                    print(f"{name}{posts:,} posts of {points} points: {int(replayed):,} replayed in {counted:.2f} s; a post is answered"
-                          f" {answered:.2f} s after the start", flush=True)
+                    print(f"{name}{posts:,} posts of {points} points, {series:,} series: {int(replayed):,} replayed in {counted:.2f} s; a"
+                          f" post is answered {answered:.2f} s after the start", flush=True)
+
+
+def at_rest(one: Measured) -> str:
+    """What it has, in words, half a minute after it has delivered all."""
+    while not one.is_drained():
+        time.sleep(0.2)
+    time.sleep(REST)
+    resident, book = memory(one.process.pid), metric(one, "book_memory_bytes")
+    return f"{resident / 1e6:.0f} MB are resident, the book counts {book / 1e6:.0f}"
+
+
+def resident(arguments: argparse.Namespace) -> None:
+    for series in arguments.series:
+        for encoding in ("json", "protobuf"):
+            with serving(arguments, "--durable", arguments.durable, "--most-series", str(max(series, MOST_SERIES))) as one:
+                senders = Senders(one.listen, CLIENTS, Posts("sum", min(series // CLIENTS, MOST_POINTS), series, encoding, "kept"))
+                for _ in range(3):
+                    senders.make_series()
+                    order(one, "/flush")
+                print(f"{series:,} series, {encoding}: {at_rest(one)};", end=" ", flush=True)
+                one.kill()
+                start(one)
+                print(f"behind a start {at_rest(one)}", flush=True)
 
 
 def record(kind: int, *parts: bytes) -> bytes:
-    """A record of a file, as service/README.md has it."""
+    """A record of a file, as service/src/files/records.rs has it."""
     inner = bytes([kind]) + b"".join(parts)
     return struct.pack("<II", len(inner), zlib.crc32(inner)) + inner
 
@@ -244,7 +278,7 @@ def bytes_written(arguments: argparse.Namespace) -> None:
               f" {forwarded:,} bytes that are forwarded take {outbox:,} bytes of the outbox, 1 of {forwarded / outbox:.1f}", flush=True)
 
 
-COMMANDS = {"checkpoint": checkpoint, "kill": kill, "replay": replay, "backlog": backlog, "bytes": bytes_written}
+COMMANDS = {"checkpoint": checkpoint, "kill": kill, "replay": replay, "memory": resident, "backlog": backlog, "bytes": bytes_written}
 
 
 def main() -> None:
@@ -253,6 +287,7 @@ def main() -> None:
     parser.add_argument("--series", type=numbers, default=[1000, 10_000, 100_000])
     parser.add_argument("--posts", type=numbers, default=[10_000, 100_000])
     parser.add_argument("--points", type=numbers, default=[1, 20, 103])
+    parser.add_argument("--among", type=int, default=SERIES)
     parser.add_argument("--requests", type=int, default=1_000_000)
     parser.add_argument("--times", type=int, default=5)
     parser.add_argument("--durable", default="process")
