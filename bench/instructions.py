@@ -125,7 +125,7 @@ def main() -> None:
         raise SystemExit("left out: it needs the package valgrind")
     loading.build()
     programs = {"gateway": [arguments.gateway, "serve", "--connections", "1000000"]}
-    programs |= {name: [path, "serve"] for name in arguments.beside if (path := plain.build(name))}
+    programs |= {name: [built, "serve"] for name in arguments.beside if (built := plain.build(name))}
     rows = [(kind, points) for kind in arguments.kinds for points in arguments.points or []] or ROWS
     print(f"{'instructions a point':26}{'':16}{'all':>9}{'tree made':>11}{'given back':>12}{'filled':>8}")
     for kind, points in rows:
