@@ -6,3 +6,4 @@ pub mod PairLemmas
 pub mod MetricLemmas
 pub mod TextLemmas
 pub mod MemberLemmas
+pub mod PartLemmas
