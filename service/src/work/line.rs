@@ -234,7 +234,7 @@ mod tests {
 
     /// Some take long, so that others are done before them.
     fn work(one: &mut (usize, bool)) {
-        if one.0 % 7 == 0 {
+        if one.0.is_multiple_of(7) {
             thread::sleep(Duration::from_micros(200));
         }
         one.1 = true;
