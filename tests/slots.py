@@ -3,8 +3,10 @@ import hashlib
 import json
 import time
 
-from service import SECONDS, wait_until
+from service import wait_until
 
+# Whatever a machine has to do beside.
+IN_THE_END = 180
 OWNERS = "select json_object_agg(slot, owner) from totxegun_store.slot"
 
 
@@ -19,7 +21,7 @@ def owners(*databases):
     return {int(slot): owner for each in said for slot, owner in each.items()}
 
 
-def come_to_rest(databases, slots, names, seconds=SECONDS):
+def come_to_rest(databases, slots, names, seconds=IN_THE_END):
     """Waits until each slot is where it belongs, so that none moves by itself any more: whether that came."""
     places = {slot: place(slot, names) for slot in range(slots)}
     return wait_until(lambda: owners(*databases) == places or time.sleep(0.5), seconds)
