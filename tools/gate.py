@@ -71,6 +71,12 @@ SERVICE_STEPS = (
     ("behind_proxies.py", [], 60),
     ("two_services.py", ["0", "1", "--sink", "one"], 40),
     ("store.py", ["60"], 120),
+    # Of several machines, shortly: `make several` tries more, store_peers.py among it, which waits for instances for minutes, and
+    # under_patroni.py, for which etcd and Patroni are installed. Without network namespaces several_machines.py is left out.
+    ("store_databases.py", [], 70),
+    ("orders_anywhere.py", [], 60),
+    ("several_machines.py", ["40", "59", "--sink", "otlp"], 80),
+    ("store_move.py", ["2"], 60),
     ("demo.py", ["25"], 60),
     ("alerts.py", [], 60),
     ("pages.py", [], 40),

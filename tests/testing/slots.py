@@ -5,8 +5,10 @@ import time
 from collections.abc import Iterable
 
 from testing.servers import Server
-from testing.service import SECONDS, wait_until
+from testing.service import wait_until
 
+# Whatever a machine has to do beside.
+IN_THE_END = 180
 OWNERS = "select json_object_agg(slot, owner) from totxegun_store.slot"
 
 
@@ -21,7 +23,7 @@ def owners(*databases: Server) -> dict[int, str]:
     return {int(slot): owner for each in said for slot, owner in each.items()}
 
 
-def come_to_rest(databases: Iterable[Server], slots: int, names: Iterable[str], seconds: float = SECONDS) -> bool:
+def come_to_rest(databases: Iterable[Server], slots: int, names: Iterable[str], seconds: float = IN_THE_END) -> bool:
     """Waits until each slot is where it belongs, so that none moves by itself any more: whether that came."""
     places = {slot: place(slot, names) for slot in range(slots)}
 
