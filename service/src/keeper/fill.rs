@@ -110,7 +110,7 @@ enum Unprimed {
 
 /// What comes of the journal.
 enum Coming {
-    Post(Again),
+    Post(Box<Again>),
     /// Nothing that is read, but room that is made.
     Room,
 }
@@ -160,7 +160,7 @@ impl<S: Fn() -> bool> Filling<'_, S> {
                     numbers.note(read.named);
                     if is_wanted(&read.post) {
                         let again = Again::of(numbers, read.post, line);
-                        return line.push(Coming::Post(again)) && !stops();
+                        return line.push(Coming::Post(Box::new(again))) && !stops();
                     }
                     !stops()
                 })?;
@@ -245,7 +245,7 @@ impl Fresh<'_> {
 
     fn put_next(&mut self, coming: Coming, admit: Admit) -> Result<(), Trouble> {
         match coming {
-            Coming::Post(again) => self.replay_one(again, admit),
+            Coming::Post(again) => self.replay_one(*again, admit),
             Coming::Room => self.make_room(),
         }
     }
