@@ -22,6 +22,8 @@ service starts a gateway (1383c49c): checkpoint, kill and replay are done to it 
 done `--times` times (5; a replay and a backlog once): the median, and the least and the most in brackets. What is printed says
 what was measured here, and asserts nothing.
 """
+import argparse
+import contextlib
 import glob
 import json
 import os
@@ -29,14 +31,14 @@ import re
 import struct
 import time
 import zlib
+from collections.abc import Iterator
 
-import loading
-from loading import MOST_POINTS, Posts, Senders
-from process import memory, numbers, spread
-from running import options, service, serving, start
-
-from loopback import free_port
-from service import ask
+from measuring import loading
+from measuring.loading import MOST_POINTS, Loaded, Posts, Senders
+from measuring.process import memory, numbers, spread
+from measuring.running import Measured, options, service, serving, start
+from testing.loopback import free_port
+from testing.service import ask
 
 # Nothing is flushed but by an order.
 BY_ORDER = ("--flush-every", "1h")
@@ -53,19 +55,19 @@ IN_GROUP, SEGMENT = 10, 16 << 20
 HEADER, END, SNAPSHOT, GROUP, ITEM, COMMIT = 1, 3, 16, 17, 18, 19
 
 
-def metric(one, name):
+def metric(one: Measured, name: str) -> float:
     """A number of the service's page."""
     page = ask(one.operate, "GET", "/metrics")[1].decode()
     return float(re.search(rf"^totxegun_{name} (\S+)$", page, re.MULTILINE)[1])
 
 
-def order(one, path):
+def order(one: Measured, path: str) -> None:
     status = one.order(path, 600)
     if status != 200:
         raise SystemExit(f"POST {path} was answered {status}: {one.last_lines()}")
 
 
-def posted_all(senders, requests):
+def posted_all(senders: Senders, requests: int) -> Loaded:
     """So many posts, each of which has to be taken."""
     loaded = senders.load(requests)
     if loaded.failed:
@@ -73,27 +75,29 @@ def posted_all(senders, requests):
     return loaded
 
 
-def of_each_series(one, series):
+def of_each_series(one: Measured, series: int) -> Senders:
     """Senders whose posts have a point of each of their series."""
     return Senders(one.listen, CLIENTS, Posts("sum", series // CLIENTS, series, "json", "kept"))
 
 
-def parties(arguments, series):
+def parties(arguments: argparse.Namespace, series: int) -> Iterator[tuple[str, bool]]:
     """The service, and the earlier one where it is asked for and takes so many series: its name, and whether it is the earlier."""
     yield "", False
     if arguments.earlier and series <= EARLIER_SERIES:
         yield "earlier: ", True
 
 
-def started(arguments, is_earlier):
+def started(arguments: argparse.Namespace, is_earlier: bool) -> contextlib.AbstractContextManager[Measured]:
     return serving(arguments, *BY_ORDER, "--durable", arguments.durable, is_earlier=is_earlier)
 
 
-def checkpoint(arguments):
+def checkpoint(arguments: argparse.Namespace) -> None:
     for series in arguments.series:
         for name, is_earlier in parties(arguments, series):
             with started(arguments, is_earlier) as one:
-                senders, pauses, orders = of_each_series(one, series), [], []
+                senders = of_each_series(one, series)
+                pauses: list[float] = []
+                orders: list[float] = []
                 for _ in range(arguments.times + 1):
                     posted_all(senders, CLIENTS)
                     before, begun = metric(one, "checkpoint_pause_seconds_sum"), time.monotonic()
@@ -104,7 +108,7 @@ def checkpoint(arguments):
                       f" {spread(orders[1:], '.1f')} ms", flush=True)
 
 
-def first_answer(one, number):
+def first_answer(one: Measured, number: int) -> None:
     """Posts until an answer is 200, a series of its own."""
     point = {"asInt": "1", "startTimeUnixNano": str(10 * number + 10), "timeUnixNano": str(10 * number + 20)}
     total = {"aggregationTemporality": 1, "isMonotonic": True, "dataPoints": [point]}
@@ -114,7 +118,7 @@ def first_answer(one, number):
         time.sleep(0.002)
 
 
-def killed(one, number):
+def killed(one: Measured, number: int) -> tuple[float, float]:
     """Kills it: the seconds until a start has all, as the service counts them, and until an answer."""
     one.kill()
     begun = time.monotonic()
@@ -123,11 +127,12 @@ def killed(one, number):
     return metric(one, "recovery_seconds_sum"), time.monotonic() - begun
 
 
-def kill(arguments):
+def kill(arguments: argparse.Namespace) -> None:
     for series in arguments.series:
         for name, is_earlier in parties(arguments, series):
             with started(arguments, is_earlier) as one:
-                senders, found = of_each_series(one, series - CLIENTS), []
+                senders = of_each_series(one, series - CLIENTS)
+                found: list[tuple[float, float]] = []
                 for number in range(arguments.times):
                     posted_all(senders, CLIENTS)
                     order(one, "/flush")
@@ -136,7 +141,7 @@ def kill(arguments):
                       f" {spread([it[1] * 1e3 for it in found], '.0f')} ms after the start", flush=True)
 
 
-def replay(arguments):
+def replay(arguments: argparse.Namespace) -> None:
     series = arguments.among
     for posts in arguments.posts:
         for points in arguments.points:
@@ -152,7 +157,7 @@ def replay(arguments):
                           f" post is answered {answered:.2f} s after the start", flush=True)
 
 
-def at_rest(one):
+def at_rest(one: Measured) -> str:
     """What it has, in words, half a minute after it has delivered all."""
     while not one.is_drained():
         time.sleep(0.2)
@@ -161,7 +166,7 @@ def at_rest(one):
     return f"{resident / 1e6:.0f} MB are resident, the book counts {book / 1e6:.0f}"
 
 
-def resident(arguments):
+def resident(arguments: argparse.Namespace) -> None:
     for series in arguments.series:
         for encoding in ("json", "protobuf"):
             with serving(arguments, "--durable", arguments.durable, "--most-series", str(max(series, MOST_SERIES))) as one:
@@ -175,22 +180,22 @@ def resident(arguments):
                 print(f"behind a start {at_rest(one)}", flush=True)
 
 
-def record(kind, *parts):
-    """A record of a file, as service/README.md has it."""
+def record(kind: int, *parts: bytes) -> bytes:
+    """A record of a file, as service/src/files/records.rs has it."""
     inner = bytes([kind]) + b"".join(parts)
     return struct.pack("<II", len(inner), zlib.crc32(inner)) + inner
 
 
-def packed(value):
+def packed(value: bytes) -> bytes:
     raw = zlib.compressobj(5, zlib.DEFLATED, -15)
     return raw.compress(value) + raw.flush()
 
 
-def segments(folder):
+def segments(folder: str) -> list[str]:
     return sorted(glob.glob(f"{folder}/*.seg"))
 
 
-def forwarded_body():
+def forwarded_body() -> bytes:
     """A request of one point, as a gateway forwards it."""
     point = {"asInt": "1", "attributes": [{"key": "http.route", "value": {"stringValue": "/a"}}], "startTimeUnixNano": "10",
              "timeUnixNano": "20"}
@@ -199,7 +204,7 @@ def forwarded_body():
     return json.dumps({"resourceMetrics": [{"resource": {"attributes": []}, "scopeMetrics": [scope]}]}, separators=(",", ":")).encode()
 
 
-def write_outbox(folder, epoch, journal, requests):
+def write_outbox(folder: str, epoch: str, journal: int, requests: int) -> int:
     """Segments that have so many requests, none of which was delivered; their bytes."""
     for old in segments(folder):
         os.remove(old)
@@ -222,16 +227,16 @@ def write_outbox(folder, epoch, journal, requests):
     return size
 
 
-def backlog(arguments):
+def backlog(arguments: argparse.Namespace) -> None:
     sink = f"http://127.0.0.1:{free_port()}/v1/metrics"
     with service(arguments, *BY_ORDER, "--durable", arguments.durable, sink=sink) as one:
         start(one)
         one.end()
-        with open(f"{one.folder}/version", encoding="ascii") as file:
+        with open(f"{one.data}/version", encoding="ascii") as file:
             epoch = re.search(r"epoch (\w+)", file.read())[1]
-        journal = int(os.path.basename(segments(f"{one.folder}/slot-0/journal")[-1]).split(".")[0])
-        size = write_outbox(f"{one.folder}/slot-0/outbox", epoch, journal, arguments.requests)
-        took = []
+        journal = int(os.path.basename(segments(f"{one.data}/slot-0/journal")[-1]).split(".")[0])
+        size = write_outbox(f"{one.data}/slot-0/outbox", epoch, journal, arguments.requests)
+        took: list[float] = []
         for _ in range(arguments.times):
             begun = time.monotonic()
             start(one)
@@ -241,7 +246,7 @@ def backlog(arguments):
         print(f"{waiting:,} requests in the outbox, {size >> 20} MB: ready in {spread(took, '.2f')} s", flush=True)
 
 
-def bytes_of(path):
+def bytes_of(path: str) -> tuple[int, int]:
     """How many bytes the bodies of a segment of the outbox have, unpacked, and how many all its records have."""
     with open(path, "rb") as file:
         content = file.read()
@@ -256,7 +261,7 @@ def bytes_of(path):
     return total, at
 
 
-def bytes_written(arguments):
+def bytes_written(arguments: argparse.Namespace) -> None:
     sink = f"http://127.0.0.1:{free_port()}/v1/metrics"
     with serving(arguments, *BY_ORDER, "--durable", arguments.durable, sink=sink) as one:
         senders = Senders(one.listen, CLIENTS, Posts("sum", 20, SERIES, "json", "kept"))
@@ -268,7 +273,7 @@ def bytes_written(arguments):
             journal += one.status()["slots"][0]["journal"]["bytes"] - before
             order(one, "/flush")
         waiting = one.status()["slots"][0]["waiting"]
-        forwarded, outbox = map(sum, zip(*map(bytes_of, segments(f"{one.folder}/slot-0/outbox"))))
+        forwarded, outbox = map(sum, zip(*map(bytes_of, segments(f"{one.data}/slot-0/outbox"))))
         print(f"{points:,} points in {bodies:,} bytes of posts: the journal has {journal / points:.1f} bytes a point; {waiting} requests of"
               f" {forwarded:,} bytes that are forwarded take {outbox:,} bytes of the outbox, 1 of {forwarded / outbox:.1f}", flush=True)
 
@@ -276,7 +281,7 @@ def bytes_written(arguments):
 COMMANDS = {"checkpoint": checkpoint, "kill": kill, "replay": replay, "memory": resident, "backlog": backlog, "bytes": bytes_written}
 
 
-def main():
+def main() -> None:
     parser = options(__doc__.split("\n", maxsplit=1)[0])
     parser.add_argument("command", choices=COMMANDS)
     parser.add_argument("--series", type=numbers, default=[1000, 10_000, 100_000])
