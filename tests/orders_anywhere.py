@@ -21,12 +21,12 @@ import time
 ROOT = os.path.dirname(os.path.dirname(os.path.abspath(__file__)))
 sys.path.insert(1, f"{ROOT}/demo")
 
-from checks import Checks  # noqa: E402
-from loopback import free_port  # noqa: E402
-from parts import initdb  # noqa: E402
-from servers import Server  # noqa: E402
-from service import DELTA, JSON, Service, ask, wait_until  # noqa: E402
-from slots import IN_THE_END, come_to_rest, owners  # noqa: E402
+from testing.checks import Checks  # noqa: E402
+from testing.loopback import free_port  # noqa: E402
+from testing.database import initdb  # noqa: E402
+from testing.servers import Server  # noqa: E402
+from testing.service import DELTA, JSON, Service, ask, wait_until  # noqa: E402
+from testing.slots import IN_THE_END, come_to_rest, owners  # noqa: E402
 
 SLOTS, PROCESSES = 8, 24
 METRICS = ("slots_owned", "slot_term", "slots_without_owner", "longest_without_owner_seconds", "instances", "beat_age_seconds",
@@ -139,6 +139,7 @@ def shows(checks, both, first, second):
     checks.true("it is printed", code == 0 and "last beat" in text and "database of the store" in text, text)
     _, page = ask(first.operate, "GET", "/")
     checks.true("the page has it", b"<h2>Instances</h2>" in page and b"<h2>Slots</h2>" in page, page[-2000:])
+
     def reported():
         return sum(line.startswith("series") for line in ask(second.operate, "GET", "/report")[1].decode().splitlines())
 

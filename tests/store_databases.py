@@ -21,12 +21,12 @@ import time
 ROOT = os.path.dirname(os.path.dirname(os.path.abspath(__file__)))
 sys.path.insert(1, f"{ROOT}/demo")
 
-from checks import Checks  # noqa: E402
-from loopback import free_port  # noqa: E402
-from parts import initdb  # noqa: E402
-from service import JSON, OUT_OF_ORDER, OtlpSink, Sender, Service, add_points, differences, in_json, overlaps, told_to_all, wait_until  # noqa: E402
-from servers import Server, send  # noqa: E402
-from slots import come_to_rest  # noqa: E402
+from testing.checks import Checks  # noqa: E402
+from testing.loopback import free_port  # noqa: E402
+from testing.database import initdb  # noqa: E402
+from testing.service import JSON, OUT_OF_ORDER, OtlpSink, Sender, Service, add_points, differences, in_json, overlaps, told_to_all, wait_until  # noqa: E402
+from testing.servers import Server, send  # noqa: E402
+from testing.slots import come_to_rest  # noqa: E402
 
 SENDERS, SLOTS = 16, 8
 ONE_COPY = ("--store-copies", "1")

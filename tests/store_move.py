@@ -34,13 +34,13 @@ import time
 ROOT = os.path.dirname(os.path.dirname(os.path.abspath(__file__)))
 sys.path.insert(1, f"{ROOT}/demo")
 
-from checks import Checks  # noqa: E402
-from loopback import free_port  # noqa: E402
-from parts import initdb  # noqa: E402
-from service import (JSON, PROTOBUF, OtlpSink, Sender, Service, add_points, ask, differences, field, fixed, in_json,  # noqa: E402
+from testing.checks import Checks  # noqa: E402
+from testing.loopback import free_port  # noqa: E402
+from testing.database import initdb  # noqa: E402
+from testing.service import (JSON, PROTOBUF, OtlpSink, Sender, Service, add_points, ask, differences, field, fixed, in_json,  # noqa: E402
                      in_protobuf, overlaps, told_to_all, wait_until)
 from service_interrupted import THREE_SLOTS, build  # noqa: E402
-from servers import Server  # noqa: E402
+from testing.servers import Server  # noqa: E402
 
 SLOTS = "4"
 SENDERS = 4

@@ -22,12 +22,12 @@ import time
 ROOT = os.path.dirname(os.path.dirname(os.path.abspath(__file__)))
 sys.path.insert(1, f"{ROOT}/demo")
 
-from checks import Checks  # noqa: E402
-from loopback import free_port  # noqa: E402
-from parts import initdb  # noqa: E402
-from servers import Server  # noqa: E402
-from service import DELTA, JSON, OtlpSink, Service, wait_until  # noqa: E402
-from slots import IN_THE_END, come_to_rest, place  # noqa: E402
+from testing.checks import Checks  # noqa: E402
+from testing.loopback import free_port  # noqa: E402
+from testing.database import initdb  # noqa: E402
+from testing.servers import Server  # noqa: E402
+from testing.service import DELTA, JSON, OtlpSink, Service, wait_until  # noqa: E402
+from testing.slots import IN_THE_END, come_to_rest, place  # noqa: E402
 
 SLOTS = 8
 SECOND = 1_000_000_000
