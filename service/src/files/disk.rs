@@ -178,11 +178,31 @@ impl Disk {
         }
     }
 
-    /// Ends the process, but where the slot alone is lost.
+    /// Ends the process, but of a drive the slot alone.
     pub fn fail(&self, fault: Fault) -> Lost {
         match fault {
             Fault::Lost(lost) => lost,
+            fault if self.close(&fault.to_string()) => Lost,
             fault => self.end(&fault),
+        }
+    }
+
+    /// Nothing of a drive is changed any more: its slot ends, for this reason. False of a folder, which is the process's.
+    pub fn close(&self, why: &str) -> bool {
+        match &self.place {
+            Place::Folder { .. } => false,
+            Place::Drive(owned) => {
+                owned.close(why);
+                true
+            }
+        }
+    }
+
+    /// Why it was closed.
+    pub fn failure(&self) -> Option<&str> {
+        match &self.place {
+            Place::Folder { .. } => None,
+            Place::Drive(owned) => owned.failure(),
         }
     }
 

@@ -192,6 +192,16 @@ impl Journal {
         self.shared.disk.keeps_order()
     }
 
+    /// As the disk: the slot ends for this reason, where a drive keeps it.
+    pub fn close(&self, why: &str) -> bool {
+        self.shared.disk.close(why)
+    }
+
+    /// Why it was closed.
+    pub fn failure(&self) -> Option<&str> {
+        self.shared.disk.failure()
+    }
+
     /// Returns once another instance has the slot, or may have.
     pub async fn lost(&self) -> Lost {
         self.shared.disk.lost().await

@@ -150,9 +150,13 @@ impl Opened {
 impl Unit {
     /// Returns once a part has ended that nobody told to end.
     pub async fn ended(&mut self) -> End {
-        tokio::select! {
+        let end = tokio::select! {
             Some(end) = self.keeper.join_next() => End::of("the keeper", end),
             Some(end) = self.deliveries.join_next() => End::of("a delivery", end),
+        };
+        match (end, self.of_desk.slot.journal.failure()) {
+            (End::Lost, Some(why)) => End::Failed(Ended::Other(anyhow!("{why}"))),
+            (end, _) => end,
         }
     }
 

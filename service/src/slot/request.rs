@@ -18,6 +18,7 @@ use std::sync::Arc;
 pub(super) const SHORT: usize = 64 << 10;
 /// So many bytes of requests of earlier hours are flushed at once, and not with the next checkpoint.
 const MANY_BYTES: usize = 32 << 20;
+const NO_REST: &str = "there is no memory for the rest of a post of several hours";
 
 /// A post that the book and the journal have.
 pub(super) struct Put {
@@ -136,7 +137,7 @@ impl Slot {
     /// What a refusal is the beginning of.
     fn note_refusal(&self, book: Locked<'_>, refused: Refused) {
         if refused == Refused::HalfTaken {
-            end(); // with the lock: nobody may see that book
+            self.end(); // with the lock: nobody may see that book
         }
         let has_earlier = book.has_earlier();
         drop(book);
@@ -146,15 +147,18 @@ impl Slot {
             _ => {}
         }
     }
-}
 
-/// The book has a part of a post that the journal has not. The next start has neither, and its sender repeats it.
-fn end() -> ! {
-    crate::complain(format_args!(
-        "there is no memory for the rest of a post of several hours, so the service ends: nothing is lost, since its sender was \
-         not answered; give a greater --book-memory"
-    ));
-    std::process::exit(FAILED)
+    /// The book has a part of a post that the journal has not. Who reads the journal next has neither, and its sender repeats
+    /// it. Of a folder that is the next start; in a store the slot alone ends, and nothing that its book says is answered.
+    fn end(&self) {
+        if self.journal.close(NO_REST) {
+            return self.lose();
+        }
+        crate::complain(format_args!(
+            "{NO_REST}, so the service ends: nothing is lost, since its sender was not answered; give a greater --book-memory"
+        ));
+        std::process::exit(FAILED)
+    }
 }
 
 #[cfg(test)]
@@ -169,5 +173,31 @@ fn unavailable(why: &str) -> Outcome {
     Outcome::Refused {
         status: 503,
         message: why.into(),
+    }
+}
+
+#[cfg(test)]
+mod tests {
+    use super::*;
+    use crate::core::Core;
+    use crate::files::drive::{self, memory::Store};
+    use crate::metrics::Metrics;
+    use crate::otlp::Clock;
+    use crate::slot::Shared;
+
+    /// Of a folder the process ends.
+    #[tokio::test]
+    async fn half_a_post_ends_the_slot_alone_where_it_is_in_a_store() {
+        let (journal, outbox, _dead) =
+            drive::open(Arc::<Store>::default().take(), "00000000000000aa").unwrap();
+        let shared = Shared::new(Arc::new(Metrics::new().unwrap()), Clock::default());
+        let slot = Slot::of(0, journal, Arc::new(outbox), Core::new(10).unwrap(), &shared);
+        slot.open();
+        slot.note_refusal(slot.core.lock(), Refused::HalfTaken);
+        assert_eq!(slot.phase(), Phase::Lost);
+        assert_eq!(slot.journal.failure(), Some(NO_REST));
+        let told = Journalled::refused(Refused::BadSender, &slot.journal);
+        let told = told.durable(&slot.journal).await;
+        assert!(matches!(told, Outcome::Refused { status: 503, .. }), "{told:?}");
     }
 }

@@ -5,7 +5,7 @@ use crate::files::lock;
 use crate::switch::Switch;
 use std::io;
 use std::sync::atomic::{AtomicU64, Ordering::SeqCst};
-use std::sync::{Arc, Mutex};
+use std::sync::{Arc, Mutex, OnceLock};
 use std::time::{Duration, Instant};
 use tokio::sync::watch;
 
@@ -17,6 +17,8 @@ pub struct Owned {
     /// When the call began that last found that it is this instance's.
     ours: Mutex<Instant>,
     lost: watch::Sender<bool>,
+    /// Why it was closed, where another instance has not taken it.
+    failure: OnceLock<String>,
 }
 
 impl Owned {
@@ -28,6 +30,7 @@ impl Owned {
             durable: AtomicU64::new(0),
             ours: Mutex::new(Instant::now()),
             lost: watch::channel(false).0,
+            failure: OnceLock::new(),
         }
     }
 
@@ -57,6 +60,18 @@ impl Owned {
         let mut ours = lock(&self.ours);
         *ours = began.max(*ours);
         Ok(())
+    }
+
+    /// No call reaches the drive any more, as where it is lost.
+    pub fn close(&self, why: &str) {
+        if !self.is_lost() {
+            self.failure.get_or_init(|| why.into());
+        }
+        self.lost.send_replace(true);
+    }
+
+    pub fn failure(&self) -> Option<&str> {
+        self.failure.get().map(String::as_str)
     }
 
     /// Whether there is something to sync.

@@ -168,6 +168,30 @@ async fn a_refusal_waits_for_a_sync_of_its_own() {
     assert_eq!(journal.durable(journal.now()).await, Err(Lost));
 }
 
+/// Of a folder the process ends by it.
+#[tokio::test]
+async fn a_drive_that_fails_ends_its_slot_alone_and_nothing_reaches_it_any_more() {
+    let store = Arc::new(Store::default());
+    let fails = Arc::new(AtomicBool::new(false));
+    let failing = fails.clone();
+    let owner = store.take_with(move |step| match step {
+        Step::Write if failing.load(SeqCst) => Err(io::Error::other("no room")),
+        _ => Ok(()),
+    });
+    let (journal, outbox, _dead) = open_of(owner);
+    assert_eq!(journal.failure(), None);
+    fails.store(true, SeqCst);
+    let ticket = append(&journal, "A", "one");
+    fails.store(false, SeqCst);
+    assert_eq!(journal.durable(ticket).await, Err(Lost));
+    (journal.lost().await, outbox.lost().await);
+    let why = journal.failure().unwrap();
+    assert!(why.contains("no room"), "{why}");
+    assert!(matches!(outbox.quarantine("B"), Err(Fault::Lost(_))));
+    let (journal, _outbox, _dead) = open_of(store.take());
+    assert_eq!(texts(&journal, 1), Vec::<String>::new());
+}
+
 #[tokio::test(flavor = "multi_thread")]
 async fn all_who_wait_are_told_that_the_slot_is_lost() {
     let store = Arc::new(Store::default());

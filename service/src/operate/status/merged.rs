@@ -75,7 +75,22 @@ impl Status {
             let instances = self.cluster.iter_mut().map(|cluster| &mut cluster.instances);
             instances.for_each(|instances| instances.push(std::mem::take(&mut shown)));
         }
+        self.add_refused(refused);
         self.add_unknown(slots, &silent, refused);
+    }
+
+    /// What an instance can't open is its trouble, also where another has it.
+    fn add_refused(&mut self, refused: &[Refusal]) {
+        for one in self.cluster.iter_mut().flat_map(|cluster| &mut cluster.instances) {
+            let mut own = refused.iter().filter(|refusal| refusal.instance == one.name);
+            let Some(first) = own.next() else { continue };
+            let more = match own.count() {
+                0 => String::new(),
+                more => format!(" (and {more} more)"),
+            };
+            let trouble = format!("it can't open slot {}{more}: {}", first.slot, first.reason);
+            one.trouble.get_or_insert(trouble);
+        }
     }
 
     fn add_one(&mut self, other: Status, shown: &mut InstanceStatus) {
@@ -244,10 +259,15 @@ mod tests {
             instance: "a".into(),
             reason: "1.seg was changed".into(),
         };
+        // Slot 0 is at b by now.
+        let of_0 = Refusal {
+            slot: 0,
+            ..refusal.clone()
+        };
         all.add(
             vec![(other("b", 0), Ok(b)), (other("c", 9), c)],
             &rows,
-            &[refusal],
+            &[of_0, refusal],
         );
         let seen: Vec<_> = all
             .slots
@@ -273,8 +293,9 @@ mod tests {
             .iter()
             .map(|one| (&*one.name, one.slots, one.trouble.as_deref()))
             .collect();
+        let refused = Some("it can't open slot 0 (and 1 more): 1.seg was changed");
         let gone = Some("its beats have stopped");
-        assert_eq!(shown, [("a", 2, None), ("b", 2, None), ("c", 1, gone)]);
+        assert_eq!(shown, [("a", 2, refused), ("b", 2, None), ("c", 1, gone)]);
         assert_eq!(instances[2].beat_seconds, Some(4));
     }
 }

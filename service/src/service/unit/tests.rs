@@ -1,5 +1,6 @@
 use super::*;
-use crate::files::{Durability, Folder};
+use crate::files::drive::{self, memory::Store};
+use crate::files::{Durability, Folder, Lost};
 use crate::metrics::Metrics;
 use crate::otlp::Clock;
 use crate::switch::Switch;
@@ -14,7 +15,15 @@ pub fn unit(
 ) -> Unit {
     let folder = Folder::open(place, Durability::Process).unwrap();
     let (journal, outbox) = folder.slot(0).unwrap();
-    let (dead, outbox) = (Arc::new(folder.dead().unwrap()), Arc::new(outbox));
+    over((journal, outbox, folder.dead().unwrap()), number, end)
+}
+
+fn over(
+    (journal, outbox, dead): (Journal, Outbox, Dead),
+    number: u16,
+    end: impl Future<Output = Result<(), Fault>> + Send + 'static,
+) -> Unit {
+    let (dead, outbox) = (Arc::new(dead), Arc::new(outbox));
     let metrics = Arc::new(Metrics::new().unwrap());
     let shared = Shared::new(metrics, Clock::default());
     let slot = Slot::of(number, journal, outbox.clone(), Core::new(1).unwrap(), &shared);
@@ -77,6 +86,22 @@ async fn a_fault_of_a_keeper_that_is_late_is_told() {
     };
     let ended = unit(place.path(), 0, late).stop().await;
     assert!(matches!(ended, Err(Ended::Disk(_))), "{ended:?}");
+}
+
+/// Another instance is to have it, and to know why.
+#[tokio::test]
+async fn a_slot_that_failed_in_a_store_ends_with_the_reason_and_one_that_is_lost_without() {
+    for why in [None, Some("no room")] {
+        let drive = Arc::<Store>::default().take();
+        let files = drive::open(drive, "00000000000000aa").unwrap();
+        let mut unit = over(files, 0, async { Ok(()) }).with_keeper(async { Err(Lost.into()) });
+        assert!(why.is_none_or(|why| unit.of_desk.slot.journal.close(why)));
+        match (unit.ended().await, why) {
+            (End::Lost, None) => {}
+            (End::Failed(ended), Some(why)) => assert_eq!(ended.to_string(), why),
+            (end, why) => panic!("{end:?} {why:?}"),
+        }
+    }
 }
 
 #[test]
