@@ -1,0 +1,10 @@
+pub mod Wire
+pub mod Schema
+pub mod Checks
+pub mod Fields
+pub mod Doubles
+pub mod Members
+pub mod Points
+pub mod Values
+pub mod Streams
+pub mod inner

@@ -1,0 +1,4 @@
+pub mod Views
+pub mod SumViews
+pub mod RefViews
+pub mod PairViews
