@@ -4,4 +4,10 @@ pub mod Texts
 pub mod PointLemmas
 pub mod ValueLemmas
 pub mod ListLemmas
+pub mod NumberLemmas
+pub mod DoubleLemmas
 pub mod SumLemmas
+pub mod HistogramLemmas
+pub mod StreamLemmas
+pub mod LoopLemmas
+pub mod RequestLemmas

@@ -13,7 +13,7 @@ use Rattle.otlp_protobuf.specs.Members.{or_null, unsigned_data, signed_data, num
 use Rattle.otlp_protobuf.specs.Points.{number_point_data}
 use Rattle.otlp_protobuf.specs.inner.SumViews.{sum_fields_of}
 
-unsigned_shown : (o : Option ℕ) → present (Some (or_null (option_map unsigned_data o))) ≡ option_map unsigned_data o
+pub unsigned_shown : (o : Option ℕ) → present (Some (or_null (option_map unsigned_data o))) ≡ option_map unsigned_data o
 unsigned_shown None = refl
 unsigned_shown (Some n) = refl
 

@@ -34,7 +34,7 @@ pub record IsOther (n : ℕ) : Type 0 where
   pub map : (n == 6) ≡ false
   pub bytes : (n == 7) ≡ false
 
-unequal : (n k : ℕ) → n ≢ k → (n == k) ≡ false
+pub unequal : (n k : ℕ) → n ≢ k → (n == k) ≡ false
 unequal n k h = grind (arith, nat_tests)
 
 pub other : (n : ℕ) → IsOther (suc (suc (suc (suc (suc (suc (suc (suc n))))))))
@@ -124,7 +124,7 @@ pub scalar_in_list : (bytes : List ℕ) → scalar_in (single_value bytes) ≡ s
 unfolding scalar_in any_of
 scalar_in_list bytes = scalar_is no_members (chosen bytes)
 
-text_shown : (t : Option (List ℕ)) → present (Some (or_null (option_map string t))) ≡ option_map string t
+pub text_shown : (t : Option (List ℕ)) → present (Some (or_null (option_map string t))) ≡ option_map string t
 text_shown None = refl
 text_shown (Some s) = refl
 

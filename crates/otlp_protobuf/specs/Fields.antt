@@ -1,7 +1,8 @@
 -- What the fields of one number say: the last value of a number or a text, the contents of a list
 -- of messages, and the message that comes in parts.
-use Rattle.std.specs.Prelude.{ℕ, ◌%◌, ◌^◌, ◌==◌, if◌then◌else◌, List, [], ◌∷◌, ◌++◌}
-use Rattle.std.specs.Prelude.{Option, Some, None, option_and_then}
+use Rattle.std.specs.Prelude.{ℕ, zero, suc, ◌/◌, ◌%◌, ◌^◌, ◌==◌, if◌then◌else◌, List, [], ◌∷◌, ◌++◌}
+use Rattle.std.specs.Prelude.{length, take, drop, Option, Some, None, option_and_then}
+use Rattle.std.specs.Int.{w64, from_le_bytes}
 use Rattle.std.specs.Str.{is_utf8}
 use Rattle.otlp_protobuf.specs.Wire.{Value, varint_value, fixed64_value, bytes_value}
 use Rattle.otlp_protobuf.specs.Wire.{Field, fields}
@@ -69,3 +70,26 @@ joined found (b ∷ bs) = joined (Some (so_far found ++ b)) bs
 -- the message of this number: of several parts, their bytes one after the other
 abbrev pub whole_at : ℕ → List ℕ → Option (List ℕ)
 whole_at n bytes = joined None (contents n (fields bytes))
+
+-- numbers of 8 bytes, one after the other, so many of them
+unfoldable pub packed_from : ℕ → List ℕ → List ℕ
+packed_from zero bytes = []
+packed_from (suc left) bytes = from_le_bytes w64 (take 8 bytes) ∷ packed_from left (drop 8 bytes)
+
+abbrev pub packed : List ℕ → List ℕ
+packed bytes = packed_from (length bytes / 8) bytes
+
+-- a single number, or packed ones
+abbrev pub numbers_of : Value → List ℕ
+numbers_of (fixed64_value n) = n ∷ []
+numbers_of (bytes_value b) = packed b
+numbers_of v = []
+
+-- the numbers of a field of this number
+abbrev pub numbers_at : ℕ → Field → List ℕ
+numbers_at n f = if f.number == n then numbers_of f.value else []
+
+-- the numbers of all fields of this number, in order
+unfoldable pub numbers : ℕ → List Field → List ℕ
+numbers n [] = []
+numbers n (f ∷ fs) = numbers_at n f ++ numbers n fs

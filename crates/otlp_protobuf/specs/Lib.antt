@@ -4,7 +4,8 @@ pub mod Checks
 pub mod Fields
 pub mod Doubles
 pub mod Members
-pub mod Points
 pub mod Values
-pub mod Streams
+pub mod Points
+pub mod Request
+pub mod Reading
 pub mod inner

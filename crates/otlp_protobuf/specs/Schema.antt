@@ -21,10 +21,16 @@ of_metric n =
     else (if n == 7 then Inner message.Sum
     else (if n == 9 then Inner message.Histogram else Unknown))))
 
--- data_points, aggregation_temporality, and is_monotonic of a sum
-abbrev pub of_data : Message → ℕ → Kind
-of_data point n =
-    if n == 1 then Inner point else (if n == 2 || n == 3 then Varint else Unknown)
+-- data_points, aggregation_temporality, is_monotonic
+abbrev pub of_sum : ℕ → Kind
+of_sum n =
+    if n == 1 then Inner message.NumberPoint
+    else (if n == 2 || n == 3 then Varint else Unknown)
+
+-- data_points, aggregation_temporality
+abbrev pub of_histogram : ℕ → Kind
+of_histogram n =
+    if n == 1 then Inner message.HistogramPoint else (if n == 2 then Varint else Unknown)
 
 -- labels; start_time_unix_nano, time_unix_nano, as_double, as_int; exemplars; attributes; flags
 abbrev pub of_number_point : ℕ → Kind
@@ -75,9 +81,9 @@ kind_of message.Scope n =
 kind_of message.Metric n = of_metric n
 kind_of message.OtherData n = list_of message.OtherPoint n
 kind_of message.OtherPoint n = Unknown
-kind_of message.Sum n = of_data message.NumberPoint n
+kind_of message.Sum n = of_sum n
 kind_of message.NumberPoint n = of_number_point n
-kind_of message.Histogram n = of_data message.HistogramPoint n
+kind_of message.Histogram n = of_histogram n
 kind_of message.HistogramPoint n = of_histogram_point n
 kind_of message.Exemplar n = of_exemplar n
 -- key, value

@@ -2,8 +2,9 @@
 //! (`opentelemetry/proto/metrics/v1/metrics.proto`, `common/v1/common.proto`).
 
 ghost use Rattle.std.specs.Prelude.{◌≡◌};
-ghost use Rattle.otlp_protobuf.specs.Schema.{kind_of, list_of, of_data, of_exemplar, of_metric};
-ghost use Rattle.otlp_protobuf.specs.Schema.{of_histogram_point, of_number_point, of_value};
+ghost use Rattle.otlp_protobuf.specs.Schema.{kind_of, list_of, of_exemplar, of_histogram};
+ghost use Rattle.otlp_protobuf.specs.Schema.{of_histogram_point, of_metric, of_number_point};
+ghost use Rattle.otlp_protobuf.specs.Schema.{of_sum, of_value};
 
 /// A message.
 #[derive(Clone, Copy)]
@@ -72,9 +73,9 @@ impl Message {
             Message::Metric => of_metric(number),
             Message::OtherData => list_of(Message::OtherPoint, number),
             Message::OtherPoint => Kind::Unknown,
-            Message::Sum => of_data(Message::NumberPoint, number),
+            Message::Sum => of_sum(number),
             Message::NumberPoint => of_number_point(number),
-            Message::Histogram => of_data(Message::HistogramPoint, number),
+            Message::Histogram => of_histogram(number),
             Message::HistogramPoint => of_histogram_point(number),
             Message::Exemplar => of_exemplar(number),
             Message::KeyValue => match number {
@@ -113,13 +114,22 @@ fn of_metric(number: u32) -> Kind
     }
 }
 
-/// A sum or a histogram, with points of this type.
-fn of_data(point: Message, number: u32) -> Kind
-    ensures { result ≡ of_data point number }
+fn of_sum(number: u32) -> Kind
+    ensures { result ≡ of_sum number }
 {
     match number {
-        1 => Kind::Inner(point),
+        1 => Kind::Inner(Message::NumberPoint),
         2 | 3 => Kind::Varint,
+        _ => Kind::Unknown,
+    }
+}
+
+fn of_histogram(number: u32) -> Kind
+    ensures { result ≡ of_histogram number }
+{
+    match number {
+        1 => Kind::Inner(Message::HistogramPoint),
+        2 => Kind::Varint,
         _ => Kind::Unknown,
     }
 }

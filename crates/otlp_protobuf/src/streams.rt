@@ -1,24 +1,47 @@
-//! The parts of an identity that the points of a metric share, and the series of a point.
+//! Reads the parts of an identity: resource, scope and metric, and with a point's kind and
+//! attributes its series.
 
-ghost use Rattle.std.specs.Prelude.{◌≡◌, IfOk, Some, map};
-ghost use Rattle.otlp_read.specs.Streams.{series_in, series_of};
+ghost use Rattle.std.specs.Prelude.{◌≡◌, IfOk, List, ℕ, Option, Some, codes, map, option_map};
+ghost use Rattle.serde_json.specs.Data.{Data};
+ghost use Rattle.metric_events.specs.DataPoint.{DataPoint};
+ghost use Rattle.otlp_read.specs.Fields.{field, is_delta, truth_in};
+ghost use Rattle.otlp_read.specs.Streams.{scope_in, stream_in, sum_stream_in, series_in, series_of};
 ghost use Rattle.otlp_protobuf.specs.Wire.{fields};
 ghost use Rattle.otlp_protobuf.specs.Fields.{contents};
 ghost use Rattle.otlp_protobuf.specs.Members.{list_data};
 ghost use Rattle.otlp_protobuf.specs.Values.{key_value};
-ghost use Rattle.otlp_protobuf.specs.Streams.{stream_data};
+ghost use Rattle.otlp_protobuf.specs.Request.{histogram_message, metric_message, scope_message};
+ghost use Rattle.otlp_protobuf.specs.Request.{sum_message, temporality, truth};
+ghost use Rattle.otlp_protobuf.specs.inner.Views.{payload_data, whole_data};
+ghost use Rattle.otlp_protobuf.specs.inner.StreamViews.{resource_data, scope_data, stream_data};
+ghost use Rattle.otlp_protobuf.specs.inner.StreamViews.{sum_stream_data};
 
-use crate::attributes::attributes_in;
+use crate::attributes::{attributes_in, text_in};
+use crate::scan::{Whole, bits, last, text_at};
+use crate::wire::Payload;
+use metric_events::point::Point;
 use series_id::{AttrSet, Kind, SeriesId, SharedId, Text};
 use std::alloc::{AllocError, Global};
 
-/// A metric of a scope of a resource.
+/// A resource's attributes.
+#[derive(Clone, Copy)]
+pub struct Resource<'a> {
+    pub attributes: &'a AttrSet,
+}
+
+/// The resource's attributes, and the scope.
+#[derive(Clone, Copy)]
+pub struct Scope<'a> {
+    pub resource: &'a AttrSet,
+    pub name: &'a str,
+    pub version: &'a str,
+    pub attributes: &'a AttrSet,
+}
+
+/// A metric of a scope.
 #[derive(Clone, Copy)]
 pub struct Stream<'a> {
-    pub resource: &'a AttrSet,
-    pub scope_name: &'a str,
-    pub scope_version: &'a str,
-    pub scope_attributes: &'a AttrSet,
+    pub scope: Scope<'a>,
     pub name: &'a str,
     pub unit: &'a str,
 }
@@ -28,6 +51,122 @@ pub struct Stream<'a> {
 pub struct SumStream<'a> {
     pub stream: Stream<'a>,
     pub monotonic: bool,
+}
+
+/// How the points of a stream are read.
+pub trait PointStream: Copy {
+    /// A point as JSON.
+    ghost shows: { List ℕ → Data };
+
+    /// What it is read as, if it is such a point.
+    ghost reads: { Self → Data → Option DataPoint };
+
+    /// Reads a point; `None` if it is foreign.
+    fn read(self, alloc: Global, bytes: &[u8]) -> Result<Option<Point>, AllocError>
+        ensures { IfOk result (λ o. o ≡ reads self (shows bytes.now)) };
+}
+
+/// The resource with these attributes. `None` if no identity may have them.
+pub fn resource_in<'a>(attributes: Option<&'a AttrSet>) -> Option<Resource<'a>>
+    ensures { option_map resource_data result ≡ option_map (λ s. s.now) attributes.entry }
+{
+    let attributes = attributes?;
+    Some(Resource { attributes })
+}
+
+/// The scope of a resource, with its own attributes. `None` if one of its parts may be in no
+/// identity; then all its points are foreign.
+#[tactic(auto, unfolding(otlp_read::specs::Streams::scope_in))]
+pub fn scope_in<'a>(
+    resource: Option<Resource<'a>>,
+    scope: &'a Whole<'_>,
+    attributes: Option<&'a AttrSet>,
+) -> Option<Scope<'a>>
+    ensures { option_map scope_data result ≡ scope_in (option_map resource_data resource.entry)
+        (option_map scope_message (whole_data scope.now))
+        (option_map (λ s. s.now) attributes.entry) }
+{
+    let bytes = scope.bytes_or_none();
+    let resource = resource?;
+    let name = text_in(text_at(bytes, 1))?;
+    let version = text_in(text_at(bytes, 2))?;
+    let attributes = attributes?;
+    Some(Scope {
+        resource: resource.attributes,
+        name,
+        version,
+        attributes,
+    })
+}
+
+/// Whether a temporality is delta.
+fn is_delta(found: Option<Payload<'_>>) -> bool
+    ensures { result ≡ is_delta (option_map temporality (option_map payload_data found.entry)) }
+{
+    match found {
+        Some(payload) => bits(payload) % 4_294_967_296 == 1,
+        None => false,
+    }
+}
+
+/// A truth, false if it is absent.
+#[tactic(auto, unfolding(otlp_read::specs::Fields::truth_in))]
+fn truth_in(found: Option<Payload<'_>>) -> bool
+    ensures { truth_in (option_map truth (option_map payload_data found.entry)) ≡ Some result }
+{
+    match found {
+        Some(payload) => bits(payload) != 0,
+        None => false,
+    }
+}
+
+/// The metric of a scope, if the temporality of its data is delta.
+#[tactic(auto, unfolding(otlp_read::specs::Streams::stream_in))]
+fn delta_stream<'a>(
+    scope: Option<Scope<'a>>,
+    metric: &'a [u8],
+    found: Option<Payload<'_>>,
+) -> Option<Stream<'a>>
+    ensures { (d : Data) → field (codes "aggregationTemporality") d
+        ≡ option_map temporality (option_map payload_data found.entry)
+        → option_map stream_data result ≡ stream_in (option_map scope_data scope.entry)
+        (metric_message metric.now) d }
+{
+    let scope = scope?;
+    let name = text_in(text_at(metric, 1))?;
+    let unit = text_in(text_at(metric, 3))?;
+    if is_delta(found) {
+        Some(Stream { scope, name, unit })
+    } else {
+        None
+    }
+}
+
+/// The stream of a metric's histogram.
+pub fn stream_in<'a>(
+    scope: Option<Scope<'a>>,
+    metric: &'a [u8],
+    histogram: &[u8],
+) -> Option<Stream<'a>>
+    ensures { option_map stream_data result ≡ stream_in (option_map scope_data scope.entry)
+        (metric_message metric.now) (histogram_message histogram.now) }
+{
+    delta_stream(scope, metric, last(histogram, 2))
+}
+
+/// The stream of a metric's sum.
+#[tactic(auto, unfolding(otlp_read::specs::Streams::sum_stream_in))]
+pub fn sum_stream_in<'a>(
+    scope: Option<Scope<'a>>,
+    metric: &'a [u8],
+    sum: &[u8],
+) -> Option<SumStream<'a>>
+    ensures { option_map sum_stream_data result ≡ sum_stream_in (option_map scope_data scope.entry)
+        (metric_message metric.now) (sum_message sum.now) }
+{
+    let stream = delta_stream(scope, metric, last(sum, 2))?;
+    let monotonic = truth_in(last(sum, 3));
+    Some(SumStream { stream, monotonic })
 }
 
 /// The series of a stream with this kind and the attributes of this number. `None` if no series may
@@ -62,10 +201,10 @@ fn series_in(
 ) -> Result<Option<SeriesId>, AllocError>
     ensures { IfOk result (λ o. o ≡ series_in (stream_data stream.entry) kind attributes) }
 {
-    let resource = stream.resource.copy(alloc)?;
-    let scope_name = text(alloc, stream.scope_name)?;
-    let scope_version = text(alloc, stream.scope_version)?;
-    let scope_attrs = stream.scope_attributes.copy(alloc)?;
+    let resource = stream.scope.resource.copy(alloc)?;
+    let scope_name = text(alloc, stream.scope.name)?;
+    let scope_version = text(alloc, stream.scope.version)?;
+    let scope_attrs = stream.scope.attributes.copy(alloc)?;
     let name = text(alloc, stream.name)?;
     let unit = text(alloc, stream.unit)?;
     let made = SeriesId::new(

@@ -2,8 +2,8 @@
 #![tactic(auto)]
 
 #[cfg(test)]
+mod bodies;
+#[cfg(test)]
 mod messages;
 #[cfg(test)]
-mod points;
-#[cfg(test)]
-mod streams;
+mod requests;

@@ -1,6 +1,7 @@
 //! Which bytes are a request. They were encoded by hand, after the guide of protobuf's encoding.
 
-use otlp_protobuf::{Malformed, Message, checked};
+use otlp_protobuf::{Malformed, ReadFault, read_request};
+use std::alloc::Global;
 use std::test::Fail;
 
 /// A counter with a resource, a scope, a unit, and a point with two attributes.
@@ -50,10 +51,18 @@ const OTHERS: &[(&[u8], Malformed)] = &[
     (&[10, 10, 193, 62, 1, 0, 0, 0, 0, 0, 0, 0], Malformed::Old),
 ];
 
+/// Why bytes are no request, if they are none.
+fn fault_of(alloc: Global, bytes: &[u8]) -> Option<ReadFault> {
+    match read_request(alloc, bytes) {
+        Ok(_) => None,
+        Err(fault) => Some(fault),
+    }
+}
+
 #[test]
 fn reads_requests(rt: HostRuntime) -> Result<(), Fail> {
     for bytes in REQUESTS {
-        assert!(rt; checked(Message::Request, bytes).is_ok());
+        assert!(rt; fault_of(rt.alloc(), bytes).is_none());
     }
     Ok(())
 }
@@ -61,14 +70,15 @@ fn reads_requests(rt: HostRuntime) -> Result<(), Fail> {
 #[test]
 fn refuses_others_and_says_why(rt: HostRuntime) -> Result<(), Fail> {
     for (bytes, why) in OTHERS {
-        assert!(rt; checked(Message::Request, bytes) == Err(*why));
+        assert!(rt; fault_of(rt.alloc(), bytes) == Some(ReadFault::Malformed(*why)));
     }
     Ok(())
 }
 
 #[test]
 fn refuses_a_request_that_is_cut(rt: HostRuntime) -> Result<(), Fail> {
-    assert!(rt; checked(Message::Request, &REQUEST[..REQUEST.len() - 1]) == Err(Malformed::Cut));
+    let bytes = &REQUEST[..REQUEST.len() - 1];
+    assert!(rt; fault_of(rt.alloc(), bytes) == Some(ReadFault::Malformed(Malformed::Cut)));
     Ok(())
 }
 
@@ -79,8 +89,10 @@ fn refuses_groups_nested_too_deep(rt: HostRuntime) -> Result<(), Fail> {
     for _ in 0..100 {
         bytes.push(75)?;
     }
-    assert!(rt; checked(Message::Request, bytes.as_slice()) == Err(Malformed::Cut));
+    let cut = fault_of(alloc, bytes.as_slice());
+    assert!(rt; cut == Some(ReadFault::Malformed(Malformed::Cut)));
     bytes.push(75)?;
-    assert!(rt; checked(Message::Request, bytes.as_slice()) == Err(Malformed::Deep));
+    let deep = fault_of(alloc, bytes.as_slice());
+    assert!(rt; deep == Some(ReadFault::Malformed(Malformed::Deep)));
     Ok(())
 }

@@ -4,7 +4,12 @@ use Rattle.otlp_read.specs.Fields.{flags_fit, nanos_in}
 use Rattle.otlp_read.specs.Lists.{◌>>=◌}
 use Rattle.otlp_read.specs.Sums.{SumFields, number_in}
 use Rattle.otlp_protobuf.specs.declared.number_point.NumberPoint.{NumberPoint}
+use Rattle.otlp_protobuf.specs.declared.sums.SumFields.{SumFields as Read}
 use Rattle.otlp_protobuf.specs.Members.{unsigned_data, signed_data}
+
+-- start, end and value of a point
+abbrev pub sum_fields_data : Read → SumFields
+sum_fields_data f = record { start = f.start; end = f.end; value = f.value }
 
 -- as `sum_fields`, of the values
 abbrev pub sum_fields_of : NumberPoint → Option SumFields

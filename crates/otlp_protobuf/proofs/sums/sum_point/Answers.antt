@@ -5,10 +5,10 @@ use Rattle.metric_events.specs.PointFaults.{IsSum}
 use Rattle.otlp_read.proofs.PointLemmas.{kind_of_known, allowed_always}
 use Rattle.otlp_protobuf.specs.Wire.{fields}
 use Rattle.otlp_protobuf.specs.Fields.{contents}
-use Rattle.otlp_protobuf.specs.Points.{sum_fields_data}
+use Rattle.otlp_protobuf.specs.inner.SumViews.{sum_fields_data}
 use Rattle.otlp_protobuf.specs.Values.{key_value}
 use Rattle.otlp_protobuf.proofs.SumLemmas.{no_fields, no_series, has_series}
-use Rattle.otlp_protobuf.proofs.sum_points.sum_point.Goals as goal
+use Rattle.otlp_protobuf.proofs.sums.sum_point.Goals as goal
 
 pub shared_sum-point-requires : goal.shared_sum-point-requires
 shared_sum-point-requires c = subst IsSum (kind_of_known _ _ _ _ (sym c.in_ok-series.ensures ∙ c.in-Some-2.is)) tt
