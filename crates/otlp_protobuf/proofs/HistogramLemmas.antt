@@ -9,13 +9,14 @@ use Rattle.series_id.specs.declared.kinds.Kind.{Kind}
 use Rattle.series_id.specs.declared.limits.TheConstants.{MAX_BOUND}
 use Rattle.metric_events.specs.DataPoint.{DataPoint}
 use Rattle.metric_events.specs.NewPoints.{point_of_histogram}
-use Rattle.metric_events.specs.PointFaults.{histogram_fault}
+use Rattle.metric_events.specs.PointFaults.{IsHistogram, histogram_fault}
 use Rattle.otlp_read.specs.Fields.{field, present}
 use Rattle.otlp_read.specs.Histograms.{HistogramFields, histogram_fields, kind_in, histogram_point}
 use Rattle.otlp_read.specs.Integers.{unsigned_64, signed_in}
 use Rattle.otlp_read.specs.Lists.{all_of, list_in}
 use Rattle.otlp_read.specs.Rules.{unless}
 use Rattle.otlp_read.specs.Streams.{Stream, series_of}
+use Rattle.otlp_read.proofs.PointLemmas.{kind_of_histogram}
 use Rattle.otlp_protobuf.specs.declared.histogram_point.HistogramPoint.{HistogramPoint}
 use Rattle.otlp_protobuf.specs.Doubles.{whole_double}
 use Rattle.otlp_protobuf.specs.Members.{or_null, unsigned_data, number_data, double_data, list_data}
@@ -108,3 +109,11 @@ pub has_series : (stream : Stream) (p : HistogramPoint) (buckets bounds attribut
 unfolding histogram_point
 has_series stream p buckets bounds attributes f k bs s r read kind counts known is =
     rw (← read, kind_is p buckets bounds attributes, ← kind, buckets_are p buckets bounds attributes, ← counts, attributes_of p buckets bounds attributes, ← known) is
+
+-- that kind is a histogram's
+pub kind_is_histogram : (bounds : List Data) (k : Kind) → bounds_kind bounds ≡ Some k → IsHistogram k
+kind_is_histogram bounds k h = by_bounds (all_of (signed_in MAX_BOUND MAX_BOUND) bounds) h
+  where
+    by_bounds : (found : Option (List ℤ)) → option_and_then (λ bs. result_ok (histogram_of bs)) found ≡ Some k → IsHistogram k
+    by_bounds None h = absurd cc
+    by_bounds (Some bs) h = kind_of_histogram bs k h

@@ -1,6 +1,6 @@
 -- Numbers of 8 bytes, one after the other.
-use Rattle.std.proofs.Common.{◌≡◌, ◌<◌, ◌≤◌, ℕ, zero, suc, ◌-◌, ◌/◌, List, [], ◌∷◌, ◌++◌, length, take, drop, Bool, true, false, Result, Ok, Err, refl, ap, sym, ◌∙◌, arith, length-drop}
-use Rattle.std.specs.Prelude.{nat_lt, if◌then◌else◌}
+use Rattle.std.proofs.Common.{◌≡◌, ◌<◌, ◌≤◌, ℕ, zero, suc, ◌-◌, ◌/◌, List, [], ◌∷◌, ◌++◌, length, take, drop, Bool, true, false, Option, Some, None, Result, Ok, Err, refl, ap, sym, ◌∙◌, arith, length-drop}
+use Rattle.std.specs.Prelude.{nat_lt, if◌then◌else◌, MatchOption}
 use Rattle.std.specs.Int.{w64, from_le_bytes}
 use Rattle.std.proofs.lemmas.Bool.{ltb-true, ltb-false}
 use Rattle.otlp_protobuf.specs.declared.malformed.Malformed.{Malformed}
@@ -49,6 +49,12 @@ no_packed bytes e h = none_by bytes (nat_lt (length bytes) 8) e refl h
 
 pub packed_step : (bytes rest : List ℕ) (n : ℕ) (others : List ℕ) → packed bytes ≡ n ∷ packed rest → packed bytes ++ others ≡ n ∷ (packed rest ++ others)
 packed_step bytes rest n others h = ap (λ ns. ns ++ others) h
+
+-- none are packed: those of the fields behind are left
+pub packed_end : (r : Option ℕ) (bytes others : List ℕ) (rest : ℕ → List ℕ) → packed bytes ≡ [] → MatchOption r (others ≡ []) (λ n. others ≡ rest n)
+    → MatchOption r (packed bytes ++ others ≡ []) (λ n. packed bytes ++ others ≡ rest n)
+packed_end None bytes others rest none h = ap (λ ns. ns ++ others) none ∙ h
+packed_end (Some n) bytes others rest none h = ap (λ ns. ns ++ others) none ∙ h
 
 pub field_step : (number : ℕ) (fs rest : List Field) (f : Field) (n : ℕ) (others total : List ℕ) → fs ≡ f ∷ rest → numbers_at number f ≡ n ∷ others → total ≡ numbers number fs → total ≡ n ∷ (others ++ numbers number rest)
 unfolding numbers

@@ -10,9 +10,9 @@ use Rattle.otlp_read.specs.Attributes.{attributes_in}
 use Rattle.otlp_read.specs.Containers.{◌>>=◌, elements, is_object, objects, object_in}
 use Rattle.otlp_read.specs.Fields.{field, present}
 use Rattle.otlp_read.specs.Lists.{elements_in}
-use Rattle.otlp_read.specs.Metrics.{Part, Parts, part, parts, add_parts, metric}
+use Rattle.otlp_read.specs.Metrics.{Part, Parts, part, parts, one_if as one_part, add_parts, metric}
 use Rattle.otlp_read.specs.Reading.{each, scope_metrics, resource_metrics, body, reading}
-use Rattle.otlp_read.specs.Streams.{Scope, inner, scope_in}
+use Rattle.otlp_read.specs.Streams.{Scope, inner}
 use Rattle.otlp_read.specs.Tallies.{Tally, nothing, add_metric}
 use Rattle.otlp_protobuf.specs.Wire.{fields_from, fields}
 use Rattle.otlp_protobuf.specs.Fields.{contents, so_far, whole_at}
@@ -20,7 +20,9 @@ use Rattle.otlp_protobuf.specs.Members.{or_null, list_data}
 use Rattle.otlp_protobuf.specs.Values.{key_value}
 use Rattle.otlp_protobuf.specs.Points.{number_point_data, number_point, histogram_point_data, histogram_point}
 use Rattle.otlp_protobuf.specs.Request.{other_point, other_message, sum_message, histogram_message, metric_message, scope_message, scope_metrics_message, resource_message, resource_metrics_message, request_message}
-use Rattle.otlp_protobuf.specs.inner.PartViews.{part_of, message_parts}
+use Rattle.otlp_protobuf.specs.inner.PartViews.{part_of, message_parts, one_if}
+use Rattle.otlp_protobuf.specs.inner.StreamViews.{scope_from}
+use Rattle.otlp_protobuf.proofs.StreamLemmas.{scope_is}
 use Rattle.otlp_protobuf.proofs.ValueLemmas.{elements_are}
 
 -- ---- lists of messages, and messages that may be absent
@@ -148,11 +150,12 @@ scope_attributes None = refl
 scope_attributes (Some b) = refl
 
 pub scope_read : (above : Option (List Attribute)) (b : List ℕ) (t u : Tally)
-    → each (metric (scope_in above (option_map scope_message (whole_at 1 b)) (attributes_in (Some (list_data (map key_value (contents 3 (fields (so_far (whole_at 1 b)))))))))) (map metric_message (contents 2 (fields b))) t ≡ Ok u
+    → each (metric (scope_from above (so_far (whole_at 1 b)) (attributes_in (Some (list_data (map key_value (contents 3 (fields (so_far (whole_at 1 b)))))))))) (map metric_message (contents 2 (fields b))) t ≡ Ok u
     → scope_metrics above (scope_metrics_message b) t ≡ Ok u
 unfolding scope_metrics
 scope_read above b t u h =
-    rw (scope_at b, object_shown place.Scope scope_message (whole_at 1 b) is_scope, metrics_at b, list_shown place.Metrics metric_message (contents 2 (fields b)) is_metric, scope_attributes (whole_at 1 b)) h
+    rw (scope_at b, object_shown place.Scope scope_message (whole_at 1 b) is_scope, metrics_at b, list_shown place.Metrics metric_message (contents 2 (fields b)) is_metric, scope_attributes (whole_at 1 b), scope_is above (whole_at 1 b) (attributes_in (Some (list_data (map key_value (contents 3 (fields (so_far (whole_at 1 b)))))))))
+    h
 
 -- ---- a metric
 
@@ -213,3 +216,7 @@ parts_are b =
 pub metric_read : (scope : Option Scope) (b : List ℕ) (t u : Tally) → u ≡ add_parts scope (metric_message b) (message_parts b) (add_metric t) → metric scope (metric_message b) t ≡ Ok u
 unfolding metric
 metric_read scope b t u h = rw (parts_are b) (ap (λ (v : Tally). Ok v) (sym h))
+
+pub one_is : (whole point : List ℕ → Data) (w : Option (List ℕ)) → one_part (part_of whole point w) ≡ one_if w
+one_is whole point None = refl
+one_is whole point (Some b) = refl

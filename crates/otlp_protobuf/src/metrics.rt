@@ -5,20 +5,20 @@ ghost use Rattle.std.specs.Prelude.{◌≡◌, ◌≤◌, ◌-◌, ◌^◌, ℕ,
 ghost use Rattle.std.specs.Prelude.{option_map};
 ghost use Rattle.serde_json.specs.Data.{Data};
 ghost use Rattle.otlp_read.specs.Metrics.{add_all, add_histogram, add_parts, add_profile, add_sum};
-ghost use Rattle.otlp_read.specs.Metrics.{is_single, metric, one_if};
-ghost use Rattle.otlp_read.specs.Tallies.{tally, add_point, each_point};
+ghost use Rattle.otlp_read.specs.Metrics.{is_single, metric};
+ghost use Rattle.otlp_read.specs.Tallies.{tally, add_metric, add_point, each_point};
 ghost use Rattle.otlp_protobuf.specs.Wire.{fields};
 ghost use Rattle.otlp_protobuf.specs.Fields.{contents};
 ghost use Rattle.otlp_protobuf.specs.Request.{metric_message};
 ghost use Rattle.otlp_protobuf.specs.inner.Views.{whole_data};
 ghost use Rattle.otlp_protobuf.specs.inner.StreamViews.{scope_data};
-ghost use Rattle.otlp_protobuf.specs.inner.PartViews.{histogram_part, message_parts, part_of};
-ghost use Rattle.otlp_protobuf.specs.inner.PartViews.{parts_data, sum_part};
+ghost use Rattle.otlp_protobuf.specs.inner.PartViews.{histogram_part, message_parts, one_if};
+ghost use Rattle.otlp_protobuf.specs.inner.PartViews.{part_of, parts_data, sum_part};
 
 use crate::fields::Fields;
 use crate::reader::{Object, Reader};
 use crate::scan::{Whole, next_content, whole_at};
-use crate::streams::{PointStream, Scope, stream_in, sum_stream_in};
+use crate::streams::{PointStream, Scope, histogram_stream, sum_stream};
 use metric_events::point::Point;
 use otlp_read::Reading;
 use std::alloc::{AllocError, Global};
@@ -45,17 +45,20 @@ impl Object for Option<Scope<'_>> {
 }
 
 /// Reads a metric of a scope, and adds it to the reading.
-fn metric(
-    reader: &mut Reader,
-    scope: Option<Scope<'_>>,
-    bytes: &[u8],
-) -> Result<(), AllocError>
+fn metric(reader: &mut Reader, scope: Option<Scope<'_>>, bytes: &[u8]) -> Result<(), AllocError>
     ensures { OnOk result (metric (option_map scope_data scope.entry) (metric_message bytes.now)
         (tally reader.old.out) ≡ Ok (tally reader.new.out)) }
 {
     let parts = parts_of(reader.alloc, bytes)?;
-    reader.out.metrics = reader.out.metrics.saturating_add(1);
+    add_metric(&mut reader.out);
     add_parts(reader, scope, bytes, &parts)
+}
+
+/// Counts one more metric.
+fn add_metric(out: &mut Reading)
+    ensures { tally out.new ≡ add_metric (tally out.old) }
+{
+    out.metrics = out.metrics.saturating_add(1);
 }
 
 /// The data fields of a metric.
@@ -87,10 +90,10 @@ fn add_parts(
     ensures { OnOk result (tally reader.new.out ≡ add_parts (option_map scope_data scope.entry)
         (metric_message metric.now) (parts_data parts.now) (tally reader.old.out)) }
 {
-    add_all(&mut reader.out, parts.gauge.bytes());
+    add_all(&mut reader.out, &parts.gauge);
     add_profile(reader, scope, metric, parts)?;
-    add_all(&mut reader.out, parts.exponential.bytes());
-    add_all(&mut reader.out, parts.summary.bytes());
+    add_all(&mut reader.out, &parts.exponential);
+    add_all(&mut reader.out, &parts.summary);
     Ok(())
 }
 
@@ -106,11 +109,11 @@ fn add_profile(
         (metric_message metric.now) (parts_data parts.now) (tally reader.old.out)) }
 {
     if is_single(parts) {
-        add_sum(reader, scope, metric, parts.sum.bytes())?;
-        add_histogram(reader, scope, metric, parts.histogram.bytes())?;
+        add_sum(reader, scope, metric, &parts.sum)?;
+        add_histogram(reader, scope, metric, &parts.histogram)?;
     } else {
-        add_all(&mut reader.out, parts.sum.bytes());
-        add_all(&mut reader.out, parts.histogram.bytes());
+        add_all(&mut reader.out, &parts.sum);
+        add_all(&mut reader.out, &parts.histogram);
     }
     Ok(())
 }
@@ -130,8 +133,7 @@ fn is_single(parts: &Parts<'_>) -> bool
 
 /// 1 if the data field is present, else 0.
 fn one_if(part: &Whole<'_>) -> u8
-    ensures value { (whole point : List ℕ → Data)
-        → result ≡ one_if (part_of whole point (whole_data part.now)) }
+    ensures value { result ≡ one_if (whole_data part.now) }
     ensures small { result ≤ 1 }
 {
     match part.bytes() {
@@ -141,14 +143,15 @@ fn one_if(part: &Whole<'_>) -> u8
 }
 
 /// Counts all points of a data field as foreign.
-fn add_all(out: &mut Reading, part: Option<&[u8]>)
+fn add_all(out: &mut Reading, part: &Whole<'_>)
     ensures { (whole point : List ℕ → Data) → tally out.new
-        ≡ add_all (part_of whole point (option_map (λ b. b.now) part.entry)) (tally out.old) }
+        ≡ add_all (part_of whole point (whole_data part.now)) (tally out.old) }
 {
-    if let Some(bytes) = part {
-        let points = count(bytes);
-        out.foreign = out.foreign.saturating_add(points);
-    }
+    let Some(bytes) = part.bytes() else {
+        return;
+    };
+    let points = count(bytes);
+    out.foreign = out.foreign.saturating_add(points);
 }
 
 /// How many points there are, or the largest number of 64 bits.
@@ -171,16 +174,16 @@ fn add_sum(
     reader: &mut Reader,
     scope: Option<Scope<'_>>,
     metric: &[u8],
-    part: Option<&[u8]>,
+    part: &Whole<'_>,
 ) -> Result<(), AllocError>
     ensures { OnOk result (tally reader.new.out ≡ add_sum (option_map scope_data scope.entry)
-        (metric_message metric.now) (sum_part (option_map (λ b. b.now) part.entry))
+        (metric_message metric.now) (sum_part (whole_data part.now))
         (tally reader.old.out)) }
 {
-    let Some(bytes) = part else {
+    let Some(bytes) = part.bytes() else {
         return Ok(());
     };
-    let sum = sum_stream_in(scope, metric, bytes);
+    let sum = sum_stream(scope, metric, bytes);
     points(reader, sum, bytes)
 }
 
@@ -189,16 +192,16 @@ fn add_histogram(
     reader: &mut Reader,
     scope: Option<Scope<'_>>,
     metric: &[u8],
-    part: Option<&[u8]>,
+    part: &Whole<'_>,
 ) -> Result<(), AllocError>
     ensures { OnOk result (tally reader.new.out ≡ add_histogram (option_map scope_data scope.entry)
-        (metric_message metric.now) (histogram_part (option_map (λ b. b.now) part.entry))
+        (metric_message metric.now) (histogram_part (whole_data part.now))
         (tally reader.old.out)) }
 {
-    let Some(bytes) = part else {
+    let Some(bytes) = part.bytes() else {
         return Ok(());
     };
-    let stream = stream_in(scope, metric, bytes);
+    let stream = histogram_stream(scope, metric, bytes);
     points(reader, stream, bytes)
 }
 

@@ -9,7 +9,7 @@ ghost use Rattle.otlp_protobuf.specs.Wire.{fields};
 ghost use Rattle.otlp_protobuf.specs.Fields.{numbers, numbers_at, packed};
 ghost use Rattle.otlp_protobuf.specs.Members.{double_data, unsigned_data};
 ghost use Rattle.otlp_protobuf.specs.inner.NumberViews.{numbers_data};
-ghost use Rattle.otlp_protobuf.specs.inner.Views.{field_data};
+ghost use Rattle.otlp_protobuf.specs.inner.Views.{field_data, fields_data};
 
 use crate::doubles::bound_double;
 use crate::fields::{Field, Fields};
@@ -77,10 +77,21 @@ impl<'a> Numbers<'a> {
         ensures { MatchOption result (numbers_data self.old ≡ [])
             (λ n. numbers_data self.old ≡ n ∷ numbers_data self.new) }
     {
-        if let Some((bits, packed)) = next_packed(self.packed) {
-            self.packed = packed;
-            return Some(bits);
+        match next_packed(self.packed) {
+            Some((bits, packed)) => {
+                self.packed = packed;
+                Some(bits)
+            }
+            None => self.next_field(),
         }
+    }
+
+    /// The first number of the fields behind the one that is under way.
+    fn next_field(&mut self) -> Option<u64>
+        ensures { MatchOption result (numbers self.old.number (fields_data self.old.rest) ≡ [])
+            (λ n. numbers self.old.number (fields_data self.old.rest)
+            ≡ n ∷ numbers_data self.new) }
+    {
         while let Some(field) = self.rest.next() {
             if let Some((bits, packed)) = first_at(self.number, field) {
                 self.packed = packed;

@@ -1,23 +1,22 @@
 //! Reads the parts of an identity: resource, scope and metric, and with a point's kind and
 //! attributes its series.
 
-ghost use Rattle.std.specs.Prelude.{◌≡◌, IfOk, List, ℕ, Option, Some, codes, map, option_map};
+ghost use Rattle.std.specs.Prelude.{◌≡◌, IfOk, List, ℕ, Option, Some, map, option_map};
 ghost use Rattle.serde_json.specs.Data.{Data};
 ghost use Rattle.metric_events.specs.DataPoint.{DataPoint};
-ghost use Rattle.otlp_read.specs.Fields.{field, is_delta, truth_in};
-ghost use Rattle.otlp_read.specs.Streams.{scope_in, stream_in, sum_stream_in, series_in, series_of};
+ghost use Rattle.otlp_read.specs.Streams.{series_in, series_of};
 ghost use Rattle.otlp_protobuf.specs.Wire.{fields};
 ghost use Rattle.otlp_protobuf.specs.Fields.{contents};
 ghost use Rattle.otlp_protobuf.specs.Members.{list_data};
 ghost use Rattle.otlp_protobuf.specs.Values.{key_value};
-ghost use Rattle.otlp_protobuf.specs.Request.{histogram_message, metric_message, scope_message};
-ghost use Rattle.otlp_protobuf.specs.Request.{sum_message, temporality, truth};
-ghost use Rattle.otlp_protobuf.specs.inner.Views.{payload_data, whole_data};
-ghost use Rattle.otlp_protobuf.specs.inner.StreamViews.{resource_data, scope_data, stream_data};
-ghost use Rattle.otlp_protobuf.specs.inner.StreamViews.{sum_stream_data};
+ghost use Rattle.otlp_protobuf.specs.inner.Views.{payload_data};
+ghost use Rattle.otlp_protobuf.specs.inner.StreamViews.{delta_from, histogram_stream_from};
+ghost use Rattle.otlp_protobuf.specs.inner.StreamViews.{resource_data, scope_data, scope_from};
+ghost use Rattle.otlp_protobuf.specs.inner.StreamViews.{stream_data, stream_from, sum_stream_data};
+ghost use Rattle.otlp_protobuf.specs.inner.StreamViews.{sum_stream_from, truth_from};
 
 use crate::attributes::{attributes_in, text_in};
-use crate::scan::{Whole, bits, last, text_at};
+use crate::scan::{bits, last, text_at};
 use crate::wire::Payload;
 use metric_events::point::Point;
 use series_id::{AttrSet, Kind, SeriesId, SharedId, Text};
@@ -76,20 +75,17 @@ pub fn resource_in<'a>(attributes: Option<&'a AttrSet>) -> Option<Resource<'a>>
 
 /// The scope of a resource, with its own attributes. `None` if one of its parts may be in no
 /// identity; then all its points are foreign.
-#[tactic(auto, unfolding(otlp_read::specs::Streams::scope_in))]
 pub fn scope_in<'a>(
     resource: Option<Resource<'a>>,
-    scope: &'a Whole<'_>,
+    scope: &'a [u8],
     attributes: Option<&'a AttrSet>,
 ) -> Option<Scope<'a>>
-    ensures { option_map scope_data result ≡ scope_in (option_map resource_data resource.entry)
-        (option_map scope_message (whole_data scope.now))
-        (option_map (λ s. s.now) attributes.entry) }
+    ensures { option_map scope_data result ≡ scope_from (option_map resource_data resource.entry)
+        scope.now (option_map (λ s. s.now) attributes.entry) }
 {
-    let bytes = scope.bytes_or_none();
     let resource = resource?;
-    let name = text_in(text_at(bytes, 1))?;
-    let version = text_in(text_at(bytes, 2))?;
+    let name = text_in(text_at(scope, 1))?;
+    let version = text_in(text_at(scope, 2))?;
     let attributes = attributes?;
     Some(Scope {
         resource: resource.attributes,
@@ -101,7 +97,7 @@ pub fn scope_in<'a>(
 
 /// Whether a temporality is delta.
 fn is_delta(found: Option<Payload<'_>>) -> bool
-    ensures { result ≡ is_delta (option_map temporality (option_map payload_data found.entry)) }
+    ensures { result ≡ delta_from (option_map payload_data found.entry) }
 {
     match found {
         Some(payload) => bits(payload) % 4_294_967_296 == 1,
@@ -110,9 +106,8 @@ fn is_delta(found: Option<Payload<'_>>) -> bool
 }
 
 /// A truth, false if it is absent.
-#[tactic(auto, unfolding(otlp_read::specs::Fields::truth_in))]
-fn truth_in(found: Option<Payload<'_>>) -> bool
-    ensures { truth_in (option_map truth (option_map payload_data found.entry)) ≡ Some result }
+fn is_true(found: Option<Payload<'_>>) -> bool
+    ensures { result ≡ truth_from (option_map payload_data found.entry) }
 {
     match found {
         Some(payload) => bits(payload) != 0,
@@ -120,22 +115,15 @@ fn truth_in(found: Option<Payload<'_>>) -> bool
     }
 }
 
-/// The metric of a scope, if the temporality of its data is delta.
-#[tactic(auto, unfolding(otlp_read::specs::Streams::stream_in))]
-fn delta_stream<'a>(
-    scope: Option<Scope<'a>>,
-    metric: &'a [u8],
-    found: Option<Payload<'_>>,
-) -> Option<Stream<'a>>
-    ensures { (d : Data) → field (codes "aggregationTemporality") d
-        ≡ option_map temporality (option_map payload_data found.entry)
-        → option_map stream_data result ≡ stream_in (option_map scope_data scope.entry)
-        (metric_message metric.now) d }
+/// The metric of a scope, if its data have delta temporality.
+fn stream_if<'a>(delta: bool, scope: Option<Scope<'a>>, metric: &'a [u8]) -> Option<Stream<'a>>
+    ensures { option_map stream_data result
+        ≡ stream_from (option_map scope_data scope.entry) metric.now delta }
 {
     let scope = scope?;
     let name = text_in(text_at(metric, 1))?;
     let unit = text_in(text_at(metric, 3))?;
-    if is_delta(found) {
+    if delta {
         Some(Stream { scope, name, unit })
     } else {
         None
@@ -143,31 +131,35 @@ fn delta_stream<'a>(
 }
 
 /// The stream of a metric's histogram.
-pub fn stream_in<'a>(
+pub fn histogram_stream<'a>(
     scope: Option<Scope<'a>>,
     metric: &'a [u8],
     histogram: &[u8],
 ) -> Option<Stream<'a>>
-    ensures { option_map stream_data result ≡ stream_in (option_map scope_data scope.entry)
-        (metric_message metric.now) (histogram_message histogram.now) }
+    ensures { option_map stream_data result ≡ histogram_stream_from
+        (option_map scope_data scope.entry) metric.now histogram.now }
 {
-    delta_stream(scope, metric, last(histogram, 2))
+    stream_if(is_delta(last(histogram, TEMPORALITY)), scope, metric)
 }
 
 /// The stream of a metric's sum.
-#[tactic(auto, unfolding(otlp_read::specs::Streams::sum_stream_in))]
-pub fn sum_stream_in<'a>(
+pub fn sum_stream<'a>(
     scope: Option<Scope<'a>>,
     metric: &'a [u8],
     sum: &[u8],
 ) -> Option<SumStream<'a>>
-    ensures { option_map sum_stream_data result ≡ sum_stream_in (option_map scope_data scope.entry)
-        (metric_message metric.now) (sum_message sum.now) }
+    ensures { option_map sum_stream_data result ≡ sum_stream_from
+        (option_map scope_data scope.entry) metric.now sum.now }
 {
-    let stream = delta_stream(scope, metric, last(sum, 2))?;
-    let monotonic = truth_in(last(sum, 3));
+    let stream = stream_if(is_delta(last(sum, TEMPORALITY)), scope, metric)?;
+    let monotonic = is_true(last(sum, MONOTONIC));
     Some(SumStream { stream, monotonic })
 }
+
+/// The numbers of what a sum or a histogram says of itself.
+const TEMPORALITY: u32 = 2;
+
+const MONOTONIC: u32 = 3;
 
 /// The series of a stream with this kind and the attributes of this number. `None` if no series may
 /// have them.

@@ -27,20 +27,21 @@ use std::alloc::{AllocError, Global};
 /// Unknown fields and groups are passed over, of several values of one field the last counts, and a
 /// message that comes in parts is one. A point outside the profile is counted as foreign; it is no
 /// error.
+#[tactic(auto, unfolding(crate::specs::Reading::bytes_reading))]
 pub fn read_request(alloc: Global, bytes: &[u8]) -> Result<Reading, ReadFault>
     ensures { Answers bytes.now result }
 {
     match checked(Message::Request, bytes) {
-        Err(why) => return Err(ReadFault::Malformed(why)),
-        Ok(()) => {}
-    }
-    match read_checked(alloc, bytes) {
-        Ok(reading) => Ok(reading),
-        Err(_) => Err(ReadFault::NoMemory),
+        Err(why) => Err(ReadFault::Malformed(why)),
+        Ok(()) => match read_checked(alloc, bytes) {
+            Ok(reading) => Ok(reading),
+            Err(_) => Err(ReadFault::NoMemory),
+        },
     }
 }
 
 /// Reads a request whose bytes are one.
+#[tactic(auto, using(crate::proofs::RequestLemmas::request_read))]
 fn read_checked(alloc: Global, bytes: &[u8]) -> Result<Reading, AllocError>
     ensures { IfOk result (λ r. reading (request_message bytes.now) ≡ Ok (tally r)) }
 {
@@ -97,8 +98,9 @@ fn scope_metrics(
     ensures { OnOk result (scope_metrics (option_map resource_data resource.entry)
         (scope_metrics_message bytes.now) (tally reader.old.out) ≡ Ok (tally reader.new.out)) }
 {
-    let scope = whole_at(reader.alloc, bytes, 1)?;
-    let attributes = attributes_in(reader.alloc, scope.bytes_or_none(), 3)?;
-    let scope = scope_in(resource, &scope, attributes.as_ref());
+    let whole = whole_at(reader.alloc, bytes, 1)?;
+    let scope = whole.bytes_or_none();
+    let attributes = attributes_in(reader.alloc, scope, 3)?;
+    let scope = scope_in(resource, scope, attributes.as_ref());
     each(reader, scope, bytes, 2)
 }

@@ -80,4 +80,35 @@ impl Body {
         self.text.push_str(value)?;
         Ok(())
     }
+
+    /// A message in this one.
+    pub fn inner(&mut self, field: u8, name: &str, inner: &Body) -> Result<(), AllocError> {
+        self.content(field, inner.bytes.as_slice())?;
+        self.member(name, "{")?;
+        self.text.push_str(&inner.text)?;
+        self.text.push_str("}")?;
+        Ok(())
+    }
+
+    /// An element of a list of messages, whose JSON is put behind the others.
+    pub fn element(
+        &mut self,
+        field: u8,
+        list: &mut String,
+        inner: &Body,
+    ) -> Result<(), AllocError> {
+        self.content(field, inner.bytes.as_slice())?;
+        list.push_str(if list.is_empty() { "{" } else { ",{" })?;
+        list.push_str(&inner.text)?;
+        list.push_str("}")?;
+        Ok(())
+    }
+
+    /// A list, of which these are the elements.
+    pub fn list(&mut self, name: &str, elements: &str) -> Result<(), AllocError> {
+        self.member(name, "[")?;
+        self.text.push_str(elements)?;
+        self.text.push_str("]")?;
+        Ok(())
+    }
 }

@@ -6,4 +6,6 @@ mod bodies;
 #[cfg(test)]
 mod messages;
 #[cfg(test)]
+mod random;
+#[cfg(test)]
 mod requests;

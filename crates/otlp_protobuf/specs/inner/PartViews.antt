@@ -1,5 +1,5 @@
 -- The data fields of a metric, from their bytes.
-use Rattle.std.specs.Prelude.{ℕ, List, map, Option, option_map}
+use Rattle.std.specs.Prelude.{ℕ, List, map, Option, Some, None, option_map}
 use Rattle.serde_json.specs.Data.{Data}
 use Rattle.otlp_read.specs.Metrics.{Part, Parts}
 use Rattle.otlp_protobuf.specs.declared.metrics.Parts.{Parts as FoundParts}
@@ -42,3 +42,8 @@ message_parts bytes = record {
   exponential = other_part (whole_at 10 bytes);
   summary = other_part (whole_at 11 bytes);
 }
+
+-- 1 for a data field that is present
+abbrev pub one_if : Option (List ℕ) → ℕ
+one_if None = 0
+one_if (Some b) = 1
