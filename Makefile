@@ -62,8 +62,8 @@ soak: ## the service under load for an hour: STALLS=1, STORE=1
 	@[ -x bin/totxegun ] || { echo "there is no bin/totxegun: make build makes it" >&2; exit 1; }
 	@$(if $(STORE),tests/several_machines.py bin/totxegun 3600 $(SEED) --long,tests/service_load.py bin/totxegun 3600 $(if $(STALLS),--stalls))
 
-# With what make build has built. Not in the gate: they wait for instances' beats, and a machine with much else to do is late.
-SEVERAL = orders_anywhere.py store_peers.py several_machines.py:90 under_patroni.py store_move.py:29 store_databases.py
+# With what make build has built. The gate tries most of them for a shorter time.
+SEVERAL = orders_anywhere.py store_peers.py several_machines.py:90 under_patroni.py store_move.py store_databases.py
 several: ## the tests of several machines over a store, in half an hour
 	@[ -x bin/totxegun ] || { echo "there is no bin/totxegun: make build makes it" >&2; exit 1; }
 	@tools/needs several

@@ -37,6 +37,7 @@ part checkpoint service_times.py --times 5 $earlier checkpoint
 # shellcheck disable=SC2086
 part replay service_times.py --posts 10000 $earlier replay
 part backlog service_times.py --times 3 backlog
+part memory service_times.py --series 100000 memory
 part bytes service_times.py bytes
 part threads gateway.py --points 20 --kinds sum --senders 1,8,64 --receivers 1,4,8 --allocators tcmalloc --runs 5 --seconds 0.5
 part more gateway.py --allocators tuned,tcmalloc,jemalloc --seconds 0.7

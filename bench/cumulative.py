@@ -10,17 +10,17 @@ load. A first load warms up what is known of series, and is not counted. Two sen
 The snapshot is the first segment of the outbox that a start writes, of so many series (10,000) that had a post and a flush, by
 its bytes for each series.
 """
+import argparse
 import glob
 import os
 import shutil
 import tempfile
 
-import loading
+from measuring import loading
+from measuring.loading import Posts, Senders
+from measuring.running import Measured, options, serving, start
+from testing.service import wait_until
 from instructions import Profile, order
-from loading import Posts, Senders
-from running import options, serving, start
-
-from service import Service, wait_until
 
 ROWS = [("sum", 1, "protobuf"), ("sum", 20, "protobuf"), ("sum", 103, "protobuf"), ("histogram", 20, "protobuf"), ("sum", 20, "json"),
         ("histogram", 20, "json")]
@@ -29,13 +29,13 @@ POINTS, LEAST_REQUESTS = 6000, 40
 WORDS = ["--durable", "process", "--first", "count", "--flush-every", "1h", "--threads", "2"]
 
 
-def profiled(arguments, kind, points, encoding, all_points=POINTS, series=SERIES):
+def profiled(arguments: argparse.Namespace, kind: str, points: int, encoding: str, all_points: int = POINTS,
+             series: int = SERIES) -> tuple[Profile, int]:
     """What a load of about so many points takes, and how many posts it has."""
     requests = max(all_points // points // SENDERS, LEAST_REQUESTS) * SENDERS
     with tempfile.TemporaryDirectory() as folder:
         traced = ["valgrind", "--tool=callgrind", f"--callgrind-out-file={folder}/out", "--quiet"]
-        one = Service(arguments.totxegun, f"{folder}/data", f"sqlite:{folder}/sink.db", *WORDS, before=traced)
-        one.environment = {}
+        one = Measured(arguments.totxegun, f"{folder}/data", f"sqlite:{folder}/sink.db", *WORDS, before=traced)
         try:
             start(one)
             senders = Senders(one.listen, SENDERS, Posts(kind, points, series, encoding, "kept"))
@@ -51,13 +51,13 @@ def profiled(arguments, kind, points, encoding, all_points=POINTS, series=SERIES
         return Profile(f"{folder}/out.1"), loaded.requests
 
 
-def count(arguments, kind, points, encoding):
+def count(arguments: argparse.Namespace, kind: str, points: int, encoding: str) -> float:
     """The instructions of a post."""
     profile, posts = profiled(arguments, kind, points, encoding)
     return profile.whole() / posts
 
 
-def snapshot(arguments, kind):
+def snapshot(arguments: argparse.Namespace, kind: str) -> float:
     """The bytes of a snapshot for each series."""
     with serving(arguments, *WORDS) as one:
         senders = Senders(one.listen, SENDERS, Posts(kind, 100, arguments.series, "protobuf", "kept"))
@@ -67,11 +67,11 @@ def snapshot(arguments, kind):
             raise SystemExit("the sink has not all of it")
         one.kill()
         start(one)
-        latest = max(glob.glob(f"{one.folder}/slot-0/outbox/*"), key=os.path.getmtime)
-        return os.path.getsize(latest) / arguments.series
+        latest = max(glob.glob(f"{one.data}/slot-0/outbox/*"), key=os.path.getmtime)
+        return float(os.path.getsize(latest) / arguments.series)
 
 
-def main():
+def main() -> None:
     parser = options(__doc__.split("\n", maxsplit=1)[0])
     parser.add_argument("--series", type=int, default=10_000)
     arguments = parser.parse_args()

@@ -22,7 +22,7 @@ most in brackets. A median and a 99th percentile of a request are as a sender se
 --kept the last run ends by 20 loads more, and bytes kept are what the process has grown by over these. --calls counts system
 calls by strace. What is printed says what was measured here, and asserts nothing.
 """
-import collections
+import argparse
 import os
 import re
 import shutil
@@ -30,13 +30,14 @@ import signal
 import statistics
 import subprocess
 import tempfile
+from collections.abc import Iterable, Iterator
+from typing import NamedTuple
 
-import loading
-import plain
-from allocators import add_options, environment, names_there, shown
-from loading import Posts, Senders, rounded
-from process import memory, numbers, processor_seconds, spread
-from running import bare, options
+from measuring import loading, plain
+from measuring.allocators import add_options, environment, names_there, shown
+from measuring.loading import Posts, Senders, rounded
+from measuring.process import memory, numbers, processor_seconds, spread
+from measuring.running import bare, options
 
 DEFAULT_ROWS = [("sum", 1), ("sum", 20), ("sum", 1000), ("histogram", 20)]
 LEAST_POSTS = 10
@@ -48,12 +49,33 @@ KEPT_LOADS = 20
 # So few that the gateway's round, of 32,000 connections, does not end within them.
 KEPT_REQUESTS, BEFORE_KEPT = 1200, 4000
 
-Row = collections.namedtuple("Row", "kind points series senders receivers allocator")
-Figures = collections.namedtuple("Figures", "a_point a_request a_second points_a_second median last kept failed")
-Program = collections.namedtuple("Program", "words environment")
+
+class Row(NamedTuple):
+    kind: str
+    points: int
+    series: int
+    senders: int
+    receivers: int
+    allocator: str
 
 
-def measure(program, row, requests, is_kept):
+class Figures(NamedTuple):
+    a_point: float
+    a_request: float
+    a_second: float
+    points_a_second: float
+    median: float
+    last: float
+    kept: float
+    failed: float
+
+
+class Program(NamedTuple):
+    words: list[str]
+    environment: dict[str, str]
+
+
+def measure(program: Program, row: Row, requests: int, is_kept: bool) -> Figures:
     """The figures of one run."""
     words = [*program.words, "--receivers", str(row.receivers)]
     with bare(words, program.environment) as (port, process):
@@ -73,7 +95,7 @@ def measure(program, row, requests, is_kept):
                    loaded.last, kept, failed)
 
 
-def kept_over(senders, pid, row):
+def kept_over(senders: Senders, pid: int, row: Row) -> tuple[float, int]:
     """What the process grows by over more loads, by points, and how many requests failed."""
     before, points, failed = memory(pid), 0, 0
     for _ in range(KEPT_LOADS):
@@ -82,7 +104,7 @@ def kept_over(senders, pid, row):
     return (memory(pid) - before) / points, failed
 
 
-def calls_a_request(program, row):
+def calls_a_request(program: Program, row: Row) -> str:
     """The system calls of each request by name, the most frequent ones first."""
     words = [*program.words, "--receivers", str(row.receivers)]
     with bare(words, program.environment) as (port, process), tempfile.NamedTemporaryFile("r") as table:
@@ -95,17 +117,17 @@ def calls_a_request(program, row):
         whole = senders.load(rounded(TRACED_REQUESTS, row.senders)).requests
         tracer.send_signal(signal.SIGINT)
         tracer.communicate()
-        counts = re.findall(r"^ *[\d.]+ +[\d.]+ +\d+ +(\d+) +(?:\d+ +)?(\w+)$", table.read(), re.M)
-    counts = sorted(((int(count) / whole, name) for count, name in counts if name != "total"), reverse=True)
+        found = re.findall(r"^ *[\d.]+ +[\d.]+ +\d+ +(\d+) +(?:\d+ +)?(\w+)$", table.read(), re.M)
+    counts = sorted(((int(count) / whole, name) for count, name in found if name != "total"), reverse=True)
     names = ", ".join(f"{name} {count:.1f}" for count, name in counts if count >= 0.05)
     return f"{sum(count for count, _ in counts):.1f}: {names}"
 
 
-def in_turn(programs, row, arguments):
+def in_turn(programs: dict[str, Program], row: Row, arguments: argparse.Namespace) -> dict[str, list[Figures]]:
     """The figures of each program, by runs."""
     first = rounded(max(FIRST_POINTS // row.points // 4, LEAST_POSTS * row.senders), row.senders)
     requests = {name: int(measure(program, row, first, False).a_second * arguments.seconds) for name, program in programs.items()}
-    runs = {name: [] for name in programs}
+    runs: dict[str, list[Figures]] = {name: [] for name in programs}
     for number in range(arguments.runs):
         for name, program in programs.items():
             is_kept = arguments.kept and number == arguments.runs - 1
@@ -114,14 +136,14 @@ def in_turn(programs, row, arguments):
     return runs
 
 
-def print_row(row, programs, arguments):
+def print_row(row: Row, programs: dict[str, Program], arguments: argparse.Namespace) -> None:
     """Measures and prints a line for each program, and one of ratios for each plain one."""
     points = f"{row.points:,} point{'s' if row.points > 1 else ''} a request"
     print(f"\n{row.kind}s, {points}, {row.series:,} series, {row.senders} senders, {row.receivers} receivers, {row.allocator}")
     print(f"{'':16}us a point  us a request  requests/s   points/s  median us  99th us  bytes kept a point", flush=True)
     runs = in_turn(programs, row, arguments)
     for name, figures in runs.items():
-        it = Figures(*map(statistics.median, zip(*figures)))
+        it = Figures(*(statistics.median(column) for column in zip(*figures)))
         it = it._replace(kept=figures[-1].kept if arguments.kept else it.kept)
         failed = sum(one.failed for one in figures)
         print(f"  {name:14}{it.a_point:10.2f}  {it.a_request:12.1f}  {it.a_second:10,.0f} {it.points_a_second:10,.0f}  {it.median:9,.0f}"
@@ -134,17 +156,17 @@ def print_row(row, programs, arguments):
         print(f"  {name:14} system calls a request {calls_a_request(program, row)}", flush=True)
 
 
-def ratios(ours, theirs):
-    def of(name):
+def ratios(ours: list[Figures], theirs: list[Figures]) -> str:
+    def of(name: str) -> str:
         return spread([getattr(one, name) / max(getattr(other, name), 1e-9) for one, other in zip(ours, theirs)], ".2f")
     return f"processor time {of('a_point')}, requests/s {of('a_second')}, median {of('median')}, 99th {of('last')}"
 
 
-def words(text):
+def words(text: str) -> list[str]:
     return [word for word in text.split(",") if word]
 
 
-def given():
+def given() -> argparse.Namespace:
     parser = options(__doc__.split("\n", maxsplit=1)[0])
     parser.add_argument("--points", type=numbers)
     parser.add_argument("--kinds", type=words)
@@ -160,7 +182,7 @@ def given():
     return parser.parse_args()
 
 
-def rows(arguments, allocators):
+def rows(arguments: argparse.Namespace, allocators: Iterable[str]) -> Iterator[Row]:
     named = arguments.points or arguments.kinds
     each = [(kind, points) for kind in arguments.kinds or ["sum"] for points in arguments.points or [20]]
     for kind, points in each if named else DEFAULT_ROWS:
@@ -171,7 +193,7 @@ def rows(arguments, allocators):
                         yield Row(kind, points, series, senders, receivers, allocator)
 
 
-def main():
+def main() -> None:
     arguments = given()
     loading.build()
     beside = {name: plain.build(name) for name in arguments.beside}

@@ -18,12 +18,13 @@ import re
 import shutil
 import subprocess
 import tempfile
+from collections.abc import Iterable
+from typing import NamedTuple
 
-import loading
-import plain
-from loading import Posts, Senders
-from process import ROOT, numbers
-from running import bare
+from measuring import ROOT, loading, plain
+from measuring.loading import Posts, Senders
+from measuring.process import numbers
+from measuring.running import bare, path
 
 ROWS = [("sum", 1), ("sum", 20), ("sum", 1000), ("histogram", 20)]
 SERIES, SENDERS, RECEIVERS = 200, 2, 2
@@ -35,18 +36,25 @@ MADE = re.compile(r"serde_json::de::read_(members|items|value)(::<.*>)?$")
 GIVEN_BACK = re.compile(r"otlp_read::serde_json\+\+value\+\+Value\+Destruct::drop$")
 FILLED = re.compile(r"__memset_")
 
-Counts = collections.namedtuple("Counts", "whole made given_back filled")
+
+class Counts(NamedTuple):
+    whole: int
+    made: int
+    given_back: int
+    filled: int
 
 
 class Profile:
     """What callgrind has written of one load: the instructions of each function alone, and those of its calls."""
 
-    def __init__(self, path):
-        self.alone, self.calls, self.names = collections.Counter(), collections.Counter(), {}
+    def __init__(self, path: str) -> None:
+        self.alone: collections.Counter[str] = collections.Counter()
+        self.calls: collections.Counter[tuple[str, str]] = collections.Counter()
+        self.names: dict[str, str] = {}
         with open(path, encoding="utf-8") as lines:
             self.read(lines)
 
-    def read(self, lines):
+    def read(self, lines: Iterable[str]) -> None:
         function = called = None
         is_call = False
         for line in lines:
@@ -64,24 +72,24 @@ class Profile:
                     self.alone[function] += count
                 is_call = False
 
-    def name(self, text):
+    def name(self, text: str) -> str:
         number, name = re.match(r"\((\d+)\)(?: (.*))?$", text.rstrip("\n")).groups()
         return self.names.setdefault(number, name)
 
-    def whole(self):
+    def whole(self) -> int:
         return sum(self.alone.values())
 
-    def within(self, kind):
+    def within(self, kind: re.Pattern[str]) -> int:
         """What these functions take themselves."""
         return sum(count for name, count in self.alone.items() if kind.match(name))
 
-    def entered(self, kind):
+    def entered(self, kind: re.Pattern[str]) -> int:
         """What calls of these functions take that come from any other function."""
         return sum(count for (caller, called), count in self.calls.items()
                    if kind.match(called) and not kind.match(caller.partition("'")[0]))
 
 
-def count(words, kind, points):
+def count(words: list[str], kind: str, points: int) -> tuple[Counts, int]:
     """The instructions of a load, and how many points it had."""
     requests = max(POINTS // points // SENDERS, LEAST_REQUESTS) * SENDERS
     with tempfile.TemporaryDirectory() as folder:
@@ -100,14 +108,14 @@ def count(words, kind, points):
     return counts, loaded.requests * points
 
 
-def order(process, word):
+def order(process: subprocess.Popen[bytes], word: str) -> None:
     words = ["callgrind_control", word, str(process.pid)]
     subprocess.run(words, stdout=subprocess.DEVNULL, stderr=subprocess.DEVNULL, check=True)
 
 
-def main():
+def main() -> None:
     parser = argparse.ArgumentParser(description=__doc__.split("\n", maxsplit=1)[0])
-    parser.add_argument("--gateway", type=os.path.abspath, default=f"{ROOT}/bin/gateway")
+    parser.add_argument("--gateway", type=path, default=f"{ROOT}/bin/gateway")
     parser.add_argument("--totxegun", help="as in the other scripts; not used")
     parser.add_argument("--beside", type=lambda text: text.split(","), default=["plain", "plain-tree", "plain-answers"])
     parser.add_argument("--points", type=numbers)
@@ -117,16 +125,16 @@ def main():
         raise SystemExit("left out: it needs the package valgrind")
     loading.build()
     programs = {"gateway": [arguments.gateway, "serve", "--connections", "1000000"]}
-    programs |= {name: [path, "serve"] for name in arguments.beside if (path := plain.build(name))}
+    programs |= {name: [built, "serve"] for name in arguments.beside if (built := plain.build(name))}
     rows = [(kind, points) for kind in arguments.kinds for points in arguments.points or []] or ROWS
     print(f"{'instructions a point':26}{'':16}{'all':>9}{'tree made':>11}{'given back':>12}{'filled':>8}")
     for kind, points in rows:
         for name, words in programs.items():
             counts, whole = count(words, kind, points)
-            each = Counts(*(f"{it / whole:,.0f}" for it in counts))
-            tree = f"{each.made:>11}{each.given_back:>12}" if name == "gateway" else " " * 23
+            each = [f"{it / whole:,.0f}" for it in counts]
+            tree = f"{each[1]:>11}{each[2]:>12}" if name == "gateway" else " " * 23
             row = f"{kind}s, {points:,} a request"
-            print(f"{row:26}{name:16}{each.whole:>9}{tree}{each.filled:>8}", flush=True)
+            print(f"{row:26}{name:16}{each[0]:>9}{tree}{each[3]:>8}", flush=True)
 
 
 if __name__ == "__main__":

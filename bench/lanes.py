@@ -10,7 +10,8 @@ printed says what was measured here, and asserts nothing.
 """
 import sys
 
-from process import ROOT, program_at, run_seconds
+from measuring import ROOT
+from measuring.process import program_at, run_seconds
 
 KERNELS = ["copy", "fits", "add_into", "sub_from", "move_into", "total", "is_zero", "clear"]
 PLAIN = {"fits", "add_into", "sub_from", "move_into", "is_zero", "clear"}
@@ -21,12 +22,12 @@ FIRST_TIMES = 200_000
 RUNS = 3
 
 
-def seconds(program, name, words, times):
+def seconds(program: str, name: str, words: int, times: int) -> float:
     """The processor time of a run."""
     return run_seconds([program, name, str(words), str(times)])
 
 
-def bytes_a_second(program, name, words):
+def bytes_a_second(program: str, name: str, words: int) -> float:
     """The bytes of one row by the processor time of one call."""
     start = seconds(program, name, words, 0)
     first = max(seconds(program, name, words, FIRST_TIMES) - start, 1e-4)
@@ -35,7 +36,7 @@ def bytes_a_second(program, name, words):
     return words * WORD_BYTES * CALLS_EACH_TIME * times / took
 
 
-def main():
+def main() -> None:
     program = program_at(sys.argv[1] if len(sys.argv) > 1 else f"{ROOT}/crates/lane_bench/out/lane_bench")
     print("GB/s       " + "".join(f"{words:>7} words   (plain)" for words in WORDS))
     for kernel in KERNELS:

@@ -15,19 +15,20 @@ import subprocess
 import sys
 import tempfile
 import time
+from typing import Any
 
-from process import memory
+from measuring.process import memory
 
 SERIES = 200
 COUNTS = [2_000, 20_000]
 FLUSHES = 10
 
 
-def attribute(key, value):
+def attribute(key: str, value: str) -> dict[str, Any]:
     return {"key": key, "value": {"stringValue": value}}
 
 
-def point(series, request):
+def point(series: int, request: int) -> dict[str, Any]:
     return {
         "attributes": [
             attribute("http.request.method", "GET"),
@@ -40,7 +41,7 @@ def point(series, request):
     }
 
 
-def body(request):
+def body(request: int) -> str:
     """The JSON text of one request, on one line."""
     resource = [
         attribute(f"k8s.deployment.label.{number}", f"value-of-label-{number}")
@@ -56,7 +57,7 @@ def body(request):
         },
     }
     scope = {"name": "io.opentelemetry.http", "version": "2.9.0"}
-    request = {
+    whole = {
         "resourceMetrics": [
             {
                 "resource": {"attributes": resource},
@@ -64,10 +65,10 @@ def body(request):
             }
         ]
     }
-    return json.dumps(request, separators=(",", ":"))
+    return json.dumps(whole, separators=(",", ":"))
 
 
-def script(points, flushes):
+def script(points: int, flushes: int) -> str:
     """Requests with so many points, and then so many flushes, each given back."""
     lines = [f"post A {body(request)}" for request in range(points // SERIES)]
     for flush in range(1, flushes + 1):
@@ -75,7 +76,7 @@ def script(points, flushes):
     return "\n".join(lines) + "\n" if lines else ""
 
 
-def run(program, text):
+def run(program: str, text: str) -> tuple[int, float]:
     """Peak memory in bytes and processor time in seconds of a run over the text."""
     with tempfile.TemporaryFile() as stdin:
         stdin.write(text.encode())
@@ -94,7 +95,7 @@ def run(program, text):
     return peak, usage.ru_utime + usage.ru_stime
 
 
-def main():
+def main() -> None:
     program = sys.argv[1] if len(sys.argv) > 1 else "bin/play"
     counts = [int(word) for word in sys.argv[2:]] or COUNTS
     empty, _ = run(program, "")

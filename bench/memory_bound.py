@@ -8,6 +8,7 @@
 flush is ordered behind so many posts, as a service does that flushes by time; else at the first refusal, and in each case
 until nothing is left at the end. A run is broken off after so many seconds (120). Allocators are those of bench/gateway.py.
 """
+import argparse
 import collections
 import contextlib
 import json
@@ -15,12 +16,12 @@ import os
 import subprocess
 import time
 
-from allocators import add_options, environment, names_there
-from process import memory, numbers
-from running import options
-
-from loopback import BackEnd, free_port, sent_points
-from shipped import ask, listens, posting, wait_until
+from measuring.allocators import add_options, environment, names_there
+from measuring.process import memory, numbers
+from measuring.running import options
+from testing.loopback import BackEnd, free_port, sent_points
+from testing.service import wait_until
+from testing.shipped import ask, listens, posting
 
 ROUND = 600
 # What a body has in the place of its times.
@@ -28,7 +29,7 @@ START, END = "1000003", "9000009"
 FIRST_TIME, TIME = 1_000_000, 10
 
 
-def template(points):
+def template(points: int) -> str:
     """A body of a point for each of so many series, over one span."""
     one = {"asInt": "1", "startTimeUnixNano": START, "timeUnixNano": END}
     total = {"aggregationTemporality": 1, "isMonotonic": True, "dataPoints": [one]}
@@ -39,17 +40,18 @@ def template(points):
 class Run:
     """A gateway under a bound, and what it answered."""
 
-    def __init__(self, arguments, megabytes, its_environment):
+    def __init__(self, arguments: argparse.Namespace, megabytes: int, its_environment: dict[str, str]) -> None:
         self.arguments = arguments
         self.back_end, self.port = BackEnd(), free_port()
         self.gateway = subprocess.Popen(
             ["prlimit", f"--as={megabytes << 20}", arguments.gateway, "serve", "--backend", f"127.0.0.1:{self.back_end.port}",
              "--listen", f"127.0.0.1:{self.port}", "--connections", "1000000", "--receivers", "4", "--round", str(ROUND)],
             env=its_environment, stdout=subprocess.DEVNULL)
-        self.accepted, self.answers, self.most = 0, collections.Counter(), 0
+        self.accepted = self.most = 0
+        self.answers: collections.Counter[str] = collections.Counter()
         self.end = "its end"
 
-    def flush(self):
+    def flush(self) -> bool:
         """Orders flushes until nothing is left; not behind one that is refused."""
         for _ in range(100):
             status, text = ask(self.port, "POST", "/flush")
@@ -58,7 +60,7 @@ class Run:
                 return status == 200
         return False
 
-    def post_all(self):
+    def post_all(self) -> None:
         text, until = template(self.arguments.points), time.monotonic() + self.arguments.seconds
         for number in range(self.arguments.posts):
             if time.monotonic() > until:
@@ -74,7 +76,7 @@ class Run:
             if (every and number % every == every - 1) or (is_first and not every):
                 self.flush()
 
-    def go(self):
+    def go(self) -> None:
         try:
             wait_until(lambda: listens(self.port) or self.gateway.poll() is not None)
             self.post_all()
@@ -88,7 +90,7 @@ class Run:
         self.gateway.kill()
         self.gateway.wait()
 
-    def say(self):
+    def say(self) -> str:
         points = self.arguments.points
         forwarded = sum(value for text in self.back_end.bodies for value, _, _ in sent_points(text))
         self.back_end.close()
@@ -97,7 +99,7 @@ class Run:
                 f" answers {answers}; {self.end}")
 
 
-def main():
+def main() -> None:
     parser = options(__doc__.split("\n", maxsplit=1)[0])
     parser.add_argument("--bounds", type=numbers, default=[400, 260, 200])
     add_options(parser, ["libc", "tcmalloc"])

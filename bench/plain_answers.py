@@ -17,14 +17,15 @@ import os
 import random
 import re
 import sys
+from collections.abc import Iterable, Iterator
+from typing import Any
 
-from plain import build
-from process import ROOT
-
-from checks import Checks
+from measuring import ROOT
+from measuring.plain import build
+from testing.checks import Checks
+from testing.loopback import Gateway, ordered, posted
+from testing.shipped import CONNECTIONS, end_gateway
 from hostile_input import INPUTS
-from loopback import Gateway, ordered, posted
-from shipped import CONNECTIONS, end_gateway
 
 BODIES = 3000
 NOBODY = 9
@@ -32,20 +33,23 @@ SPAN = {"startTimeUnixNano": "10", "timeUnixNano": "20"}
 HISTOGRAM = {**SPAN, "count": "7", "sum": 30, "bucketCounts": ["1", "2", "4"], "explicitBounds": [0, 5]}
 
 
-def metrics(*all_of_them, resource=None, scope=None):
+def metrics(*all_of_them: Any, resource: Any = None,
+            scope: Any = None) -> dict[str, Any]:
     group = {"scopeMetrics": [{"metrics": list(all_of_them)} | ({"scope": scope} if scope is not None else {})]}
     return {"resourceMetrics": [group | ({"resource": resource} if resource is not None else {})]}
 
 
-def sums(*points, name="s", temporality=1, **more):
+def sums(*points: dict[str, Any], name: Any = "s", temporality: Any = 1,
+         **more: Any) -> dict[str, Any]:
     return {"name": name, "sum": {"aggregationTemporality": temporality, "dataPoints": list(points), **more}}
 
 
-def histograms(*points, name="h"):
+def histograms(*points: dict[str, Any],
+               name: str = "h") -> dict[str, Any]:
     return {"name": name, "histogram": {"aggregationTemporality": 1, "dataPoints": list(points)}}
 
 
-def sum_of(value, **more):
+def sum_of(value: Any, **more: Any) -> dict[str, Any]:
     return metrics(sums({**SPAN, "asInt": value, **more}))
 
 
@@ -71,7 +75,7 @@ ATTRIBUTES = [
 ]
 
 
-def written_by_rules():
+def written_by_rules() -> Iterator[Any]:
     """Bodies that try each rule."""
     for value in VALUES:
         yield sum_of(value)
@@ -109,7 +113,7 @@ def written_by_rules():
     yield metrics(histograms(*full, name="large count"))
 
 
-def of_scripts():
+def of_scripts() -> Iterator[bytes]:
     """The posts and quarantines of the stored scripts, each script with senders and names of its own."""
     for file in sorted(glob.glob(f"{ROOT}/tests/scripts/*.script")):
         with open(file, encoding="utf-8", errors="surrogateescape", newline="\n") as lines:
@@ -122,14 +126,15 @@ def of_scripts():
                     yield ordered(f"POST /{'quarantine' if word == 'hold' else 'lift'}/{sender}")
 
 
-def messages():
+def messages() -> Iterator[bytes]:
     """Heads of each kind."""
     yield from (ordered(line) for line in ("GET /v1/metrics", "POST /report", "PUT /flush", "POST /nowhere", "get /report", "GET /flush?x",
                                            "POST /v1/metrics", "POST /quarantine/", "POST /quarantine/a%20b", "POST /lift/nobody",
                                            "POST /quarantine/q", "POST /quarantine/q", "GET /lift/q", "POST /lift/q?x", "POST /lift/q",
                                            "POST /flush/x", "POST /quarantine", "OPTIONS /v1/metrics", "POST /lift/" + "x" * 65))
     for fields in ("Content-Type: text/plain", "content-type: APPLICATION/json ; charset=utf-8", "Content-Type: application/jsonx",
-                   "Content-Type: application/json\r\nContent-Encoding: gzip", "Content-Type: application/json\r\nContent-Encoding: Identity",
+                   "Content-Type: application/json\r\nContent-Encoding: gzip",
+                   "Content-Type: application/json\r\nContent-Encoding: Identity",
                    "Content-Type: application/json\r\nContent-Type: text/plain", "Content-Type: application/json\r\nx-sender:",
                    "Content-Type: application/json\r\nx-sender: a b", "Content-Type: application/json\r\nx-sender: a\r\nx-sender: a",
                    "Content-Type: application/json\r\nx-sender:   a  ", "Content-Type: application/json\r\nx-sender: " + "x" * 65,
@@ -144,31 +149,31 @@ def messages():
         yield older + kind + b"Content-Length: " + length + b"\r\n\r\n{}"
 
 
-def places(value, path=()):
+def places(value: Any, path: tuple[Any, ...] = ()) -> Iterator[tuple[Any, ...]]:
     """The paths of all values in a value."""
     yield path
     for key in value if isinstance(value, dict) else range(len(value)) if isinstance(value, list) else ():
         yield from places(value[key], (*path, key))
 
 
-def changed(chance, body):
+def changed(chance: random.Random, body: dict[str, Any]) -> Any:
     """The body with a value put in place of one or two others."""
     body = copy.deepcopy(body)
     for _ in range(chance.randrange(1, 3)):
         path = chance.choice(list(places(body))[1:])
-        at = body
+        at: Any = body
         for key in path[:-1]:
             at = at[key]
         at[path[-1]] = chance.choice(VALUES)
     return body
 
 
-def by_chance(count, seed):
+def by_chance(count: int, seed: str) -> Iterator[Any]:
     """Bodies in which a value is put in place of another; their points go on in time, or not."""
     chance = random.Random(seed)
     text = {"key": "route", "value": {"stringValue": "/a"}}
     for number in range(count):
-        def spans():
+        def spans() -> dict[str, Any]:
             start = 1000 + 10 * number + chance.choice([0, 0, 0, -10])
             attributes = [text, {"key": "b", "value": {"intValue": "1"}}]
             return {"startTimeUnixNano": str(start), "timeUnixNano": str(start + 10), "attributes": attributes}
@@ -179,12 +184,12 @@ def by_chance(count, seed):
         yield changed(chance, body) if chance.random() < 0.8 else body
 
 
-def shown(request):
+def shown(request: bytes) -> str:
     text = request.decode("utf-8", "replace")
     return text if len(text) < 1500 else f"{text[:1500]} .. {len(text)} in all"
 
 
-def kind_of(answer):
+def kind_of(answer: bytes | str) -> str:
     """The status of an answer, and its text without numbers."""
     if isinstance(answer, str):
         return answer
@@ -193,21 +198,22 @@ def kind_of(answer):
     return f"{head[9:12]} {re.sub('[0-9]+', 'N', message[1]) if message else body[:20]}"
 
 
-def compare(checks, what, programs, requests):
+def compare(checks: Checks, what: str, programs: list[Gateway], requests: Iterable[bytes]) -> None:
     """Puts the requests to both; prints those that are answered otherwise."""
-    alike, count, kinds = 0, 0, collections.Counter()
+    alike = count = 0
+    kinds: collections.Counter[str] = collections.Counter()
     for request in requests:
         ours, theirs = (program.ask(request) for program in programs)
         count += 1
         kinds[kind_of(ours)] += 1
         alike += ours == theirs
         if ours != theirs:
-            print(f"{shown(request)}\n  the gateway: {ours}\n  plain-answers: {theirs}")
+            print(f"{shown(request)}\n  the gateway: {ours!r}\n  plain-answers: {theirs!r}")
     checks.same(f"{what}, {count} requests", count, alike)
     print(f"note: {', '.join(f'{number} {kind}' for kind, number in kinds.most_common())}", flush=True)
 
 
-def main(gateway=f"{ROOT}/bin/gateway", count=BODIES, seed="1"):
+def main(gateway: str = f"{ROOT}/bin/gateway", count: int | str = BODIES, seed: str = "1") -> int:
     program = build("plain-answers")
     if program is None:
         return 77

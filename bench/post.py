@@ -11,18 +11,20 @@ counted.
 Of each function, `alone` is what it takes itself, and `all` with what it calls; so many functions (20) are shown by the first, and as
 many by the second, or those alone that have WORD in their names.
 """
+import argparse
 import collections
 import shutil
 
-import loading
+from measuring import loading
+from measuring.running import options
 from cumulative import POINTS, SERIES, profiled
-from running import options
+from instructions import Profile
 
 # As bench/service.py has them.
 ROWS = {"json-1": (1, "json"), "json-20": (20, "json"), "protobuf-103": (103, "protobuf")}
 
 
-def whole(profile):
+def whole(profile: Profile) -> collections.Counter[str]:
     """What each function takes with what it calls. A function that calls itself counts once for each time."""
     all_of_it = collections.Counter(profile.alone)
     for (caller, _), count in profile.calls.items():
@@ -30,7 +32,7 @@ def whole(profile):
     return all_of_it
 
 
-def print_row(arguments, row):
+def print_row(arguments: argparse.Namespace, row: str) -> None:
     profile, posts = profiled(arguments, "sum", *ROWS[row], arguments.points, arguments.series)
     all_of_it, every = whole(profile), profile.whole()
     print(f"\n{row}: {every / posts:,.0f} instructions a post", flush=True)
@@ -41,7 +43,7 @@ def print_row(arguments, row):
             print(f"{count / posts:10,.0f}  {count / every:5.1%}  {name[:140]}")
 
 
-def main():
+def main() -> None:
     parser = options(__doc__.split("\n", maxsplit=1)[0])
     parser.add_argument("--rows", type=lambda text: text.split(","), default=list(ROWS))
     parser.add_argument("--points", type=int, default=POINTS)

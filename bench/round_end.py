@@ -14,10 +14,11 @@ import subprocess
 import sys
 import time
 
-from process import ROOT, memory, processor_seconds, program_at
-
-from loopback import free_port, posted, read_all
-from shipped import listens, wait_until
+from measuring import ROOT
+from measuring.process import memory, processor_seconds, program_at
+from testing.loopback import free_port, posted, read_all
+from testing.service import wait_until
+from testing.shipped import listens
 
 DEFAULT_RUNS = ["1,32000", "20,20000", "1000,400", "1000,1000"]
 # With that of the last sender, no more than a gateway has.
@@ -31,13 +32,13 @@ FIRST = 10
 class Sender:
     """Posts points of its own series, in order."""
 
-    def __init__(self, port, number, series):
+    def __init__(self, port: int, number: int, series: int) -> None:
         self.port = port
         self.number = number
         self.times = [0] * series
         self.next = 0
 
-    def body(self, points):
+    def body(self, points: int) -> bytes:
         metrics = []
         for _ in range(points):
             place = self.next % len(self.times)
@@ -49,7 +50,7 @@ class Sender:
             metrics.append(f'{{"name":"m{self.number}.{place}","sum":{whole}}}')
         return f'{{"resourceMetrics":[{{"scopeMetrics":[{{"metrics":[{",".join(metrics)}]}}]}}]}}'.encode()
 
-    def post(self, points):
+    def post(self, points: int) -> float:
         """How many seconds the answer took."""
         request = posted(self.body(points), f"s{self.number}")
         begun = time.monotonic()
@@ -57,17 +58,17 @@ class Sender:
             stream.sendall(request)
             answer = read_all(stream)
         if not answer.startswith(b"HTTP/1.1 200"):
-            sys.exit(f"a post was answered {answer[:200]}")
+            sys.exit(f"a post was answered {answer[:200]!r}")
         return time.monotonic() - begun
 
 
-def fill(port, number, posts, points):
+def fill(port: int, number: int, posts: int, points: int) -> None:
     sender = Sender(port, number, SERIES // PROCESSES)
     for _ in range(posts):
         sender.post(points)
 
 
-def run(program, points, posts):
+def run(program: str, points: int, posts: int) -> None:
     port = free_port()
     words = ["serve", "--backend", "127.0.0.1:9", "--connections", "1000000", "--receivers", "4"]
     words += ["--listen", f"127.0.0.1:{port}", "--round", str(posts)]
@@ -97,7 +98,7 @@ def run(program, points, posts):
         gateway.wait()
 
 
-def main(words):
+def main(words: list[str]) -> None:
     program = f"{ROOT}/bin/gateway"
     if words and "," not in words[0]:
         program, words = words[0], words[1:]

@@ -7,16 +7,15 @@
 
 The programs are bin/totxegun and bin/gateway, as `make build` makes them, where none is named. Rows: json-1, json-20,
 protobuf-103, gzip-103, grpc-1, grpc-103, by the encoding and the points of a post, over 800 series, and cumulative-103, which is
-protobuf. Parties: gateway, which is
-the bare one, process and disk, which are the service with this durability and a SQLite file as its sink, or with --sink postgres a database
-of a server that runs beside, whose processor time is not counted; `--set TOTXEGUN_FLUSH_EVERY=250ms` has each run deliver. More
-options of it are in WORDS, and --set sets more of its environment than the shipped unit does, such as LD_PRELOAD. process-tls and disk-tls are the
-same over TLS 1.3, on connections that shake hands wholly, and their ratios are to those without. FOLDER has totxegun and
-gateway of a revision whose service starts a gateway (1383c49c): it is measured as earlier-process and earlier-disk too. The other
-FILE is a totxegun of another revision, measured as other-process and so on. The bare
-gateway has four receivers, tcmalloc where that is installed, a connection a request, over TCP, and protobuf's points as JSON: it
-reads no other. The services get kept connections, a sender each, or with `each` one for each post, but for gRPC. The folder of a service is made in DIR, which is out/bench
-where none is named: the disk that `disk` waits for.
+protobuf. Parties: gateway, which is the bare one, process and disk, which are the service with this durability and a SQLite file
+as its sink, or with --sink postgres a database of a server that runs beside, whose processor time is not counted; `--set
+TOTXEGUN_FLUSH_EVERY=250ms` has each run deliver. More options of it are in WORDS, and --set sets more of its environment than the
+shipped unit does, such as LD_PRELOAD. process-tls and disk-tls are the same over TLS 1.3, on connections that shake hands wholly,
+and their ratios are to those without. FOLDER has totxegun and gateway of a revision whose service starts a gateway (1383c49c): it
+is measured as earlier-process and earlier-disk too. The other FILE is a totxegun of another revision, measured as other-process
+and so on. The bare gateway has four receivers, tcmalloc where that is installed, a connection a request, over TCP, and protobuf's
+points as JSON: it reads no other. The services get kept connections, a sender each, or with `each` one for each post, but for
+gRPC. The folder of a service is made in DIR, which is out/bench where none is named: the disk that `disk` waits for.
 
 The parties run in turn, each run in fresh processes whose series are there already, and of about so many seconds. With a share
 below 1 posts come at that share of the rate that a party has taken at most, evenly: what a post takes then is not its wait for others.
@@ -28,18 +27,14 @@ import argparse
 import contextlib
 import os
 import subprocess
-import sys
 
-import loading
-from loading import Posts, Senders, rounded
-from allocators import environment, shown
-from process import ROOT, file_system, numbers, processor_seconds, spread
-from running import bare, options, processes, serving
-
-from loopback import free_port
-
-sys.path.insert(0, f"{ROOT}/demo")
-from parts import Database  # noqa: E402
+from measuring import loading
+from measuring.allocators import environment, shown
+from measuring.loading import Loaded, Posts, Senders, rounded
+from measuring.process import file_system, numbers, processor_seconds, spread
+from measuring.running import bare, options, path, processes, serving
+from testing.database import Database
+from testing.loopback import free_port
 
 # A row of the service alone.
 CUMULATIVE = "cumulative-103"
@@ -60,7 +55,7 @@ LEAST_POSTS = 50
 class Figures:
     """Those of one run. A post's processor time in microseconds."""
 
-    def __init__(self, seconds, loaded):
+    def __init__(self, seconds: float, loaded: Loaded) -> None:
         self.processor = seconds / loaded.requests * 1e6
         self.a_second = loaded.requests / loaded.seconds
         self.median, self.last = loaded.median, loaded.last
@@ -70,23 +65,23 @@ class Figures:
 class Databases:
     """A PostgreSQL server, with a database for each run."""
 
-    def __init__(self):
+    def __init__(self) -> None:
         self.server = Database()
         self.server.start()
         self.server.wait_ready()
         self.count = 0
 
-    def fresh(self):
+    def fresh(self) -> str:
         """The address of one that has nothing yet."""
         self.count += 1
         self.server.run("createdb", "-h", self.server.folder, "-U", "postgres", f"run{self.count}")
         return f"postgres://postgres@/run{self.count}?host={self.server.folder}"
 
-    def close(self):
+    def close(self) -> None:
         self.server.close()
 
 
-def measured(port, pids, clients, posts, requests, period):
+def measured(port: int, pids: list[int], clients: int, posts: Posts, requests: int, period: float) -> Figures:
     """The figures of a load on these processes."""
     senders = Senders(port, clients, posts)
     senders.make_series()
@@ -95,16 +90,17 @@ def measured(port, pids, clients, posts, requests, period):
     return Figures(sum(map(processor_seconds, pids)) - before, loaded)
 
 
-def certificate(folder):
+def certificate(folder: str) -> list[str]:
     """The options by which a service has a certificate, which is made where there is none."""
     certificate, key = f"{folder}/bench.pem", f"{folder}/bench.key"
     if not os.path.exists(certificate):
         subprocess.run(["openssl", "req", "-x509", "-newkey", "ec", "-pkeyopt", "ec_paramgen_curve:prime256v1", "-nodes", "-keyout", key,
-                        "-out", certificate, "-subj", "/CN=bench", "-addext", "subjectAltName=DNS:localhost"], check=True, capture_output=True)
+                        "-out", certificate, "-subj", "/CN=bench", "-addext", "subjectAltName=DNS:localhost"],
+                       check=True, capture_output=True)
     return ["--tls-cert", certificate, "--tls-key", key]
 
 
-def run(party, arguments, row, clients, requests, period):
+def run(party: str, arguments: argparse.Namespace, row: str, clients: int, requests: int, period: float) -> Figures:
     """The figures of one run."""
     encoding, points, _ = ROWS[row]
     connections = arguments.connections
@@ -131,11 +127,11 @@ def run(party, arguments, row, clients, requests, period):
         return measured(port, pids, clients, posts, requests, period)
 
 
-def print_row(arguments, row, clients):
+def print_row(arguments: argparse.Namespace, row: str, clients: int) -> None:
     """Runs the parties in turn, and prints a line for each."""
-    runs = {party: [] for party in arguments.parties}
+    runs: dict[str, list[Figures]] = {party: [] for party in arguments.parties}
     requests = {party: int(ROWS[row][2] * arguments.seconds) for party in arguments.parties}
-    periods = dict.fromkeys(arguments.parties, 0)
+    periods: dict[str, float] = dict.fromkeys(arguments.parties, 0)
     for number in range(arguments.runs + 1):  # The first one finds how many requests take the time.
         for party in arguments.parties:
             count = requests[party] if number else requests[party] // 4
@@ -154,15 +150,15 @@ def print_row(arguments, row, clients):
                 print_ratios(other, runs[other], all_of_it)
 
 
-def print_party(party, runs):
-    def of(name, form):
+def print_party(party: str, runs: list[Figures]) -> None:
+    def of(name: str, form: str) -> str:
         return spread([getattr(it, name) for it in runs], form)
     failed = sum(it.failed for it in runs)
     print(f"  {party}: us a post {of('processor', '.1f')}; posts/s {of('a_second', ',.0f')}; us of a post: median"
           f" {of('median', ',.0f')}, 99th {of('last', ',.0f')}" + (f"; {failed} FAILED" if failed else ""), flush=True)
 
 
-def print_ratios(name, others, runs):
+def print_ratios(name: str, others: list[Figures], runs: list[Figures]) -> None:
     pairs = list(zip(others, runs))
     processor = [its.processor / ours.processor for ours, its in pairs]
     a_second = [its.a_second / ours.a_second for ours, its in pairs]
@@ -172,9 +168,9 @@ def print_ratios(name, others, runs):
           f" {spread(median, '.2f')}, 99th {spread(last, '.2f')}", flush=True)
 
 
-def main():
+def main() -> None:
     parser = options(__doc__.split("\n", maxsplit=1)[0])
-    parser.add_argument("--other", type=os.path.abspath)
+    parser.add_argument("--other", type=path)
     parser.add_argument("--senders", type=numbers, default=[8, 64])
     parser.add_argument("--series", type=int, default=800)
     parser.add_argument("--rows", type=lambda text: text.split(","), default=[row for row in ROWS if row != CUMULATIVE])

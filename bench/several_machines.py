@@ -17,6 +17,7 @@ The program is bin/totxegun, as `make build` makes it, where none is named; in a
 All servers, folders and the load are on this machine; the files are in DIR, which is out/bench where none is named: one disk for all.
 The sink is one of OTLP, in this process. What is printed says what was measured here, and asserts nothing.
 """
+import argparse
 import contextlib
 import os
 import signal
@@ -26,15 +27,16 @@ import sys
 import tempfile
 import threading
 import time
+from collections.abc import Iterator, Sequence
 
-import loading
-from loading import Posts, Senders, rounded
-from process import file_system, numbers, spread
-from running import options, start
+from measuring import loading
+from measuring.loading import Loaded, Posts, Senders, rounded
+from measuring.process import file_system, numbers, spread
+from measuring.running import Measured, options, start
 
-from loopback import free_port
-from servers import Pair
-from service import JSON, OtlpSink, Sender, Service, by_resource, wait_until
+from testing.loopback import free_port
+from testing.servers import Pair
+from testing.service import JSON, OtlpSink, Point, Post, Sender, Service, by_resource, wait_until
 
 ROWS = {"json-1": ("json", 1), "json-20": ("json", 20), "protobuf-103": ("protobuf", 103)}
 PARTIES = {"disk": 0, "store": 1, "store-2": 2}
@@ -57,10 +59,11 @@ BETWEEN = 5
 class Stores:
     """Databases with a standby each, made when they are needed: a store over the first of them, new each time."""
 
-    def __init__(self, stack, program):
-        self.stack, self.program, self.pairs = stack, program, []
+    def __init__(self, stack: contextlib.ExitStack, program: str) -> None:
+        self.stack, self.program = stack, program
+        self.pairs: list[Pair] = []
 
-    def new(self, count):
+    def new(self, count: int) -> list[Pair]:
         while len(self.pairs) < count:
             self.pairs.append(Pair(settings=SETTINGS))
             self.stack.callback(self.pairs[-1].close)
@@ -73,21 +76,21 @@ class Stores:
         return these
 
 
-def wal(pairs):
+def wal(pairs: list[Pair]) -> int:
     return sum(int(float(pair.ask(WAL))) for pair in pairs)
 
 
 @contextlib.contextmanager
-def instances(arguments, sink, names, pairs):
+def instances(arguments: argparse.Namespace, sink: OtlpSink, names: str, pairs: list[Pair]) -> Iterator[list[Measured]]:
     """As many as there are names, over these databases; with none of these, one over a folder."""
     with tempfile.TemporaryDirectory(prefix="machines-", dir=arguments.data) as folder:
-        all_of_them = []
+        all_of_them: list[Measured] = []
         for name in names:
             words = ["--durable", "disk"]
             if pairs:
                 words = [word for pair in pairs for word in ("--store", pair.address)]
                 words += ["--instance", name, "--peer", f"127.0.0.1:{free_port()}"]
-            all_of_them.append(Service(arguments.totxegun, f"{folder}/{name}", sink.address, *words, *arguments.options))
+            all_of_them.append(Measured(arguments.totxegun, f"{folder}/{name}", sink.address, *words, *arguments.options))
             all_of_them[-1].environment = dict(arguments.set)
         try:
             for one in all_of_them:
@@ -102,7 +105,8 @@ def instances(arguments, sink, names, pairs):
 # Posts
 
 
-def run(arguments, stores, sink, party, row, clients):
+def run(arguments: argparse.Namespace, stores: Stores, sink: OtlpSink, party: str, row: str,
+        clients: int) -> tuple[Loaded, float]:
     """Of one run: what was loaded, and bytes of WAL a post."""
     encoding, points = ROWS[row]
     pairs = stores.new(PARTIES[party]) if PARTIES[party] else []
@@ -116,10 +120,10 @@ def run(arguments, stores, sink, party, row, clients):
         return loaded, (wal(pairs) - before) / loaded.requests
 
 
-def measure_posts(arguments, stores, sink):
+def measure_posts(arguments: argparse.Namespace, stores: Stores, sink: OtlpSink) -> None:
     for row in arguments.rows:
         for clients in arguments.senders:
-            runs = {party: [] for party in arguments.parties}
+            runs: dict[str, list[tuple[Loaded, float]]] = {party: [] for party in arguments.parties}
             for _ in range(arguments.runs):
                 for party, of_it in runs.items():
                     of_it.append(run(arguments, stores, sink, party, row, clients))
@@ -128,7 +132,7 @@ def measure_posts(arguments, stores, sink):
                 print_party(party, of_it, runs.get("disk"))
 
 
-def print_party(party, runs, beside):
+def print_party(party: str, runs: list[tuple[Loaded, float]], beside: list[tuple[Loaded, float]] | None) -> None:
     rates = [loaded.requests / loaded.seconds for loaded, _ in runs]
     line = f"  {party}: posts/s {spread(rates, ',.0f')}"
     if beside and beside is not runs:
@@ -149,26 +153,26 @@ def print_party(party, runs, beside):
 class Probe(Sender):
     """Posts points of a resource of its own on and on to one instance: when it was answered."""
 
-    def __init__(self, service, number):
+    def __init__(self, service: Service, number: int) -> None:
         super().__init__(service, number, seconds=20)
-        self.answered = []
+        self.answered: list[float] = []
 
-    def encoded(self, points):
+    def encoded(self, points: Sequence[Point]) -> Post:
         return by_resource(JSON, {self.name: points}), {"Content-Type": JSON, "x-sender": self.name}
 
-    def run(self, stop):
+    def run(self, stop: threading.Event) -> None:
         while not stop.is_set():
             self.post(self.next_points())
             self.answered.append(time.monotonic())
 
-    def gap(self, since):
+    def gap(self, since: float) -> tuple[float, float]:
         """The longest time without an answer after that, and how long after it that ended."""
         times = [since, *(at for at in self.answered if at >= since)]
         return max(((later - sooner, later - since) for sooner, later in zip(times, times[1:])), default=(0, 0))
 
 
 @contextlib.contextmanager
-def probing(service):
+def probing(service: Service) -> Iterator[list[Probe]]:
     probes, stop = [Probe(service, number) for number in range(PROBES)], threading.Event()
     threads = [threading.Thread(target=probe.run, args=(stop,)) for probe in probes]
     for thread in threads:
@@ -181,16 +185,18 @@ def probing(service):
             thread.join()
 
 
-def settled(pair):
+def settled(pair: Pair) -> None:
     """Once each of two instances has half of the slots, or nearly."""
     owners = "select count(*) from totxegun_store.slot where owner = '{}'"
     if not wait_until(lambda: all(int(pair.ask(owners.format(name))) >= int(SLOTS) // 4 for name in "ab"), SETTLED_WITHIN):
         raise SystemExit("two instances have not shared the slots out")
 
 
-def measure_takeover(arguments, stores, sink):
+def measure_takeover(arguments: argparse.Namespace, stores: Stores, sink: OtlpSink) -> None:
     (pair,) = stores.new(1)
-    firsts, lasts, waits = [], [], []
+    firsts: list[float] = []
+    lasts: list[float] = []
+    waits: list[float] = []
     with instances(arguments, sink, "ab", [pair]) as (lost, stays):
         Senders(stays.listen, PROBES, Posts("sum", 100, SERIES, "protobuf", "kept")).make_series()
         with probing(stays) as probes:
@@ -216,9 +222,10 @@ def measure_takeover(arguments, stores, sink):
 # Size
 
 
-def measure_size(arguments, stores, sink):
+def measure_size(arguments: argparse.Namespace, stores: Stores, sink: OtlpSink) -> None:
     (pair,) = stores.new(1)
-    sizes, posts, until = [], 0, time.monotonic() + arguments.size
+    sizes: list[float] = []
+    posts, until = 0, time.monotonic() + arguments.size
     with instances(arguments, sink, "a", [pair]) as (one,):
         senders = Senders(one.listen, 64, Posts("sum", 20, arguments.series, "json", "kept"))
         senders.make_series()
@@ -232,10 +239,10 @@ def measure_size(arguments, stores, sink):
           f" ({min(rest):,.0f} .. {max(rest):,.0f}), at the end {sizes[-1] if sizes else 0:,.0f}", flush=True)
 
 
-def main():
+def main() -> None:
     parser = options(__doc__.split("\n", maxsplit=1)[0])
 
-    def words(text):
+    def words(text: str) -> list[str]:
         return text.split(",")
 
     parser.add_argument("--parts", type=words, default=PARTS)

@@ -12,19 +12,17 @@ import subprocess
 import sys
 import tempfile
 
-ROOT = os.path.dirname(os.path.dirname(os.path.abspath(__file__)))
-sys.path[:1] = [f"{ROOT}/tests", f"{ROOT}/demo"]  # another service.py is beside this
-
-from loopback import free_port  # noqa: E402
-from service import JSON, Service, ask, in_json, wait_until  # noqa: E402
-from by_hour import Server  # noqa: E402
+import measuring  # noqa: F401, by which the tests' modules are found
+from testing.loopback import free_port
+from testing.servers import Server
+from testing.service import JSON, Service, ask, in_json, wait_until
 
 SERIES = 20
 OF_SINK = "query like '%totxegun.%' and query not like 'create %'"
 OF_NOTE = "query like '%totxegun_store.delivered%' and query like 'insert%'"
 
 
-def deliver(program, server, folder, sink, requests):
+def deliver(program: str, server: Server, folder: str, sink: str, requests: int) -> list[list[float]]:
     """Statements and bytes of WAL of a request, and of what notes its delivery."""
     store = f"store_for_{sink}"
     server.ask(f"create database {store}")
@@ -37,11 +35,11 @@ def deliver(program, server, folder, sink, requests):
     service.start()
     service.wait_ready()
 
-    def post(number):
+    def post(number: int) -> None:
         points = [(f"m{series}", 20 * number + 1, 20 * number + 11, 5) for series in range(SERIES)]
         status, text = ask(service.listen, "POST", "/v1/metrics", in_json(points), {"Content-Type": JSON, "x-sender": "A"})
         if status != 200 or service.order("/flush") != 200 or not wait_until(service.is_drained):
-            sys.exit(f"{status} {text} {service.last_lines()}")
+            sys.exit(f"{status} {text!r} {service.last_lines()}")
 
     wait_until(lambda: ask(service.listen, "POST", "/v1/metrics", b"{}", {"Content-Type": JSON, "x-sender": "A"})[0] == 200)
     post(0)
@@ -58,13 +56,12 @@ def deliver(program, server, folder, sink, requests):
     return found
 
 
-def main(words):
+def main(words: list[str]) -> None:
     program, requests = os.path.abspath(words[0]), int((words[1:] + ["100"])[0])
     server = Server()
     with tempfile.TemporaryDirectory() as folder:
         try:
-            server.make()
-            server.set("shared_preload_libraries = 'pg_stat_statements'")
+            server.make(["shared_preload_libraries = 'pg_stat_statements'"])
             server.start()
             server.ask("create extension pg_stat_statements")
             for sink, what in (("apart", "in another database"), ("together", "in the store's database")):

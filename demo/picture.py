@@ -2,7 +2,9 @@
 """Draws a run of the demo from its samples, as SVG: demo/picture.py SAMPLES PICTURE"""
 import json
 import sys
+from collections.abc import Iterator, Sequence
 from html import escape
+from typing import Any
 
 WIDTH, LEFT, RIGHT, TOP = 960, 70, 16, 64
 PANEL, GAP = 120, 44
@@ -12,11 +14,14 @@ STYLE = """<style>text{font:12px sans-serif;fill:#333}.head{font-size:15px;font-
 .grid{stroke:#ddd}.kill{stroke:#b00020;stroke-dasharray:3 3;opacity:.6}.down{fill:#b00020;opacity:.1}.mark{fill:#b00020;
 font-weight:bold;text-anchor:middle}.right{text-anchor:end}.line{fill:none;stroke-width:1.8}</style>"""
 
+# A moment of the run, as demo/showing/play.py writes it.
+Sample = dict[str, Any]
+
 
 class Panel:
     """A part of the picture with an axis of its own."""
 
-    def __init__(self, place, name, end, most):
+    def __init__(self, place: int, name: str, end: float, most: float) -> None:
         self.top = TOP + place * (PANEL + GAP)
         self.end, self.most = end, nice(most)
         self.parts = [f'<text x="{LEFT}" y="{self.top - 8}" class="name">{escape(name)}</text>']
@@ -26,13 +31,13 @@ class Panel:
             self.parts.append(f'<line x1="{LEFT}" x2="{WIDTH - RIGHT}" y1="{y:.1f}" y2="{y:.1f}" class="grid"/>')
             self.parts.append(f'<text x="{LEFT - 6}" y="{y + 4:.1f}" class="right">{value:,.0f}</text>')
 
-    def x(self, at):
+    def x(self, at: float) -> float:
         return LEFT + at / self.end * (WIDTH - LEFT - RIGHT)
 
-    def y(self, value):
+    def y(self, value: float) -> float:
         return self.top + PANEL - value / self.most * PANEL
 
-    def line(self, points, color, name, place):
+    def line(self, points: Sequence[tuple[float, float]], color: str, name: str, place: int) -> None:
         """A line through points, in steps, and its name in the panel's head."""
         (at, value), *points = points
         path = f"M{self.x(at):.1f} {self.y(value):.1f}"
@@ -43,13 +48,13 @@ class Panel:
         self.parts.append(f'<line x1="{x}" x2="{x + 20}" y1="{y}" y2="{y}" class="line" stroke="{color}"/>')
         self.parts.append(f'<text x="{x + 26}" y="{y + 4}">{escape(name)}</text>')
 
-    def seconds(self):
+    def seconds(self) -> None:
         """The axis of time."""
         for at in range(0, int(self.end) + 1, 10):
             self.parts.append(f'<text x="{self.x(at):.1f}" y="{self.top + PANEL + 16}" text-anchor="middle">{at} s</text>')
 
 
-def nice(most):
+def nice(most: float) -> int:
     """A round number that is not below it."""
     step = 1
     while step * 10 < most:
@@ -57,9 +62,10 @@ def nice(most):
     return max(2, next(step * times for times in (1, 2, 3, 4, 6, 8, 10) if step * times >= most))
 
 
-def rates(samples, which):
+def rates(samples: list[Sample], which: int) -> list[tuple[float, float]]:
     """How many posts a second, second by second."""
-    found, last = [], (0.0, 0)
+    found: list[tuple[float, float]] = []
+    last = (0.0, 0)
     for one in samples:
         if one["at"] - last[0] >= 1:
             found.append((last[0], (one["posts"][which] - last[1]) / (one["at"] - last[0])))
@@ -67,7 +73,7 @@ def rates(samples, which):
     return found + [(last[0], 0)]
 
 
-def downs(samples):
+def downs(samples: list[Sample]) -> Iterator[tuple[float, float]]:
     """From when to when the service took no posts."""
     since = None
     for one in samples:
@@ -80,7 +86,7 @@ def downs(samples):
         yield since, samples[-1]["at"]
 
 
-def panels(told):
+def panels(told: dict[str, Any]) -> list[Panel]:
     samples = told["samples"]
     end = samples[-1]["at"]
     speeds = [rates(samples, which) for which in range(len(told["programs"]))]
@@ -97,7 +103,7 @@ def panels(told):
     return [posts, orders, outbox]
 
 
-def draw(samples, picture):
+def draw(samples: str, picture: str) -> None:
     with open(samples, encoding="utf-8") as file:
         told = json.load(file)
     drawn = panels(told)

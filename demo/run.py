@@ -16,15 +16,12 @@ import subprocess
 import sys
 import time
 
-HERE = os.path.dirname(os.path.abspath(__file__))
-ROOT = os.path.dirname(HERE)
-sys.path[1:1] = [f"{ROOT}/tools", f"{ROOT}/tests"]
-
-from picture import draw  # noqa: E402
-from play import Play  # noqa: E402
-from scraped import torn  # noqa: E402
-from serve import totxegun  # noqa: E402
-from steps import interrupt  # noqa: E402
+from showing import DEMO, ROOT
+from showing.play import Play, Row
+from showing.scraped import Total, torn
+from tooling.steps import interrupt
+from picture import draw
+from serve import totxegun
 
 OUT = f"{ROOT}/out/demo"
 LIBRARIES = "/usr/share/gocode"
@@ -33,25 +30,25 @@ SHOWN = {"service": "totxegun", "database": "PostgreSQL"}
 WORDS = (("SEED", 1, 0), ("SECONDS", 60, 10))
 
 
-def build_sender():
+def build_sender() -> str | None:
     """The path of the program that posts, built from Debian's Go packages; nothing where that fails."""
     os.makedirs(OUT, exist_ok=True)
     environment = {**os.environ, "GO111MODULE": "off", "GOPATH": LIBRARIES, "GOCACHE": f"{OUT}/go", "GOFLAGS": ""}
-    done = subprocess.run(["go", "build", "-o", f"{OUT}/sender", "."], cwd=f"{HERE}/sender", env=environment, check=False)
+    done = subprocess.run(["go", "build", "-o", f"{OUT}/sender", "."], cwd=f"{DEMO}/sender", env=environment, check=False)
     if done.returncode:
         print("the programs that post could not be built")
         return None
     return f"{OUT}/sender"
 
 
-def shown(values):
+def shown(values: Total | None) -> str:
     """A total, and of a histogram how many values it has."""
     if values is None:
         return "-"
     return f"{values[0]:,} in {values[1]:,}" if values[2] else f"{values[0]:,}"
 
 
-def report(play, rows):
+def report(play: Play, rows: list[Row]) -> int:
     """Prints the table and what it is of; returns by how much it differs, and what else is wrong."""
     heads = ("program", "series", "counted", "in PostgreSQL", "in Prometheus", "difference")
     lines = [heads] + [(program, " ".join([name, *(value for _, value in attributes)]), *map(shown, values), f"{apart:,}")
@@ -77,7 +74,7 @@ def report(play, rows):
     return difference + len(wrong) + len(lost) + len(fired)
 
 
-def run(seed, seconds):
+def run(seed: int, seconds: float) -> int:
     if subprocess.run([f"{ROOT}/tools/needs", "demo"], check=False).returncode:
         return 1
     program = totxegun()
@@ -99,7 +96,7 @@ def run(seed, seconds):
         play.close()
 
 
-def read(words):
+def read(words: list[str]) -> list[int]:
     """The seed and the seconds, or ends this with a line that says what they have to be."""
     if len(words) > len(WORDS):
         sys.exit(f"usage: {sys.argv[0]} [SEED] [SECONDS]")
@@ -109,7 +106,7 @@ def read(words):
     return [*map(int, words), *(default for _, default, _ in WORDS[len(words):])]
 
 
-def main(words):
+def main(words: list[str]) -> int:
     seed, seconds = read(words)
     for it in (signal.SIGTERM, signal.SIGHUP):
         signal.signal(it, interrupt)

@@ -4,9 +4,10 @@
     tests/alerts.py TOTXEGUN
 
 Prometheus scrapes three services, and an instance over a store in PostgreSQL, whose rules are those of operate/alerts.yml with
-minutes made seconds. What each alert is for is done to a service or the store; the alert has to fire, and to clear once the
-cause is gone. Each query of operate/dashboard.json is asked too, and names metrics that are on the page. `promtool` looks at
-the rules, by tests/alerts_by_time.yml at the times at which they fire, and at the page. Without Prometheus all is left out, with status 77, and what is of a store without PostgreSQL.
+minutes made seconds. What each alert is for is done to a service or the store; the alert has to fire, and to clear once the cause
+is gone. Each query of operate/dashboard.json is asked too, and names metrics that are on the page. `promtool` looks at the rules,
+by tests/alerts_by_time.yml at the times at which they fire, and at the page. Without Prometheus all is left out, with status 77,
+and what is of a store without PostgreSQL.
 
 Each line is one check; the last line counts those that passed and failed, and the status is 0 where none failed.
 """
@@ -22,19 +23,19 @@ import tempfile
 import threading
 import time
 import urllib.parse
+from collections.abc import Callable, Sequence
+from typing import Any
 
-ROOT = os.path.dirname(os.path.dirname(os.path.abspath(__file__)))
-sys.path.insert(1, f"{ROOT}/demo")
+from testing import ROOT, TESTS
+from testing.checks import Checks
+from testing.database import initdb
+from testing.loopback import free_port
+from testing.servers import Pair
+from testing.service import JSON, Answer, OtlpSink, Service, ask, in_json, wait_until
+from testing.shipped import own_disk
+from tooling.files import write
 
-from checks import Checks
-from loopback import free_port
-from parts import initdb
-from servers import Pair
-from service import JSON, OtlpSink, Service, ask, in_json, wait_until
-from shipped import own_disk
-
-HERE = os.path.dirname(os.path.abspath(__file__))
-OPERATE = os.path.join(os.path.dirname(HERE), "operate")
+OPERATE = os.path.join(ROOT, "operate")
 SECONDS = 120
 # Of memory; and a disk of its own where it may have one, so that nobody else writes there meanwhile.
 FOLDERS = "/dev/shm" if os.access("/dev/shm", os.W_OK) else None
@@ -63,7 +64,7 @@ METRIC = re.compile(r"\btotxegun_\w+")
 class Sink(OtlpSink):
     """One that can also take a request and reject a point of it."""
 
-    def serve(self, request):
+    def serve(self, request: Any) -> None:
         if self.moods != ["part"]:
             super().serve(request)
             return
@@ -78,7 +79,7 @@ class Sink(OtlpSink):
 class Prometheus:
     """On the targets, with the rules made short."""
 
-    def __init__(self, folder, services, free):
+    def __init__(self, folder: str, services: list[Service], free: int) -> None:
         self.port = free_port()
         with open(f"{OPERATE}/alerts.yml", encoding="utf-8") as file:
             rules = file.read()
@@ -93,24 +94,24 @@ class Prometheus:
         with open(f"{folder}/prometheus.log", "wb") as log:
             self.process = subprocess.Popen(["prometheus", *words], stdin=subprocess.DEVNULL, stdout=log, stderr=log)
 
-    def ask(self, path, **words):
+    def ask(self, path: str, **words: str) -> Any:
         """What it answers, or None."""
         status, body = ask(self.port, "GET", f"/api/v1/{path}?{urllib.parse.urlencode(words)}")
         return json.loads(body) if status in (200, 400, 422) else None
 
-    def is_up(self, count):
+    def is_up(self, count: int) -> bool:
         """Whether it has scraped all of the targets."""
         answer = self.ask("query", query='sum(up{job="totxegun"})')
         return bool(answer and answer["data"]["result"] and answer["data"]["result"][0]["value"][1] == str(count))
 
-    def fires(self, alert, service):
+    def fires(self, alert: str, service: Service) -> bool:
         found = self.ask("alerts")
         alerts = found["data"]["alerts"] if found else ()
         return any(one["labels"]["alertname"] == alert and one["state"] == "firing"
                    and one["labels"].get("instance", f"127.0.0.1:{service.operate}") == f"127.0.0.1:{service.operate}"
                    for one in alerts)
 
-    def close(self):
+    def close(self) -> None:
         self.process.terminate()
         self.process.wait()
 
@@ -118,25 +119,25 @@ class Prometheus:
 class Causes:
     """What is done to one service, so that alerts fire and clear."""
 
-    def __init__(self, checks, prometheus, service, sink=None):
+    def __init__(self, checks: Checks, prometheus: Prometheus, service: Service, sink: Sink | None = None) -> None:
         self.checks, self.prometheus, self.service, self.sink = checks, prometheus, service, sink
         self.time = time.time_ns() - 10**15
 
-    def post(self, sender="A", value=1, names=("a",), start=None):
+    def post(self, sender: str = "A", value: int = 1, names: Sequence[str] = ("a",), start: int | None = None) -> int | None:
         start = start or self.time
         self.time = max(self.time, start + 10)
         body = in_json([(name, start, start + 10, value) for name in names])
         return ask(self.service.listen, "POST", "/v1/metrics", body, {"Content-Type": JSON, "x-sender": sender})[0]
 
-    def sees(self, alerts, cause, begin, end):
+    def sees(self, alerts: Any, cause: str, begin: Callable[[], object], end: Callable[[], object]) -> None:
         """Each of them fires after the cause, and clears after its end; and none fired before."""
         alerts = [f"Totxegun{alert}" for alert in alerts.split()]
         fired = set()
 
-        def firing():
+        def firing() -> list[str]:
             return [alert for alert in alerts if self.prometheus.fires(alert, self.service)]
 
-        def have_fired():
+        def have_fired() -> bool:
             fired.update(firing())
             return len(fired) == len(alerts)
 
@@ -148,17 +149,17 @@ class Causes:
         self.checks.same(f"{' and '.join(alerts)}, by {cause}: fires and clears", ([], sorted(alerts), []),
                          (before, sorted(fired), firing()))
 
-    def sees_repeated(self, alerts, cause, deed, every=0.3):
+    def sees_repeated(self, alerts: str, cause: str, deed: Callable[[], object], every: float = 0.3) -> None:
         """The same of what is done again and again until it fires."""
         over = threading.Event()
 
-        def repeat():
+        def repeat() -> None:
             while not over.wait(every):
                 deed()
 
         thread = threading.Thread(target=repeat, daemon=True)
 
-        def end():
+        def end() -> None:
             over.set()
             thread.join()
 
@@ -166,21 +167,21 @@ class Causes:
 
     # Those of a sink that answers as it is told
 
-    def deliver(self):
+    def deliver(self) -> None:
         self.post()
         self.service.order("/flush")
 
-    def in_mood(self, *moods):
+    def in_mood(self, *moods: str) -> None:
         self.sink.mood(list(moods))
         self.deliver()
 
-    def settle_letters(self, deed):
+    def settle_letters(self, deed: str) -> None:
         self.sink.mood(["well"])
         _, body = self.service.asked("GET", "/dead")
         for letter in json.loads(body):
             self.service.order(f"/dead/{letter['key']}/{deed}")
 
-    def of_sink(self):
+    def of_sink(self) -> None:
         self.sees("SinkBehind", "a sink that is down", lambda: self.in_mood("busy"), lambda: self.sink.mood(["well"]))
         self.sees("SinkDenies", "a sink that lets nobody in", lambda: self.in_mood("deny"), lambda: self.sink.mood(["well"]))
         self.sees("DeadRequests", "a request that is refused", lambda: self.in_mood("refuse"),
@@ -190,27 +191,27 @@ class Causes:
 
     # Those of senders and the disk
 
-    def post_many(self):
+    def post_many(self) -> None:
         self.post("B", names=[f"many.{number}" for number in range(2 * SERIES)])
         self.service.order("/flush")
 
-    def forget(self):
+    def forget(self) -> None:
         """Series that nobody has posted to for a second are forgotten once a post finds no room for its own."""
         time.sleep(2)
         self.post_too_many()
 
-    def post_too_many(self):
+    def post_too_many(self) -> Answer:
         """A post that is refused, since no book has room for its series."""
         headers = {"Content-Type": JSON, "x-sender": "C"}
         return ask(self.service.listen, "POST", "/v1/metrics", TOO_MANY, headers)
 
-    def post_much(self):
+    def post_much(self) -> Answer:
         """Thousands of points of one series."""
         start = self.time = self.time + 10 * MUCH
         body = in_json([("much", start + 10 * number, start + 10 * number + 10, 1) for number in range(MUCH)])
         return ask(self.service.listen, "POST", "/v1/metrics", body, {"Content-Type": JSON, "x-sender": "D"})
 
-    def of_senders(self, fill):
+    def of_senders(self, fill: str) -> None:
         self.sees("NotFlushed", "nothing that flushes", self.post, lambda: self.service.order("/flush"))
         self.sees("ForeignPoints", "a value that is not whole", self.post_foreign, lambda: None)
         self.sees("Quarantine", "a quarantine", lambda: self.service.order("/quarantine/A"),
@@ -218,18 +219,18 @@ class Causes:
         self.sees("SeriesNearLimit", "many series", self.post_many, self.forget)
         self.sees("DiskNearlyFull", "a file", lambda: take_disk(fill), lambda: os.remove(fill))
 
-    def post_foreign(self):
+    def post_foreign(self) -> None:
         body = in_json([("a", self.time, self.time + 10, 1)]).replace(b'"asInt": "1"', b'"asDouble": 1.5')
         ask(self.service.listen, "POST", "/v1/metrics", body, {"Content-Type": JSON, "x-sender": "A"})
 
     # Those of refusals
 
-    def post_ahead(self):
+    def post_ahead(self) -> None:
         """By a clock that is a day ahead; what is left out of it keeps no right post out."""
         body = in_json([("ahead", now := time.time_ns() + 86_400 * 10**9, now + 10, 1)])
         ask(self.service.listen, "POST", "/v1/metrics", body, {"Content-Type": JSON, "x-sender": "A"})
 
-    def of_refusals(self):
+    def of_refusals(self) -> None:
         self.sees_repeated("ClockOff", "a clock that is ahead", self.post_ahead)
         self.post("A")
         self.sees_repeated("PostsRefused", "another sender of a series", lambda: self.post("B"))
@@ -239,7 +240,7 @@ class Causes:
 
     # Those of a store
 
-    def of_store(self, store):
+    def of_store(self, store: Pair) -> None:
         walreceivers = store.standby.kinds("walreceiver")
         self.sees("StoreInDoubt FewCopies", "a standby that stands still", lambda: stop(walreceivers, signal.SIGSTOP),
                   lambda: stop(walreceivers, signal.SIGCONT))
@@ -250,12 +251,12 @@ class Causes:
         self.sees("NoOwner", "a slot that can't be taken", lambda: None, lambda: let_go(store, holder))
 
 
-def stop(pids, number):
+def stop(pids: list[int], number: int) -> None:
     for pid in pids:
         os.kill(pid, number)
 
 
-def hold_row(store):
+def hold_row(store: Pair) -> subprocess.Popen[bytes]:
     """A session that holds the row of slot 0."""
     place = ("-h", "127.0.0.1", "-p", str(store.primary.port), "-U", "postgres", "-XAtqc")
     words = ("set application_name = 'holder'; begin; select 1 from totxegun_store.slot where slot = 0 for update; "
@@ -267,28 +268,23 @@ def hold_row(store):
     return holder
 
 
-def let_go(store, holder):
+def let_go(store: Pair, holder: subprocess.Popen[bytes]) -> None:
     store.primary.ask("select pg_terminate_backend(pid) from pg_stat_activity where application_name = 'holder'")
     holder.wait()
 
 
-def write(path, text):
-    with open(path, "w", encoding="utf-8") as file:
-        file.write(text)
-
-
-def take_disk(path):
+def take_disk(path: str) -> None:
     with open(path, "wb") as file:
         os.posix_fallocate(file.fileno(), 0, FILL)
 
 
-def promtool(checks, what, *words, given=b"", folder=OPERATE):
+def promtool(checks: Checks, what: str, *words: str, given: bytes = b"", folder: str = OPERATE) -> None:
     done = subprocess.run(["promtool", *words], input=given, cwd=folder, capture_output=True, check=False)
     checks.same(f"promtool: {what}", 0, done.returncode) if not given else checks.same(
         f"promtool says nothing of {what}", (0, b"", b""), (done.returncode, done.stdout, done.stderr))
 
 
-def instance_of_store(program, folder, sink, closing):
+def instance_of_store(program: str, folder: str, sink: Sink, closing: contextlib.ExitStack) -> tuple[Pair, Service]:
     """An instance over a store with a standby, and the store."""
     store = Pair()
     closing.callback(store.close)
@@ -299,7 +295,7 @@ def instance_of_store(program, folder, sink, closing):
     return store, Service(program, f"{folder}/instance", sink.address, *words)
 
 
-def look_at_dashboard(checks, prometheus, page, has_store):
+def look_at_dashboard(checks: Checks, prometheus: Prometheus, page: bytes, has_store: bool) -> None:
     """Each query is one that Prometheus takes, of metrics that are there."""
     with open(f"{OPERATE}/dashboard.json", encoding="utf-8") as file:
         panels = [panel for panel in json.load(file)["panels"]
@@ -318,7 +314,7 @@ def look_at_dashboard(checks, prometheus, page, has_store):
     checks.same("Prometheus takes each of them", [], wrong)
 
 
-def run(checks, program, folder):
+def run(checks: Checks, program: str, folder: str) -> None:
     sink = Sink()
     every, series = ("--flush-every", "1s"), ("--most-series", str(MOST_SERIES))
     services = [Service(program, f"{folder}/sink", sink.address, *every),
@@ -353,12 +349,12 @@ def run(checks, program, folder):
         look_at_dashboard(checks, prometheus, pages[1] + b"".join(pages[3:]), store is not None)
 
 
-def main(program):
+def main(program: str) -> int:
     checks = Checks()
     missing = [name for name in ("prometheus", "promtool") if not shutil.which(name)]
     if checks.has("alerts and dashboard", *missing):
         promtool(checks, "the rules are rules", "check", "rules", "alerts.yml")
-        promtool(checks, "they fire and clear when they should", "test", "rules", f"{HERE}/alerts_by_time.yml")
+        promtool(checks, "they fire and clear when they should", "test", "rules", f"{TESTS}/alerts_by_time.yml")
         with tempfile.TemporaryDirectory(prefix="alerts-", dir=FOLDERS) as folder, contextlib.ExitStack() as stack:
             own_disk(stack, folder, DISK)
             run(checks, program, folder)

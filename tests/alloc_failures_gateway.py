@@ -18,9 +18,10 @@ The last line counts the runs that passed and failed, and the status is 0 where 
 """
 import copy
 import sys
+from collections.abc import Callable
 
-from loopback import NO_MEMORY, BackEnd, Gateway, ordered, point, posted, response, sent_points
-from alloc_failures import Run, program_named, refuse_each
+from testing.alloc_failures import Refusing, Run, program_named, refuse_each
+from testing.loopback import NO_MEMORY, BackEnd, Gateway, ordered, point, posted, response, sent_points
 
 JSON = b"application/json"
 DONE = response(b"200 OK", JSON, b"{}")
@@ -41,14 +42,14 @@ MOST = 2**63 - 1
 class Store:
     """What a gateway holds of the sum `a`, as docs/FORMATS.md has it. Rows are (points, value)."""
 
-    def __init__(self):
+    def __init__(self) -> None:
         self.frontier = self.start = self.flushes = 0
         self.accepted = self.stored = self.acknowledged = (0, 0)
-        self.owner = None
-        self.quarantined = set()
-        self.sent = []
+        self.owner: str | None = None
+        self.quarantined: set[str] = set()
+        self.sent: list[list[tuple[int, int, int]]] = []
 
-    def post(self, start, end, value, sender="A"):
+    def post(self, start: int, end: int, value: int, sender: str = "A") -> bytes:
         if sender in self.quarantined:
             return response(b"403 Forbidden", JSON, b'{"message":"quarantined"}')
         if self.owner not in (None, sender):
@@ -64,38 +65,39 @@ class Store:
         self.stored = (self.stored[0] + 1, self.stored[1] + value)
         return DONE
 
-    def flush(self):
+    def flush(self) -> bytes:
         """A turn by the back end's answers: 503 with a wait to the first request, 200 to all others."""
         return self.turn(True, bool(self.sent), "" if self.sent else ',"retryAfter":"2"')
 
-    def turn(self, sent, settled, wait):
+    def turn(self, sent: bool, settled: bool, wait: str) -> bytes:
         """A turn whose request the back end got or did not get."""
         if self.stored == (0, 0):
             return response(b"200 OK", JSON, b'{"act":"nothing"}')
         self.flushes += 1
         self.sent += [[(self.stored[1], self.start, self.frontier)]] * sent
         if settled:
-            self.acknowledged = tuple(map(sum, zip(self.acknowledged, self.stored)))
+            points, value = self.acknowledged
+            self.acknowledged = points + self.stored[0], value + self.stored[1]
             self.stored = (0, 0)
         act = "settled" if settled else "returned"
         text = f'{{"act":"{act}","flush":"{self.flushes}","points":"1"{wait}}}'
         return response(b"200 OK", JSON, text.encode())
 
-    def give_back(self):
+    def give_back(self) -> None:
         """A turn whose request found no memory."""
         self.flushes += self.stored != (0, 0)
 
-    def quarantine(self):
+    def quarantine(self) -> bytes:
         self.quarantined.add("B")
         return DONE
 
-    def lift(self):
+    def lift(self) -> bytes:
         if "B" not in self.quarantined:
             return response(FAULT, JSON, b'{"message":"not quarantined"}')
         self.quarantined.remove("B")
         return DONE
 
-    def report(self):
+    def report(self) -> bytes:
         if self.accepted == (0, 0):
             return b"end\n"
         names = [("accepted", self.accepted), ("acknowledged", self.acknowledged), ("dropped", (0, 0)),
@@ -103,13 +105,14 @@ class Store:
         rows = " ".join(f"{name} {points},{value},0" for name, (points, value) in names)
         return f"series a monotonic owner {self.owner} frontier {self.frontier} {rows}\nend\n".encode()
 
-    def ending(self):
+    def ending(self) -> bytes:
         last = f"admitted {self.accepted[0]} acknowledged {self.acknowledged[0]}\n"
         return self.report() + last.encode()
 
 
 # Each exchange: what is sent, what a store answers to it, and whether it is an order to flush.
-EXCHANGES = [
+Exchange = tuple[bytes, Callable[[Store], bytes], bool]
+EXCHANGES: list[Exchange] = [
     (posted(point(10, 20, 5)), lambda store: store.post(10, 20, 5), False),
     (ordered("POST /flush"), Store.flush, True),
     (posted(point(20, 30, 7) + BLANKS), lambda store: store.post(20, 30, 7), False),
@@ -127,13 +130,13 @@ EXCHANGES = [
 ]
 
 
-def branch(store, serve):
+def branch(store: Store, serve: Callable[[Store], bytes]) -> tuple[bytes, Store]:
     """A store after a call, with what the call answers."""
     served = copy.deepcopy(store)
     return serve(served), served
 
 
-def after(store, exchange, answer):
+def after(store: Store, exchange: Exchange, answer: bytes | str) -> list[Store]:
     """The stores that an exchange with this answer may lead to from this one."""
     _, serve, is_order = exchange
     branches = [branch(store, serve)]
@@ -149,12 +152,13 @@ def after(store, exchange, answer):
     return [store, returned] + [served for _, served in branches]
 
 
-def exchange_all(refusing, program, growth, form):
+def exchange_all(refusing: Refusing, program: str, growth: int,
+                 form: str) -> tuple[list[bytes | str], list[list[tuple[int, int, int]]], Run]:
     """A run: the answers, the end, and what the back end got."""
     back_end = BackEnd([b"503 Service Unavailable\r\nRetry-After: 2\r\n"])
     environment = refusing.environment(growth, form)
     gateway = Gateway(program, back_end.port, len(EXCHANGES), environment)
-    answers = []
+    answers: list[bytes | str] = []
     for request, _, _ in EXCHANGES:
         answers.append(gateway.ask(request))
         if answers[-1] == "no connection":
@@ -166,19 +170,20 @@ def exchange_all(refusing, program, growth, form):
     return answers, bodies, Run(status, out, err, growths, refused)
 
 
-def has_not_started(answers, run):
+def has_not_started(answers: list[bytes | str], run: Run) -> bool:
     """Whether the gateway ended before it could serve: nobody listens, or hangs up at once."""
     faults = (b"gateway: no memory\n", b"gateway: cannot start a thread\n")
     answered = [answer for answer in answers if isinstance(answer, bytes) and answer]
     return (run.status, run.out) == (1, b"") and run.err in faults and not answered
 
 
-def full_answers():
+def full_answers() -> list[bytes]:
     store = Store()
     return [serve(store) for _, serve, _ in EXCHANGES]
 
 
-def way_of(answers, bodies, run, form):
+def way_of(answers: list[bytes | str], bodies: list[list[tuple[int, int, int]]], run: Run,
+           form: str) -> tuple[str | None, str | None]:
     """In which way the run ended, and what is wrong where it is none of them."""
     no_memory = (run.status, run.out, run.err) == (1, b"", b"gateway: no memory\n")
     if run.refused and has_not_started(answers, run):
@@ -191,7 +196,7 @@ def way_of(answers, bodies, run, form):
     for place, (exchange, answer) in enumerate(zip(EXCHANGES, answers)):
         stores = [new for store in stores for new in after(store, exchange, answer)]
         if not stores:
-            return None, f"exchange {place} answers {answer}"
+            return None, f"exchange {place} answers {answer!r}"
     if len(answers) < len(EXCHANGES):
         return None, f"{len(answers)} answers, and then {run}"
     stores = [store for store in stores if store.sent == bodies]
@@ -204,8 +209,8 @@ def way_of(answers, bodies, run, form):
     return ("no report" if no_memory else "answered 503" if NO_MEMORY in answers else "did without"), None
 
 
-def main(program):
-    def run_once(refusing, growth, form):
+def main(program: str) -> int:
+    def run_once(refusing: Refusing, growth: int, form: str) -> tuple[Run, str | None, object]:
         answers, bodies, run = exchange_all(refusing, program, growth, form)
         return run, *way_of(answers, bodies, run, form)
 

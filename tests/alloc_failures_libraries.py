@@ -16,10 +16,10 @@ is crates/alloc_failures/stdout. For each k from 1 until a run meets no refusal:
     line.
 The last line counts the runs that passed and failed, and the status is 0 where none failed.
 """
-import os
 import sys
 
-from alloc_failures import HERE, Run, program_named, refuse_each
+from testing import ROOT
+from testing.alloc_failures import Counts, Refusing, Run, program_named, refuse_each
 
 MARK = "no memory: "
 CUT = "the calls end here"
@@ -27,17 +27,17 @@ CUT = "the calls end here"
 SHARED = {"the value", "the batch", "the sender", "totals", "past"}
 
 
-def ends_of(lines):
+def ends_of(lines: list[str]) -> list[str]:
     return [line for line in lines if line.startswith("end: ")]
 
 
-def names_its_call(lines, place):
+def names_its_call(lines: list[str], place: int) -> bool:
     """Whether a line of `no memory` is right before the line of its call."""
     call = lines[place].removeprefix(MARK)
     return call in SHARED or lines[place + 1].startswith(call)
 
 
-def way_alone(full, lines):
+def way_alone(full: list[str], lines: list[str]) -> tuple[str | None, str | None]:
     marks = [place for place, line in enumerate(lines) if line.startswith(MARK)]
     rest = [line for line in lines if not line.startswith(MARK)]
     if rest != full:
@@ -49,7 +49,7 @@ def way_alone(full, lines):
     return "made again", None
 
 
-def way_from(full, lines):
+def way_from(full: list[str], lines: list[str]) -> tuple[str | None, str | None]:
     rest = [line for line in lines if not line.startswith(MARK)]
     if rest == lines:
         return ("did without", None) if lines == full else (None, "other lines")
@@ -61,7 +61,7 @@ def way_from(full, lines):
     return "ended as ever", None
 
 
-def way_of(full, run, form):
+def way_of(full: list[str], run: Run, form: str) -> tuple[str | None, str | None]:
     lines = run.out.decode().splitlines()
     if run.refused == 0:
         same = (run.status, run.err, lines) == (0, b"", full)
@@ -69,13 +69,13 @@ def way_of(full, run, form):
     if (run.status, run.out, run.err) == (1, b"", b"alloc_failures: no memory\n"):
         return "could not begin", None
     if (run.status, run.err) != (0, b""):
-        return None, f"status {run.status}, standard error {run.err}"
+        return None, f"status {run.status}, standard error {run.err!r}"
     if any("something changed" in line for line in lines):
         return None, f"{[line for line in lines if 'changed' in line]}"
     return way_alone(full, lines) if form == "alone" else way_from(full, lines)
 
 
-def none_grows(refusing, counts, program):
+def none_grows(refusing: Refusing, counts: Counts, program: str) -> None:
     """Counts the growths of each call at the end: from the line before it to its own."""
     pieces = refusing.counted([program])
     before = [0] + [growths for growths, _ in pieces]
@@ -87,11 +87,11 @@ def none_grows(refusing, counts, program):
     print(f"{len(calls)} calls are counted to take no memory", flush=True)
 
 
-def main(program):
-    with open(os.path.join(HERE, "..", "crates", "alloc_failures", "stdout")) as file:
+def main(program: str) -> int:
+    with open(f"{ROOT}/crates/alloc_failures/stdout") as file:
         full = file.read().splitlines()
 
-    def run_once(refusing, growth, form):
+    def run_once(refusing: Refusing, growth: int, form: str) -> tuple[Run, str | None, object]:
         run = refusing.run([program], b"", growth, form)
         return run, *way_of(full, run, form)
 

@@ -10,17 +10,17 @@ Each request, head and body, byte by byte as it came, is written to FOLDER/reque
 import socket
 import sys
 
-from loopback import answered, request_of
+from testing.loopback import answered, request_of
 
 
-def bytes_of(answer):
+def bytes_of(answer: str) -> bytes:
     """The bytes of an answer, by its argument."""
     status, _, seconds = answer.partition(",")
     retry = f"Retry-After: {seconds}\r\n" if seconds else ""
     return answered(f"{status} Answered\r\n{retry}".encode())
 
 
-def main():
+def main() -> None:
     folder, *answers = sys.argv[1:]
     listener = socket.create_server(("127.0.0.1", 0))
     with open(f"{folder}/port", "w") as port:

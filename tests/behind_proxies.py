@@ -22,12 +22,17 @@ import ssl
 import subprocess
 import sys
 import time
+from collections.abc import Callable, Mapping
+from typing import Any
 
-from loopback import SECONDS, free_port
-from service import (JSON, PROTOBUF, Sender, Service, SqliteSink, add_points, differences, in_json, in_protobuf,
-                     overlaps, told_to_all)
+from testing import ROOT
+from testing.checks import Checks
+from testing.loopback import SECONDS, free_port
+from testing.service import (Value, JSON, PROTOBUF, Sender, Service, SqliteSink, add_points, differences, in_json, in_protobuf,
+                     overlaps, told_to_all,
+                             wait_until)
+from testing.shipped import end_group, folder, listens, missing, run_script, shipped, started, with_replaced
 from service_load import post_meanwhile
-from shipped import end_group, folder, listens, missing, run_script, shipped, started, wait_until, with_replaced
 
 SENDERS = 6
 LOAD_SECONDS = 15
@@ -36,18 +41,18 @@ HIDDEN = ["/", "/flush", "/report", "/metrics", "/status", "/dead", "/quarantine
           "/v1/metrics/../../flush", "/v1/metrics/"]
 # Of whose tokens, beside those of the senders.
 TOKENS = {"t0ken": "by-token"}
-PAGE = os.path.join(os.path.dirname(os.path.dirname(os.path.abspath(__file__))), "docs", "OPERATING.md")
+PAGE = os.path.join(ROOT, "docs", "OPERATING.md")
 
 
 # --------------------------------------------------------------------------------------------------------------------
 # Names
 
 
-def openssl(at, *words):
+def openssl(at: str, *words: str) -> None:
     subprocess.run(["openssl", *words], check=True, cwd=at, capture_output=True, timeout=SECONDS)
 
 
-def make_names(at, senders=SENDERS):
+def make_names(at: str, senders: int = SENDERS) -> None:
     """The proxy's certificate, and the file of --tokens."""
     key = ["-newkey", "ec", "-pkeyopt", "ec_paramgen_curve:prime256v1", "-nodes"]
     openssl(at, "req", "-x509", *key, "-keyout", "ca.key", "-out", "ca.pem", "-subj", "/CN=ca", "-days", "2")
@@ -72,7 +77,8 @@ def make_names(at, senders=SENDERS):
 class Proxy:
     """A proxy with a copy of its shipped file or the page's part, in front of the service. `replaced` is what else is another."""
 
-    def __init__(self, stack, kind, at, listen, replaced=()):
+    def __init__(self, stack: contextlib.ExitStack, kind: str, at: str, listen: int,
+                 replaced: Mapping[str, str] | None = None) -> None:
         self.stack, self.kind, self.at = stack, kind, at
         self.port = free_port()
         self.file = f"{at}/{kind}"
@@ -80,21 +86,21 @@ class Proxy:
         ports.pop(":4320" if kind == "nginx" else " 4320 ")
         text = shipped("haproxy.cfg", {}) if kind == "haproxy" else self.whole(section_of_nginx())
         with open(self.file, "w") as copy:
-            copy.write(with_replaced(text, {**dict(replaced), **self.own()[kind], **ports, "/etc/totxegun": at}))
-        self.process = None
+            copy.write(with_replaced(text, {**(replaced or {}), **self.own()[kind], **ports, "/etc/totxegun": at}))
+        self.process: subprocess.Popen[bytes] = None
 
-    def own(self):
+    def own(self) -> dict[str, Any]:
         """Places, and users, which only root can change; the remarks name the ports too."""
         users = {} if os.getuid() == 0 else {"    user haproxy\n": "", "    group haproxy\n": ""}
         return {"haproxy": {"at port 4320": "", "/run/haproxy": self.at, **users}, "nginx": {}}
 
-    def whole(self, section):
+    def whole(self, section: str) -> str:
         """What nginx has around it."""
         temporary = "".join(f"{name}_temp_path {self.at}/{name};\n" for name in ("client_body", "proxy", "fastcgi", "uwsgi", "scgi"))
         return (f"pid {self.at}/pid;\nerror_log {self.at}/error.log;\nevents {{ worker_connections 4096; }}\n"
                 f"http {{\naccess_log off;\n{temporary}{section}}}\n")
 
-    def start(self):
+    def start(self) -> None:
         words = {"haproxy": ["haproxy", "-db", "-f", self.file],
                  "nginx": ["nginx", "-p", self.at, "-c", self.file, "-g", "daemon off;"]}[self.kind]
         self.process = started(self.stack, words, f"{self.at}/log")
@@ -102,19 +108,19 @@ class Proxy:
             with open(f"{self.at}/log") as log:
                 raise OSError(f"{self.kind} does not start: {log.read()[-1000:]}")
 
-    def kill(self):
+    def kill(self) -> None:
         """As `kill -9` of all its processes."""
         end_group(self.process)
         # A worker of nginx may outlive the process that started it by a moment, and listens until then.
         wait_until(lambda: not listens(self.port))
 
 
-def section_of_nginx():
+def section_of_nginx() -> str:
     with open(PAGE, encoding="utf-8") as file:
         return re.search(r"^```\n(server \{.*?)^```$", file.read(), re.DOTALL | re.MULTILINE)[1]
 
 
-def connection(proxy, seconds=SECONDS):
+def connection(proxy: Proxy, seconds: float = SECONDS) -> http.client.HTTPSConnection:
     context = ssl.create_default_context(cafile=f"{proxy.at}/ca.pem")
     return http.client.HTTPSConnection("127.0.0.1", proxy.port, timeout=seconds, context=context)
 
@@ -122,11 +128,12 @@ def connection(proxy, seconds=SECONDS):
 class Poster:
     """Posts a point of a series of its own by each call, and gives the status: None where there is no answer."""
 
-    def __init__(self, proxy):
+    def __init__(self, proxy: Proxy) -> None:
         self.proxy = proxy
         self.number = 0
 
-    def __call__(self, token=None, path="/v1/metrics", kind=JSON, pad=0, packed=False, headers=None, name="by-token"):
+    def __call__(self, token: str | None = None, path: str = "/v1/metrics", kind: str = JSON, pad: int = 0, packed: bool = False,
+                 headers: dict[str, str] | None = None, name: str = "by-token") -> int | None:
         self.number += 1
         point = (f"by-{token}", 10 * self.number, 10 * self.number + 10, 1)
         body = {JSON: in_json, PROTOBUF: in_protobuf}[kind]([point]) + b" " * pad
@@ -146,11 +153,11 @@ class Poster:
 class Client(Sender):
     """A sender by way of the proxy, with its token."""
 
-    def __init__(self, service, proxy, number, seed=0, seconds=SECONDS):
+    def __init__(self, service: Service | None, proxy: Proxy, number: int, seed: float = 0, seconds: float = SECONDS) -> None:
         super().__init__(service, number, seed, seconds)
         self.proxy, self.number = proxy, number
 
-    def try_once(self, body, headers):
+    def try_once(self, body: bytes, headers: dict[str, str]) -> tuple[int | None, bytes]:
         self.connection = self.connection or connection(self.proxy, self.seconds)
         return super().try_once(body, {**headers, "Authorization": f"Bearer t0ken-{self.number}"})
 
@@ -159,14 +166,14 @@ class Client(Sender):
 # What is checked
 
 
-def owners(service):
+def owners(service: Service) -> dict[str, str]:
     """The senders of all series, by the service's report."""
     with contextlib.closing(http.client.HTTPConnection("127.0.0.1", service.operate, timeout=SECONDS)) as client:
         client.request("GET", "/report")
         return dict(re.findall(r"^series (\S+) .* owner (\S+) ", client.getresponse().read().decode(), re.MULTILINE))
 
 
-def names(checks, proxy, service, post):
+def names(checks: Checks, proxy: Proxy, service: Service, post: Poster) -> None:
     kind = proxy.kind
     checks.same(f"{kind}: no name but its own", 401, post())
     checks.same(f"{kind}: a token of nobody", 401, post("no"))
@@ -178,7 +185,7 @@ def names(checks, proxy, service, post):
     checks.same(f"{kind}: whose these series are", {"by-t0ken": "by-token"}, owners(service))
 
 
-def encodings(checks, proxy, post):
+def encodings(checks: Checks, proxy: Proxy, post: Poster) -> None:
     kind = proxy.kind
     for encoding in (JSON, PROTOBUF):
         for packed in (False, True):
@@ -191,7 +198,7 @@ def encodings(checks, proxy, post):
         checks.same(f"{kind}: {path} is not there", 404, post("t0ken", path=path))
 
 
-def by_curl(checks, proxy):
+def by_curl(checks: Checks, proxy: Proxy) -> None:
     """HTTP/2, and a long body that curl asks for leave to send."""
     with open(f"{proxy.at}/body", "wb") as file:
         file.write(in_json([("by-curl", 10, 20, 1)]) + b" " * 2_000_000)
@@ -200,13 +207,13 @@ def by_curl(checks, proxy):
     for how, wanted in ((["--http2", "-H", "Expect:"], "200 2"), (["--http1.1", *asking], "400 1.1")):
         checks.same(f"{proxy.kind}: curl {how[0]}", wanted, curl(proxy, "t0ken", *how, "--data-binary", f"@{proxy.at}/body"))
     # Who is refused before all of it is there has an answer too: as often as it takes to find one that has none.
-    for how, version in ("--http2", "2"), ("--http1.1", "1.1"):
+    for protocol, version in ("--http2", "2"), ("--http1.1", "1.1"):
         for length, body in (1000, "x" * 1000), (2_000_000, f"@{proxy.at}/body"):
-            found = {curl(proxy, "no", how, "-H", "Expect:", "--data-binary", body) for _ in range(20)}
-            checks.same(f"{proxy.kind}: curl {how}, {length} bytes with a token of nobody", {f"401 {version}"}, found)
+            found = {curl(proxy, "no", protocol, "-H", "Expect:", "--data-binary", body) for _ in range(20)}
+            checks.same(f"{proxy.kind}: curl {protocol}, {length} bytes with a token of nobody", {f"401 {version}"}, found)
 
 
-def curl(proxy, token, *words):
+def curl(proxy: Proxy, token: str, *words: str) -> str:
     """The status and the version of an answer."""
     run = subprocess.run(
         ["curl", "-s", "-m", str(SECONDS), "-o", "/dev/null", "-w", "%{http_code} %{http_version}",
@@ -214,22 +221,27 @@ def curl(proxy, token, *words):
          "-H", "x-sender: by-token",
          *words, f"https://localhost:{proxy.port}/v1/metrics"],
         capture_output=True, text=True, timeout=2 * SECONDS, check=False)
-    return run.stdout
+    return str(run.stdout)
 
 
-def kills(proxy, service):
+def kills(proxy: Proxy, service: Service) -> list[Callable[[], None]]:
     """What is done while senders post, one after the other."""
-    def kill_proxy():
+    def kill_proxy() -> None:
         proxy.kill()
         proxy.start()
 
-    def kill_service():
+    def kill_service() -> None:
         service.kill()
         service.start()
-    return [kill_proxy, kill_service, lambda: (kill_service(), kill_proxy())] * 2
+
+    def kill_both() -> None:
+        kill_service()
+        kill_proxy()
+
+    return [kill_proxy, kill_service, kill_both] * 2
 
 
-def under_load(checks, proxy, service, sink):
+def under_load(checks: Checks, proxy: Proxy, service: Service, sink: SqliteSink) -> None:
     kind = proxy.kind
     before = sink.points() if service.order("/flush") == 200 and wait_until(service.is_drained) else None
     clients = [Client(service, proxy, number) for number in range(SENDERS)]
@@ -246,7 +258,8 @@ def under_load(checks, proxy, service, sink):
     checks.same(f"{kind}: no post was answered otherwise", [], [it for client in clients for it in client.surprises][:3])
     checks.true(f"{kind}: each sender repeated a post", all(client.repeats for client in clients), [client.repeats for client in clients])
     checks.same(f"{kind}: all is flushed and delivered", (200, True), (service.order("/flush"), wait_until(service.is_drained)))
-    points, found, wanted = sink.points(), {}, told_to_all(clients)
+    points, wanted = sink.points(), told_to_all(clients)
+    found: dict[str, Value] = {}
     add_points(wanted, before)
     add_points(found, points)
     checks.same(f"{kind}: the sink has what the senders were told, {len(wanted)} series", [], differences(wanted, found))
@@ -256,7 +269,7 @@ def under_load(checks, proxy, service, sink):
     print(f"note: {kind}: {sum(it.posts for it in clients)} posts, {sum(it.repeats for it in clients)} repeats", flush=True)
 
 
-def behind(totxegun, checks, kind):
+def behind(totxegun: str, checks: Checks, kind: str) -> None:
     with contextlib.ExitStack() as stack:
         at = folder(stack)
         make_names(at)
@@ -275,7 +288,7 @@ def behind(totxegun, checks, kind):
         checks.same(f"{kind}: SIGTERM ends the service", 0, service.end()[0])
 
 
-def work(totxegun, checks, stack):
+def work(totxegun: str, checks: Checks, stack: contextlib.ExitStack) -> None:
     for kind in sys.argv[2:] or ["haproxy", "nginx"]:
         if checks.has(kind, *missing([kind, "curl", "openssl"])):
             behind(totxegun, checks, kind)

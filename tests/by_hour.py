@@ -21,12 +21,12 @@ import sys
 import tempfile
 import threading
 import time
+from collections.abc import Sequence
+from typing import Any
 
-from checks import Checks
-from service import BOUNDS, Sender, Service, added, wait_until
-
-sys.path.insert(1, f"{os.path.dirname(os.path.dirname(os.path.abspath(__file__)))}/demo")
-from parts import Database, initdb  # noqa: E402
+from testing.checks import Checks
+from testing.database import Database, initdb
+from testing.service import BOUNDS, Point, Post, Sender, Service, added, wait_until
 
 MINUTE, HOUR, DAY = (60 * 10**9, 3600 * 10**9, 86_400 * 10**9)
 SENDERS = 4
@@ -44,20 +44,21 @@ CROSSING = "select count(*) from {span} where start_ns / {HOUR} < (end_ns - 1) /
 class HourlySender(Sender):
     """Notes by the hours in which points end; `edges` is how many of them cover a full hour."""
 
-    def __init__(self, service, number, seed):
+    def __init__(self, service: Service, number: int, seed: str) -> None:
         super().__init__(service, number, seed)
         self.end = time.time_ns() - 3 * DAY  # a post may have two days
         self.time = self.end - LONG + self.chance.randrange(HOUR)
-        self.hours, self.edges, self.lumps, self.ahead = {}, 0, 0, 0
+        self.hours: dict[tuple[str, int], Any] = {}
+        self.edges = self.lumps = self.ahead = 0
 
-    def next_points(self):
+    def next_points(self) -> list[tuple[str, int, int, Any]]:
         """A post of one moment, or of many hours at once."""
         if self.chance.random() < 0.05:
             self.lumps += 1
             return [point for _ in range(self.chance.randrange(2, 49)) for point in self.at_once(HOUR)]
         return self.at_once(self.chance.choice([MINUTE, 7 * MINUTE, 40 * MINUTE]))
 
-    def at_once(self, step):
+    def at_once(self, step: int) -> list[tuple[str, int, int, Any]]:
         start, self.time = self.time, self.time + step
         kind = self.chance.random()
         if kind < 0.1:
@@ -71,13 +72,13 @@ class HourlySender(Sender):
         self.edges += 2 * (start // HOUR < (self.time - 1) // HOUR)
         return [(f"{self.name}.sum", start, self.time, value), (f"{self.name}.histogram", start, self.time, (buckets, value))]
 
-    def note(self, points, last):
+    def note(self, points: Sequence[Point], last: Post) -> None:
         super().note(points, last)
         for name, _, end, value in points:
             key = name, (end - 1) // HOUR
             self.hours[key] = added(self.hours.get(key), value)
 
-    def post_ahead(self):
+    def post_ahead(self) -> None:
         """A point of a year from now, of a series that goes on."""
         start = time.time_ns() + 365 * DAY + HOUR
         status, text = self.try_once(*self.encoded([(f"{self.name}.sum", start, start + 10, 1)]))
@@ -86,7 +87,7 @@ class HourlySender(Sender):
             if b"its clock is 365d ahead" not in text:
                 self.surprises.append((status, text))
 
-    def run(self, until):
+    def run(self, until: float) -> None:
         while time.monotonic() < until and self.time < self.end:
             if not self.post(self.next_points()):
                 return
@@ -100,15 +101,15 @@ class File:
     words = {"hour": "unixepoch(hour || ':00') / 3600", "by_hour": "by_hour", "month": "substr(month, 1, 7)", "by_month": "by_month",
              "span": "span"}
 
-    def __init__(self, folder):
+    def __init__(self, folder: str) -> None:
         self.path = f"{folder}/hours.db"
         self.address = f"sqlite:{self.path}"
 
-    def ask(self, query):
+    def ask(self, query: str) -> Any:
         with contextlib.closing(sqlite3.connect(f"file:{self.path}?mode=ro", uri=True)) as database:
             return database.execute(query).fetchall()
 
-    def close(self):
+    def close(self) -> None:
         """It needs no end."""
 
 
@@ -118,19 +119,19 @@ class Server(Database):
     words = {"hour": "extract(epoch from hour)::bigint / 3600", "by_hour": "totxegun.by_hour",
              "month": "to_char(month at time zone 'UTC', 'YYYY-MM')", "by_month": "totxegun.by_month", "span": "totxegun.span"}
 
-    def __init__(self, _):
+    def __init__(self, _: object) -> None:
         super().__init__()
         self.start()
         self.wait_ready()
 
-    def ask(self, query):
+    def ask(self, query: str) -> Any:
         if not query.startswith("select name") and "count(*)" not in query:
             return super().ask(query)
         rows = super().ask(f"select coalesce(json_agg(row), '[]') from (select to_json(one) as row from ({query}) as one) as rows")
         return [tuple(row.values()) for row in json.loads(rows)]
 
 
-def counted(total, buckets):
+def counted(total: Any, buckets: Any) -> Any:
     """A sum, or a histogram's buckets and sum."""
     if buckets is None:
         return int(total)
@@ -138,20 +139,20 @@ def counted(total, buckets):
     return tuple(map(int, listed)), int(total)
 
 
-def differences(wanted, found):
+def differences(wanted: dict[Any, Any], found: dict[Any, Any]) -> list[str]:
     keys = [key for key in sorted(wanted.keys() | found.keys()) if wanted.get(key) != found.get(key)]
     return [f"{key}: counted {wanted.get(key)}, in the sink {found.get(key)}" for key in keys[:4]]
 
 
-def by_month(hours):
-    months = {}
+def by_month(hours: dict[Any, Any]) -> dict[Any, Any]:
+    months: dict[Any, Any] = {}
     for (name, hour), value in hours.items():
         key = name, time.strftime("%Y-%m", time.gmtime(hour * 3600))
         months[key] = months.get(key, 0) + (value if isinstance(value, int) else value[1])
     return months
 
 
-def trouble(service, until, chance):
+def trouble(service: Service, until: float, chance: random.Random) -> None:
     while time.monotonic() < until:
         time.sleep(chance.choice([0.2, 0.7, 1.5]))
         if chance.random() < 0.5:
@@ -161,7 +162,7 @@ def trouble(service, until, chance):
             service.start()
 
 
-def run(checks, program, folder, sink, seconds, seed):
+def run(checks: Checks, program: str, folder: str, sink: File | Server, seconds: int, seed: int) -> None:
     kind = type(sink).__name__
     service = Service(program, f"{folder}/data-{kind}", sink.address, "--flush-every", "1s", "--most-series", SERIES)
     service.start()
@@ -181,7 +182,7 @@ def run(checks, program, folder, sink, seconds, seed):
     checks.same(f"{kind}: it ends", 0, service.end()[0])
 
 
-def look(checks, kind, sink, senders):
+def look(checks: Checks, kind: str, sink: File | Server, senders: list[HourlySender]) -> None:
     surprises = [surprise for sender in senders for surprise in sender.surprises]
     checks.same(f"{kind}: no answer is a surprise", [], surprises[:3])
     wanted = {key: value for sender in senders for key, value in sender.hours.items()}
@@ -199,11 +200,12 @@ def look(checks, kind, sink, senders):
     checks.true(f"{kind}: it was tried: {lumps} posts of many hours, {ahead} of a clock ahead", lumps and ahead, "too few")
 
 
-def main(program, seconds=SECONDS, seed=None):
-    checks, seed = Checks(), seed if seed is not None else random.randrange(10**6)
+def main(program: str, seconds: int = SECONDS, seed: int | None = None) -> int:
+    checks = Checks()
+    seed = seed if seed is not None else random.randrange(10**6)
     print(f"note: seed {seed}")
     with tempfile.TemporaryDirectory(prefix="by-hour-") as folder:
-        sinks = [File]
+        sinks: list[type[File] | type[Server]] = [File]
         if checks.has("sums by hour in PostgreSQL", *([] if initdb() else ["initdb"])):
             sinks.append(Server)
         with contextlib.ExitStack() as closing:
@@ -217,4 +219,4 @@ def main(program, seconds=SECONDS, seed=None):
 if __name__ == "__main__":
     if not 2 <= len(sys.argv) <= 4:
         sys.exit(f"usage: {sys.argv[0]} TOTXEGUN [SECONDS] [SEED]")
-    sys.exit(main(os.path.abspath(sys.argv[1]), *map(int, sys.argv[2:])))
+    sys.exit(main(os.path.abspath(sys.argv[1]), *[int(word) for word in sys.argv[2:]]))

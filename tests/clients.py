@@ -28,17 +28,17 @@ import sys
 import tempfile
 import threading
 import time
+from typing import Any
 
 # Debian's package is for Debian's Python.
 if importlib.util.find_spec("google") is None and os.path.realpath(sys.executable) != os.path.realpath("/usr/bin/python3"):
     os.execv("/usr/bin/python3", ["/usr/bin/python3", *sys.argv])
 
-sys.path.append(os.path.join(os.path.dirname(os.path.abspath(__file__)), "clients"))
-from checks import Checks
-from protobuf_bodies import descriptor_pb2, message_classes
-from service import Service, SqliteSink, add_points, ask, differences, overlaps, wait_until
-from shipped import own_disk
-from ways import BODIES, External, InSeconds, Programs, Wrk, own_ways
+from testing.checks import Checks
+from testing.service import Service, SqliteSink, Value, add_points, ask, differences, overlaps, wait_until
+from testing.shipped import own_disk
+from testing.ways import BODIES, External, InSeconds, Programs, Wrk, own_ways
+from protobuf_bodies import HAS_LIBRARY, message_classes
 
 RULE = "s=1000000:us"
 # A machine that is busy takes its time.
@@ -48,41 +48,42 @@ LEAST_POSTS = 200
 DISK, FILL = 256 << 20, 200 << 20
 
 
-def metrics(service):
+def metrics(service: Service) -> dict[str, float]:
     """Each line of the page, by its name with labels."""
     _, page = ask(service.operate, "GET", "/metrics")
     lines = [line.rsplit(" ", 1) for line in page.decode().splitlines() if not line.startswith("#")]
     return {name: float(value) for name, value in lines}
 
 
-def accepted(service):
+def accepted(service: Service) -> float:
     """How many posts it has answered 200."""
     return metrics(service)['totxegun_posts_total{reason="",status="200"}']
 
 
-def is_settled(service):
+def is_settled(service: Service) -> bool:
     """Whether no post is under way any more: the service may take one that wrk has broken off."""
-    counts = [None]
+    counts = [-1.0]
 
-    def is_still():
+    def is_still() -> bool:
         time.sleep(0.7)
         counts.append(accepted(service))
         return counts[-1] == counts[-2] and not metrics(service)["totxegun_post_bytes_in_flight"]
     return wait_until(is_still, PATIENCE)
 
 
-def totals(checks, what, service, sink):
+def totals(checks: Checks, what: str, service: Service, sink: SqliteSink) -> Any:
     """What the sink has of each series, after a flush."""
     checks.true(f"{what}: within {PATIENCE} s no post is under way", is_settled(service), service.last_lines())
     service.order("/flush")
     checks.true(f"{what}: all is delivered", wait_until(service.is_drained), service.last_lines())
-    points, found = sink.points(), {}
+    points = sink.points()
+    found: dict[str, Value] = {}
     checks.same(f"{what}: no span is in the sink twice", [], overlaps(points))
     add_points(found, points)
     return found
 
 
-def compare_wrk(checks, what, told, found, accepted):
+def compare_wrk(checks: Checks, what: str, told: dict[str, int], found: Any, accepted: float) -> None:
     """Each series has what was answered, and a post more where wrk broke it off after its end; the service counted all."""
     found = {name: found.get(name, 0) for name in told}
     checks.true(f"{what}: of each series the sink has what was answered, or one post more",
@@ -90,7 +91,7 @@ def compare_wrk(checks, what, told, found, accepted):
     checks.same(f"{what}: the sink has as many posts as the service took", accepted, sum(found.values()))
 
 
-def alone(checks, service, sink, folder, stack):
+def alone(checks: Checks, service: Service, sink: SqliteSink, folder: str, stack: contextlib.ExitStack) -> dict[str, int]:
     wrk = Wrk(service.listen, folder, "wrk.alone")
     stack.callback(wrk.kill)
     time.sleep(1.5)
@@ -102,25 +103,25 @@ def alone(checks, service, sink, folder, stack):
     return wrk.taken
 
 
-def turned_away(service):
+def turned_away(service: Service) -> float:
     return sum(count for name, count in metrics(service).items() if re.match(r'totxegun_posts_total.*status="503"', name))
 
 
-def read(ways):
+def read(ways: list[Any]) -> list[Any]:
     for way in ways:
         way.read()
     return ways
 
 
-def have_more(ways, than):
+def have_more(ways: list[Any], than: dict[str, int]) -> bool:
     """Whether each way has two posts more that were taken."""
-    def has(way):
+    def has(way: Any) -> bool:
         out_of_bodies = isinstance(way, External) and way.taken == BODIES
-        return way.taken > than.get(way.series, 0) + 1 or out_of_bodies or way.surprise
+        return bool(way.taken > than.get(way.series, 0) + 1 or out_of_bodies or way.surprise)
     return wait_until(lambda: all(has(way) for way in read(ways)), PATIENCE)
 
 
-def fill_disk(checks, service, ways, folder, which):
+def fill_disk(checks: Checks, service: Service, ways: list[Any], folder: str, which: int) -> None:
     """Posts are turned away; then there is room again, and each way goes on."""
     before = turned_away(service)
     with open(f"{folder}/fill", "wb") as file:
@@ -128,12 +129,12 @@ def fill_disk(checks, service, ways, folder, which):
     is_full = wait_until(lambda: turned_away(service) > before + len(ways), PATIENCE)
     os.remove(f"{folder}/fill")
     checks.true(f"disk full, {which}: posts are turned away", is_full, service.last_lines())
-    before = {way.series: way.taken for way in read(ways)}
-    checks.true(f"disk full, {which}: each way goes on", have_more(ways, before),
-                [(way.series, before[way.series], way.taken, way.surprise) for way in ways])
+    taken = {way.series: way.taken for way in read(ways)}
+    checks.true(f"disk full, {which}: each way goes on", have_more(ways, taken),
+                [(way.series, taken[way.series], way.taken, way.surprise) for way in ways])
 
 
-def beside(checks, service, ways, folder, stack):
+def beside(checks: Checks, service: Service, ways: list[Any], folder: str, stack: contextlib.ExitStack) -> Wrk:
     """All at once, over a disk that is full twice."""
     checks.true("each way posts", have_more(ways, {}), [(way.series, way.taken, way.surprise) for way in ways])
     wrk = Wrk(service.listen, folder, "wrk.beside")
@@ -146,7 +147,7 @@ def beside(checks, service, ways, folder, stack):
     return wrk
 
 
-def compare_rounding(checks, totxegun, service, ways, found):
+def compare_rounding(checks: Checks, totxegun: str, service: Service, ways: list[InSeconds], found: Any) -> None:
     """What the service says of the series in seconds, beside what was counted here."""
     (rounded,) = service.status()["rounded"]
     wanted = {way.series: (way.rounded, round(float(way.rounded_by), 6)) for way in ways}
@@ -164,7 +165,7 @@ def compare_rounding(checks, totxegun, service, ways, found):
     checks.true("totxegun status shows them", all(re.search(rf"(?m)^\d+\.\d{{3}} us +\d+ +{way.series}\b", text) for way in ways), text)
 
 
-def run(checks, totxegun, folder, stack):
+def run(checks: Checks, totxegun: str, folder: str, stack: contextlib.ExitStack) -> list[str]:
     """Which clients are not installed."""
     sink, stop = SqliteSink(f"{folder}/sink.db"), threading.Event()
     service = Service(totxegun, f"{folder}/data", sink.address, "--flush-every", "1s", "--whole", "s=us")
@@ -179,7 +180,7 @@ def run(checks, totxegun, folder, stack):
     stack.callback(stop.set)
     for way in own:
         way.start()
-    ways = [*own, *programs.ways]
+    ways: list[Any] = [*own, *programs.ways]
     wrk = beside(checks, service, ways, folder, stack)
     of_wrk |= wrk.taken
     stop.set()
@@ -196,7 +197,7 @@ def run(checks, totxegun, folder, stack):
     return programs.left_out
 
 
-def compare(checks, totxegun, service, sink, ways, of_wrk):
+def compare(checks: Checks, totxegun: str, service: Service, sink: SqliteSink, ways: list[Any], of_wrk: dict[str, int]) -> None:
     checks.same("no answer surprises", {}, {way.series: way.surprise for way in ways if way.surprise})
     found = totals(checks, "all", service, sink)
     of_ways = {name: total for name, total in found.items() if name not in of_wrk}
@@ -209,12 +210,12 @@ def compare(checks, totxegun, service, sink, ways, of_wrk):
     compare_rounding(checks, totxegun, service, [way for way in ways if isinstance(way, InSeconds)], found)
 
 
-def missing():
+def missing() -> list[str]:
     programs = [name for name in ("curl", "wrk", "mount") if not shutil.which(name)]
-    return programs + ([] if descriptor_pb2 else ["python3-protobuf"])
+    return programs + ([] if HAS_LIBRARY else ["python3-protobuf"])
 
 
-def main(totxegun):
+def main(totxegun: str) -> int:
     checks = Checks()
     if not checks.has("all clients", *missing()):
         return checks.end()

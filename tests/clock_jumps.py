@@ -20,11 +20,13 @@ import sys
 import tempfile
 import threading
 import time
+from collections.abc import Callable
+from typing import Any
 
-from checks import Checks
-from service import JSON, OUT_OF_ORDER, Sender, Service, in_json, wait_until
+from testing import TESTS
+from testing.checks import Checks
+from testing.service import JSON, OUT_OF_ORDER, Sender, Service, in_json, wait_until
 
-HERE = os.path.dirname(os.path.abspath(__file__))
 HOUR = 3600 * 10**9
 SENDERS = 3
 TIMES = (0, HOUR, 0, -HOUR, 0)
@@ -33,30 +35,31 @@ TIMES = (0, HOUR, 0, -HOUR, 0)
 class Clock:
     """That of the service: so many nanoseconds ahead."""
 
-    def __init__(self, folder):
+    def __init__(self, folder: str) -> None:
         self.library, self.path = f"{folder}/set_clock.so", f"{folder}/ahead"
-        command = ["gcc", "-O1", "-Wall", "-Wextra", "-Werror", "-shared", "-fPIC", f"{HERE}/set_clock.c", "-o", self.library]
+        command = ["gcc", "-O1", "-Wall", "-Wextra", "-Werror", "-shared", "-fPIC", f"{TESTS}/set_clock.c", "-o", self.library]
         subprocess.run(command, check=True)
         self.set(0)
 
-    def set(self, ahead):
+    def set(self, ahead: int) -> None:
         """In place, at once."""
         with open(self.path, "r+b" if os.path.exists(self.path) else "wb", buffering=0) as file:
             file.write(struct.pack("<q", ahead))
 
-    def environment(self):
+    def environment(self) -> dict[str, str]:
         return {"LD_PRELOAD": self.library, "SET_CLOCK": self.path}
 
 
 class PresentSender(Sender):
     """Posts a point a time, which ends now; by hour, what of it was said to be taken, and how many were said to be ahead."""
 
-    def __init__(self, service, number):
+    def __init__(self, service: Service, number: int) -> None:
         super().__init__(service, number)
         self.time = time.time_ns()
-        self.hours, self.ahead = {}, 0
+        self.hours: dict[int, int] = {}
+        self.ahead = 0
 
-    def post_one(self):
+    def post_one(self) -> None:
         start, self.time = self.time, time.time_ns()
         value = self.chance.randrange(1, 1000)
         headers = {"Content-Type": JSON, "x-sender": self.name}
@@ -69,7 +72,7 @@ class PresentSender(Sender):
                 status, text = 200, b"{}"
         self.note_answer(status, text, value)
 
-    def note_answer(self, status, text, value):
+    def note_answer(self, status: int, text: bytes, value: int) -> None:
         self.posts += 1
         if status == 200 and b"ahead of time: its clock is " in text:
             self.ahead += 1
@@ -79,13 +82,13 @@ class PresentSender(Sender):
         else:
             self.surprises.append((status, text))
 
-    def run(self, ends):
+    def run(self, ends: threading.Event) -> None:
         while not ends.is_set():
             self.post_one()
             time.sleep(0.005)
 
 
-def go_on(service, clock, senders, seconds):
+def go_on(service: Service, clock: Clock, senders: list[PresentSender], seconds: float) -> bool:
     """So long, over a kill."""
     time.sleep(seconds / 2)
     service.kill()
@@ -93,18 +96,20 @@ def go_on(service, clock, senders, seconds):
     posts = [sender.posts for sender in senders]
     is_ready = service.wait_ready()
     # Each is answered again, before the clock is another: else nobody knew which clock a repeat was seen by.
-    return is_ready and wait_until(lambda: all(sender.posts > before + 2 for sender, before in zip(senders, posts))) and (
-        time.sleep(seconds / 2) or True)
+    if not is_ready or not wait_until(lambda: all(sender.posts > before + 2 for sender, before in zip(senders, posts))):
+        return False
+    time.sleep(seconds / 2)
+    return True
 
 
-def settled(senders):
+def settled(senders: list[PresentSender]) -> list[int]:
     """What was taken of each, once no post is under way that saw another clock."""
     posts = [sender.posts for sender in senders]
     wait_until(lambda: all(sender.posts > before + 1 for sender, before in zip(senders, posts)))
     return [sum(sender.hours.values()) for sender in senders]
 
 
-def close(service, hour):
+def close(service: Service, hour: str) -> tuple[bool, bytes | int | None]:
     """Closes an hour while posts go on: what the sink has not got yet comes late. What is told of it."""
     service.order("/flush")
     wait_until(service.is_drained)
@@ -112,11 +117,11 @@ def close(service, hour):
     return status == 200, text
 
 
-def shown(hour):
+def shown(hour: int | None) -> str:
     return time.strftime("%Y-%m-%dT%H", time.gmtime(hour * 3600))
 
 
-def main(program, seconds=2.0):
+def main(program: str, seconds: float = 2.0) -> int:
     checks = Checks()
     with tempfile.TemporaryDirectory(prefix="clock-") as folder:
         clock, path = Clock(folder), f"{folder}/sink.db"
@@ -124,7 +129,7 @@ def main(program, seconds=2.0):
         service.start(clock.environment())
         service.wait_ready()
 
-        def ask(query, *words):
+        def ask(query: str, *words: str) -> list[tuple[Any, ...]]:
             with contextlib.closing(sqlite3.connect(f"file:{path}?mode=ro", uri=True)) as database:
                 return database.execute(query, words).fetchall()
 
@@ -158,12 +163,13 @@ def main(program, seconds=2.0):
     return checks.end()
 
 
-def look(checks, ask, senders, closed, before):
+def look(checks: Checks, ask: Callable[..., list[tuple[Any, ...]]], senders: list[PresentSender], closed: int | None,
+         before: Any) -> None:
     checks.same("no answer is another", [], [sender.surprises[:1] for sender in senders if sender.surprises])
     ahead = [sender.ahead for sender in senders]
     checks.true(f"points were left out: {ahead}", all(ahead), ahead)
     wanted = {sender.name: sum(sender.hours.values()) for sender in senders}
-    checks.same("each sender's total", wanted, dict(ask("select name, total from totals")))
+    checks.same("each sender's total", wanted, {name: total for name, total in ask("select name, total from totals")})
     name = shown(closed).replace("T", " ") + ":00"
     checks.same("the closed hour stays", before, ask("select total(total) from by_hour where hour = ?", name))
     late = "select coalesce(sum(total), 0) from late where belongs_to = ?"

@@ -13,6 +13,8 @@ has the hour as it was closed, what came late once, and one correction; at the e
 
 A line for each run that failed; the last line counts those that passed and failed, and the status is 0 where none failed.
 """
+from __future__ import annotations
+
 import concurrent.futures
 import contextlib
 import os
@@ -21,8 +23,10 @@ import sqlite3
 import sys
 import tempfile
 import time
+from collections.abc import Callable, Sequence
+from typing import Any
 
-from service import JSON, Service, ask, in_json, wait_until
+from testing.service import JSON, Answer, Service, ask, in_json, wait_until
 from service_interrupted import Failed, build
 
 WAYS = ("before", "middle", "behind", "ENOSPC", "EIO")
@@ -33,7 +37,7 @@ FIRST = 498_301 * HOUR
 NAME, SHOWN = "2026-11-05T13", "2026-11-05 13:00"
 
 
-def post(service, start, value):
+def post(service: Interrupted, start: int, value: int) -> Answer:
     body = in_json([("orders", start, start + 10, value)])
     return ask(service.listen, "POST", "/v1/metrics", body, {"Content-Type": JSON, "x-sender": "A"})
 
@@ -41,7 +45,7 @@ def post(service, start, value):
 class Interrupted(Service):
     """A service that is started anew where it has ended, without the library."""
 
-    def until(self, what, is_done):
+    def until(self, what: Callable[[], tuple[Any, Any]], is_done: Callable[[Any, Any], object]) -> None:
         """Asks until it is done."""
         until = time.monotonic() + SECONDS
         while True:
@@ -55,33 +59,33 @@ class Interrupted(Service):
                 raise Failed(f"the last answer is {answer}; {self.last_lines(5)}")
             time.sleep(0.02)
 
-    def order_done(self, path):
+    def order_done(self, path: str) -> None:
         self.until(lambda: self.asked("POST", path, 10), lambda status, _: status == 200)
 
 
 class Runs:
-    def __init__(self, program, folder):
+    def __init__(self, program: str, folder: str) -> None:
         self.program, self.folder, self.library = program, folder, build(folder)
         self.passed = self.failed = self.interrupted = 0
         self.base = f"{folder}/base"
         os.makedirs(f"{self.base}/sink")
         self.fill()
 
-    def service(self, folder):
+    def service(self, folder: str) -> Interrupted:
         return Interrupted(self.program, f"{folder}/data", f"sqlite:{folder}/sink/sink.db", "--flush-every", "1h", "--operate",
                            f"unix:{folder}/operate")
 
-    def fill(self):
+    def fill(self) -> None:
         """What each run begins with."""
         service = self.service(self.base)
         service.start()
         service.wait_ready()
         status, text = post(service, FIRST + 1, 5)
         if status != 200 or service.order("/flush") != 200 or not wait_until(service.is_drained):
-            raise Failed(f"the first post: {status} {text}")
+            raise Failed(f"the first post: {status} {text!r}")
         service.end()
 
-    def one(self, at, way):
+    def one(self, at: int, way: str) -> tuple[list[str], str | None]:
         """A run: its calls, and what is wrong."""
         folder = tempfile.mkdtemp(dir=self.folder)
         for name in ("data", "sink"):
@@ -105,7 +109,7 @@ class Runs:
         shutil.rmtree(folder, ignore_errors=True)
         return calls, fault
 
-    def make(self, service, folder):
+    def make(self, service: Interrupted, folder: str) -> None:
         """The run. Raises Failed."""
         service.order_done(f"/close/{NAME}?anyway")
         self.look(folder, 1, (), 0)
@@ -122,7 +126,7 @@ class Runs:
             raise Failed(f"{service.faults()} {os.listdir(f'{folder}/data/dead')}")
 
     @staticmethod
-    def look(folder, closed, late, corrected):
+    def look(folder: str, closed: int, late: Sequence[int], corrected: int) -> None:
         with contextlib.closing(sqlite3.connect(f"file:{folder}/sink/sink.db?mode=ro", uri=True)) as database:
             found = [database.execute(query).fetchall() for query in (
                 "select count(*) from closed",
@@ -135,7 +139,7 @@ class Runs:
         if found != wanted:
             raise Failed(f"the sink has {found} in the place of {wanted}")
 
-    def count(self, at, way):
+    def count(self, at: int, way: str) -> None:
         calls, fault = self.one(at, way)
         self.interrupted += bool(calls)
         if fault is None:
@@ -145,7 +149,7 @@ class Runs:
             print(f"failed: {way} call {at} {', '.join(calls)}: {fault}", flush=True)
 
 
-def main(program, every=1, ways=WAYS):
+def main(program: str, every: int = 1, ways: Sequence[str] = WAYS) -> int:
     with tempfile.TemporaryDirectory(prefix="closed-") as folder:
         runs = Runs(program, folder)
         calls, fault = runs.one(0, "before")
@@ -164,4 +168,4 @@ def main(program, every=1, ways=WAYS):
 if __name__ == "__main__":
     if len(sys.argv) < 2:
         sys.exit(f"usage: {sys.argv[0]} TOTXEGUN [EVERY [WAY ..]]")
-    sys.exit(main(os.path.abspath(sys.argv[1]), *map(int, sys.argv[2:3]), sys.argv[3:] or WAYS))
+    sys.exit(main(os.path.abspath(sys.argv[1]), int((sys.argv[2:3] or ["1"])[0]), sys.argv[3:] or WAYS))

@@ -30,7 +30,7 @@ import time
 from collections import deque
 from typing import NamedTuple
 
-from checks import Checks
+from testing.checks import Checks
 
 # Where a search is cut off: that is a failure.
 MOST_STATES = 400_000

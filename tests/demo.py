@@ -16,16 +16,13 @@ import sys
 import tempfile
 import xml.dom.minidom
 
-ROOT = os.path.dirname(os.path.dirname(os.path.abspath(__file__)))
-sys.path[1:1] = [f"{ROOT}/demo", f"{ROOT}/tools"]
-
-from checks import Checks  # noqa: E402
-from parts import initdb  # noqa: E402
-from picture import draw  # noqa: E402
-from play import VICTIMS, Play  # noqa: E402
-from run import LIBRARIES, build_sender  # noqa: E402
-from scraped import torn  # noqa: E402
-from service import ask  # noqa: E402
+from testing.checks import Checks
+from testing.database import initdb
+from testing.service import ask
+from showing.play import VICTIMS, Play
+from showing.scraped import torn
+from picture import draw
+from run import LIBRARIES, build_sender
 
 SECONDS = 25
 SERIES = 30
@@ -36,14 +33,14 @@ GO_PACKAGES = {"golang-opentelemetry-otel-dev": "go.opentelemetry.io/otel/sdk/me
                "golang-google-protobuf-dev": "google.golang.org/protobuf/encoding/protowire"}
 
 
-def missing():
+def missing() -> list[str]:
     """The packages that are missing."""
     found = [name for name in ("go", "prometheus") if not shutil.which(name)]
     found += [name for name, path in GO_PACKAGES.items() if not os.path.exists(f"{LIBRARIES}/src/{path}")]
     return found if initdb() else [*found, "postgresql"]
 
 
-def look(checks, play, folder):
+def look(checks: Checks, play: Play, folder: str) -> None:
     rows = play.rows()
     checks.true("the programs posted", all(shop.said[0] > 0 for shop in play.shops), [shop.said for shop in play.shops])
     killed = {victim for _, victim in play.kills}
@@ -68,7 +65,7 @@ def look(checks, play, folder):
     checks.true("the picture is drawn", len(drawn) >= 5, len(drawn))
 
 
-def look_at_others(checks, play):
+def look_at_others(checks: Checks, play: Play) -> None:
     gauges = play.gauges()
     checks.same("the last values of the gauges are at the other receiver", [own for _, own, _ in gauges], [there for *_, there in gauges])
     checks.true("it has most of them", play.receiver.points > sum(shop.said[0] for shop in play.shops) // 2, play.receiver.points)
@@ -80,7 +77,7 @@ def look_at_others(checks, play):
     checks.same("no point was left out", [], foreign)
 
 
-def main(program, seconds=SECONDS, seed=1):
+def main(program: str, seconds: int | str = SECONDS, seed: int | str = 1) -> int:
     checks = Checks()
     if not checks.has("the demo", *missing()):
         return checks.end()

@@ -11,18 +11,21 @@ import shutil
 import subprocess
 import sys
 import tempfile
+from collections.abc import Sequence
 
-from checks import Checks
+from testing import ROOT
+from testing.checks import Checks
 
-ROOT = os.path.dirname(os.path.dirname(os.path.realpath(__file__)))
 DESCRIBED = "docs/pictures/{}.drawn"
 # What is wrong, in which file, a text there and what stands in its place, and what the tool says.
 PICTURES = (
     ("a picture that was changed by hand", "docs/pictures/life.svg", ">stored<", ">kept<", "docs/pictures/life.svg"),
     ("other words beside a picture", "docs/MODEL.md", "![The life of a point.", "![A point.", "docs/MODEL.md"),
-    ("a crate that uses another one", "crates.txt", "service_law: series_id", "service_law: decimals series_id", "docs/pictures/crates.svg"),
+    ("a crate that uses another one", "crates.txt", "service_law: series_id", "service_law: decimals series_id",
+     "docs/pictures/crates.svg"),
     ("a picture that no page shows", "docs/MODEL.md", "](pictures/life.svg)", "](life.svg)", "life"),
-    ("an arrow between laws that no proof has", DESCRIBED.format("laws"), "arrow proved priming.bottom recovery.top", "arrow proved priming.bottom striking.top", "striking"),
+    ("an arrow between laws that no proof has", DESCRIBED.format("laws"), "arrow proved priming.bottom recovery.top",
+     "arrow proved priming.bottom striking.top", "striking"),
     ("a law's arrow that is missing", DESCRIBED.format("laws"), "arrow proved closing.bottom marking.top\n", "", "marking"),
     ("words that are cut", DESCRIBED.format("life"), "stored / waits", "stored / waits as long as it has to", "no room for"),
     ("words over others", DESCRIBED.format("life"), "words 202 122", "words 290 122", "over one another"),
@@ -36,7 +39,7 @@ PROMISE = (
 )
 
 
-def copy(folder):
+def copy(folder: str) -> None:
     for name in ("tools", "docs"):
         shutil.copytree(f"{ROOT}/{name}", f"{folder}/{name}", ignore=shutil.ignore_patterns("__pycache__"))
     for name in ("README.md", "crates.txt"):
@@ -44,13 +47,14 @@ def copy(folder):
     os.symlink(f"{ROOT}/crates", f"{folder}/crates")
 
 
-def said(folder, tool):
+def said(folder: str, tool: str) -> tuple[int, str]:
     """The status of a tool's check, and what it says."""
-    ran = subprocess.run([sys.executable, f"{folder}/tools/{tool}", "--check"], stdout=subprocess.PIPE, stderr=subprocess.STDOUT, text=True, check=False)
+    ran = subprocess.run([sys.executable, f"{folder}/tools/{tool}", "--check"], stdout=subprocess.PIPE, stderr=subprocess.STDOUT,
+                         text=True, check=False)
     return ran.returncode, ran.stdout.strip()
 
 
-def run(checks, folder, tool, cases):
+def run(checks: Checks, folder: str, tool: str, cases: Sequence[tuple[str, str, str, str, str]]) -> None:
     status, text = said(folder, tool)
     checks.true(f"{tool} takes what is there", status == 0, text)
     for what, name, old, new, expected in cases:
@@ -64,7 +68,7 @@ def run(checks, folder, tool, cases):
             file.write(before)
 
 
-def main():
+def main() -> int:
     checks = Checks()
     with tempfile.TemporaryDirectory() as folder:
         copy(folder)

@@ -17,9 +17,10 @@ import sys
 import threading
 import time
 
-from checks import Checks
-from loopback import BackEnd, Gateway, free_port, point, sent_points
-from shipped import ask, listens, posting, wait_until
+from testing.checks import Checks
+from testing.loopback import BackEnd, Gateway, free_port, point, sent_points
+from testing.service import wait_until
+from testing.shipped import ask, listens, posting
 
 SENDERS = 8
 POSTS = 250
@@ -29,12 +30,12 @@ FLUSHES = 50
 class RefusingBackEnd(BackEnd):
     """Refuses one request in three, and adds up the values of the others."""
 
-    def __init__(self):
+    def __init__(self) -> None:
         self.lock = threading.Lock()
         self.asked = self.took = 0
         super().__init__()
 
-    def answer_to(self, body):
+    def answer_to(self, body: bytes) -> bytes:
         with self.lock:
             self.asked += 1
             if self.asked % 3 == 0:
@@ -43,30 +44,30 @@ class RefusingBackEnd(BackEnd):
         return b"200 OK\r\n"
 
 
-def post(gateway, sender, number):
+def post(gateway: Gateway, sender: int, number: int) -> int:
     """The status of a post of one point of value 1 of the sender's own sum."""
     body = point(10 * number + 10, 10 * number + 20, 1, f"m{sender}")
     return ask(gateway.port, "POST", "/v1/metrics", body, posting(f"s{sender}"))[0]
 
 
-def start(program, back_end, connections, *options):
+def start(program: str, back_end: int, connections: int, *options: str) -> Gateway:
     """The gateway, once it listens."""
     gateway = Gateway(program, back_end, connections, options=options)
     wait_until(lambda: listens(gateway.port))
     return gateway
 
 
-def load(program, checks, what, *options):
+def load(program: str, checks: Checks, what: str, *options: str) -> None:
     """All senders at once, and flushes meanwhile."""
     back_end = RefusingBackEnd()
     gateway = start(program, back_end.port, SENDERS * POSTS + FLUSHES + 1, *options)
     statuses = []
 
-    def send(sender):
+    def send(sender: int) -> None:
         for number in range(POSTS):
             statuses.append(post(gateway, sender, number))
 
-    def order():
+    def order() -> None:
         for _ in range(FLUSHES):
             statuses.append(ask(gateway.port, "POST", "/flush")[0])
             time.sleep(0.02)
@@ -80,9 +81,9 @@ def load(program, checks, what, *options):
         thread.join()
     seconds = time.monotonic() - begun
     status, report = ask(gateway.port, "GET", "/report")
-    ended, printed, errors = gateway.end()
+    ended, out, errors = gateway.end()
     back_end.close()
-    printed = printed.decode()
+    printed = out.decode()
     checks.same(f"{what}: every request was answered 200", {200}, set(statuses) | {status})
     checks.same(f"{what}: status", 0, ended)
     checks.same(f"{what}: standard error", b"", errors)
@@ -96,7 +97,7 @@ def load(program, checks, what, *options):
     print(f"note: {what}: {len(statuses) / seconds:.0f} requests a second, with clients in python")
 
 
-def slow(program, checks):
+def slow(program: str, checks: Checks) -> None:
     """A sender that never ends its request, and others beside it."""
     gateway = start(program, free_port(), 21, "--receivers", "2")
     silent = socket.create_connection(("127.0.0.1", gateway.port))
@@ -111,7 +112,7 @@ def slow(program, checks):
     checks.same("beside a slow sender: last line", b"admitted 20 acknowledged 0", printed.splitlines()[-1])
 
 
-def main(program):
+def main(program: str) -> int:
     checks = Checks()
     load(program, checks, "one round", "--receivers", "8", "--flushers", "4")
     load(program, checks, "rounds of 50", "--receivers", "4", "--flushers", "2", "--round", "50")

@@ -12,10 +12,10 @@ and failed, and the status is 0 where none failed.
 import subprocess
 import sys
 
-from checks import Checks
+from testing.checks import Checks
 
 # How often, the senders, the batches of each, and the arguments for it.
-REHEARSALS = (
+REHEARSALS: tuple[tuple[int, int, int, list[str]], ...] = (
     (20, 2, 3, []),
     (5, 1, 1, ["--senders", "1", "--batches", "1"]),
     (5, 4, 100, ["--senders", "4", "--batches=100"]),
@@ -23,7 +23,7 @@ REHEARSALS = (
 FAULTY = (["--senders", "5"], ["--batches", "0"], ["--connections", "1"])
 
 
-def wanted(senders, batches):
+def wanted(senders: int, batches: int) -> str:
     """What such a rehearsal prints."""
     row = f"{batches},{batches * (batches + 1) // 2},0"
     lines = [f"series req-{sender} monotonic owner s{sender} frontier {10 * batches + 10} accepted {row} acknowledged {row}"
@@ -32,12 +32,12 @@ def wanted(senders, batches):
     return "\n".join([*lines, "end", f"admitted {total} acknowledged {total}", ""])
 
 
-def rehearse(program, words):
+def rehearse(program: str, words: list[str]) -> tuple[int, str, str]:
     ran = subprocess.run([program, "rehearse", *words], capture_output=True, text=True, timeout=120, check=False)
     return ran.returncode, ran.stdout, ran.stderr
 
 
-def main(program):
+def main(program: str) -> int:
     checks = Checks()
     for times, senders, batches, words in REHEARSALS:
         right = (0, wanted(senders, batches), "")

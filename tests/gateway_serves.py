@@ -23,10 +23,13 @@ import struct
 import subprocess
 import sys
 import tempfile
+from collections.abc import Sequence
+from typing import Any
 
-from checks import LEFT_OUT, Checks
-from loopback import SECONDS, BackEnd, Gateway, free_port, point, read_all, response
-from shipped import listens, wait_until
+from testing.checks import LEFT_OUT, Checks
+from testing.loopback import SECONDS, BackEnd, Gateway, free_port, point, read_all, response
+from testing.service import wait_until
+from testing.shipped import listens
 
 # Where nobody listens: the port on which a server throws away what it gets. No gateway is given it.
 NOBODY = 9
@@ -39,29 +42,29 @@ RETURNED = '{"act":"returned","flush":"1","points":"1"}'
 TOO_LONG = response(b"413 Payload Too Large", b"application/json", b'{"message":"body too long"}')
 
 
-def message(text):
+def message(text: str) -> str:
     return f'{{"message":"{text}"}}'
 
 
-def line(name="req", owner="A", frontier=20, stored="0,0,0", **rows):
+def line(name: str = "req", owner: str = "A", frontier: int = 20, stored: str = "0,0,0", **rows: str) -> str:
     """A line of the report, with what is accepted, acknowledged and dropped."""
     row = {"accepted": "0,0,0", "acknowledged": "0,0,0", "dropped": "0,0,0", **rows}
     told = " ".join(f"{key} {it}" for key, it in row.items())
     return f"series {name} monotonic owner {owner} frontier {frontier} {told} in-flight 0,0,0 stored {stored} quarantined 0,0,0"
 
 
-def report(*lines):
+def report(*lines: str) -> str:
     return "\n".join([*lines, "end", ""])
 
 
 STORED = report(line(accepted="1,5,0", stored="1,5,0"))
 
 
-def body(start, end, value, name="req"):
+def body(start: int, end: int, value: int, name: str = "req") -> list[str]:
     return ["--data-binary", point(start, end, value, name).decode()]
 
 
-def forwarded(port, start, end, value):
+def forwarded(port: int, start: int, end: int, value: int) -> bytes:
     """The request, head and body, that a point of the sum req is forwarded in."""
     one = {"asInt": str(value), "attributes": [], "startTimeUnixNano": str(start), "timeUnixNano": str(end)}
     total = {"aggregationTemporality": 1, "dataPoints": [one], "isMonotonic": True}
@@ -75,45 +78,46 @@ def forwarded(port, start, end, value):
 class Served:
     """A gateway that is asked by curl, with its back end."""
 
-    def __init__(self, checks, program, connections, answers=None, options=()):
+    def __init__(self, checks: Checks, program: str, connections: int, answers: list[bytes | None] | None = None,
+                 options: Sequence[str] = ()) -> None:
         self.checks = checks
         self.back_end = None if answers is None else BackEnd(answers)
         self.back_at = NOBODY if answers is None else self.back_end.port
         self.gateway = Gateway(program, self.back_at, connections, options=options)
         until_it_listens(self.gateway)
 
-    def ask(self, what, wanted, path, *words, status=200):
+    def ask(self, what: str, wanted: str, path: str, *words: str, status: int = 200) -> None:
         """Checks the answer to what curl asks with these words."""
         address = f"http://127.0.0.1:{self.gateway.port}{path}"
         found = subprocess.run(["curl", "-s", "-m", "60", "-w", "%{http_code}", *words, address],
                                capture_output=True, text=True, check=False).stdout
         self.checks.same(what, f"{wanted}{status}", found)
 
-    def post(self, what, wanted, *words, status=200):
+    def post(self, what: str, wanted: str, *words: str, status: int = 200) -> None:
         self.ask(what, wanted, METRICS, *words, status=status)
 
-    def order(self, what, wanted, path):
+    def order(self, what: str, wanted: str, path: str) -> None:
         self.ask(what, wanted, path, "-X", "POST")
 
-    def end(self, what, printed):
+    def end(self, what: str, printed: str) -> None:
         """Checks that it ends well, and that its back end got nothing more."""
         self.checks.same(what, (0, printed.encode(), b""), self.gateway.end())
         self.close()
 
-    def close(self):
+    def close(self) -> None:
         if self.back_end:
             self.back_end.close()
 
 
-def until_it_listens(gateway):
+def until_it_listens(gateway: Gateway) -> None:
     wait_until(lambda: listens(gateway.port) or gateway.process.poll() is not None)
 
 
-def connected(port):
+def connected(port: int) -> socket.socket:
     return socket.create_connection(("127.0.0.1", port), SECONDS)
 
 
-def posts_and_flushes(checks, program):
+def posts_and_flushes(checks: Checks, program: str) -> None:
     """What senders, an operator and a back end ask of one gateway."""
     answers = [b"200 OK\r\n", b"503 Busy\r\nRetry-After: 2\r\n", b"400 Bad\r\n"]
     one = Served(checks, program, 20, answers)
@@ -149,7 +153,7 @@ def posts_and_flushes(checks, program):
     checks.same("what the back end got: settled, returned, dropped", wanted, one.back_end.requests)
 
 
-def too_long_bodies(checks, one):
+def too_long_bodies(checks: Checks, one: Served) -> None:
     with tempfile.NamedTemporaryFile() as file:
         file.write(b"{}" + b" " * 5_000_000)
         file.flush()
@@ -162,14 +166,14 @@ def too_long_bodies(checks, one):
     connected(one.gateway.port).close()
 
 
-def nobody_behind(checks, program):
+def nobody_behind(checks: Checks, program: str) -> None:
     one = Served(checks, program, 2)
     one.post("a body for nobody", "{}", *FROM_A, *body(10, 20, 5))
     one.order("a flush to nobody", RETURNED, "/flush")
     one.end("nobody", f"{STORED}admitted 1 acknowledged 0\n")
 
 
-def one_series_a_flush(checks, program):
+def one_series_a_flush(checks: Checks, program: str) -> None:
     one = Served(checks, program, 3, options=["--flush-series", "1"])
     one.post("a series", "{}", *JSON, *body(10, 20, 5))
     one.post("another series", "{}", *JSON, *body(10, 20, 5, "res"))
@@ -189,7 +193,7 @@ def one_series_a_flush(checks, program):
     checks.same("one series of two: what was sent", [[b'"name":"req"'], [b'"name":"res"']], sent)
 
 
-def rounds(checks, program):
+def rounds(checks: Checks, program: str) -> None:
     one = Served(checks, program, 3, options=["--round", "1"])
     one.post("a body in a round of its own", "{}", *FROM_A, *body(10, 20, 5))
     one.post("the same body in the next round", message(AGAIN), *FROM_A, *body(10, 20, 5), status=400)
@@ -207,7 +211,7 @@ def rounds(checks, program):
         one.end(what, f"{text}admitted 1 acknowledged 1\n")
 
 
-def silent_parties(checks, program):
+def silent_parties(checks: Checks, program: str) -> None:
     one = Served(checks, program, 5, [None])
     one.post("a body for a back end without an answer", "{}", *FROM_A, *body(10, 20, 5))
     one.order("a flush without an answer", RETURNED, "/flush")
@@ -222,15 +226,15 @@ def silent_parties(checks, program):
     one.end("a silent sender", f"{STORED}admitted 1 acknowledged 0\n")
 
 
-def run(program, words, **more):
+def run(program: str, words: Sequence[str | bytes], **more: Any) -> tuple[int, bytes, bytes]:
     """Status, what was printed, and standard error."""
     ran = subprocess.run([program, *words], stdout=subprocess.PIPE, stderr=subprocess.PIPE, timeout=SECONDS, check=False, **more)
     return ran.returncode, ran.stdout, ran.stderr
 
 
-def faulty_lines(checks, program):
-    serve = ["serve", "--backend", f"127.0.0.1:{NOBODY}"]
-    faulty = (
+def faulty_lines(checks: Checks, program: str) -> None:
+    serve: list[str | bytes] = ["serve", "--backend", f"127.0.0.1:{NOBODY}"]
+    faulty: tuple[tuple[str, str, list[str | bytes]], ...] = (
         ("no such subcommand", "error: unrecognized subcommand 'sing'", ["sing"]),
         ("no number of connections", "error: the following required arguments were not provided:", serve),
         ("too many connections",
@@ -248,7 +252,7 @@ def faulty_lines(checks, program):
         checks.same(what, (2, b"", text), (status, printed, error.decode().partition("\n")[0]))
 
 
-def ends(checks, program):
+def ends(checks: Checks, program: str) -> None:
     serve = ["serve", "--backend", f"127.0.0.1:{NOBODY}"]
     here = ["--listen", "127.0.0.1:0"]
     none = (0, b"end\nadmitted 0 acknowledged 0\n", b"")
@@ -274,7 +278,7 @@ def ends(checks, program):
     checks.same("closed output", (1, b"gateway: cannot write\n"), (status, error))
 
 
-def main(program):
+def main(program: str) -> int:
     if not shutil.which("curl"):
         print("left out: all, missing: curl")
         return LEFT_OUT

@@ -12,10 +12,11 @@ failed. tests/wrong_sizes.py tries wrong gateways.
 """
 import json
 import sys
+from collections.abc import Callable, Iterable, Sequence
 
-import loopback
-from checks import Checks
-from loopback import BackEnd, Gateway, ordered, posted
+from testing import loopback
+from testing.checks import Checks
+from testing.loopback import BackEnd, Gateway, ordered, posted
 
 # For a gateway that is built with checks at run time, on a busy machine.
 loopback.SECONDS = 180
@@ -25,12 +26,12 @@ LONG = "z" * 3_900
 DONE = b"HTTP/1.1 200 OK\r\n"
 
 
-def points(first, count):
+def points(first: int, count: int) -> list[dict[str, int]]:
     """So many points of 1, one after another."""
     return [{"asInt": 1, "startTimeUnixNano": at, "timeUnixNano": at + 1} for at in range(first, first + count)]
 
 
-def body(metrics):
+def body(metrics: Iterable[tuple[str, list[dict[str, int]]]]) -> bytes:
     """A request with these metrics: a name and points for each."""
     sums = [{"name": name, "sum": {"aggregationTemporality": 1, "dataPoints": those}} for name, those in metrics]
     return json.dumps({"resourceMetrics": [{"scopeMetrics": [{"metrics": sums}]}]}, separators=(",", ":")).encode()
@@ -39,25 +40,26 @@ def body(metrics):
 class Asked:
     """A gateway, and the requests that it did not answer as is wanted."""
 
-    def __init__(self, program, connections, receivers=1, flushers=1, round=32_000, answers=()):
+    def __init__(self, program: str, connections: int, receivers: int = 1, flushers: int = 1, round: int = 32_000,
+                 answers: Sequence[bytes] = ()) -> None:
         self.back_end = BackEnd(answers)
-        self.wrong = []
+        self.wrong: list[tuple[str, bytes | str]] = []
         words = ["--receivers", str(receivers), "--flushers", str(flushers), "--round", str(round)]
         self.gateway = Gateway(program, self.back_end.port, connections, options=words)
 
-    def ask(self, what, request, holds):
+    def ask(self, what: str, request: bytes, holds: Callable[[bytes], bool]) -> None:
         answer = self.gateway.ask(request)
         if not isinstance(answer, bytes) or not holds(answer):
             self.wrong.append((what, answer[:200]))
 
-    def post(self, what, text):
+    def post(self, what: str, text: bytes) -> None:
         self.ask(what, posted(text), lambda answer: answer.startswith(DONE) and answer.endswith(b"\r\n\r\n{}"))
 
-    def order(self, what, act, flush, count):
+    def order(self, what: str, act: str, flush: int, count: int) -> None:
         end = f'{{"act":"{act}","flush":"{flush}","points":"{count}"}}'.encode()
         self.ask(what, ordered("POST /flush"), lambda answer: answer.endswith(b"\r\n\r\n" + end))
 
-    def end(self, checks, what, last):
+    def end(self, checks: Checks, what: str, last: str) -> None:
         """Whether all was answered as is wanted, and the gateway ended with this line."""
         status, out, err = self.gateway.end()
         self.back_end.close()
@@ -65,14 +67,14 @@ class Asked:
         checks.true(what, is_right, (status, err, out[-60:], self.wrong[:3]))
 
 
-def seats(program, checks):
+def seats(program: str, checks: Checks) -> None:
     for receivers, flushers in ((8, 4), (8, 2), (1, 4)):
         it = Asked(program, 1, receivers, flushers)
         it.ask("report", ordered("GET /report"), lambda answer: answer.endswith(b"\r\n\r\nend\n"))
         it.end(checks, f"{receivers} receivers and {flushers} flushers", "admitted 0 acknowledged 0")
 
 
-def series(program, checks):
+def series(program: str, checks: Checks) -> None:
     """As many series and quarantined senders as there may be, over a round for each 1,000 connections."""
     it = Asked(program, 10 + 2_000 + 2 + 10, round=1_000)
     for k in range(10):
@@ -87,7 +89,7 @@ def series(program, checks):
     it.end(checks, "10,000 series, 1,000 quarantined senders, rounds", "admitted 10000 acknowledged 10000")
 
 
-def rounds(program, checks):
+def rounds(program: str, checks: Checks) -> None:
     """Ends of rounds with as many series as there may be."""
     it = Asked(program, 10 + 8, round=1)
     for k in range(10):
@@ -97,7 +99,7 @@ def rounds(program, checks):
     it.end(checks, "18 rounds with up to 10,000 series", "admitted 10000 acknowledged 0")
 
 
-def batches(program, checks):
+def batches(program: str, checks: Checks) -> None:
     """Posts of many points."""
     it = Asked(program, 4)
     it.post("1,000 points", body([("a", points(10, 1_000))]))
@@ -107,7 +109,7 @@ def batches(program, checks):
     it.end(checks, "posts of 1,000 and of 60,000 points", "admitted 121000 acknowledged 0")
 
 
-def bodies(program, checks):
+def bodies(program: str, checks: Checks) -> None:
     """As many bytes as a body may have, in writes of 64 KiB."""
     it = Asked(program, 2)
     for name in ("a", "b"):
@@ -123,7 +125,7 @@ def bodies(program, checks):
     it.end(checks, "bodies of 4,194,304 bytes", "admitted 2000 acknowledged 0")
 
 
-def flushes(program, checks):
+def flushes(program: str, checks: Checks) -> None:
     """Flushes of 1,000 series with much text: one that comes back, and is sent again."""
     it = Asked(program, 5 + 4, answers=[b"503 Service Unavailable\r\n"])
     for k in range(5):
@@ -141,7 +143,7 @@ def flushes(program, checks):
 CHECKS = {it.__name__: it for it in (seats, series, rounds, batches, bodies, flushes)}
 
 
-def main(program, names):
+def main(program: str, names: list[str]) -> int:
     checks = Checks()
     for name in names or CHECKS:
         CHECKS[name](program, checks)

@@ -21,14 +21,15 @@ import sys
 import tempfile
 import threading
 import time
+from typing import Any
 
 # Debian's package is for Debian's Python.
 if importlib.util.find_spec("grpc") is None and os.path.realpath(sys.executable) != os.path.realpath("/usr/bin/python3"):
     os.execv("/usr/bin/python3", ["/usr/bin/python3", *sys.argv])
 
-from checks import Checks
-from loopback import free_port
-from service import PROTOBUF, Service, SqliteSink, add_points, ask, in_protobuf, overlaps, wait_until
+from testing.checks import Checks
+from testing.loopback import free_port
+from testing.service import PROTOBUF, Service, SqliteSink, Value, add_points, ask, in_protobuf, overlaps, wait_until
 
 try:
     import grpc
@@ -44,30 +45,30 @@ CALLS = 300
 class Client:
     """A channel of its own, and what each call was answered: the name of its status, and its text."""
 
-    def __init__(self, port):
+    def __init__(self, port: int) -> None:
         options = [("grpc.max_send_message_length", -1), ("grpc.use_local_subchannel_pool", 1),
                    ("grpc.initial_reconnect_backoff_ms", 50), ("grpc.max_reconnect_backoff_ms", 200)]
         self.channel = grpc.insecure_channel(f"127.0.0.1:{port}", options=options)
 
-    def begin(self, body, sender="A", method=METHOD, seconds=20, packing=None):
+    def begin(self, body: bytes, sender: str = "A", method: str = METHOD, seconds: int = 20, packing: str | None = None) -> Any:
         call = self.channel.unary_unary(method, request_serializer=bytes, response_deserializer=bytes)
         return call.future(body, timeout=seconds, metadata=[("x-sender", sender)] if sender else None, compression=packing)
 
-    def call(self, body, **how):
+    def call(self, body: bytes, **how: Any) -> Any:
         return said(self.begin(body, **how))
 
-    def close(self):
+    def close(self) -> None:
         self.channel.close()
 
 
-def said(call):
+def said(call: Any) -> tuple[str, str]:
     try:
         return "OK", call.result()
     except grpc.RpcError as error:
         return error.code().name, error.details()
 
 
-def refusals(checks, client):
+def refusals(checks: Checks, client: Client) -> None:
     """What is no call of the method, or no message that is taken."""
     for what, wanted, how in (
             ("another method", "UNIMPLEMENTED", {"body": b"", "method": METHOD.replace("metrics", "trace")}),
@@ -82,11 +83,11 @@ def refusals(checks, client):
         checks.true(f"{what} is {wanted}", found[0] == wanted and found[1], found)
 
 
-def one_point(place, value=1, name="calls"):
+def one_point(place: int, value: int = 1, name: str = "calls") -> list[tuple[str, int, int, int]]:
     return [(name, place * 10 + 1, place * 10 + 11, value)]
 
 
-def as_over_http(checks, service, client):
+def as_over_http(checks: Checks, service: Service, client: Client) -> None:
     """Calls and posts of the same series: what the one took the other refuses."""
     first = in_protobuf(one_point(0, 5))
     checks.same("a call is taken", ("OK", b""), client.call(first))
@@ -101,7 +102,7 @@ def as_over_http(checks, service, client):
     found = client.call(in_protobuf(one_point(2)), sender="B")
     checks.true("another's series is refused", found[0] == "INVALID_ARGUMENT" and "other writer" in found[1], found)
 
-    def is_told():
+    def is_told() -> bool:
         with open(service.log, encoding="utf-8", errors="replace") as file:
             return "posts of B are refused, since the series is A's" in file.read()
     checks.true("the log names both senders", wait_until(is_told, 10), service.last_lines())
@@ -110,7 +111,7 @@ def as_over_http(checks, service, client):
     service.order("/lift/A")
 
 
-def broken_off(checks, service, client, grpc_port):
+def broken_off(checks: Checks, service: Service, client: Client, grpc_port: int) -> None:
     """Calls that end before they are answered: each is repeated until it is."""
     bodies = {sender: in_protobuf(one_point(2, 1, name)) for sender, name in
               (("A", "calls"), ("C", "cancelled"), ("D", "gone"))}
@@ -138,11 +139,12 @@ def broken_off(checks, service, client, grpc_port):
     checks.same("what is no HTTP/2 ends its connection alone", "OK", client.call(in_protobuf(one_point(3)))[0])
 
 
-def over_kills(checks, service, client):
+def over_kills(checks: Checks, service: Service, client: Client) -> None:
     """Calls one after another, each until it is answered, while the service is killed."""
-    answers, has_retry_info = {}, []
+    answers: dict[str, int] = {}
+    has_retry_info: list[bool] = []
 
-    def go_on():
+    def go_on() -> None:
         for place in range(10, 10 + CALLS):
             for attempt in range(10_000):
                 call = client.begin(in_protobuf(one_point(place, 1, "killed")), sender="K", seconds=3)
@@ -172,7 +174,7 @@ def over_kills(checks, service, client):
     print(f"note: {answers}, {len(has_retry_info)} with RetryInfo", flush=True)
 
 
-def timed(service, client, count=200):
+def timed(service: Service, client: Client, count: int = 200) -> None:
     """A note of how long a call takes beside a post over HTTP, one after another. It is no check."""
     import http.client
     bodies = [[in_protobuf(one_point(place, 1, name)) for place in range(count)] for name in ("timed.grpc", "timed.http")]
@@ -189,7 +191,7 @@ def timed(service, client, count=200):
     print(f"note: {1000 * by_grpc / count:.2f} ms a call, {1000 * by_http / count:.2f} ms a post, of Python's clients", flush=True)
 
 
-def given_up_at_the_end(checks, service, port):
+def given_up_at_the_end(checks: Checks, service: Service, port: int) -> None:
     """A deadline that has passed when SIGTERM comes, and a service that finds both when it goes on: what a last flush has of
     the call is in the journal too, so the next run knows the repeat."""
     client, body = Client(port), in_protobuf(one_point(0, 3, "last"))
@@ -208,10 +210,11 @@ def given_up_at_the_end(checks, service, port):
     client.close()
 
 
-def in_the_sink(checks, service, sink):
+def in_the_sink(checks: Checks, service: Service, sink: SqliteSink) -> None:
     service.order("/flush")
     checks.true("all is delivered", wait_until(service.is_drained), service.last_lines())
-    points, found = sink.points(), {}
+    points = sink.points()
+    found: dict[str, Value] = {}
     add_points(found, points)
     checks.same("no spans overlap", [], overlaps(points))
     # 5 and 7, the late one, the one after the junk.
@@ -219,7 +222,7 @@ def in_the_sink(checks, service, sink):
                 {name: total for name, total in found.items() if not name.startswith("timed")})
 
 
-def run(checks, totxegun, folder):
+def run(checks: Checks, totxegun: str, folder: str) -> None:
     sink, port = SqliteSink(f"{folder}/sink.db"), free_port()
     service = Service(totxegun, f"{folder}/data", sink.address, "--listen-grpc", f"127.0.0.1:{port}")
     try:
@@ -242,7 +245,7 @@ def run(checks, totxegun, folder):
         service.kill()
 
 
-def main(totxegun):
+def main(totxegun: str) -> int:
     checks = Checks()
     if checks.has("calls of gRPC", *(() if grpc else ("python3-grpcio",))):
         with tempfile.TemporaryDirectory(prefix="grpc-") as folder:

@@ -27,17 +27,19 @@ import sys
 import tempfile
 import threading
 import time
+from collections.abc import Sequence
+from typing import Any
 
-from checks import Checks
-from loopback import free_port
-from service import JSON, PROTOBUF, Service, ask, field, fixed, varint, wait_until
+from testing.checks import Checks
+from testing.loopback import free_port
+from testing.service import JSON, PROTOBUF, Answer, Service, ask, field, fixed, varint, wait_until
 
 DELTA, CUMULATIVE = 1, 2
 BOUNDS = [0.005, 0.25, 5]
 POSTS = 60
 
 
-def nearest(value, factor):
+def nearest(value: float, factor: int) -> int:
     """A number in the finer unit: of two that are as near the even one."""
     exact = decimal.Decimal(repr(value)) * factor
     return int(exact.to_integral_value(rounding=decimal.ROUND_HALF_EVEN))
@@ -47,23 +49,27 @@ def nearest(value, factor):
 # Requests: metrics are (name, unit, kind, [value ..]), of a histogram's point (buckets, sum)
 
 
-def json_point(kind, value, start):
+# Name, unit, kind, and the values of the points.
+Metric = tuple[str, str, str, Sequence[Any]]
+
+
+def json_point(kind: str, value: Any, start: int) -> dict[str, Any]:
     point = {"startTimeUnixNano": str(start), "timeUnixNano": str(start + 10)}
     if kind == "histogram":
         return point | {"count": str(sum(value[0])), "sum": value[1], "bucketCounts": value[0], "explicitBounds": BOUNDS}
     return point | ({"asInt": str(value)} if isinstance(value, int) else {"asDouble": value})
 
 
-def in_json(metrics, start):
+def in_json(metrics: Sequence[Metric], start: int) -> dict[str, Any]:
     made = []
     for name, unit, kind, values in metrics:
-        data = {"dataPoints": [json_point(kind, value, start) for value in values]}
+        data: dict[str, Any] = {"dataPoints": [json_point(kind, value, start) for value in values]}
         data |= {} if kind == "gauge" else {"aggregationTemporality": DELTA}
         made.append({"name": name, "unit": unit, "description": "of a test", kind: data})
     return {"resourceMetrics": [{"schemaUrl": "u", "scopeMetrics": [{"scope": {"name": "s"}, "metrics": made}]}]}
 
 
-def binary_point(kind, value, start):
+def binary_point(kind: str, value: Any, start: int) -> bytes:
     point = fixed(2, "<Q", start) + fixed(3, "<Q", start + 10)
     if kind == "histogram":
         point += fixed(4, "<Q", sum(value[0])) + fixed(5, "<d", value[1])
@@ -71,7 +77,7 @@ def binary_point(kind, value, start):
     return point + (fixed(6, "<q", value) if isinstance(value, int) else fixed(4, "<d", value))
 
 
-def in_protobuf(metrics, start):
+def in_protobuf(metrics: Sequence[Metric], start: int) -> bytes:
     made = b""
     for name, unit, kind, values in metrics:
         data = b"".join(field(1, binary_point(kind, value, start)) for value in values)
@@ -84,10 +90,10 @@ def in_protobuf(metrics, start):
 class Posts:
     """Posts in both encodings in turn, later and later."""
 
-    def __init__(self, service, sender="A"):
+    def __init__(self, service: Service, sender: str = "A") -> None:
         self.service, self.sender, self.start = service, sender, 1000
 
-    def post(self, metrics, encoding=None):
+    def post(self, metrics: Sequence[Metric], encoding: str | None = None) -> tuple[int | None, int, str]:
         """The status, how many points are rejected, and why."""
         self.start += 10
         encoding = encoding or (JSON if self.start // 10 % 2 else PROTOBUF)
@@ -100,22 +106,22 @@ class Posts:
         return status, int(said.get("rejectedDataPoints", 0)), said.get("errorMessage", "")
 
 
-def totals(path):
+def totals(path: str) -> dict[str, dict[str, int]]:
     """What a sink has, by name: the units, and the total."""
     with contextlib.closing(sqlite3.connect(f"file:{path}?mode=ro", uri=True)) as database:
         rows = database.execute("select name, unit, total from totals").fetchall()
-    found = {}
+    found: dict[str, dict[str, int]] = {}
     for name, unit, total in rows:
         found.setdefault(name, {})[unit] = found.get(name, {}).get(unit, 0) + int(total)
     return found
 
 
-def flushed(checks, service, what):
+def flushed(checks: Checks, service: Service, what: str) -> None:
     service.order("/flush")
     checks.true(f"{what}: all is delivered", wait_until(service.is_drained), service.last_lines())
 
 
-def again(checks, service, options=()):
+def again(checks: Checks, service: Service, options: Sequence[str] = ()) -> None:
     service.kill()
     service.words = [*service.words[:-2], *options] if options else service.words
     service.start()
@@ -126,7 +132,7 @@ def again(checks, service, options=()):
 # The parts
 
 
-def units(checks, totxegun, chance, folder):
+def units(checks: Checks, totxegun: str, chance: random.Random, folder: str) -> None:
     sink = f"{folder}/units.db"
     service = Service(totxegun, f"{folder}/units", f"sqlite:{sink}", "--flush-every", "1h", "--whole", "auto")
     try:
@@ -138,7 +144,7 @@ def units(checks, totxegun, chance, folder):
             sums = [0, chance.expovariate(3)] if number else [3.0]  # whole by chance
             size, share = chance.expovariate(0.001), chance.choice([0.5, 1.0, 0.123456])
             buckets = [chance.randrange(5) for _ in range(4)]
-            metrics = [("busy", "s", "sum", [busy]), ("latency", "s", "histogram", [(buckets, chance.choice(sums))]),
+            metrics: list[Metric] = [("busy", "s", "sum", [busy]), ("latency", "s", "histogram", [(buckets, chance.choice(sums))]),
                        ("ticks", "s", "sum", [number]), ("size", "By", "sum", [size]), ("share", "1", "sum", [share])]
             answer = posts.post(metrics)
             wrong += [answer] if answer[:2] != (200, 0) else []
@@ -160,8 +166,8 @@ def units(checks, totxegun, chance, folder):
         found, kind = totals(sink), {"busy": "us", "latency": "us", "ticks": "s", "size": "By", "share": "[ppm]"}
         checks.same("each metric is in one unit", {name: [unit] for name, unit in kind.items()},
                     {name: list(units) for name, units in found.items()})
-        sums = {name: found[name][kind[name]] for name in wanted if name in found and name != "latency"}
-        checks.same("its totals are what was added up here", {name: wanted[name] for name in sums}, sums)
+        added = {name: found[name][kind[name]] for name in wanted if name in found and name != "latency"}
+        checks.same("its totals are what was added up here", {name: wanted[name] for name in added}, added)
         with contextlib.closing(sqlite3.connect(sink)) as database:
             count = database.execute("select count from totals where name = 'latency'").fetchone()[0]
         checks.same("the histogram has all values", wanted["latency"], int(count))
@@ -170,7 +176,7 @@ def units(checks, totxegun, chance, folder):
         service.kill()
 
 
-def kept_units(checks, totxegun, folder):
+def kept_units(checks: Checks, totxegun: str, folder: str) -> None:
     """A folder of an earlier version, and other options."""
     sink = f"{folder}/kept.db"
     service = Service(totxegun, f"{folder}/kept", f"sqlite:{sink}", "--flush-every", "1h", "--whole", "off")
@@ -200,25 +206,27 @@ EXPONENTIAL = [0.25, 1, 4, 16, 1024]
 COARSEST = -1
 
 
-def index_of(value, scale):
+def index_of(value: int, scale: int) -> int:
     """The bucket of a value over zero: over base^index, up to base^(index + 1). Both sides are raised, so that all is whole."""
     if scale < 0:
         return index_of(value, 0) >> -scale
-    value, unit = value ** 2**scale, (10**6) ** 2**scale
+    value, unit = int(value ** 2**scale), int((10**6) ** 2**scale)
     index = value.bit_length() - unit.bit_length() - 2
     while value * 2 ** max(0, -index - 1) > unit * 2 ** max(0, index + 1):
         index += 1
     return index
 
 
-def buckets_of(values, scale):
+def buckets_of(values: list[int], scale: int) -> tuple[int, list[int]]:
     """Where the buckets begin, and their counts."""
     counts = collections.Counter(index_of(value, scale) for value in values if value)
     first = min(counts, default=0)
     return first, [counts[index] for index in range(first, max(counts, default=first - 1) + 1)]
 
 
-def exponential_in_json(name, values, scale, start, end, temporality):
+def exponential_in_json(name: str, values: list[int], scale: int,
+                        start: int, end: int,
+                        temporality: int) -> dict[str, Any]:
     first, counts = buckets_of(values, scale)
     point = {"startTimeUnixNano": str(start), "timeUnixNano": str(end), "count": str(len(values)), "sum": sum(values) / 1e6,
              "scale": scale, "zeroCount": str(values.count(0)), "positive": {"offset": first, "bucketCounts": list(map(str, counts))}}
@@ -226,11 +234,12 @@ def exponential_in_json(name, values, scale, start, end, temporality):
     return {"name": name, "unit": "s", "exponentialHistogram": data}
 
 
-def signed(number):
+def signed(number: int) -> int:
     return number * 2 if number >= 0 else -number * 2 - 1
 
 
-def exponential_in_protobuf(name, values, scale, start, end, temporality):
+def exponential_in_protobuf(name: str, values: list[int], scale: int,
+                            start: int, end: int, temporality: int) -> bytes:
     first, counts = buckets_of(values, scale)
     point = fixed(2, "<Q", start) + fixed(3, "<Q", end) + fixed(4, "<Q", len(values)) + fixed(5, "<d", sum(values) / 1e6)
     point += field(6, signed(scale)) + fixed(7, "<Q", values.count(0))
@@ -238,29 +247,31 @@ def exponential_in_protobuf(name, values, scale, start, end, temporality):
     return field(1, name.encode()) + field(3, b"s") + field(10, field(1, point) + field(2, temporality))
 
 
-def post_exponential(service, encoding, *points):
+def post_exponential(service: Service, encoding: str, *points: tuple[str, list[int], int, int, int, int]) -> Answer:
     if encoding == JSON:
-        body = {"resourceMetrics": [{"scopeMetrics": [{"metrics": [exponential_in_json(*one) for one in points]}]}]}
-        body = json.dumps(body).encode()
+        metrics = [exponential_in_json(*one) for one in points]
+        body = json.dumps({"resourceMetrics": [{"scopeMetrics": [{"metrics": metrics}]}]}).encode()
     else:
         body = field(1, field(2, b"".join(field(2, exponential_in_protobuf(*one)) for one in points)))
     return ask(service.listen, "POST", "/v1/metrics", body, {"Content-Type": encoding})
 
 
-def drawn_values(chance):
+def drawn_values(chance: random.Random) -> list[int]:
     """Some of them are on bounds, or beside."""
     drawn = [int(chance.lognormvariate(0, 3) * 1e6) for _ in range(chance.randrange(9))]
     return [*drawn, chance.choice([0, 10**6 // 4, 10**6, 10**6 + 1, 4 * 10**6, 4 * 10**6 - 1])]
 
 
-def exponential(checks, totxegun, chance, folder):
+def exponential(checks: Checks, totxegun: str, chance: random.Random, folder: str) -> None:
     sink, begin = f"{folder}/exponential.db", 1000
     service = Service(totxegun, f"{folder}/exponential", f"sqlite:{sink}", "--flush-every", "1h", "--first", "count",
                       "--exponential", ",".join(map(str, EXPONENTIAL)))
     try:
         service.start()
         checks.true("the service is ready", service.wait_ready(), service.last_lines())
-        all_, wrong, last = [], [], begin
+        all_: list[int] = []
+        wrong: list[Answer] = []
+        last = begin
         for number in range(POSTS):
             drawn, now = drawn_values(chance), last + 10
             all_ += drawn
@@ -275,9 +286,9 @@ def exponential(checks, totxegun, chance, folder):
                 service.order("/flush")
         checks.same("exponential histograms are taken", [], wrong[:2])
         for encoding in (JSON, PROTOBUF):
-            status, answer = post_exponential(service, encoding, ("delta", [2 * 10**6], COARSEST - 1, last, last + 10, DELTA))
-            named = b"of the exponential histogram `delta` the bucket 0 of scale -2 has the bound 4 within" in answer
-            checks.true("one that has a bound within is foreign by name", status == 200 and named, answer)
+            status, text = post_exponential(service, encoding, ("delta", [2 * 10**6], COARSEST - 1, last, last + 10, DELTA))
+            named = b"of the exponential histogram `delta` the bucket 0 of scale -2 has the bound 4 within" in text
+            checks.true("one that has a bound within is foreign by name", status == 200 and named, text)
         flushed(checks, service, "exponential histograms")
         counts = [0] * (len(EXPONENTIAL) + 1)
         for value in all_:
@@ -294,14 +305,15 @@ def exponential(checks, totxegun, chance, folder):
 class Receiver:
     """Takes what comes, or stalls."""
 
-    def __init__(self):
-        self.bodies, self.stalls, self.port = [], threading.Event(), free_port()
+    def __init__(self) -> None:
+        self.bodies: list[tuple[str, bytes]] = []
+        self.stalls, self.port = threading.Event(), free_port()
         receiver = self
 
         class Handler(http.server.BaseHTTPRequestHandler):
             protocol_version = "HTTP/1.1"
 
-            def do_POST(self):
+            def do_POST(self) -> None:
                 body = self.rfile.read(int(self.headers["Content-Length"]))
                 while receiver.stalls.is_set():
                     time.sleep(0.05)
@@ -311,30 +323,30 @@ class Receiver:
                     self.send_header("Content-Length", "0")
                     self.end_headers()
 
-            def log_message(self, *_):
+            def log_message(self, *_: Any) -> None:
                 pass
 
         self.server = http.server.ThreadingHTTPServer(("127.0.0.1", self.port), Handler)
         threading.Thread(target=self.server.serve_forever, daemon=True).start()
 
-    def got(self):
+    def got(self) -> tuple[bytes, list[Any]]:
         """All that came in protobuf, and each in JSON."""
         binary = b"".join(body for kind, body in self.bodies if kind == PROTOBUF)
         return binary, [json.loads(body) for kind, body in self.bodies if kind == JSON]
 
-    def close(self):
+    def close(self) -> None:
         self.stalls.clear()
         self.server.shutdown()
         self.server.server_close()
 
 
-def count_of(service, name):
+def count_of(service: Service, name: str) -> float:
     """The sum of a metric's values, and whether it is there."""
     page = service.asked("GET", "/metrics")[1].decode()
     return sum(float(line.rpartition(" ")[2]) for line in page.splitlines() if line.startswith(name))
 
 
-def hands_on(checks, totxegun, chance, folder):
+def hands_on(checks: Checks, totxegun: str, chance: random.Random, folder: str) -> None:
     receiver = Receiver()
     second = Service(totxegun, f"{folder}/second", f"sqlite:{folder}/second.db", "--pass", f"http://127.0.0.1:{receiver.port}")
     service = Service(totxegun, f"{folder}/first", f"sqlite:{folder}/first.db", "--flush-every", "1h",
@@ -347,7 +359,7 @@ def hands_on(checks, totxegun, chance, folder):
         for number in range(POSTS):
             gauges = [("load", "1", "gauge", [chance.random(), 5][:chance.randrange(1, 3)]), ("heat", "Cel", "gauge", [chance.random()])]
             euros = ("money", "EUR", "sum", [1.25])
-            metrics = [gauges[0], ("sold", "{item}", "sum", [number]), gauges[1], ("busy", "s", "sum", [0.25])]
+            metrics: list[Metric] = [gauges[0], ("sold", "{item}", "sum", [number]), gauges[1], ("busy", "s", "sum", [0.25])]
             metrics += [euros] if number % 3 == 0 else []
             left = [*gauges, *([euros] if number % 3 == 0 else [])]
             answers.append(posts.post(metrics))
@@ -379,19 +391,19 @@ def hands_on(checks, totxegun, chance, folder):
         receiver.close()
 
 
-def away(checks, service, second, receiver, posts):
+def away(checks: Checks, service: Service, second: Service, receiver: Receiver, posts: Posts) -> None:
     """The receiver stalls, and then is gone."""
     receiver.stalls.set()
     second.signal(19)  # it stops
     gauges = [("load", "1", "gauge", [0.5] * 2000)]
-    begun, slowest, statuses = time.monotonic(), 0, set()
-    lost = lambda: sum(count_of(service, f'totxegun_passed_points_total{{outcome="{outcome}"}}') for outcome in ("lost", "dropped"))
+    begun, slowest, statuses = time.monotonic(), 0.0, set()
     while time.monotonic() - begun < 60 and not count_of(service, 'totxegun_passed_points_total{outcome="dropped"}'):
         for _ in range(20):
             before = time.monotonic()
             statuses.add(posts.post(gauges, PROTOBUF)[0])
             slowest = max(slowest, time.monotonic() - before)
-    checks.true("what finds no room is dropped, with a count", lost() > 0, service.last_lines())
+    lost = sum(count_of(service, f'totxegun_passed_points_total{{outcome="{outcome}"}}') for outcome in ("lost", "dropped"))
+    checks.true("what finds no room is dropped, with a count", lost > 0, service.last_lines())
     checks.same("posts are taken meanwhile", {200}, statuses)
     checks.true("and none is held up", slowest < 3, slowest)
     second.kill()
@@ -403,7 +415,7 @@ def away(checks, service, second, receiver, posts):
     checks.same("it ends when it is told to", 0, service.end()[0])
 
 
-def main(totxegun, seed="1"):
+def main(totxegun: str, seed: str = "1") -> int:
     checks, chance = Checks(), random.Random(seed)
     with tempfile.TemporaryDirectory(prefix="handed-on-") as folder:
         units(checks, totxegun, chance, folder)

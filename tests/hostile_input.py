@@ -18,8 +18,8 @@ import struct
 import sys
 import threading
 
-from checks import Checks
-from loopback import SECONDS, BackEnd, Gateway, is_whole, ordered, point, posted, response, sent_points
+from testing.checks import Checks
+from testing.loopback import SECONDS, BackEnd, Gateway, is_whole, ordered, point, posted, response, sent_points
 
 JSON = b"application/json"
 MALFORMED = response(b"400 Bad Request", JSON, b'{"message":"malformed request"}')
@@ -55,7 +55,7 @@ INPUTS = [
 ]
 
 
-def break_off(gateway, part):
+def break_off(gateway: Gateway, part: bytes) -> None:
     """Sends a part of a message and resets the connection."""
     connection = gateway.connect()
     connection.sendall(part)
@@ -63,7 +63,7 @@ def break_off(gateway, part):
     connection.close()
 
 
-def bad_inputs(program, checks):
+def bad_inputs(program: str, checks: Checks) -> None:
     """The inputs, and messages that break off, at one gateway."""
     message = posted(point(10, 20, 5))
     cuts = [1, 30, len(message) - 100, len(message) - 1]
@@ -79,12 +79,12 @@ def bad_inputs(program, checks):
 class HalfBackEnd(BackEnd):
     """A back end that holds the first request in its middle, and then closes."""
 
-    def __init__(self):
+    def __init__(self) -> None:
         self.reached = threading.Event()
         self.released = threading.Event()
         super().__init__()
 
-    def answer(self, connection):
+    def answer(self, connection: socket.socket) -> None:
         if self.reached.is_set():
             return super().answer(connection)
         part = connection.recv(100)
@@ -94,25 +94,26 @@ class HalfBackEnd(BackEnd):
         return None
 
 
-def later(gateway, request, answers):
+def later(gateway: Gateway, request: bytes, answers: list[bytes | str]) -> threading.Thread:
     """Asks in a thread of its own."""
-    def ask():
+    def ask() -> None:
         answers.append(gateway.ask(request))
     thread = threading.Thread(target=ask)
     thread.start()
     return thread
 
 
-def turn(act, flush):
+def turn(act: str, flush: int) -> bytes:
     text = f'{{"act":"{act}","flush":"{flush}","points":"1"}}'
     return response(b"200 OK", JSON, text.encode())
 
 
-def broken_flush(program, checks):
+def broken_flush(program: str, checks: Checks) -> None:
     back_end = HalfBackEnd()
     gateway = Gateway(program, back_end.port, 4)
     checks.same("a point", DONE, gateway.ask(posted(point(10, 20, 5))))
-    first, second = [], []
+    first: list[bytes | str] = []
+    second: list[bytes | str] = []
     order = later(gateway, ordered("POST /flush"), first)
     checks.same("the back end gets flush 1", True, back_end.reached.wait(SECONDS))
     post = later(gateway, posted(point(20, 30, 5)), second)
@@ -130,17 +131,17 @@ def broken_flush(program, checks):
     back_end.close()
 
 
-def series(name, acknowledged, in_flight, stored):
+def series(name: str, acknowledged: str, in_flight: str, stored: str) -> bytes:
     """A line of the report: a sum with one point of 5."""
     return (f"series {name} monotonic owner A frontier 20 accepted 1,5,0 acknowledged {acknowledged} dropped "
             f"0,0,0 in-flight {in_flight} stored {stored} quarantined 0,0,0\n").encode()
 
 
-def held_flusher(program, checks):
+def held_flusher(program: str, checks: Checks) -> None:
     back_end = HalfBackEnd()
     gateway = Gateway(program, back_end.port, 5, options=["--flushers", "2"])
     checks.same("a point of a", DONE, gateway.ask(posted(point(10, 20, 5))))
-    first = []
+    first: list[bytes | str] = []
     order = later(gateway, ordered("POST /flush"), first)
     checks.same("the back end holds flush 1", True, back_end.reached.wait(SECONDS))
     checks.same("a point of b", DONE, gateway.ask(posted(point(10, 20, 5, "b"))))
@@ -157,7 +158,7 @@ def held_flusher(program, checks):
     back_end.close()
 
 
-def main(program):
+def main(program: str) -> int:
     checks = Checks()
     bad_inputs(program, checks)
     broken_flush(program, checks)

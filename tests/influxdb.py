@@ -20,12 +20,15 @@ import tempfile
 import threading
 import time
 import urllib.parse
+from types import ModuleType
+from typing import Any
 
-from checks import Checks
-from loopback import free_port
-from service import Sender, Service, ask, differences, told_to_all, wait_until
+from testing import ROOT
+from testing.checks import Checks
+from testing.loopback import free_port
+from testing.service import Sender, Service, ask, differences, told_to_all, wait_until
 
-BRIDGE = os.path.join(os.path.dirname(os.path.dirname(os.path.abspath(__file__))), "operate", "influxdb.py")
+BRIDGE = os.path.join(ROOT, "operate", "influxdb.py")
 SECONDS = 20
 SENDERS = 3
 DATABASE = "totals"
@@ -50,33 +53,33 @@ bind-address = "127.0.0.1:{more}"
 class Program:
     """A program that is killed and started again."""
 
-    def __init__(self, words, log):
+    def __init__(self, words: list[str], log: str) -> None:
         self.words, self.log = words, log
-        self.process = None
+        self.process: subprocess.Popen[bytes] = None
 
-    def start(self):
+    def start(self) -> None:
         with open(self.log, "ab") as log:
             self.process = subprocess.Popen(self.words, stdin=subprocess.DEVNULL, stdout=log, stderr=log)
 
-    def kill(self):
+    def kill(self) -> None:
         self.process.kill()
         self.process.wait()
 
 
 class InfluxDb(Program):
-    def __init__(self, folder):
+    def __init__(self, folder: str) -> None:
         self.port = free_port()
         os.makedirs(folder)
         with open(f"{folder}/influxdb.conf", "w", encoding="utf-8") as file:
             file.write(SETTINGS.format(folder=folder, port=self.port, more=free_port()))
         super().__init__(["influxd", "-config", f"{folder}/influxdb.conf"], f"{folder}/log")
 
-    def ask(self, query, database=DATABASE):
+    def ask(self, query: str, database: str = DATABASE) -> Any:
         path = urllib.parse.urlencode({"db": database, "q": query, "epoch": "ns"})
         status, body = ask(self.port, "POST", f"/query?{path}")
         return json.loads(body)["results"][0].get("series", []) if status == 200 else None
 
-    def totals(self):
+    def totals(self) -> Any:
         """What it has of each metric: a number, or (buckets, sum) of a histogram."""
         found = {}
         for one in self.ask("select sum(*) from /.*/"):
@@ -89,14 +92,14 @@ class InfluxDb(Program):
         return found
 
 
-def bridge_module():
+def bridge_module() -> ModuleType:
     spec = importlib.util.spec_from_file_location("bridge", BRIDGE)
     bridge = importlib.util.module_from_spec(spec)
     spec.loader.exec_module(bridge)
     return bridge
 
 
-def request(names, key, value):
+def request(names: list[str], key: str, value: str) -> dict[str, Any]:
     """A point of each name, with one attribute."""
     attributes = [{"key": key, "value": {"stringValue": value}}]
     point = {"asInt": "5", "startTimeUnixNano": "1", "timeUnixNano": "2", "attributes": attributes}
@@ -106,7 +109,7 @@ def request(names, key, value):
     return {"resourceMetrics": [{"resource": {"attributes": []}, "scopeMetrics": [scope]}]}
 
 
-def odd_names(checks, influxdb):
+def odd_names(checks: Checks, influxdb: InfluxDb) -> None:
     """Each point is there, also where InfluxDB can't have its names as they are."""
     bridge = bridge_module()
     influxdb.ask(f"create database {ODD}")
@@ -119,7 +122,7 @@ def odd_names(checks, influxdb):
     checks.same("all of them are there", len(names), sum(len(one["values"]) for one in found))
 
 
-def long_request(checks, influxdb):
+def long_request(checks: Checks, influxdb: InfluxDb) -> None:
     """36 MB as lines: InfluxDB takes 25 at a time."""
     bridge = bridge_module()
     influxdb.ask(f"create database {LONG}")
@@ -130,7 +133,7 @@ def long_request(checks, influxdb):
     checks.same("all of it is there", len(names), sum(len(one["values"]) for one in found))
 
 
-def other_forms(checks, port):
+def other_forms(checks: Checks, port: int) -> None:
     """They wait until the service is started as the bridge wants it."""
     for headers in ({"Content-Type": "application/x-protobuf"}, {"Content-Type": "application/json", "Content-Encoding": "gzip"}):
         wait_until(lambda: ask(port, "POST", "/v1/metrics", b"\n\0", headers)[0] is not None)
@@ -138,7 +141,7 @@ def other_forms(checks, port):
         checks.true(f"{headers} waits, and is told why", status == 503 and b"--sink-protobuf" in body, (status, body))
 
 
-def trouble(service, bridge, influxdb, until, chance):
+def trouble(service: Service, bridge: Program, influxdb: InfluxDb, until: float, chance: random.Random) -> None:
     while time.monotonic() < until:
         time.sleep(chance.uniform(0.5, 2))
         victim = chance.choice(["service", "bridge", "influxdb"])
@@ -152,7 +155,7 @@ def trouble(service, bridge, influxdb, until, chance):
             program.start()
 
 
-def run(checks, program, folder, seconds, seed):
+def run(checks: Checks, program: str, folder: str, seconds: float, seed: int) -> None:
     influxdb = InfluxDb(f"{folder}/influxdb")
     port = free_port()
     bridge = Program([sys.executable, BRIDGE, str(port), f"127.0.0.1:{influxdb.port}", DATABASE], f"{folder}/bridge.log")
@@ -170,7 +173,7 @@ def run(checks, program, folder, seconds, seed):
         until = time.monotonic() + seconds
         senders = [Sender(service, number, seed) for number in range(SENDERS)]
 
-        def go_on(sender):
+        def go_on(sender: Sender) -> None:
             while time.monotonic() < until:
                 sender.post(sender.next_points())
                 time.sleep(0.02)
@@ -196,7 +199,7 @@ def run(checks, program, folder, seconds, seed):
                 one.kill()
 
 
-def main(program, seconds=SECONDS, seed=1):
+def main(program: str, seconds: int | str = SECONDS, seed: int | str = 1) -> int:
     checks = Checks()
     if checks.has("InfluxDB", *[name for name in ("influxd",) if not shutil.which(name)]):
         print(f"note: seed {seed}", flush=True)

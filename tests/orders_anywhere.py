@@ -21,11 +21,12 @@ import time
 ROOT = os.path.dirname(os.path.dirname(os.path.abspath(__file__)))
 sys.path.insert(1, f"{ROOT}/demo")
 
-from checks import Checks  # noqa: E402
-from loopback import free_port  # noqa: E402
-from parts import initdb  # noqa: E402
-from servers import Server  # noqa: E402
-from service import DELTA, JSON, Service, ask, wait_until  # noqa: E402
+from testing.checks import Checks  # noqa: E402
+from testing.loopback import free_port  # noqa: E402
+from testing.database import initdb  # noqa: E402
+from testing.servers import Server  # noqa: E402
+from testing.service import DELTA, JSON, Service, ask, wait_until  # noqa: E402
+from testing.slots import IN_THE_END, come_to_rest, owners  # noqa: E402
 
 SLOTS, PROCESSES = 8, 24
 METRICS = ("slots_owned", "slot_term", "slots_without_owner", "longest_without_owner_seconds", "instances", "beat_age_seconds",
@@ -62,24 +63,34 @@ class Both:
         code, text = self.run("status", "--json", at=at)
         return json.loads(text) if code == 0 else {"slots": [], "cluster": {"instances": []}}
 
-    def have_slots(self):
-        """Whether each instance has some, and nobody has none."""
-        status = self.status(self.all[0])
-        owners = [slot.get("owner") for slot in status["slots"] if "unknown" not in slot]
-        return len(owners) == SLOTS and set(owners) == {"a", "b"}
+    def at_rest(self):
+        """Whether each slot has come to its place."""
+        return come_to_rest([self.server], SLOTS, "ab")
+
+    def in_the_end(self, *words, at, is_said=lambda code, text: code == 0):
+        """The same of a command that is given again until it says so: a slot may be on its way to another."""
+        said = []
+        wait_until(lambda: said.append(self.run(*words, at=at)) or is_said(*said[-1]), IN_THE_END)
+        return said[-1]
 
     def post(self, at, second, sender="A"):
-        """A point of each process to one instance: the statuses."""
-        return [self.post_one(at, second, sender, number) for number in range(PROCESSES)]
+        """A point of each process to one instance: the statuses. Where nobody has its slot it is posted again."""
+        return [self.post_one(at, self.body(second, number), sender) for number in range(PROCESSES)]
 
     @staticmethod
-    def post_one(at, second, sender, number):
+    def body(second, number):
         end = (int(time.time()) - 40 * 86_400 + second) * 10**9
         point = {"startTimeUnixNano": str(end - 10**9), "timeUnixNano": str(end), "asInt": "1"}
         metric = {"name": "m", "sum": {"aggregationTemporality": DELTA, "isMonotonic": True, "dataPoints": [point]}}
         resource = {"attributes": [{"key": "service.instance.id", "value": {"stringValue": f"p{number}"}}]}
-        body = json.dumps({"resourceMetrics": [{"resource": resource, "scopeMetrics": [{"metrics": [metric]}]}]}).encode()
-        return ask(at.listen, "POST", "/v1/metrics", body, {"Content-Type": JSON, "x-sender": sender})[0]
+        return json.dumps({"resourceMetrics": [{"resource": resource, "scopeMetrics": [{"metrics": [metric]}]}]}).encode()
+
+    @staticmethod
+    def post_one(at, body, sender):
+        said = [503]
+        wait_until(lambda: said.append(ask(at.listen, "POST", "/v1/metrics", body, {"Content-Type": JSON, "x-sender": sender})[0])
+                   or said[-1] != 503, IN_THE_END)
+        return said[-1]
 
     def total(self):
         """What the sink has."""
@@ -94,38 +105,45 @@ class Both:
 
 def flushes(checks, both, first, second):
     checks.same("posts to one are taken, wherever their slots are", [200] * PROCESSES, both.post(first, 0))
-    code, text = both.run("flush", at=second)
+    code, text = both.in_the_end("flush", at=second)
     checks.true("a flush at the other is of all slots", code == 0 and "requests went into the outbox" in text, text)
     checks.true("the sink has all", wait_until(lambda: both.total() == str(PROCESSES)), both.total())
 
 
 def quarantines(checks, both, first, second):
-    checks.same("a sender is quarantined at one", 0, both.run("quarantine", "A", at=first)[0])
+    def named():
+        return [slot.get("quarantined") for slot in both.status(second)["slots"]]
+
+    checks.same("a sender is quarantined at one", 0, both.in_the_end("quarantine", "A", at=first)[0])
     checks.same("and refused in all slots", [403] * PROCESSES, both.post(second, 10))
-    named = [slot["quarantined"] for slot in both.status(second)["slots"]]
-    checks.same("the status of the other has it in each", [["A"]] * SLOTS, named)
-    checks.same("it is lifted at the other", 0, both.run("lift", "A", at=second)[0])
+    checks.true("the status of the other has it in each", wait_until(lambda: named() == [["A"]] * SLOTS), named())
+    checks.same("it is lifted at the other", 0, both.in_the_end("lift", "A", at=second)[0])
     checks.same("and taken in all", [200] * PROCESSES, both.post(first, 10))
     for one, who in ((first, "(at "), (second, "(at ")):
         with open(f"{one.data}/acts.jsonl", encoding="utf-8") as file:
             acts = [json.loads(line) for line in file]
         there = [act for act in acts if who in act["who"] and "outcome" in act]
-        checks.true(f"{one.data[-1]} has written down what the other was asked", len(there) == 1, acts)
+        checks.true(f"{one.data[-1]} has written down what the other was asked", there, acts)
 
 
 def shows(checks, both, first, second):
-    status = both.status(second)
-    instances = status["cluster"]["instances"]
-    checks.same("the status has both instances", {"a", "b"}, {one["name"] for one in instances})
-    checks.same("whose slots are all", SLOTS, sum(one["slots"] for one in instances))
-    checks.same("and the database", [1], [one["copies"] for one in status["cluster"]["databases"]])
+    def seen():
+        cluster = both.status(second)["cluster"]
+        instances = cluster["instances"]
+        return ({one["name"] for one in instances}, sum(one["slots"] for one in instances),
+                [one["copies"] for one in cluster.get("databases", ())])
+
+    checks.true("the status has both instances, whose slots are all, and the database",
+                wait_until(lambda: seen() == ({"a", "b"}, SLOTS, [1])), seen())
     code, text = both.run("status", at=first)
     checks.true("it is printed", code == 0 and "last beat" in text and "database of the store" in text, text)
     _, page = ask(first.operate, "GET", "/")
     checks.true("the page has it", b"<h2>Instances</h2>" in page and b"<h2>Slots</h2>" in page, page[-2000:])
-    _, report = ask(second.operate, "GET", "/report")
-    series = [line for line in report.decode().splitlines() if line.startswith("series")]
-    checks.same("a report is of all slots", PROCESSES, len(series))
+
+    def reported():
+        return sum(line.startswith("series") for line in ask(second.operate, "GET", "/report")[1].decode().splitlines())
+
+    checks.true("a report is of all slots", wait_until(lambda: reported() == PROCESSES), reported())
     _, metrics = ask(first.operate, "GET", "/metrics")
     missing = [name for name in METRICS if f"\ntotxegun_{name}" not in metrics.decode()]
     checks.same("the metrics of the cluster are there", [], missing)
@@ -133,11 +151,11 @@ def shows(checks, both, first, second):
 
 def closes(checks, both, first, second):
     month = (datetime.datetime.now(datetime.timezone.utc).replace(day=1) - datetime.timedelta(days=1)).strftime("%Y-%m")
-    code, text = both.run("close", month, at=second)
+    code, text = both.in_the_end("close", month, at=second, is_said=lambda code, text: "not flushed" in text)
     checks.true("what is not flushed at the other keeps a month open", code != 0 and "not flushed" in text, text)
-    code, text = both.run("close", month, "--flush", at=second)
+    code, text = both.in_the_end("close", month, "--flush", at=second)
     checks.true("it is closed with a flush of both", code == 0, text)
-    checks.same("and opened at the other", 0, both.run("open", month, at=first)[0])
+    checks.same("and opened at the other", 0, both.in_the_end("open", month, at=first)[0])
     checks.same("the sink has all", str(2 * PROCESSES), both.total())
 
 
@@ -154,16 +172,17 @@ def forgets(checks, both, first, second):
 
 def stops(checks, both, first, second):
     second.signal(signal.SIGSTOP)
-    code, text = both.run("flush", at=first)
+    code, text = both.in_the_end("flush", at=first)
     checks.true("a flush while one stands still is of all slots once they have moved", code == 0, text)
     second.signal(signal.SIGCONT)
-    checks.true("both have slots again", wait_until(both.have_slots), both.run("status", at=first)[1])
+    checks.true("both have slots again", both.at_rest(), both.run("status", at=first)[1])
     second.kill()
     text = both.run("status", at=first)[1]
-    checks.true("who does not answer is named", "b" in text and "nothing is known of slot" in text, text)
+    are_moved = set(owners(both.server).values()) == {"a"}
+    checks.true("who does not answer is named, until all slots have moved", "nothing is known of slot" in text or are_moved, text)
     code, text = both.run("close", "2020-01", at=first)
     checks.true("so nothing is closed, or all is known again", code != 0 or "done" in text, text)
-    code, text = both.run("flush", at=first)
+    code, text = both.in_the_end("flush", at=first)
     checks.true("a flush waits for its slots", code == 0, text)
     checks.true("the sink has all", wait_until(lambda: both.total() == str(3 * PROCESSES)), both.total())
 
@@ -181,7 +200,7 @@ def main(words):
             for one in both.all:
                 one.start()
             checks.true("they are ready", all(one.wait_ready() for one in both.all), [one.last_lines() for one in both.all])
-            checks.true("they share the slots", wait_until(both.have_slots), both.run("status", at=both.all[0])[1])
+            checks.true("they share the slots", both.at_rest(), both.run("status", at=both.all[0])[1])
             for tried in (flushes, quarantines, shows, closes, forgets, stops):
                 tried(checks, both, *both.all)
             checks.same("no faults", [], both.all[0].faults())

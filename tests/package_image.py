@@ -3,10 +3,10 @@
 
     tests/package_image.py IMAGE
 
-The image is unpacked and run as a container's runtime would: in namespaces of its own for processes, mounts and the
-network, with its own user, variables and words, and nothing of this machine but /proc and a few devices. Senders post; SIGTERM ends it in ten
-seconds with status 0 and all that was taken in the outbox; a start on the same folder delivers that. The operator asks
-from inside, as `exec` does.
+The image is unpacked and run as a container's runtime would: in namespaces of its own for processes, mounts and the network, with
+its own user, variables and words, and nothing of this machine but /proc and a few devices. Senders post; SIGTERM ends it in ten
+seconds with status 0 and all that was taken in the outbox; a start on the same folder delivers that. The operator asks from
+inside, as `exec` does.
 
 Each line is one check; the last line counts those that passed and failed, and the status is 0 where none failed, 77 where
 the machine can't have it.
@@ -21,11 +21,13 @@ import sys
 import tarfile
 import tempfile
 import time
+from typing import Any
 
-from checks import Checks
-from service import Sender, SqliteSink, add_points, differences, told_to_all, wait_until
+from testing import ROOT
+from testing.checks import Checks
+from testing.service import Sender, SqliteSink, Value, add_points, differences, told_to_all, wait_until
+from tooling.files import text_there
 
-ROOT = os.path.dirname(os.path.dirname(os.path.abspath(__file__)))
 LISTEN = 4318
 NOBODY = 65534
 TIME_TO_END = 10
@@ -49,25 +51,26 @@ class Service:
     listen = LISTEN
 
 
-def unpacked(image, folder):
+def unpacked(image: str, folder: str) -> tuple[dict[str, Any], str]:
     """The image's settings and the folder with its files."""
     with tarfile.open(image) as archive:
         manifest = json.load(archive.extractfile("manifest.json"))[0]
         settings = json.load(archive.extractfile(manifest["Config"]))["config"]
         for layer in manifest["Layers"]:
             with tarfile.open(fileobj=archive.extractfile(layer)) as files:
-                files.extractall(f"{folder}/root", filter="fully_trusted", numeric_owner=True)
+                files.extractall(f"{folder}/root", filter="fully_trusted", numeric_owner=True)  # type: ignore[call-arg]
     return settings, f"{folder}/root"
 
 
 class Container:
     """The image's words as process 1 of namespaces of its own."""
 
-    def __init__(self, settings, root, log):
+    def __init__(self, settings: dict[str, Any], root: str, log: str) -> None:
         self.settings, self.root, self.log = settings, root, log
-        self.process = self.pid = None
+        self.process: subprocess.Popen[bytes] = None
+        self.pid: str = None
 
-    def start(self):
+    def start(self) -> bool:
         # There is no env inside: variables are set before the root is changed.
         inner = ["env", "-i", *self.settings["Env"], "/usr/sbin/chroot", f"--userspec={self.settings['User']}", self.root,
                  *self.settings["Entrypoint"], *self.settings["Cmd"]]
@@ -78,19 +81,19 @@ class Container:
             self.process = subprocess.Popen(words, stdin=subprocess.DEVNULL, stdout=log, stderr=log)
         return wait_until(lambda: self.process.poll() is not None or self.is_ready(), 30) and self.process.poll() is None
 
-    def is_ready(self):
-        children = content(f"/proc/{self.process.pid}/task/{self.process.pid}/children").split()
+    def is_ready(self) -> bool:
+        children = text_there(f"/proc/{self.process.pid}/task/{self.process.pid}/children").split()
         self.pid = children[0] if children else None
         return self.pid is not None and self.said("status")[0] == 0
 
-    def said(self, *words):
+    def said(self, *words: str) -> tuple[int, str]:
         """A command of the program inside: its status, and what it printed."""
         inside = ["nsenter", "--target", self.pid, "--mount", "--pid", "--uts", "--ipc", "--root", "--wd", "--", PROGRAM, *words]
         ran = subprocess.run(inside, stdin=subprocess.DEVNULL, stdout=subprocess.PIPE, stderr=subprocess.STDOUT, text=True,
-                             check=False, timeout=60, env={})
+                             check=False, timeout=60, env=dict[str, str]())
         return ran.returncode, ran.stdout
 
-    def stop(self):
+    def stop(self) -> tuple[int | None, float]:
         """As a runtime stops it: the status, and how many seconds it took."""
         begun = time.monotonic()
         os.kill(int(self.pid), signal.SIGTERM)
@@ -100,21 +103,13 @@ class Container:
             self.end()
             return None, time.monotonic() - begun
 
-    def end(self):
+    def end(self) -> None:
         if self.process and self.process.poll() is None:
             self.process.kill()
             self.process.wait()
 
 
-def content(path):
-    try:
-        with open(path, encoding="utf-8", errors="replace") as file:
-            return file.read()
-    except OSError:
-        return ""
-
-
-def look_at_files(checks, root, settings):
+def look_at_files(checks: Checks, root: str, settings: dict[str, str]) -> None:
     files = {f"{at}/{name}"[len(root):] for at, _, names in os.walk(root) for name in names}
     more = sorted(path for path in files if not LIBRARY.match(path))
     checks.same("it has the program, and nothing else but what it loads", [PROGRAM], more)
@@ -124,11 +119,11 @@ def look_at_files(checks, root, settings):
     checks.same("its settings", wanted, {name: settings.get(name) for name in wanted})
 
 
-def run(checks, container):
-    checks.true("it serves as process 1", container.start(), content(container.log)[-2000:])
+def run(checks: Checks, container: Container) -> None:
+    checks.true("it serves as process 1", container.start(), text_there(container.log)[-2000:])
     if container.process.poll() is not None:
         return
-    status = content(f"/proc/{container.pid}/status")
+    status = text_there(f"/proc/{container.pid}/status")
     checks.true("it is process 1", re.search(r"^NSpid:.*\t1$", status, re.M) is not None, status)
     checks.true("of a user without rights", f"Uid:\t{NOBODY}\t" in status and "CapEff:\t0000000000000000" in status, status)
     version = container.said("version")
@@ -138,21 +133,21 @@ def run(checks, container):
         for _ in range(20):
             sender.post(sender.next_points())
     checks.same("posts are taken", [], [it for sender in senders for it in sender.surprises])
-    status, seconds = container.stop()
-    log = content(container.log)
-    checks.true(f"SIGTERM ends it with status 0 in {TIME_TO_END} s", status == 0 and seconds <= TIME_TO_END, (status, seconds))
+    ended, seconds = container.stop()
+    log = text_there(container.log)
+    checks.true(f"SIGTERM ends it with status 0 in {TIME_TO_END} s", ended == 0 and seconds <= TIME_TO_END, (ended, seconds))
     checks.true("what was taken is in the outbox then", "all that was taken is in the outbox" in log, log[-1500:])
     print(f"note: a stop took {seconds:.1f} s", flush=True)
-    checks.true("it starts again", container.start(), content(container.log)[-2000:])
+    checks.true("it starts again", container.start(), text_there(container.log)[-2000:])
     checks.true("and delivers", wait_until(lambda: '"waiting":0' in container.said("status", "--json")[1].replace(" ", "")), "")
-    found = {}
+    found: dict[str, Value] = {}
     add_points(found, SqliteSink(f"{container.root}/var/lib/totxegun/metrics.db").points())
     wanted = told_to_all(senders)
     checks.same(f"the sink has what the senders were told, {len(wanted)} series", [], differences(wanted, found))
     checks.same("a second stop", 0, container.stop()[0])
 
 
-def main(image):
+def main(image: str) -> int:
     lacks = [it for it in ("unshare", "nsenter", "setpriv", "chroot") if not shutil.which(it)]
     if os.geteuid() != 0:
         lacks.append("root")

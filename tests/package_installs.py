@@ -24,12 +24,15 @@ import subprocess
 import sys
 import tempfile
 import time
+from collections.abc import Iterator
+from typing import Any
 
-from checks import Checks
-from loopback import free_port
-from service import ask, wait_until
+from testing import ROOT
+from testing.checks import Checks
+from testing.loopback import free_port
+from testing.service import ask, wait_until
+from tooling.files import text_of
 
-ROOT = os.path.dirname(os.path.dirname(os.path.abspath(__file__)))
 PLACES = {
     "usr/bin/totxegun": 0o755,
     "usr/share/man/man1/totxegun.1": 0o644,
@@ -59,23 +62,18 @@ POINT = ('{"resourceMetrics":[{"scopeMetrics":[{"metrics":[{"name":"a","sum":{"a
          '"dataPoints":[{"asInt":"5","startTimeUnixNano":"%d","timeUnixNano":"%d"}]}}]}]}]}')
 
 
-def content(path):
-    with open(path, encoding="utf-8") as file:
-        return file.read()
-
-
-def ran(words, **how):
+def ran(words: list[str], **how: Any) -> tuple[int, str]:
     """The status of a program, and all that it printed."""
     out = subprocess.run(words, stdin=subprocess.DEVNULL, stdout=subprocess.PIPE, stderr=subprocess.STDOUT, text=True,
                          check=False, timeout=60, **how)
     return out.returncode, out.stdout
 
 
-def without_settings():
+def without_settings() -> dict[str, str]:
     return {name: value for name, value in os.environ.items() if not name.startswith("TOTXEGUN_")}
 
 
-def install(folder, program, destination):
+def install(folder: str, program: str, destination: str) -> Any:
     """`make install` as a package calls it."""
     made = f"{folder}/made"
     os.makedirs(made, exist_ok=True)
@@ -84,7 +82,7 @@ def install(folder, program, destination):
     return ran([f"{ROOT}/tools/install", made], env={**without_settings(), **places})
 
 
-def look_at_files(checks, root):
+def look_at_files(checks: Checks, root: str) -> None:
     for place, mode in PLACES.items():
         path = f"{root}/{place}"
         found = oct(os.stat(path).st_mode & 0o7777) if os.path.isfile(path) else "nothing"
@@ -94,19 +92,19 @@ def look_at_files(checks, root):
     checks.same("nothing else is", [], more)
 
 
-def shipped_settings(root):
+def shipped_settings(root: str) -> tuple[dict[str, str], dict[str, str]]:
     """Each line of the settings as a variable, and those that have a default."""
-    lines = dict(SETTING.findall(content(f"{root}/etc/totxegun/totxegun.env")))
+    lines = dict(SETTING.findall(text_of(f"{root}/etc/totxegun/totxegun.env")))
     return lines, {name: value for name, value in lines.items() if not re.fullmatch(r"[A-Z:= ]+", value)}
 
 
-def set_by_unit(root):
-    return dict(re.findall(r"^Environment=(\w+)=(\S+)$", content(f"{root}/lib/systemd/system/totxegun.service"), re.MULTILINE))
+def set_by_unit(root: str) -> dict[str, str]:
+    return dict(re.findall(r"^Environment=(\w+)=(\S+)$", text_of(f"{root}/lib/systemd/system/totxegun.service"), re.MULTILINE))
 
 
-def serve(checks, what, root, folder, settings):
+def serve(checks: Checks, what: str, root: str, folder: str, settings: dict[str, str]) -> None:
     """A first use: a post, a flush, the totals, an end by SIGTERM."""
-    words = shlex.split(re.search(r"^ExecStart=(.*)$", content(f"{root}/lib/systemd/system/totxegun.service"), re.M)[1])
+    words = shlex.split(re.search(r"^ExecStart=(.*)$", text_of(f"{root}/lib/systemd/system/totxegun.service"), re.M)[1])
     words = [word.replace("%S", folder) for word in words]
     listen, operate = free_port(), free_port()
     places = {"TOTXEGUN_LISTEN": f"127.0.0.1:{listen}", "TOTXEGUN_OPERATE": f"127.0.0.1:{operate}"}
@@ -118,7 +116,7 @@ def serve(checks, what, root, folder, settings):
     try:
         is_ready = wait_until(lambda: service.poll() is not None or ask(operate, "GET", "/ready", seconds=2)[0] == 200)
         if not is_ready or service.poll() is not None:
-            checks.true(f"{what}: it serves", False, content(log)[-2000:])
+            checks.true(f"{what}: it serves", False, text_of(log)[-2000:])
             return
         now = time.time_ns()
         body = POINT % (now - 10_000_000_000, now)
@@ -131,7 +129,7 @@ def serve(checks, what, root, folder, settings):
             '"total":5', '"total":"5"'), 20)
         checks.true(f"{what}: the total is shown", is_there, ran([program, "totals", "--json", *at]))
         checks.same(f"{what}: it keeps its files where the unit says", True, os.path.isfile(f"{folder}/totxegun/metrics.db"))
-        first = content(log).splitlines()[0]
+        first = text_of(log).splitlines()[0]
         checks.true(f"{what}: the log's first line is the version", ran([program, "version"])[1].strip() in first, first)
     finally:
         service.send_signal(signal.SIGTERM)
@@ -140,7 +138,7 @@ def serve(checks, what, root, folder, settings):
         except subprocess.TimeoutExpired:
             service.kill()
             status = service.wait()
-    checks.true(f"{what}: SIGTERM ends it", status == 0, f"status {status}: {content(log)}")
+    checks.true(f"{what}: SIGTERM ends it", status == 0, f"status {status}: {text_of(log)}")
     shutil.rmtree(f"{folder}/totxegun")
 
 
@@ -150,23 +148,23 @@ NOBODY = 65534
 READER = "import sqlite3, sys; print(sqlite3.connect(f'file:{sys.argv[1]}', uri=True).execute('select total from totals').fetchall())"
 
 
-def make_shared(checks, root):
+def make_shared(checks: Checks, root: str) -> tuple[int, int, int]:
     """The folder of the group as the installed files have systemd make it; user and group of the service, and that of its readers."""
     for words in (["systemd-sysusers", f"--root={root}"], ["systemd-tmpfiles", f"--root={root}", "--create", f"--prefix={SHARED}"]):
         checks.true(f"{words[0]} takes what is installed", ran(words)[0] == 0, ran(words))
-    users = dict(re.findall(r"^([a-z-]+):[^:]*:(\d+):", content(f"{root}/etc/passwd"), re.M))
-    groups = dict(re.findall(r"^([a-z-]+):[^:]*:(\d+):", content(f"{root}/etc/group"), re.M))
+    users = dict(re.findall(r"^([a-z-]+):[^:]*:(\d+):", text_of(f"{root}/etc/passwd"), re.M))
+    groups = dict(re.findall(r"^([a-z-]+):[^:]*:(\d+):", text_of(f"{root}/etc/group"), re.M))
     user, group, readers = int(users["totxegun"]), int(groups["totxegun"]), int(groups["totxegun-read"])
     there = os.stat(f"{root}{SHARED}")
     checks.same("the folder is the service's, and its group may look into it", (user, readers, 0o2750),
                 (there.st_uid, there.st_gid, there.st_mode & 0o7777))
-    unit = content(f"{root}/lib/systemd/system/totxegun.service")
+    unit = text_of(f"{root}/lib/systemd/system/totxegun.service")
     checks.true("the unit may write there", f"\nReadWritePaths=-{SHARED}\n" in unit, unit)
     checks.true("it is that user's by its name", "\nDynamicUser=yes\n" in unit and "\nUser=" not in unit, unit)
     return user, group, readers
 
 
-def look_at_group(checks, program, root, folder):
+def look_at_group(checks: Checks, program: str, root: str, folder: str) -> None:
     """As the unit runs it: with that user and umask."""
     lacks = [name for name in ("setpriv", "systemd-sysusers", "systemd-tmpfiles") if not shutil.which(name)]
     if not checks.has("a reader of the sink's group", *(lacks if os.geteuid() == 0 else ["root"])):
@@ -181,7 +179,7 @@ def look_at_group(checks, program, root, folder):
     words = ["serve", "--data", own, "--sink", f"sqlite:{at}/metrics.db", "--listen", f"127.0.0.1:{listen}",
              "--operate", f"127.0.0.1:{operate}"]
 
-    def read(of_group, how="?mode=ro"):
+    def read(of_group: int, how: str = "?mode=ro") -> tuple[int, str]:
         as_whom = ["setpriv", f"--reuid={NOBODY}", f"--regid={of_group}", "--clear-groups"]
         return ran([*as_whom, sys.executable, "-c", READER, f"{at}/metrics.db{how}"])
 
@@ -203,26 +201,26 @@ def look_at_group(checks, program, root, folder):
     checks.same("also while the service is stopped", (0, "[(5,)]\n"), read(readers, "?immutable=1"))
 
 
-def version():
-    return content(f"{ROOT}/VERSION").strip()
+def version() -> str:
+    return text_of(f"{ROOT}/VERSION").strip()
 
 
-def look_at_settings(checks, root, serve_help):
+def look_at_settings(checks: Checks, root: str, serve_help: str) -> None:
     lines, _ = shipped_settings(root)
     wanted = VARIABLE.findall(serve_help)
     checks.true("the program has variables", len(wanted) > 15, serve_help)
     checks.same("the settings name every variable, in order", wanted, list(lines))
-    text = content(f"{root}/etc/totxegun/totxegun.env")
+    text = text_of(f"{root}/etc/totxegun/totxegun.env")
     bare = [name for name in wanted if not re.search(rf"^# \S.*\n#{name}=", text, re.MULTILINE)]
     checks.same("each with a line of text", [], bare)
     checks.same("what the unit sets is there to be set", set(), set_by_unit(root).keys() - set(wanted))
 
 
-def options_of(page):
+def options_of(page: str) -> Any:
     return sorted(set(re.findall(r"^\.It Fl -([a-z-]+)", page, re.MULTILINE)))
 
 
-def look_at_kept_settings(checks, folder, program):
+def look_at_kept_settings(checks: Checks, folder: str, program: str) -> None:
     """Settings that were there before."""
     root = f"{folder}/before"
     settings = f"{root}/etc/totxegun/totxegun.env"
@@ -233,12 +231,12 @@ def look_at_kept_settings(checks, folder, program):
     status, said = install(folder, program, root)
     checks.true("settings that were there stay, and it is said", status == 0 and "totxegun.env.new" in said, said)
     checks.same("they are as they were, and nobody else may read them", ("TOTXEGUN_FLUSH_EVERY=7s\n", 0o600),
-                (content(settings), os.stat(settings).st_mode & 0o777))
+                (text_of(settings), os.stat(settings).st_mode & 0o777))
 
 
-def look_at_pages(checks, root, program):
+def look_at_pages(checks: Checks, root: str, program: str) -> None:
     man = f"{root}/usr/share/man/man1"
-    page = content(f"{man}/totxegun.1")
+    page = text_of(f"{man}/totxegun.1")
     commands = json.loads(ran([program, "print", "options"])[1])["commands"]
     wanted = set()
     for words in command_lines(commands):
@@ -254,7 +252,7 @@ def look_at_pages(checks, root, program):
             checks.same(f"mandoc finds nothing in {name}", [], lines)
 
 
-def command_lines(commands, before=()):
+def command_lines(commands: Any, before: Any = ()) -> Iterator[Any]:
     for command in commands:
         if command["commands"]:
             yield from command_lines(command["commands"], (*before, command["name"]))
@@ -262,11 +260,11 @@ def command_lines(commands, before=()):
             yield [*before, command["name"]]
 
 
-def look_at_completion(checks, root, program, serve_help):
+def look_at_completion(checks: Checks, root: str, program: str, serve_help: str) -> None:
     file = f"{root}/usr/share/bash-completion/completions/totxegun"
-    checks.same("the completion is the program's own", ran([program, "print", "completion"])[1], content(file))
+    checks.same("the completion is the program's own", ran([program, "print", "completion"])[1], text_of(file))
 
-    def completed(*words):
+    def completed(*words: str) -> Any:
         script = f"source {file}; COMP_WORDS=({' '.join(words)}); COMP_CWORD={len(words) - 1}; " \
                  f"_totxegun totxegun {words[-1]!r} {words[-2]!r}; printf '%s\\n' \"${{COMPREPLY[@]}}\""
         return set(ran(["bash", "--norc", "-c", script])[1].split())
@@ -277,19 +275,19 @@ def look_at_completion(checks, root, program, serve_help):
     checks.same("it has every option", set(), options - completed("totxegun", "serve", "--"))
 
 
-def look_at_version(checks, program):
+def look_at_version(checks: Checks, program: str) -> None:
     status, said = ran([program, "version"], env=without_settings())
     proof = re.match(rf"totxegun {re.escape(version())}; book: (revision \S+, proved by .+|nothing says that it was proved)\n$", said)
     checks.true("the version says whether the book was proved", status == 0 and proof, (status, said))
 
 
-def look_at_unit(checks, root, folder):
+def look_at_unit(checks: Checks, root: str, folder: str) -> None:
     """With the installed program in the place of the one that systemd would look for."""
     if not checks.has("the unit", *([] if shutil.which("systemd-analyze") else ["systemd-analyze"])):
         return
     unit = f"{folder}/totxegun.service"
     with open(unit, "w", encoding="utf-8") as file:
-        text = content(f"{root}/lib/systemd/system/totxegun.service")
+        text = text_of(f"{root}/lib/systemd/system/totxegun.service")
         checks.same("the unit has the installed names", [], re.findall(r"/usr/local\S*", text))
         file.write(text.replace("=/usr/bin/", f"={root}/usr/bin/"))
     checks.same("systemd finds nothing in it", (0, ""), ran(["systemd-analyze", "verify", "--man=no", unit]))
@@ -300,7 +298,7 @@ def look_at_unit(checks, root, folder):
     print(f"note: exposure {overall[1] if overall else 'unknown'}", flush=True)
 
 
-def look_at_what_is_missing(checks, folder):
+def look_at_what_is_missing(checks: Checks, folder: str) -> None:
     os.makedirs(f"{folder}/none")
     status, said = ran([f"{ROOT}/tools/install", f"{folder}/none"])
     checks.true("a missing program is said in one line", status == 1 and said.count("\n") == 1 and "make build" in said, said)
@@ -319,12 +317,12 @@ def look_at_what_is_missing(checks, folder):
         file.write("#!/bin/sh\necho other-kit logic dac8208d650f15bf\n")
     checks.same("the kit's name may differ", (0, ""), ran(["/bin/sh", f"{ROOT}/tools/toolchain"], env={"PATH": lone}))
     status, said = ran(["make", "-C", ROOT, "--no-print-directory"])
-    targets = re.findall(r"^([a-z]+):.*##", content(f"{ROOT}/Makefile"), re.MULTILINE)
+    targets = re.findall(r"^([a-z]+):.*##", text_of(f"{ROOT}/Makefile"), re.MULTILINE)
     missing = [target for target in targets if f"make {target} " not in said]
     checks.true("make alone prints what there is to make", status == 0 and len(targets) > 8 and not missing, said)
 
 
-def main(given):
+def main(given: str) -> int:
     checks = Checks()
     with tempfile.TemporaryDirectory(prefix="package-") as folder:
         root = f"{folder}/root"

@@ -23,10 +23,11 @@ import tempfile
 import threading
 import time
 
-from checks import Checks
-from service import OUT_OF_ORDER, Sender, SqliteSink, add_points, ask, differences, told_to_all, wait_until
+from testing import ROOT
+from testing.checks import Checks
+from testing.service import OUT_OF_ORDER, Sender, SqliteSink, Value, add_points, ask, differences, told_to_all, wait_until
+from tooling.files import text_there
 
-ROOT = os.path.dirname(os.path.dirname(os.path.abspath(__file__)))
 BASE = f"{ROOT}/out/debian"
 MIRROR = "http://deb.debian.org/debian"
 TRIES = 3  # a mirror may fail at first
@@ -77,13 +78,13 @@ class Stands(Exception):
 class Debian:
     """A copy of the base, booted."""
 
-    def __init__(self, root):
+    def __init__(self, root: str) -> None:
         self.root = root
         self.group = f"package-{os.getpid()}"
-        self.boot = None
-        self.pid = None
+        self.boot: subprocess.Popen[bytes] = None
+        self.pid: str = None
 
-    def start(self):
+    def start(self) -> bool:
         """It ends with this process, however that ends."""
         with open(f"{self.root}.log", "wb") as log:
             words = ["setpriv", "--pdeathsig", "KILL", "unshare", "--mount", "--pid", "--uts", "--ipc", "--fork", "--kill-child"]
@@ -91,29 +92,29 @@ class Debian:
             self.boot = subprocess.Popen([*words, "sh", "-c", script], stdin=subprocess.DEVNULL, stdout=log, stderr=log)
         return wait_until(self.is_running, 60)
 
-    def is_running(self):
+    def is_running(self) -> bool:
         """Whether its systemd has started all that it starts."""
         if self.boot.poll() is not None:
             return True
-        children = read(f"/proc/{self.boot.pid}/task/{self.boot.pid}/children").split()
+        children = text_there(f"/proc/{self.boot.pid}/task/{self.boot.pid}/children").split()
         self.pid = children[0] if children else None
         return self.pid is not None and self.said("systemctl", "is-system-running")[1].strip() in ("running", "degraded")
 
-    def said(self, *words, seconds=120):
+    def said(self, *words: str, seconds: int = 120) -> tuple[int, str]:
         """The status of a command in it, and all that it printed."""
         inside = ["nsenter", "--target", self.pid, "--mount", "--pid", "--uts", "--ipc", "--cgroup", "--root", "--wd", "--"]
         ran = subprocess.run([*inside, "env", "DEBIAN_FRONTEND=noninteractive", *words], stdin=subprocess.DEVNULL,
                              stdout=subprocess.PIPE, stderr=subprocess.STDOUT, text=True, check=False, timeout=seconds)
         return ran.returncode, ran.stdout
 
-    def files(self):
+    def files(self) -> set[str]:
         """All files of its disk, but those that any use of it writes."""
         found = set()
         for at, folders, names in os.walk(self.root):
             found |= {os.path.join(at, name)[len(self.root):] for name in [*folders, *names]}
         return {path for path in found if not MAY_STAY.match(path)}
 
-    def end(self):
+    def end(self) -> None:
         if not self.boot:
             return
         self.boot.kill()
@@ -128,15 +129,7 @@ class Installed:
     listen = LISTEN
 
 
-def read(path):
-    try:
-        with open(path, encoding="utf-8", errors="replace") as file:
-            return file.read()
-    except OSError:
-        return ""
-
-
-def missing(deb):
+def missing(deb: str) -> str:
     """What this machine lacks, or nothing."""
     if os.geteuid() != 0:
         return "root"
@@ -148,7 +141,7 @@ def missing(deb):
     return " ".join(lacks)
 
 
-def fetch_base():
+def fetch_base() -> str:
     """Debian's base, once. Returns what went wrong, or nothing."""
     if os.path.isdir(BASE):
         return ""
@@ -163,11 +156,11 @@ def fetch_base():
     return (ran.stdout.splitlines() or ["debootstrap failed"])[-1]
 
 
-def earlier(deb, folder):
+def earlier(deb: str, folder: str) -> str:
     """The same package under an earlier version's number."""
     subprocess.run(["dpkg-deb", "-R", deb, f"{folder}/earlier"], check=True)
     control = f"{folder}/earlier/DEBIAN/control"
-    text = re.sub(r"^Version: .*$", f"Version: {EARLIER}", read(control), flags=re.MULTILINE)
+    text = re.sub(r"^Version: .*$", f"Version: {EARLIER}", text_there(control), flags=re.MULTILINE)
     with open(control, "w", encoding="utf-8") as file:
         file.write(text)
     subprocess.run(["dpkg-deb", "--root-owner-group", "-Zgzip", "-z1", "-b", f"{folder}/earlier", f"{folder}/earlier.deb"], check=True,
@@ -175,11 +168,11 @@ def earlier(deb, folder):
     return f"{folder}/earlier.deb"
 
 
-def is_ready():
+def is_ready() -> bool:
     return ask(OPERATE, "GET", "/ready", seconds=2)[0] == 200
 
 
-def install(checks, debian, what, deb):
+def install(checks: Checks, debian: Debian, what: str, deb: str) -> None:
     shutil.copy(deb, f"{debian.root}/tmp/package.deb")
     status, said = debian.said("dpkg", "--install", "--force-confold", "/tmp/package.deb")
     checks.true(f"{what}: dpkg installs it", status == 0, said)
@@ -189,7 +182,7 @@ def install(checks, debian, what, deb):
     checks.true(f"{what}: systemd says that it runs", "active" in said.split(), said)
 
 
-def first_use(checks, debian):
+def first_use(checks: Checks, debian: Debian) -> Sender:
     """As the README shows it, with the installed names."""
     sender = Sender(Installed, 99)
     sender.post(sender.next_points())
@@ -205,7 +198,7 @@ def first_use(checks, debian):
     return sender
 
 
-def write_settings(debian):
+def write_settings(debian: Debian) -> None:
     """Before the first start, as docs/OPERATING.md has it."""
     os.makedirs(f"{debian.root}/etc/totxegun")
     with open(f"{debian.root}{SETTINGS}", "w", encoding="utf-8") as file:
@@ -213,10 +206,10 @@ def write_settings(debian):
     os.chmod(f"{debian.root}{SETTINGS}", 0o644)
 
 
-def look_at_settings(checks, debian, what):
+def look_at_settings(checks: Checks, debian: Debian, what: str) -> None:
     mode = os.stat(f"{debian.root}{SETTINGS}").st_mode & 0o777
     checks.same(f"{what}: the settings that were written are there, and nobody else may read them",
-                (f"TOTXEGUN_FORGET_SERIES={FORGET}\n", 0o600), (read(f"{debian.root}{SETTINGS}"), mode))
+                (f"TOTXEGUN_FORGET_SERIES={FORGET}\n", 0o600), (text_there(f"{debian.root}{SETTINGS}"), mode))
     pid = debian.said("systemctl", "show", "-P", "MainPID", "totxegun")[1].strip()
     status, said = debian.said("grep", "-z", "TOTXEGUN_FORGET_SERIES", f"/proc/{pid}/environ")
     checks.true(f"{what}: the service has them", FORGET in said, said)
@@ -226,12 +219,12 @@ def look_at_settings(checks, debian, what):
     checks.same(f"{what}: the books may have as much memory as the unit says", str(2 << 30), most and most[1])
 
 
-def upgrade(checks, debian, deb):
+def upgrade(checks: Checks, debian: Debian, deb: str) -> list[Sender]:
     """Senders post while the package is replaced, and while the unit's processes are killed."""
     senders = [Sender(Installed, number) for number in range(SENDERS)]
     stop = threading.Event()
 
-    def go_on(sender):
+    def go_on(sender: Sender) -> None:
         while not stop.is_set():
             sender.post(sender.next_points())
     threads = [threading.Thread(target=go_on, args=(sender,), daemon=True) for sender in senders]
@@ -261,19 +254,19 @@ def upgrade(checks, debian, deb):
     return senders
 
 
-def compare(checks, debian, senders):
+def compare(checks: Checks, debian: Debian, senders: list[Sender]) -> None:
     repeats = [sender.late_repeat() for sender in senders]
     checks.true("late repeats are refused", all(status == 400 and OUT_OF_ORDER in text for status, text in repeats), repeats)
     debian.said("totxegun", "flush")
     checks.true("all is delivered", wait_until(lambda: '"waiting":0' in debian.said("totxegun", "status", "--json")[1].replace(
         " ", ""), 60), debian.said("totxegun", "status"))
-    found = {}
+    found: dict[str, Value] = {}
     add_points(found, SqliteSink(f"{debian.root}/var/lib/private/totxegun/metrics.db").points())
     wanted = told_to_all(senders)
     checks.same(f"the sink has what the senders were told, {len(wanted)} series", [], differences(wanted, found))
 
 
-def purge(checks, debian, before):
+def purge(checks: Checks, debian: Debian, before: set[str]) -> None:
     status, said = debian.said("dpkg", "--purge", "totxegun")
     checks.true("a purge says what stays", status == 0 and "/var/lib/private/totxegun stays" in said, said)
     checks.true("nothing serves after it", wait_until(lambda: ask(OPERATE, "GET", "/ready", seconds=2)[0] is None, 10), said)
@@ -281,7 +274,7 @@ def purge(checks, debian, before):
     checks.true("and leaves that", os.path.isfile(f"{debian.root}/var/lib/private/totxegun/metrics.db"), said)
 
 
-def unit(checks, debian):
+def unit(checks: Checks, debian: Debian) -> None:
     status, said = debian.said("systemd-analyze", "verify", "--man=no", "totxegun.service")
     checks.true("systemd-analyze verify finds nothing", status == 0 and "totxegun" not in said, said)
     said = debian.said("systemd-analyze", "security", "--no-pager", "totxegun.service")[1]
@@ -289,7 +282,7 @@ def unit(checks, debian):
     print(f"note: {overall[0] if overall else said[-300:]}", flush=True)
 
 
-def main(deb):
+def main(deb: str) -> int:
     checks = Checks()
     signal.signal(signal.SIGTERM, lambda *_: sys.exit(1))  # what was started and copied goes then too
     with tempfile.TemporaryDirectory(prefix="package-", dir=f"{ROOT}/out") as folder, contextlib.ExitStack() as stack:
@@ -297,7 +290,7 @@ def main(deb):
         subprocess.run(["cp", "-a", BASE, debian.root], check=True)
         stack.callback(debian.end)
         if not debian.start() or debian.boot.poll() is not None:
-            print(f"left out: no systemd could be started here: {read(f'{debian.root}.log')[-300:]}")
+            print(f"left out: no systemd could be started here: {text_there(f'{debian.root}.log')[-300:]}")
             return 77
         try:
             live(checks, debian, deb, earlier(deb, folder))
@@ -306,7 +299,7 @@ def main(deb):
     return checks.end()
 
 
-def live(checks, debian, deb, first):
+def live(checks: Checks, debian: Debian, deb: str, first: str) -> None:
     before = debian.files()
     write_settings(debian)
     install(checks, debian, "a first install", first)
@@ -330,5 +323,6 @@ if __name__ == "__main__":
             print(f"left out: missing {lacks}")
             sys.exit(77)
         os.environ["in_own_network"] = "yes"
-        os.execv(f"{ROOT}/tools/own_network.py", ["own_network.py", sys.executable, os.path.abspath(__file__), os.path.abspath(sys.argv[1])])
+        os.execv(f"{ROOT}/tools/own_network.py",
+                 ["own_network.py", sys.executable, os.path.abspath(__file__), os.path.abspath(sys.argv[1])])
     sys.exit(main(sys.argv[1]))

@@ -25,9 +25,12 @@ import sys
 import tempfile
 import threading
 import time
+from collections.abc import Sequence
+from typing import Any
 
-from checks import Checks
-from service import JSON, Service, ask, in_json, wait_until
+from testing.checks import Checks
+from testing.service import JSON, Service, ask, in_json, wait_until
+from tooling.files import write
 
 HOSTILE = '"><script>document.title="owned"</script><img src=x onerror="document.title=1">\'&amp;\u202e'
 LIGHT, DARK = (), ("--blink-settings=preferredColorScheme=0",)
@@ -38,20 +41,25 @@ SECONDS = 60
 START = time.time_ns() // 10**9 * 10**9 - 3_700 * 10**9
 
 
-def chromium():
+def chromium() -> str | None:
     return next((name for name in ("chromium", "chromium-browser", "google-chrome") if shutil.which(name)), None)
 
 
 class Page(html.parser.HTMLParser):
     """Elements, tables by their headings, and texts of a page."""
 
-    def __init__(self, text):
+    def __init__(self, text: str) -> None:
         super().__init__()
-        self.elements, self.tables, self.links, self.texts, self.handlers = [], {}, [], [], []
-        self.heading, self.where, self.rows = None, None, None
+        self.elements: list[str] = []
+        self.tables: dict[str, list[list[str]]] = {}
+        self.links: list[str] = []
+        self.texts: list[str] = []
+        self.handlers: list[str] = []
+        self.heading: str = None
+        self.where: str = None
         self.feed(text)
 
-    def handle_starttag(self, tag, attrs):
+    def handle_starttag(self, tag: str, attrs: list[tuple[str, str | None]]) -> None:
         self.elements.append(tag)
         self.handlers += [name for name, _ in attrs if name.startswith("on") or name == "style"]
         self.links += [value for name, value in attrs if name in ("href", "src", "action")]
@@ -63,61 +71,62 @@ class Page(html.parser.HTMLParser):
         if tag == "td":
             self.tables[self.heading][-1].append("")
 
-    def handle_endtag(self, tag):
+    def handle_endtag(self, tag: str) -> None:
         if tag == self.where:
             self.where = None
 
-    def handle_data(self, data):
+    def handle_data(self, data: str) -> None:
         self.texts.append(data.strip())
         if self.where == "h2":
             self.heading += data
         if self.where == "td":
             self.tables[self.heading][-1][-1] += data
 
-    def rows_of(self, heading):
+    def rows_of(self, heading: str) -> Any:
         return [row for row in self.tables.get(heading, []) if row]
 
 
 class Browser:
-    def __init__(self, folder, port):
+    def __init__(self, folder: str, port: int) -> None:
         self.folder, self.place = folder, f"http://127.0.0.1:{port}"
 
-    def run(self, *words, path="/", width=WIDE, height=2400, place=None):
-        words = [chromium(), "--headless", "--no-sandbox", "--disable-gpu", "--hide-scrollbars", "--disable-dev-shm-usage",
+    def run(self, *words: str, path: str = "/", width: int = WIDE, height: int = 2400, place: str | None = None) -> str:
+        command = [chromium(), "--headless", "--no-sandbox", "--disable-gpu", "--hide-scrollbars", "--disable-dev-shm-usage",
                  f"--user-data-dir={self.folder}/chromium", f"--window-size={width},{height}", *words, place or self.place + path]
-        return subprocess.run(words, capture_output=True, timeout=SECONDS, check=False).stdout.decode(errors="replace")
+        return subprocess.run(command, capture_output=True, timeout=SECONDS, check=False).stdout.decode(errors="replace")
 
-    def dom(self, path="/", *words):
+    def dom(self, path: str = "/", *words: str) -> str:
         return self.run("--dump-dom", "--virtual-time-budget=6000", *words, path=path)
 
-    def picture(self, name, path, width, height, *words):
+    def picture(self, name: str, path: str, width: int, height: int, *words: str) -> None:
         self.run(f"--screenshot={name}", *words, path=path, width=width, height=height)
 
 
-def point(start, value, attributes):
+def point(start: int, value: int, attributes: dict[str, str]) -> dict[str, Any]:
     return {"startTimeUnixNano": str(start), "timeUnixNano": str(start + 10**9), "asInt": str(value),
             "attributes": [{"key": key, "value": {"stringValue": text}} for key, text in attributes.items()]}
 
 
-def request(name, points, unit="1", resource="shop", temporality=1):
+def request(name: str, points: list[dict[str, Any]], unit: str = "1", resource: dict[str, Any] | str = "shop",
+            temporality: int = 1) -> dict[str, Any]:
     data = {"aggregationTemporality": temporality, "isMonotonic": True, "dataPoints": points}
     resource = {"attributes": [{"key": "service.name", "value": {"stringValue": resource}}]}
     return {"resourceMetrics": [{"resource": resource, "scopeMetrics": [{"scope": {"name": "s"}, "metrics": [
         {"name": name, "unit": unit, "sum": data}]}]}]}
 
 
-def post(service, body, sender="shop-1", path="/v1/metrics"):
+def post(service: Service, body: dict[str, Any] | bytes, sender: str = "shop-1", path: str = "/v1/metrics") -> Sequence[Any]:
     body = body if isinstance(body, bytes) else json.dumps(body).encode()
     return ask(service.listen, "POST", path, body, {"Content-Type": JSON, "x-sender": sender})
 
 
-def post_all(service):
+def post_all(service: Service) -> Any:
     """So many posts of each kind: those that are taken, and those that are not."""
     for step in range(5):
         for route in ("/cart", "/search"):
             post(service, request("http.requests", [point(START + step * 10**9, 1_000_000 + step, {"route": route})], resource=route))
     post(service, request(HOSTILE, [point(START, 7, {HOSTILE: HOSTILE})], HOSTILE, HOSTILE), "shop-2")
-    post(service, in_json([("wait", START, START + 10, ([1, 2, 3, 4], 55))]), "shop-2")
+    post(service, in_json([("wait", START, START + 10, ((1, 2, 3, 4), 55))]), "shop-2")
     foreign = request("c", [point(START, 1, {}), point(START, 2, {})], temporality=2)
     foreign["resourceMetrics"][0]["scopeMetrics"][0]["metrics"].append({"name": "g", "gauge": {"dataPoints": [{}, {}, {}]}})
     answer = post(service, foreign, "shop-2")[1]
@@ -128,23 +137,23 @@ def post_all(service):
     return json.loads(answer)["partialSuccess"], json.loads(other)["message"]
 
 
-def sent(service, path):
+def sent(service: Service, path: str) -> Page:
     """A page as a browser without script has it."""
     return Page(service.asked("GET", path)[1].decode())
 
 
-def grouped(number):
+def grouped(number: int) -> str:
     return f"{number:,}"
 
 
-def look_at_answers(checks, answer, other):
+def look_at_answers(checks: Checks, answer: Any, other: Any) -> None:
     checks.same("what is not taken is counted by cause", ("5", 'points outside the profile: 3 gauges, 2 cumulative sums: see '
                 'docs/OPERATING.md, "Senders"'), (answer["rejectedDataPoints"], answer["errorMessage"]))
     checks.same("another's series is named", "other writer: point 0: `http.requests` {route=/cart} is another sender's: give each "
                 "process its own service.instance.id", other)
 
 
-def look_at_overview(checks, page, how):
+def look_at_overview(checks: Checks, page: Page, how: str) -> None:
     refused = {(row[0], row[1], row[3]) for row in page.rows_of("Refused posts")}
     wanted = {("shop-1", "400", "1"), ("thief", "400", "1"), ("- (who names none)", "400", "1"), ("- (who names none)", "404", "1")}
     checks.same(f"{how}: refusals are by sender and status, with their counts", wanted, refused)
@@ -156,7 +165,7 @@ def look_at_overview(checks, page, how):
                 "- (who names none)": ["0", "2"]}, senders)
 
 
-def look_at_series(checks, browser, database):
+def look_at_series(checks: Checks, browser: Browser, database: str) -> Any:
     page = Page(browser.dom("/series"))
     with contextlib.closing(sqlite3.connect(f"file:{database}?mode=ro", uri=True)) as connection:
         stored = connection.execute("select name, attributes, total, count from totals").fetchall()
@@ -174,7 +183,7 @@ def look_at_series(checks, browser, database):
     return [page, some, one], link
 
 
-def look_at_hours(checks, page, database):
+def look_at_hours(checks: Checks, page: Page, database: str) -> None:
     """A bar an hour, where the sink has hours."""
     with contextlib.closing(sqlite3.connect(f"file:{database}?mode=ro", uri=True)) as connection:
         if not connection.execute("select 1 from sqlite_schema where name = 'by_hour'").fetchone():
@@ -187,7 +196,7 @@ def look_at_hours(checks, page, database):
     checks.same("48 of them are plotted", 48, page.elements.count("rect"))
 
 
-def look_at_safety(checks, service, browser, pages):
+def look_at_safety(checks: Checks, service: Service, browser: Browser, pages: Any) -> None:
     """Of pages as the browser has them, and as they are sent."""
     sent = [service.asked("GET", path)[1] for path in ("/", "/series", "/page.css", "/page.js")]
     checks.true(f"a page is under {MOST_BYTES} bytes with style and script", sum(map(len, sent)) < MOST_BYTES, list(map(len, sent)))
@@ -200,9 +209,9 @@ def look_at_safety(checks, service, browser, pages):
     checks.same("nothing leads or loads elsewhere", [], away)
 
 
-def look_at_rules(checks, service):
+def look_at_rules(checks: Checks, service: Service) -> None:
     """What the address refuses of other pages holds for its own too."""
-    def status(path="/", **headers):
+    def status(path: str = "/", **headers: str) -> bytes | int | None:
         names = {name.replace("_", "-"): value for name, value in headers.items()}
         return ask(service.operate, "GET", path, headers=names)[0]
 
@@ -212,12 +221,12 @@ def look_at_rules(checks, service):
     checks.same("only our own pages lead here, and only to pages", [200, 200, 403, 403, 403, 403, 403, 405], asked)
 
 
-def look_at_script(checks, folder, service):
+def look_at_script(checks: Checks, folder: str, service: Service) -> None:
     """What comes after the page was loaded is shown by its script: a proxy has a sender post before the page is asked for again."""
     class Between(http.server.BaseHTTPRequestHandler):
         asked = 0
 
-        def do_GET(self):
+        def do_GET(self) -> None:
             if self.path == "/":
                 Between.asked += 1
                 if Between.asked == 2:
@@ -233,7 +242,7 @@ def look_at_script(checks, folder, service):
             self.wfile.write(body)
             connection.close()
 
-        def log_message(self, *words):
+        def log_message(self, *words: str) -> None:
             pass
 
     with http.server.ThreadingHTTPServer(("127.0.0.1", 0), Between) as server:
@@ -245,7 +254,7 @@ def look_at_script(checks, folder, service):
     checks.same("the script shows what has come meanwhile", [False, True], senders)
 
 
-def look_at_phone(checks, service, browser, paths):
+def look_at_phone(checks: Checks, service: Service, browser: Browser, paths: list[str]) -> None:
     """The same markup and style in a frame as wide as a phone, which says how wide it is."""
     style = service.asked("GET", "/page.css")[1].decode()
     for path in paths:
@@ -256,22 +265,18 @@ def look_at_phone(checks, service, browser, paths):
         write(f"{browser.folder}/phone.html", "<script>onmessage=(it)=>{document.title=`wide ${it.data}`}</script>"
               f"<iframe src=page.html width={PHONE} height=900 frameborder=0></iframe>")
         shown = browser.run("--dump-dom", "--virtual-time-budget=2000", place=f"file://{browser.folder}/phone.html")
-        checks.same(f"{path.split('=')[0]}: nothing is wider than a phone", [f"{PHONE} of {PHONE}"], re.findall("wide ([0-9]+ of [0-9]+)", shown))
+        checks.same(f"{path.split('=')[0]}: nothing is wider than a phone", [f"{PHONE} of {PHONE}"],
+                    re.findall("wide ([0-9]+ of [0-9]+)", shown))
 
 
-def write(path, text):
-    with open(path, "w", encoding="utf-8") as file:
-        file.write(text)
-
-
-def take_pictures(browser, folder, link):
+def take_pictures(browser: Browser, folder: str, link: Any) -> None:
     for name, path, height in (("overview", "/", 1700), ("series", "/series", 700), ("one", f"/{link}", 900)):
         for mode, words in (("light", LIGHT), ("dark", DARK)):
             browser.picture(f"{folder}/{name}-{WIDE}-{mode}.png", path, WIDE, height, *words)
             browser.picture(f"{folder}/{name}-{PHONE}-{mode}.png", path, PHONE, 2 * height, *words)
 
 
-def run(checks, program, folder, pictures):
+def run(checks: Checks, program: str, folder: str, pictures: str | None) -> None:
     database = f"{folder}/metrics.db"
     service = Service(program, f"{folder}/data", f"sqlite:{database}", "--flush-every", "1h", "--durable", "process", "--cumulative", "off")
     with contextlib.ExitStack() as stack:
@@ -295,7 +300,7 @@ def run(checks, program, folder, pictures):
             take_pictures(browser, pictures, link)
 
 
-def main(program, pictures=None):
+def main(program: str, pictures: str | None = None) -> int:
     checks = Checks()
     if checks.has("the operator's pages", *([] if chromium() else ["chromium"])):
         with tempfile.TemporaryDirectory(prefix="pages-") as folder:

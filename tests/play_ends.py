@@ -13,27 +13,28 @@ import os
 import subprocess
 import sys
 import tempfile
+from typing import Any
 
-from checks import Checks
+from testing.checks import Checks
 
 MOST = 16_777_216
 
 
-def play(program, given, out=subprocess.PIPE):
+def play(program: str, given: bytes | int, out: int = subprocess.PIPE) -> tuple[int, bytes, bytes]:
     """Status, replies and standard error of a run on this input, a file or bytes."""
-    words = {"input": given} if isinstance(given, bytes) else {"stdin": given}
+    words: dict[str, Any] = {"input": given} if isinstance(given, bytes) else {"stdin": given}
     ran = subprocess.run([program], stdout=out, stderr=subprocess.PIPE, check=False, **words)
     return ran.returncode, ran.stdout, ran.stderr
 
 
-def play_closed(program):
+def play_closed(program: str) -> tuple[int, bytes]:
     """The same, with a script and a closed standard output."""
     words = ["sh", "-c", 'exec "$0" >&-', program]
     ran = subprocess.run(words, input=b"report\n", stderr=subprocess.PIPE, check=False)
     return ran.returncode, ran.stderr
 
 
-def main(program):
+def main(program: str) -> int:
     checks = Checks()
     checks.same("closed output", (1, b"play: cannot write\n"), play_closed(program))
     too_long = (1, b"", b"play: input too long\n")

@@ -16,11 +16,14 @@ import random
 import re
 import subprocess
 import sys
+from collections.abc import Callable, Iterable, Iterator, Sized
 
 I64, U64 = 2**63 - 1, 2**64 - 1
 # Of a store: series, open batches, live flushes, quarantined senders, entries of a round.
 SERIES, BATCHES, FLUSHES, SENDERS, ENTRIES = 10_000, 1024, 64, 1000, 65_536
 NAME = re.compile(r"[A-Za-z0-9._-]{1,64}")
+# How often it was added, and what was added and taken away.
+Words = list[int]
 ZERO = [0, 0, 0]
 
 
@@ -32,40 +35,41 @@ class Bad(Exception):
     """A line that is no command."""
 
 
-def require(holds, why):
+def require(holds: bool, why: str) -> None:
     if not holds:
         raise Refused(why)
 
 
-def added(rows):
+def added(rows: Iterable[Words]) -> Words:
     return [sum(words) for words in zip(ZERO, *rows)]
 
 
 class Point:
-    def __init__(self, batch, start, end, row):
+    def __init__(self, batch: int, start: int, end: int, row: Words) -> None:
         self.batch, self.start, self.end, self.row = batch, start, end, row
-        self.place = "home"  # or the number of its flush, "acknowledged", "dropped"
+        self.place: int | str = "home"  # or the number of its flush, "acknowledged", "dropped"
 
 
 class Series:
-    def __init__(self, owner):
-        self.owner, self.points = owner, []
+    def __init__(self, owner: str) -> None:
+        self.owner = owner
+        self.points: list[Point] = []
         self.began = 0  # where it ended when the round began
-        self.past = None  # what earlier rounds acknowledged and dropped, where it is older than the round
+        self.past: list[Words] = None  # what earlier rounds acknowledged and dropped, where it is older than the round
 
-    def frontier(self):
+    def frontier(self) -> int:
         return max([self.began, *(it.end for it in self.points)])
 
-    def home(self):
+    def home(self) -> list[Point]:
         return [it for it in self.points if it.place == "home"]
 
-    def at(self, *places):
+    def at(self, *places: int | str) -> Words:
         return added(it.row for it in self.points if it.place in places)
 
-    def accepted(self):
+    def accepted(self) -> Words:
         return added(it.row for it in self.points)
 
-    def begin_round(self):
+    def begin_round(self) -> None:
         self.began = self.frontier()
         past = self.past or [ZERO, ZERO]
         self.past = [added([before, self.at(place)]) for before, place in zip(past, ("acknowledged", "dropped"))]
@@ -74,23 +78,27 @@ class Series:
 
 
 class Store:
-    def __init__(self):
-        self.series, self.open, self.live, self.held = {}, {}, {}, set()
+    def __init__(self) -> None:
+        self.series: dict[str, Series] = {}
+        self.open: dict[int, list[Point]] = {}
+        self.live: dict[int, list[str]] = {}
+        self.held: set[str] = set()
         self.batches = self.flushes = self.entries = 0
         self.round = 1
 
-    def sorted(self):
+    def sorted(self) -> list[tuple[str, Series]]:
         return sorted(self.series.items())
 
-    def require_room(self, ended_later, limit):
+    def require_room(self, ended_later: Sized, limit: int) -> None:
         """An entry for what is begun, one for its end, and one for the end of all else that was begun."""
         owed = len(self.open) + len(self.live) + len(self.held)
         require(len(ended_later) < limit and self.entries + owed + 2 <= ENTRIES, "full")
 
-    def admit(self, sender, points):
+    def admit(self, sender: str, points: list[tuple[str, int, int, Words]]) -> str:
         require(sender not in self.held, "quarantined")
         self.require_room(self.open, BATCHES)
-        frontiers, rows = {}, {}
+        frontiers: dict[str, int] = {}
+        rows: dict[str, Words] = {}
         for i, (name, start, end, row) in enumerate(points):
             there = self.series.get(name)
             require(not there or there.owner == sender, f"other-writer {i}")
@@ -107,13 +115,13 @@ class Store:
             self.series.setdefault(name, Series(sender)).points.append(point)
         return f"batch {self.batches}"
 
-    def confirm(self, batch):
+    def confirm(self, batch: int) -> str:
         require(batch in self.open, "not-open")
         self.entries += 1
         del self.open[batch]
         return f"confirmed {batch}"
 
-    def undo(self, batch):
+    def undo(self, batch: int) -> str:
         require(batch in self.open, "not-open")
         require(all(it.place == "home" for it in self.open[batch]), "taken")
         self.confirm(batch)
@@ -123,7 +131,7 @@ class Store:
                 del self.series[name]
         return f"undone {batch}"
 
-    def take(self, most):
+    def take(self, most: int) -> tuple[int, list[tuple[str, int, int, Words]]] | None:
         """The flush and its points, or nothing."""
         flying = {name for names in self.live.values() for name in names}
         names = [name for name, it in self.sorted() if it.home() and it.owner not in self.held and name not in flying]
@@ -141,7 +149,7 @@ class Store:
                 point.place = self.flushes
         return self.flushes, taken
 
-    def end(self, flush, place):
+    def end(self, flush: int, place: str) -> str:
         require(flush in self.live, "not-live")
         self.entries += 1
         for name in self.live.pop(flush):
@@ -149,20 +157,20 @@ class Store:
                 point.place = place if point.place == flush else point.place
         return {"acknowledged": "settled", "dropped": "dropped", "home": "returned"}[place] + f" {flush}"
 
-    def hold(self, sender):
+    def hold(self, sender: str) -> str:
         require(sender not in self.held, "already")
         self.require_room(self.held, SENDERS)
         self.entries += 1
         self.held.add(sender)
         return f"held {sender}"
 
-    def lift(self, sender):
+    def lift(self, sender: str) -> str:
         require(sender in self.held, "not-held")
         self.entries += 1
         self.held.remove(sender)
         return f"lifted {sender}"
 
-    def next_round(self):
+    def next_round(self) -> str:
         require(not self.open, "batch-open")
         require(not self.live, "flush-live")
         self.entries = 0
@@ -172,11 +180,11 @@ class Store:
         return f"round {self.round}"
 
 
-def words(row):
+def words(row: Words) -> str:
     return ",".join(map(str, row))
 
 
-def report(store):
+def report(store: Store) -> Iterator[str]:
     for name, it in store.sorted():
         home = words(it.at("home"))
         stored, quarantined = (words(ZERO), home) if it.owner in store.held else (home, words(ZERO))
@@ -186,14 +194,14 @@ def report(store):
     yield "end"
 
 
-def past(store):
+def past(store: Store) -> Iterator[str]:
     for name, it in store.sorted():
         if it.past:
             yield f"past {name} sum acknowledged {words(it.past[0])} dropped {words(it.past[1])}"
     yield "end"
 
 
-def forwarded(points):
+def forwarded(points: list[tuple[str, int, int, Words]]) -> str:
     """The request of a flush. All have one resource and one scope, without attributes or a name."""
     metrics = [{"name": name, "unit": "", "sum": {"aggregationTemporality": 1, "isMonotonic": False, "dataPoints": [{
         "asInt": str(row[1] - row[2]), "attributes": [], "startTimeUnixNano": str(start), "timeUnixNano": str(end),
@@ -203,19 +211,19 @@ def forwarded(points):
     return json.dumps({"resourceMetrics": [resource]}, separators=(",", ":"), sort_keys=True)
 
 
-def number(word, least=0, most=U64):
+def number(word: str, least: int = 0, most: int = U64) -> int:
     if not re.fullmatch("-?[0-9]+" if least < 0 else "[0-9]+", word) or not least <= int(word) <= most:
         raise Bad
     return int(word)
 
 
-def named(word):
+def named(word: str) -> str:
     if not NAME.fullmatch(word):
         raise Bad
     return word
 
 
-def admit(store, sender, *words_of_points):
+def admit(store: Store, sender: str, *words_of_points: str) -> list[str]:
     if not words_of_points or len(words_of_points) % 4:
         raise Bad
     four = zip(*[iter(words_of_points)] * 4)
@@ -227,7 +235,7 @@ def admit(store, sender, *words_of_points):
     return [store.admit(sender, [(a, b, c, [1, max(value, 0), max(-value, 0)]) for a, b, c, value in points])]
 
 
-def take(store, most, *, wire=False):
+def take(store: Store, most: str, *, wire: bool = False) -> list[str]:
     flush = store.take(number(most, 1, 1000))
     if not flush:
         return ["nothing"]
@@ -237,19 +245,19 @@ def take(store, most, *, wire=False):
     return [f"flush {flush[0]} points {len(points)}", *points]
 
 
-def answer(store, flush, status, retry=None):
+def answer(store: Store, flush: str, status: str, retry: str | None = None) -> list[str]:
     """What the back end's answer does to the flush; a third word is the value of Retry-After."""
-    flush = number(flush)
-    status = 0 if status == "none" and retry is None else number(status, 0, 65_535)
+    which = number(flush)
+    code = 0 if status == "none" and retry is None else number(status, 0, 65_535)
     if retry == "":
         raise Bad
-    again = status in (429, 502, 503, 504)
-    place = "acknowledged" if 200 <= status <= 299 else "dropped" if 400 <= status <= 599 and not again else "home"
-    knows = status in (429, 503) and re.fullmatch("[0-9]+", retry or "") and int(retry) <= U64
-    return [store.end(flush, place) + (f" after {int(retry)}" if knows else "")]
+    again = code in (429, 502, 503, 504)
+    place = "acknowledged" if 200 <= code <= 299 else "dropped" if 400 <= code <= 599 and not again else "home"
+    knows = code in (429, 503) and re.fullmatch("[0-9]+", retry or "") and int(retry) <= U64
+    return [store.end(which, place) + (f" after {int(retry)}" if knows else "")]
 
 
-COMMANDS = {
+COMMANDS: dict[str, Callable[..., list[str]]] = {
     "admit": admit,
     "take": take,
     "wire": lambda store, most: take(store, most, wire=True),
@@ -268,7 +276,7 @@ COMMANDS = {
 
 
 @functools.cache
-def takes(command, count):
+def takes(command: Callable[..., list[str]], count: int) -> bool:
     """Whether it has so many words behind it."""
     try:
         return bool(inspect.signature(command).bind(None, *[None] * count))
@@ -276,7 +284,7 @@ def takes(command, count):
         return False
 
 
-def replies(script):
+def replies(script: list[str]) -> Iterator[list[str]]:
     """The reply of each line."""
     store = Store()
     for line in script:
@@ -297,7 +305,7 @@ class Draw:
     RETRIES = ("", "", " 2", " 0", " 007", f" {U64}", f" {U64 + 1}", " soon", " none", " -1", " ")
     BROKEN = ("", " ", "0", "-", "x", "\t", "\r", "/", "a" * 65, str(U64 + 1), "-5", "none", "\x80")
 
-    def __init__(self, seed):
+    def __init__(self, seed: str) -> None:
         self.of = random.Random(seed)
         self.senders = self.of.sample(["A", "B", "-", "s" * 64], self.of.randint(1, 3))
         self.names = self.of.sample(["x", "y", "a.b", "Z_0", "n" * 64], self.of.randint(1, 4))
@@ -306,7 +314,7 @@ class Draw:
         self.batches = self.flushes = 1
         self.large = self.of.choice([0, 0, 0.1, 0.5])
 
-    def point(self, name):
+    def point(self, name: str) -> str:
         start = max(0, self.time + self.of.choice([0] * 8 + [1, -1]))
         end = min(start + self.of.choice([1] * 8 + [2, 3, 0]), U64)
         self.time = max(self.time, end)
@@ -314,17 +322,17 @@ class Draw:
         value = self.of.choice([0, I64, I64 - 1, -I64, 2**62, -(2**63)]) if large else self.of.randint(-9, 9)
         return f"{name} {start} {end} {value}"
 
-    def admit(self):
+    def admit(self) -> str:
         self.batches += 1
         sender = self.of.choice(self.senders)
         names = [it for it in self.names if self.owners[it] == sender or self.of.random() < 0.1]
         count = self.of.choice([1, 1, 2, 4])
         return " ".join(["admit", sender, *(self.point(self.of.choice(names)) for _ in range(count) if names)])
 
-    def recent(self, given):
+    def recent(self, given: int) -> int:
         return max(0, given - self.of.choice([0, 1, 1, 2, 2, 3, 5]))
 
-    def line(self):
+    def line(self) -> str:
         drawn = self.of.random()
         if drawn < 0.35:
             return self.admit()
@@ -341,16 +349,16 @@ class Draw:
             return f"{self.of.choice(['hold', 'lift', 'lift'])} {self.of.choice(self.senders)}"
         return self.of.choice(["report", "past", "round"])
 
-    def broken(self, line):
+    def broken(self, line: str) -> str:
         at = self.of.randint(0, len(line))
         return line[:at] + self.of.choice(self.BROKEN) + line[at + self.of.choice([0, 0, 1, 2]):]
 
-    def end_of_round(self):
+    def end_of_round(self) -> list[str]:
         ends = [f"{self.of.choice(['ok', 'back', 'drop'])} {flush}" for flush in range(1, self.flushes + 9)]
         return [*ends, *(f"confirm {batch}" for batch in range(1, self.batches + 1)), "report", "round", "past"]
 
-    def history(self):
-        script = []
+    def history(self) -> list[str]:
+        script: list[str] = []
         for _ in range(self.of.randint(5, 100)):
             line = self.line()
             script.append(self.broken(line) if self.of.random() < 0.05 else line)
@@ -358,7 +366,7 @@ class Draw:
                 script += self.end_of_round()
         return [*script, "report", "past"]
 
-    def limits(self):
+    def limits(self) -> list[str]:
         """Up to a limit of the store and over it, and then anything."""
         near = self.of.choice([-1, 0, 1])
         points = [f"n{i} 1 2 1" for i in range(SERIES + near)]
@@ -373,7 +381,7 @@ class Draw:
         return [*begun, *(self.line() for _ in range(60)), "report"]
 
 
-def fault(program, script):
+def fault(program: str, script: list[str]) -> str | None:
     """What is wrong with the program's replies, if anything is."""
     ran = subprocess.run([program], input="\n".join(script).encode("latin-1"), capture_output=True, check=False)
     found = ran.stdout.decode("latin-1").splitlines(keepends=True)
@@ -385,7 +393,7 @@ def fault(program, script):
     return f"{found[:3]} behind the last reply, {ran}" if found or ran.stderr or ran.returncode else None
 
 
-def main(program, count=300, seed=1):
+def main(program: str, count: int = 300, seed: int = 1) -> int:
     failed = 0
     for script in range(count):
         drawn = Draw(f"{seed} {script}")

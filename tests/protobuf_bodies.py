@@ -14,6 +14,7 @@ its values, buckets and sums added up here.
 It needs python3-protobuf; where that is missing a line says so, and the status is 77. Each other line is one check;
 the last one counts those that passed and failed, and the status is 1 where one failed.
 """
+import contextlib
 import gzip
 import importlib.util
 import json
@@ -21,19 +22,22 @@ import os
 import random
 import sys
 import tempfile
+from typing import Any
 
 # Debian's package is for Debian's Python.
 if importlib.util.find_spec("google") is None and os.path.realpath(sys.executable) != os.path.realpath("/usr/bin/python3"):
     os.execv("/usr/bin/python3", ["/usr/bin/python3", *sys.argv])
 
-from loopback import BackEnd
-from service import JSON, PROTOBUF, OtlpSink, Service, ask, wait_until
-from shipped import flush_all, gateway_at, run_script
+from testing.checks import Checks
+from testing.loopback import BackEnd
+from testing.service import JSON, PROTOBUF, OtlpSink, Service, ask, wait_until
+from testing.shipped import flush_all, gateway_at, run_script
 
 try:
     from google.protobuf import descriptor_pb2, descriptor_pool, json_format, message_factory
+    HAS_LIBRARY = True
 except ImportError:
-    descriptor_pb2 = None
+    HAS_LIBRARY = False
 
 ROUNDS = 120
 SEED = 20_231
@@ -71,7 +75,7 @@ TEMPORALITIES = ["UNSPECIFIED", "DELTA", "CUMULATIVE"]
 DELTA, CUMULATIVE = 1, 2
 
 
-def add_field(message, words):
+def add_field(message: Any, words: str) -> None:
     """A field by its line in MESSAGES."""
     name, number, kind, how = words.split()
     field = message.field.add(name=name, number=int(number))
@@ -91,7 +95,7 @@ def add_field(message, words):
         field.oneof_index = [oneof.name for oneof in message.oneof_decl].index(how)
 
 
-def definitions():
+def definitions() -> Any:
     """The messages as a file of definitions."""
     file = descriptor_pb2.FileDescriptorProto(name="otlp.proto", package="otlp", syntax="proto3")
     enum = file.enum_type.add(name="AggregationTemporality")
@@ -104,7 +108,13 @@ def definitions():
     return file
 
 
-def message_classes():
+def file_of_definitions() -> bytes:
+    """The messages as `protoc` would write them."""
+    whole: bytes = descriptor_pb2.FileDescriptorSet(file=[definitions()]).SerializeToString()
+    return whole
+
+
+def message_classes() -> dict[str, Any]:
     """The class of each message."""
     pool = descriptor_pool.DescriptorPool()
     pool.Add(definitions())
@@ -115,7 +125,7 @@ def message_classes():
 TEXTS = ["", "a", "service.name", "µs/ß", "😀 and \u0000", 'quote " and \\', "\u2028 line", "x" * 300]
 
 
-def fill_value(chance, value, deep=True):
+def fill_value(chance: random.Random, value: Any, deep: bool = True) -> None:
     """A value of the profile."""
     kind = chance.randrange(6 if deep else 4)
     if kind == 1:
@@ -130,7 +140,7 @@ def fill_value(chance, value, deep=True):
             fill_value(chance, value.array_value.values.add(), False)
 
 
-def fill_attributes(chance, attributes, first=None):
+def fill_attributes(chance: random.Random, attributes: Any, first: int | None = None) -> None:
     """A few attributes with keys that differ."""
     for key in chance.sample(TEXTS, chance.randrange(4)):
         entry = attributes.add(key=key)
@@ -139,7 +149,7 @@ def fill_attributes(chance, attributes, first=None):
         attributes.add(key="round").value.int_value = first
 
 
-def value_of(value):
+def value_of(value: Any) -> tuple[Any, Any]:
     """What identifies of a value."""
     kind = value.WhichOneof("value")
     if kind == "array_value":
@@ -147,11 +157,11 @@ def value_of(value):
     return kind, kind and getattr(value, kind)
 
 
-def attributes_of(attributes):
+def attributes_of(attributes: Any) -> frozenset[Any]:
     return frozenset((entry.key, value_of(entry.value)) for entry in attributes)
 
 
-def fill_point(chance, metric, start, whole):
+def fill_point(chance: random.Random, metric: Any, start: int, whole: bool) -> bool:
     """A point of the metric; whether it is of the profile, where doubles are written as whole numbers or not."""
     data = getattr(metric, metric.WhichOneof("data"))
     point = data.data_points.add(start_time_unix_nano=start, time_unix_nano=start + chance.randrange(1, 10))
@@ -179,7 +189,7 @@ def fill_point(chance, metric, start, whole):
     return good and data.aggregation_temporality == DELTA
 
 
-def fill_metric(chance, metric, number):
+def fill_metric(chance: random.Random, metric: Any, number: int) -> None:
     metric.name, metric.unit = f"m{number}", chance.choice(["", "1", "µs"])
     metric.description = chance.choice(TEXTS)
     kind = chance.choice(["sum", "sum", "histogram", "histogram", "gauge"])
@@ -190,9 +200,10 @@ def fill_metric(chance, metric, number):
         metric.sum.is_monotonic = chance.random() < 0.5
 
 
-def fill_request(chance, request, number, start, whole):
+def fill_request(chance: random.Random, request: Any, number: int, start: int, whole: bool) -> tuple[list[Any], int]:
     """A request, as a list of its points of the profile as they are forwarded, and how many others it has."""
-    points, foreign = [], 0
+    points: list[Any] = []
+    foreign = 0
     for which in range(chance.randrange(1, 3)):
         group = request.resource_metrics.add(schema_url=chance.choice(TEXTS))
         fill_attributes(chance, group.resource.attributes, 1000 * number + which)
@@ -212,7 +223,7 @@ def fill_request(chance, request, number, start, whole):
     return points, foreign
 
 
-def later(request, shift, points):
+def later(request: Any, shift: int, points: list[Any]) -> list[Any]:
     """The same points, that much later."""
     for group in request.resource_metrics:
         for part in group.scope_metrics:
@@ -223,7 +234,7 @@ def later(request, shift, points):
     return [(series, (start + shift, end + shift), value) for series, (start, end), value in points]
 
 
-def point_of(group, part, metric, place):
+def point_of(group: Any, part: Any, metric: Any, place: int) -> tuple[Any, Any, Any]:
     """What a point of the profile is forwarded by: its series, its span, and its value or (buckets, sum)."""
     kind = metric.WhichOneof("data")
     data = getattr(metric, kind)
@@ -239,9 +250,9 @@ def point_of(group, part, metric, place):
     return series, (point.start_time_unix_nano, point.time_unix_nano), value
 
 
-def added(points):
+def added(points: list[Any]) -> dict[Any, Any]:
     """One point a series: over all spans, of all values."""
-    found = {}
+    found: dict[Any, Any] = {}
     for series, (start, end), value in points:
         if series not in found:
             found[series] = (start, end), value
@@ -256,7 +267,7 @@ def added(points):
     return found
 
 
-def whole_numbers(value):
+def whole_numbers(value: Any) -> Any:
     """The JSON value with whole doubles as whole numbers."""
     if isinstance(value, dict):
         return {name: whole_numbers(one) for name, one in value.items()}
@@ -265,7 +276,7 @@ def whole_numbers(value):
     return int(value) if isinstance(value, float) and value.is_integer() else value
 
 
-def written(request, how):
+def written(request: Any, how: str) -> tuple[str, bytes]:
     """The kind and the bytes of a request."""
     if how == "protobuf":
         return PROTOBUF, request.SerializeToString()
@@ -281,16 +292,16 @@ class Alone:
     writings = ("JSON", "JSON with whole numbers")
     packs = False
 
-    def __init__(self, stack, gateway):
+    def __init__(self, stack: contextlib.ExitStack, gateway: str) -> None:
         self.back_end = BackEnd()
         stack.callback(self.back_end.close)
         self.port = gateway_at(stack, gateway, self.back_end.port).port
 
-    def reads(self, how):
+    def reads(self, how: str) -> bool:
         """Whether whole doubles are read as they are written so."""
         return how == "JSON with whole numbers"
 
-    def forwarded(self, message):
+    def forwarded(self, message: Any) -> list[Any]:
         """What one flush forwards. Unknown names and wrong types are refused."""
         self.back_end.bodies.clear()
         flush_all(self.port)
@@ -303,7 +314,7 @@ class Served:
     writings = ("protobuf", "JSON", "JSON with whole numbers", "JSON with the names of the definitions")
     packs = True
 
-    def __init__(self, stack, totxegun):
+    def __init__(self, stack: contextlib.ExitStack, totxegun: str) -> None:
         self.sink = OtlpSink()
         stack.callback(self.sink.close)
         data = stack.enter_context(tempfile.TemporaryDirectory(prefix="bodies-"))
@@ -317,18 +328,18 @@ class Served:
         self.service.order("/flush")  # the first one is due at once
         self.port = self.service.listen
 
-    def reads(self, how):
+    def reads(self, how: str) -> bool:
         return True
 
-    def forwarded(self, message):
+    def forwarded(self, message: Any) -> list[Any]:
         self.sink.taken.clear()
         if self.service.order("/flush") != 200 or not wait_until(self.service.is_drained):
             raise OSError(f"what was flushed is not delivered: {self.service.last_lines()}")
         return [message.FromString(body) for body in self.sink.taken.values()]
 
 
-def points_in(requests):
-    found = []
+def points_in(requests: list[Any]) -> list[Any]:
+    found: list[Any] = []
     for request in requests:
         for group in request.resource_metrics:
             for part in group.scope_metrics:
@@ -340,19 +351,21 @@ def points_in(requests):
     return found
 
 
-def rejected(response, kind, text):
+def rejected(response: Any, kind: str, text: bytes) -> int:
     """How many points the answer counts as rejected."""
     said = response.FromString(text) if kind == PROTOBUF else json_format.Parse(text, response(), ignore_unknown_fields=False)
-    return said.partial_success.rejected_data_points
+    return int(said.partial_success.rejected_data_points)
 
 
-def one_round(classes, checks, party, number):
+def one_round(classes: dict[str, Any], checks: Checks, party: Alone | Served, number: int) -> tuple[int, int]:
     """Requests of one kind of writing, posted one after another, and the flush of them."""
     chance = random.Random(SEED + number)
     how = party.writings[number % len(party.writings)]
     request = classes["ExportMetricsServiceRequest"]()
     points, foreign = fill_request(chance, request, number, 10**18, party.reads(how))
-    wanted, answers, alike = [], [], []
+    wanted: list[Any] = []
+    answers: list[object] = []
+    alike: list[object] = []
     for post in range(chance.randrange(1, 4)):
         if post:
             points = later(request, 10**6, points)
@@ -372,17 +385,17 @@ def one_round(classes, checks, party, number):
     return len(added(wanted)), foreign
 
 
-def differences(wanted, found):
+def differences(wanted: dict[Any, Any], found: dict[Any, Any]) -> object:
     """The first of the series that differ."""
     return next(((series, wanted.get(series), found.get(series)) for series in {**wanted, **found}
                  if wanted.get(series) != found.get(series)), "a series is forwarded twice")
 
 
-def work(program, checks, stack):
-    if not checks.has("all", *([] if descriptor_pb2 else ["python3-protobuf"])):
+def work(program: str, checks: Checks, stack: contextlib.ExitStack) -> None:
+    if not checks.has("all", *([] if HAS_LIBRARY else ["python3-protobuf"])):
         return
     classes = message_classes()
-    party = (Alone if sys.argv[2:] == ["gateway"] else Served)(stack, program)
+    party: Alone | Served = Alone(stack, program) if sys.argv[2:] == ["gateway"] else Served(stack, program)
     counts = [one_round(classes, checks, party, number) for number in range(ROUNDS)]
     checks.same("series and foreign points were there", (True, True),
                 (sum(count for count, _ in counts) > ROUNDS, sum(foreign for _, foreign in counts) > ROUNDS))

@@ -3,10 +3,10 @@
 
     tests/queries.py PROGRAM [SERIES [DAYS]]
 
-So many days (35) of hours of so many series (250), up to the end of November, are put into a SQLite file and a PostgreSQL database whose schemas the program
-has made; what each statement gives is compared with plain sums of the same numbers. The time of each statement is shown.
-Then the example is done as the page has it: its commands and statements, with shops that post. PostgreSQL is left out
-where there is none.
+So many days (35) of hours of so many series (250), up to the end of November, are put into a SQLite file and a PostgreSQL
+database whose schemas the program has made; what each statement gives is compared with plain sums of the same numbers. The time
+of each statement is shown. Then the example is done as the page has it: its commands and statements, with shops that post.
+PostgreSQL is left out where there is none.
 
 Each line is one check; the last line counts those that passed and failed, and the status is 0 where none failed.
 """
@@ -22,13 +22,13 @@ import subprocess
 import sys
 import tempfile
 import time
+from collections.abc import Callable, Iterator, Sequence
+from typing import Any
 
-ROOT = os.path.dirname(os.path.dirname(os.path.abspath(__file__)))
-sys.path.insert(1, f"{ROOT}/demo")
-
-from checks import Checks  # noqa: E402
-from parts import Database, initdb  # noqa: E402
-from service import JSON, Service, ask  # noqa: E402
+from testing import ROOT
+from testing.checks import Checks
+from testing.database import Database, initdb
+from testing.service import JSON, Service, ask
 
 NAMES = ("shop.revenue", "shop.orders", "shop.visits", "shop.wait", "shop.items")
 WAIT = NAMES.index("shop.wait")
@@ -47,7 +47,7 @@ HOURS = range(int(FIRST.timestamp()) // 3600, int(FIRST.timestamp()) // 3600 + D
 class Series:
     """What the series of this number is, and what it counted in each hour."""
 
-    def __init__(self, number):
+    def __init__(self, number: int) -> None:
         self.number = number
         self.name = NAMES[number % len(NAMES)]
         place = number // len(NAMES)
@@ -57,10 +57,10 @@ class Series:
         self.attributes = {"customer": self.customer, "shop": self.shop}
         self.resource = {"service.instance.id": self.instance, "service.name": "shop"}
 
-    def value(self, hour):
+    def value(self, hour: int) -> int:
         return (self.number * 7919 + hour * 104729 + self.number % 89 * hour) % 9973
 
-    def buckets(self, hour):
+    def buckets(self, hour: int) -> list[int]:
         """The higher the fewer, in some series and on some days more than in others."""
         fewer = self.number % 4 + hour // 24 % 3 * 4
         return [(self.number + hour * 3 + place * 4) % 11 // (1 + place * fewer // 2) for place in range(len(BOUNDS) + 1)]
@@ -72,22 +72,22 @@ BUCKETS = [f"((n + h * 3 + {place} * 4) % 11 / (1 + {place} * (n % 4 + h / 24 % 
 COUNT = "(" + " + ".join(BUCKETS) + ")"
 
 
-def at(hour):
+def at(hour: int) -> datetime.datetime:
     return datetime.datetime.fromtimestamp(hour * 3600, UTC)
 
 
-def month_of(day):
+def month_of(day: int) -> int:
     """Since 1970."""
     date = datetime.date(1970, 1, 1) + datetime.timedelta(day)
     return (date.year - 1970) * 12 + date.month - 1
 
 
-def page():
+def page() -> str:
     with open(f"{ROOT}/docs/QUERIES.md", encoding="utf-8") as file:
         return file.read()
 
 
-def made(program, folder, sink):
+def made(program: str, folder: str, sink: str) -> None:
     """A sink as a start of the program makes it."""
     service = Service(program, f"{folder}/data", sink)
     service.start()
@@ -97,10 +97,10 @@ def made(program, folder, sink):
         raise RuntimeError(f"the service has not made {sink}: {service.last_lines()}")
 
 
-def statements():
+def statements() -> dict[int, dict[str, str]]:
     """Of each question, what each database is asked."""
     parts = re.split(r"^## (\d+)\. .*$", page().partition(EXAMPLE)[0], flags=re.M)[1:]
-    questions = {}
+    questions: dict[int, dict[str, str]] = {}
     for number, text in zip(parts[::2], parts[1::2]):
         found = re.findall(r"(?:^(SQLite|PostgreSQL):\n\n)?^```sql\n(.*?)^```$", text, flags=re.M | re.S)
         both = {which: sql for which, sql in found if which}
@@ -114,7 +114,7 @@ select hour, sum(total) as total, sum(billed) as billed from by_hour
 where name = 'shop.revenue' and hour >= '2026-11-01' and hour < '2026-12-01' group by hour order by hour"""
 
 
-def asked():
+def asked() -> dict[int, dict[str, str]]:
     """Of each question, and of number 0."""
     return statements() | {0: {"SQLite": MONTH_BY_HOUR, "PostgreSQL": MONTH_BY_HOUR}}
 
@@ -122,24 +122,24 @@ def asked():
 class Plain:
     """What comes out by plain sums."""
 
-    def __init__(self, series):
+    def __init__(self, series: range) -> None:
         self.series = [Series(number) for number in series]
 
-    def of(self, name):
+    def of(self, name: str) -> list[Series]:
         return [one for one in self.series if one.name == name]
 
-    def november(self):
+    def november(self) -> list[int]:
         return [hour for hour in HOURS if NOVEMBER[0] <= at(hour) < NOVEMBER[1]]
 
-    def sums(self, name, hours, key):
+    def sums(self, name: str, hours: list[int], key: Callable[[Series, int], Any]) -> collections.Counter[Any]:
         """By what `key` says of a series and an hour."""
-        sums = collections.Counter()
+        sums: collections.Counter[Any] = collections.Counter()
         for one in self.of(name):
             for hour in hours:
                 sums[key(one, hour)] += one.value(hour)
         return sums
 
-    def answers(self):
+    def answers(self) -> Iterator[tuple[int, list[Any]]]:
         november = self.november()
         hours = self.sums("shop.revenue", november, lambda _, hour: hour)
         yield 0, [(at(hour).strftime("%Y-%m-%d %H:00"), total, total) for hour, total in sorted(hours.items())]
@@ -161,10 +161,10 @@ class Plain:
         yield 9, self.greatest_first(self.sums("shop.orders", november, lambda one, _: one.instance))
 
     @staticmethod
-    def greatest_first(sums):
+    def greatest_first(sums: dict[Any, int]) -> list[tuple[Any, int]]:
         return sorted(sums.items(), key=lambda row: (-row[1], row[0]))
 
-    def one_day(self):
+    def one_day(self) -> list[tuple[str, str, int]]:
         day = [hour for hour in HOURS if at(hour).date() == datetime.date(2026, 11, 15)]
         rows = []
         for name in NAMES:
@@ -172,33 +172,34 @@ class Plain:
             rows += [(at(hour).strftime("%Y-%m-%d %H:00"), name, sum(one.value(hour) for one in of_one)) for hour in day if of_one]
         return sorted(rows)
 
-    def quantiles(self, hours, key):
-        sums = collections.defaultdict(lambda: [0] * (len(BOUNDS) + 1))
+    def quantiles(self, hours: Sequence[int], key: Callable[[Series, int], Any]) -> list[tuple[Any, int | None]]:
+        sums: dict[Any, list[int]] = collections.defaultdict(lambda: [0] * (len(BOUNDS) + 1))
         for one in self.of("shop.wait"):
             for hour in hours:
                 sums[key(one, hour)] = [a + b for a, b in zip(sums[key(one, hour)], one.buckets(hour))]
         return [(of, self.quantile(buckets)) for of, buckets in sorted(sums.items())]
 
     @staticmethod
-    def quantile(buckets):
+    def quantile(buckets: list[int]) -> int | None:
         so_far = 0
         for bound, count in zip((*BOUNDS, None), buckets):
             so_far += count
             if so_far * 20 >= sum(buckets) * 19:
                 return bound
+        return None
 
 
 class Lite:
     """A SQLite file of the program, filled by SQL."""
 
-    def __init__(self, program, folder, count):
+    def __init__(self, program: str, folder: str, count: int) -> None:
         made(program, folder, f"sqlite:{folder}/metrics.db")
         self.file = sqlite3.connect(f"{folder}/metrics.db", isolation_level=None)
         self.file.executescript("pragma journal_mode = off; pragma synchronous = off; pragma temp_store = memory")
         self.file.execute("begin")
         self.series(count)
         self.hours(count)
-        self.file.create_aggregate("added", 1, Added)
+        self.file.create_aggregate("added", 1, Added)  # type: ignore[arg-type]
         self.file.create_function("month_of", 1, month_of, deterministic=True)
         for day in range(HOURS[0] // 24, HOURS[-1] // 24 + 1):
             self.longer("day", str(day), f"hour where hour between {day * 24} and {day * 24 + 23}")
@@ -208,7 +209,7 @@ class Lite:
         self.late()
         self.file.execute("commit")
 
-    def series(self, count):
+    def series(self, count: int) -> None:
         rows = [
             (
                 one.number, one.name, "1", one.kind, json.dumps(list(BOUNDS) if one.kind == "histogram" else []),
@@ -220,7 +221,7 @@ class Lite:
         metrics = [(place + 1, name, "histogram" if place == WAIT else "monotonic") for place, name in enumerate(NAMES)]
         self.file.executemany("insert into metric values (?, ?, ?, '1')", metrics)
 
-    def hours(self, count):
+    def hours(self, count: int) -> None:
         """An hour after the other, as they are taken."""
         bucket_list = "'[' || " + " || ',' || ".join(BUCKETS) + " || ']'"
         for hour in HOURS:
@@ -236,24 +237,24 @@ class Lite:
             from hour group by 1, 2"""
         )
 
-    def longer(self, unit, time_of, rows):
+    def longer(self, unit: str, time_of: str, rows: str) -> None:
         self.file.execute(
             f"""insert into {unit} select {time_of}, metric, series, sum(points), 0, sum(total_low), 0, sum(count_low), 0, added(buckets), 0
             from {rows} group by 1, 2, 3"""
         )
 
-    def written(self):
+    def written(self) -> None:
         for unit, date in (("day", "date(day * 86400, 'unixepoch')"), ("month", "date('1970-01-01', '+' || month || ' months')")):
             self.file.execute(f"insert into utc_{unit} select {unit}, {date} from (select distinct {unit} from {unit})")
 
-    def totals(self):
+    def totals(self) -> None:
         self.file.execute(
             """insert into series_total select series, sum(points), 1, ?, 0, sum(total_low), 0, sum(count_low), 0, added(buckets), 0
             from month group by series""",
             (HOURS[-1] * 3_600_000_000_000,),
         )
 
-    def late(self):
+    def late(self) -> None:
         """A flush each ten seconds, with a span; some came hours later."""
         first = max(HOURS[0], HOURS[-1] + 1 - DAYS_OF_SPANS * 24)
         seconds = range(first * 3600, HOURS[-1] * 3600, 10)
@@ -265,7 +266,7 @@ class Lite:
         self.file.executemany("insert into span_row values (?, 1, 0, 10000000000, 5, null, null, null)", [(row[0],) for row in rows])
         self.taken_late = [row for row in rows if row[0] % 100_000 == 7]
 
-    def late_rows(self):
+    def late_rows(self) -> list[tuple[str, str, str, int]]:
         return [
             (
                 at((row[4] - 1) // 3_600_000_000_000).strftime("%Y-%m-%d %H:00"), Series(1).name,
@@ -274,7 +275,7 @@ class Lite:
             for row in self.taken_late
         ]
 
-    def ask(self, sql):
+    def ask(self, sql: str) -> tuple[list[Any], float]:
         began = time.process_time()
         rows = self.file.execute(sql).fetchall()
         return rows, time.process_time() - began
@@ -283,16 +284,16 @@ class Lite:
 class Added:
     """Buckets, added up."""
 
-    def __init__(self):
-        self.all = None
+    def __init__(self) -> None:
+        self.all: list[int] = None
 
-    def step(self, text):
+    def step(self, text: str) -> None:
         if text is not None:
             found = json.loads(text)
             self.all = [a + b for a, b in zip(self.all, found)] if self.all else found
 
-    def finalize(self):
-        return self.all and json.dumps(self.all, separators=(",", ":"))
+    def finalize(self) -> str | None:
+        return json.dumps(self.all, separators=(",", ":")) if self.all else None
 
 
 # Hours, days and months of the same numbers, as a service would have written them: `h`, `n`.
@@ -342,7 +343,7 @@ analyze;
 class Postgres:
     """A database of the program, filled by SQL."""
 
-    def __init__(self, program, folder, count):
+    def __init__(self, program: str, folder: str, count: int) -> None:
         self.server = Database()
         self.server.start()
         self.server.wait_ready()
@@ -350,10 +351,10 @@ class Postgres:
         self.psql(FILL.replace(":count", str(count)))
         self.psql("vacuum totxegun.past_hour")
 
-    def psql(self, sql):
+    def psql(self, sql: str) -> str:
         return self.server.run("psql", "-h", self.server.folder, "-U", "postgres", "-XAtq", "-v", "ON_ERROR_STOP=1", "-c", sql)
 
-    def ask(self, sql):
+    def ask(self, sql: str) -> list[tuple[Any, ...]]:
         """Times are given as SQLite writes them."""
         statement = sql.strip().rstrip(";")
         answer = self.psql(f"set search_path to totxegun; set timezone to 'UTC'; select json_agg(found) from ({statement}) as found")
@@ -364,17 +365,17 @@ class Postgres:
         ]
 
 
-def in_order(attributes):
+def in_order(attributes: Any) -> str:
     return json.dumps(attributes if isinstance(attributes, dict) else json.loads(attributes), sort_keys=True)
 
 
-def compare(checks, what, number, wanted, rows):
+def compare(checks: Checks, what: str, number: int, wanted: list[Any], rows: list[Any]) -> None:
     if number == 5:
         rows = [(in_order(attributes), total) for attributes, total in rows]
     checks.true(f"{what}, question {number}: {len(rows)} rows", rows and rows == wanted, f"wanted {wanted[:3]}, found {rows[:3]}")
 
 
-def try_lite(checks, program, folder, count, wanted):
+def try_lite(checks: Checks, program: str, folder: str, count: int, wanted: dict[int, list[Any]]) -> None:
     lite = Lite(program, folder, count)
     wanted = wanted | {10: lite.late_rows()}
     for number, sqls in asked().items():
@@ -383,7 +384,7 @@ def try_lite(checks, program, folder, count, wanted):
         print(f"note: it took {seconds:.2f} s of processor time", flush=True)
 
 
-def try_postgres(checks, program, folder, count, wanted):
+def try_postgres(checks: Checks, program: str, folder: str, count: int, wanted: dict[int, list[Any]]) -> None:
     postgres = Postgres(program, folder, count)
     try:
         for number, sqls in asked().items():
@@ -397,7 +398,7 @@ def try_postgres(checks, program, folder, count, wanted):
         postgres.server.close()
 
 
-def look_at_plan(checks, postgres):
+def look_at_plan(checks: Checks, postgres: Postgres) -> None:
     """Of a month of one metric neither rows nor other hours are read."""
     plan = postgres.psql(f"set search_path to totxegun; set timezone to 'UTC'; explain (analyze, buffers, costs off) {MONTH_BY_HOUR}")
     scans = re.findall(r"Index Only Scan using past_hour_at on .*\n +Index Cond: (.*)\n(.*)\n", plan)
@@ -418,7 +419,7 @@ COUNTED = [("s1", 1, 0, 1000), ("s2", 5, 13, 500), ("s2", 6, 0, 200), ("s3", 28,
 LATE_COUNTED = ("s3", 28, 23, 40)
 
 
-def blocks():
+def blocks() -> Iterator[Any]:
     """The example's blocks: ("sql", text) or ("shell", [command, ..])."""
     text = page().partition(EXAMPLE)[2]
     for kind, block in re.findall(r"^```(sql)?\n(.*?)^```$", text, flags=re.M | re.S):
@@ -428,23 +429,24 @@ def blocks():
 class Bill:
     """The example with a service of its own; `ask` gives the rows of a statement."""
 
-    def __init__(self, checks, program, folder, what, sink, query):
+    def __init__(self, checks: Checks, program: str, folder: str, what: str, sink: str,
+                 query: Callable[[str], list[list[Any]]]) -> None:
         self.checks, self.program, self.folder, self.what, self.sink, self.query = checks, program, folder, what, sink, query
         this = datetime.datetime.now(UTC).replace(day=1, hour=0, minute=0, second=0, microsecond=0)
         self.last = (this - datetime.timedelta(days=1)).replace(day=1)
         self.months = self.last.strftime("%Y-%m"), this.strftime("%Y-%m")
         self.service = Service(program, f"{folder}/bill", sink, "--flush-every", "1h")
-        self.exported = []
+        self.exported: list[tuple[str, str]] = []
 
-    def of_today(self, text):
+    def of_today(self, text: str) -> str:
         """The months of the page are those before this one."""
         for page_month, month in zip(PAGE_MONTHS, self.months):
             text = text.replace(page_month, month)
         return text
 
-    def post(self, shop, day, hour, cents, minute=0):
+    def post(self, shop: str, day: int, hour: int, cents: int, minute: int = 0) -> None:
         start = int(self.last.replace(day=day, hour=hour, minute=minute).timestamp()) * 10**9
-        point = {
+        point: dict[str, Any] = {
             "asInt": str(cents), "startTimeUnixNano": str(start), "timeUnixNano": str(start + 60 * 10**9),
             "attributes": [{"key": "shop", "value": {"stringValue": shop}}],
         }
@@ -453,7 +455,7 @@ class Bill:
         status, text = ask(self.service.listen, "POST", "/v1/metrics", body, {"Content-Type": JSON, "x-sender": shop})
         self.checks.same(f"{self.what}: a post of {shop} is taken", 200, status if status == 200 else text)
 
-    def totxegun(self, line):
+    def totxegun(self, line: str) -> tuple[str, str]:
         """What a command of the page prints, with the status."""
         line, _, _ = self.of_today(line).partition(" > ")
         words = shlex.split(line)
@@ -463,7 +465,7 @@ class Bill:
         self.checks.same(f"{self.what}: totxegun {line}", 0, done.returncode if done.returncode == 0 else done.stderr)
         return done.stdout, done.stderr
 
-    def run(self):
+    def run(self) -> None:
         self.service.start()
         if not self.service.wait_ready():
             raise RuntimeError(self.service.last_lines())
@@ -475,14 +477,14 @@ class Bill:
         finally:
             self.service.end()
 
-    def steps(self, all_blocks):
+    def steps(self, all_blocks: Any) -> None:
         (_, bill), (_, find), (_, correct), (_, close), (_, again), (_, late) = all_blocks
         bill = self.of_today(bill)
         self.same("what each owes", [["s1", 1000, 0, 1000], ["s2", 700, 0, 700], ["s3", 77, 0, 77]], bill, wait=True)
         self.same("the series of an hour", [[2, 500]], self.of_today(find))
         for _ in range(2):
-            said = [self.totxegun(line)[0] for line in correct]
-        self.checks.true(f"{self.what}: the same correction again", "is there already" in said[0], said)
+            all_said = [self.totxegun(line)[0] for line in correct]
+        self.checks.true(f"{self.what}: the same correction again", "is there already" in all_said[0], all_said)
         self.post("s1", 2, 0, 5)
         refused = subprocess.run([self.program, "close", self.months[0], "--data", f"{self.folder}/bill"],
                                  capture_output=True, text=True, check=False)
@@ -502,7 +504,7 @@ class Bill:
         self.exports(close[-1])
         self.acts()
 
-    def exports(self, line):
+    def exports(self, line: str) -> None:
         """The same bytes again, whose digest is what is said of them."""
         again = self.totxegun(line)
         self.checks.same(f"{self.what}: an export again", self.exported[-1], again)
@@ -516,7 +518,7 @@ class Bill:
         self.checks.same(f"{self.what}: as JSON", wanted, billed)
         self.checks.same(f"{self.what}: its head", list(objects[0]), head.split(","))
 
-    def acts(self):
+    def acts(self) -> None:
         with open(f"{self.folder}/bill/acts.jsonl", encoding="utf-8") as file:
             acts = [json.loads(line) for line in file]
         done = [act["act"] for act in acts if act.get("outcome", "").startswith("done: ")]
@@ -524,7 +526,7 @@ class Bill:
         whos = {act["who"] for act in acts}
         self.checks.true(f"{self.what}: who did them", len(whos) == 1 and "" not in whos, whos)
 
-    def same(self, what, wanted, sql, wait=False):
+    def same(self, what: str, wanted: Sequence[Sequence[object]], sql: str, wait: bool = False) -> None:
         """Deliveries may take a moment."""
         until = time.monotonic() + 20
         rows = self.query(sql)
@@ -534,10 +536,10 @@ class Bill:
         self.checks.same(f"{self.what}: {what}", wanted, rows)
 
 
-def bill_lite(checks, program, folder):
+def bill_lite(checks: Checks, program: str, folder: str) -> None:
     path = f"{folder}/bill.db"
 
-    def query(sql):
+    def query(sql: str) -> list[list[Any]]:
         file = sqlite3.connect(path)
         try:
             return [list(row) for row in file.execute(sql)]
@@ -547,12 +549,12 @@ def bill_lite(checks, program, folder):
     Bill(checks, program, folder, "SQLite", f"sqlite:{path}", query).run()
 
 
-def bill_postgres(checks, program, folder):
+def bill_postgres(checks: Checks, program: str, folder: str) -> None:
     server = Database()
     server.start()
     server.wait_ready()
 
-    def query(sql):
+    def query(sql: str) -> list[list[Any]]:
         sql = f"set search_path to totxegun; set timezone to 'UTC'; select json_agg(found) from ({sql.strip().rstrip(';')}) as found"
         answer = server.run("psql", "-h", server.folder, "-U", "postgres", "-XAtq", "-v", "ON_ERROR_STOP=1", "-c", sql)
         rows = [list(row.values()) for row in json.loads(answer.strip() or "[]") or []]
@@ -564,7 +566,7 @@ def bill_postgres(checks, program, folder):
         server.close()
 
 
-def main():
+def main() -> int:
     program = os.path.abspath(sys.argv[1])
     count = int(sys.argv[2]) if len(sys.argv) > 2 else SERIES
     checks = Checks()

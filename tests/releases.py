@@ -11,9 +11,9 @@ import subprocess
 import sys
 import tempfile
 
-from checks import Checks
+from testing import ROOT
+from testing.checks import Checks
 
-ROOT = os.path.dirname(os.path.dirname(os.path.realpath(__file__)))
 # The same tool, but for what takes long.
 RELEASE = "import sys; sys.path.insert(0, 'tools'); import release; release.make = lambda version: None; release.main([sys.argv[1]])"
 
@@ -21,9 +21,10 @@ RELEASE = "import sys; sys.path.insert(0, 'tools'); import release; release.make
 class Clone:
     """The repository with what is changed here, committed."""
 
-    def __init__(self, folder):
+    def __init__(self, folder: str) -> None:
         self.folder = folder
-        names = subprocess.run(["git", "ls-files", "-z", "--cached", "--others", "--exclude-standard"], cwd=ROOT, stdout=subprocess.PIPE, check=True)
+        names = subprocess.run(["git", "ls-files", "-z", "--cached", "--others", "--exclude-standard"], cwd=ROOT,
+                               stdout=subprocess.PIPE, check=True)
         for name in filter(None, names.stdout.decode().split("\0")):
             if os.path.isfile(f"{ROOT}/{name}"):
                 os.makedirs(os.path.dirname(f"{folder}/{name}"), exist_ok=True)
@@ -34,28 +35,28 @@ class Clone:
         self.git("add", "--all")
         self.git("commit", "--quiet", "--message", "all")
 
-    def git(self, *words):
+    def git(self, *words: str) -> str:
         return subprocess.run(["git", *words], cwd=self.folder, stdout=subprocess.PIPE, text=True, check=True).stdout.strip()
 
-    def read(self, name):
+    def read(self, name: str) -> str:
         with open(f"{self.folder}/{name}", encoding="utf-8") as file:
             return file.read()
 
-    def write(self, name, text):
+    def write(self, name: str, text: str) -> None:
         os.makedirs(os.path.dirname(f"{self.folder}/{name}"), exist_ok=True)
         with open(f"{self.folder}/{name}", "w", encoding="utf-8") as file:
             file.write(text)
 
-    def pass_gate(self):
+    def pass_gate(self) -> None:
         self.write("out/passed", self.git("rev-parse", "HEAD") + "\n")
 
-    def release(self, version):
+    def release(self, version: str) -> str:
         """What it says on standard error; nothing where it released."""
         ran = subprocess.run([sys.executable, "-c", RELEASE, version], cwd=self.folder, stderr=subprocess.PIPE, text=True, check=False)
         return ran.stderr.strip()
 
 
-def refusals(checks, clone, last, version):
+def refusals(checks: Checks, clone: Clone, last: str, version: str) -> None:
     clone.write("new", "")
     checks.true("a change that is not committed is refused", "not committed" in clone.release(version), "taken")
     os.remove(f"{clone.folder}/new")
@@ -68,11 +69,12 @@ def refusals(checks, clone, last, version):
     clone.pass_gate()
 
 
-def released(checks, clone, last, version):
+def released(checks: Checks, clone: Clone, last: str, version: str) -> None:
     checks.same("it is released", "", clone.release(version))
     checks.same("the commit has the tag", f"v{version}", clone.git("tag", "--points-at", "HEAD"))
     checks.same("nothing is left uncommitted", "", clone.git("status", "--porcelain"))
-    checks.true("CHANGELOG names version and day", re.search(rf"^## {version}, \d{{4}}-\d\d-\d\d$", clone.read("CHANGELOG.md"), re.M), "not there")
+    checks.true("CHANGELOG names version and day",
+                re.search(rf"^## {version}, \d{{4}}-\d\d-\d\d$", clone.read("CHANGELOG.md"), re.M), "not there")
     checks.true("CHANGELOG has nothing unreleased", "## Unreleased" not in clone.read("CHANGELOG.md"), "there")
     for name in ("VERSION", "service/Cargo.toml", "service/Cargo.lock", "README.md", "docs/OPERATING.md"):
         text = clone.read(name)
@@ -84,7 +86,7 @@ def released(checks, clone, last, version):
     checks.true("without changes in CHANGELOG the next one is refused", "CHANGELOG.md has no line" in clone.release(further), "taken")
 
 
-def main():
+def main() -> int:
     checks = Checks()
     with tempfile.TemporaryDirectory() as folder:
         clone = Clone(folder)

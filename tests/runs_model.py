@@ -20,9 +20,10 @@ Each line is one check; the last line counts those that passed and failed, and t
 import dataclasses
 import sys
 from collections import deque
+from collections.abc import Iterator
 from typing import NamedTuple, Optional
 
-from checks import Checks
+from testing.checks import Checks
 
 MOST_STATES = 2_000_000
 
@@ -98,7 +99,7 @@ class Disk(NamedTuple):
     run: Optional[Run] = None
     frontier: int = 0
     # What is in groups, by run; and how many of its points it is of.
-    counted: tuple = (0, 0)
+    counted: tuple[int, ...] = (0, 0)
     forgotten: int = 0
 
 
@@ -107,24 +108,24 @@ class State(NamedTuple):
 
     run: Optional[Run] = None
     frontier: int = 0
-    journal: tuple = ()
+    journal: tuple[Entry, ...] = ()
     disk: Disk = Disk()
     # A checkpoint that has turned and not committed: its run and frontier.
-    turned: Optional[tuple] = None
+    turned: Optional[tuple[Run | None, int]] = None
     posting: Optional[Posting] = None
-    posts: tuple = (0, 0, 0)
+    posts: tuple[int, ...] = (0, 0, 0)
     # Of what was forgotten its last point, by run: counting goes on from there.
-    baseline: tuple = (0, 0)
+    baseline: tuple[int, ...] = (0, 0)
     was_forgotten: bool = False
     faults: int = 0
     fault: str = ""
 
 
-def run_of(number):
+def run_of(number: int) -> int:
     return 0 if POINTS[number].start == POINTS[0].start else 1
 
 
-def entry_of(rules, state, number):
+def entry_of(rules: Rules, state: State, number: int) -> tuple[Entry, Run] | None:
     """What a point adds: an entry and the run after it, or None."""
     point, known = POINTS[number], state.run
     after = Run(*point)
@@ -143,7 +144,7 @@ def entry_of(rules, state, number):
     return Entry(number, point.start, point.value, False, False, False), after
 
 
-def record(rules, state, entry, run):
+def record(rules: Rules, state: State, entry: Entry, run: Run) -> State:
     """The book is asked, and the journal gets it."""
     if rules.older_points_add_nothing and entry.begin < state.frontier:
         return state._replace(fault="a point is refused as if the series had delta points")
@@ -151,7 +152,7 @@ def record(rules, state, entry, run):
     return state._replace(run=run, frontier=end, journal=state.journal + (entry,))
 
 
-def steps(rules, state):
+def steps(rules: Rules, state: State) -> Iterator[tuple[str, State]]:
     """Each event, and the state after it."""
     if state.posting:
         entry, run = state.posting.entry, state.posting.run
@@ -189,7 +190,7 @@ def steps(rules, state):
         yield "the power is lost", started(rules, lost, tuple(entry for entry in state.journal if entry.is_synced))
 
 
-def baseline(state):
+def baseline(state: State) -> tuple[int, ...]:
     """What counting goes on from, of each run."""
     if state.run is None:
         return state.baseline
@@ -197,7 +198,7 @@ def baseline(state):
     return tuple(state.run.value if place == number else value for place, value in enumerate(state.baseline))
 
 
-def committed(rules, state):
+def committed(rules: Rules, state: State) -> State:
     run, frontier = state.turned
     if not rules.commit_has_the_runs_of_the_turn:
         run = state.run
@@ -213,13 +214,13 @@ def committed(rules, state):
     return state._replace(disk=disk, journal=left, turned=None)
 
 
-def held(state):
+def held(state: State) -> State:
     """No flush took the posts, which stay; but a commit may have their run."""
     journal = tuple(entry._replace(is_before_turn=False, is_synced=True) for entry in state.journal)
     return state._replace(disk=state.disk._replace(run=state.turned[0]), journal=journal, turned=None)
 
 
-def started(rules, state, journal):
+def started(rules: Rules, state: State, journal: tuple[Entry, ...]) -> State:
     """A start finds what the files have."""
     run, frontier = state.disk.run, state.disk.frontier
     for entry in journal:
@@ -237,7 +238,7 @@ def started(rules, state, journal):
     return state._replace(run=run, frontier=frontier, journal=journal, turned=None, posting=None)
 
 
-def fault_of(state):
+def fault_of(state: State) -> str:
     """What is wrong with a state in which nothing is on its way."""
     if state.fault or state.posting:
         return state.fault
@@ -259,10 +260,11 @@ def fault_of(state):
     return ""
 
 
-def search(rules):
+def search(rules: Rules) -> tuple[list[str] | None, int]:
     """A shortest way to a state that is wrong, and how many states there are."""
     first = State(faults=2)
-    known, queue = {first: None}, deque([first])
+    known: dict[State, tuple[State, str] | None] = {first: None}
+    queue = deque([first])
     while queue:
         state = queue.popleft()
         fault = fault_of(state)
@@ -277,15 +279,15 @@ def search(rules):
     return None, len(known)
 
 
-def way(known, state):
-    events = []
+def way(known: dict[State, tuple[State, str] | None], state: State) -> Iterator[str]:
+    events: list[str] = []
     while known[state]:
         state, event = known[state]
         events.append(event)
     return reversed(events)
 
 
-def main():
+def main() -> int:
     checks = Checks()
     found, states = search(Rules())
     checks.same(f"all rules: none of {states:,} states is wrong", None, found)

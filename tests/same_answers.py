@@ -16,16 +16,20 @@ reads JSON by the protobuf mapping, its text is another (`wrong shape`, `not JSO
 Each line is one check; the last line counts those that passed and failed, and the status is 0 where none failed.
 """
 import collections
+import contextlib
 import http.client
 import json
 import random
 import re
 import sys
 import tempfile
+from collections.abc import Callable, Iterator
+from typing import Any
 
-from loopback import BackEnd
-from service import JSON, OtlpSink, Service, ask, wait_until
-from shipped import flush_all, gateway_at, run_script
+from testing.checks import Checks
+from testing.loopback import BackEnd
+from testing.service import JSON, Answer, OtlpSink, Service, ask, wait_until
+from testing.shipped import flush_all, gateway_at, run_script
 
 POSTS = 10_000
 SECONDS, PATIENCE = 3600, 120
@@ -44,9 +48,10 @@ LINE = re.compile(r"^(series .*) accepted \S+ acknowledged \S+ dropped \S+ in-fl
 # Requests
 
 
-def attributes(chance, most=3):
+def attributes(chance: random.Random, most: int = 3) -> list[dict[str, Any]]:
     """A list of attributes, in any order."""
-    values = [{}, {"stringValue": chance.choice(["", "a", "\u00e4\u20ac", 'a "b" \\ \n'])}, {"boolValue": chance.random() < 0.5},
+    values: list[dict[str, Any]] = [
+              {}, {"stringValue": chance.choice(["", "a", "\u00e4\u20ac", 'a "b" \\ \n'])}, {"boolValue": chance.random() < 0.5},
               {"intValue": chance.choice(["0", "-5", "007", 9, str(2**63 - 1)])},
               {"arrayValue": {"values": [{"stringValue": "x"}, {"intValue": "1"}, {}]}}, {"arrayValue": {}}]
     keys = chance.sample(["a", "b", "http.route", "\u00fc"], chance.randrange(most + 1))
@@ -56,7 +61,7 @@ def attributes(chance, most=3):
 class Series:
     """What identifies it, and where its points are by now."""
 
-    def __init__(self, chance, name):
+    def __init__(self, chance: random.Random, name: str) -> None:
         self.name, self.unit = name, chance.choice(["", "1", "ms"])
         self.resource, self.scope = attributes(chance), {"name": chance.choice(["", "lib"]), "attributes": attributes(chance, 1)}
         self.attributes = attributes(chance)
@@ -64,9 +69,10 @@ class Series:
         self.bounds = sorted(chance.sample(range(-50, 50), chance.randrange(5)))
         self.time = 1000
 
-    def point(self, chance, start):
+    def point(self, chance: random.Random, start: int) -> tuple[dict[str, Any], int]:
         end = start + chance.choice([1, 10, 10, 10, 25])
-        point = {"startTimeUnixNano": str(start), "timeUnixNano": chance.choice([str(end), end]), "attributes": self.attributes}
+        point: dict[str, Any] = {"startTimeUnixNano": str(start), "timeUnixNano": chance.choice([str(end), end]),
+                                 "attributes": self.attributes}
         if self.kind != "histogram":
             least = 0 if self.kind == "counter" else -1000
             point["asInt"] = chance.choice([str, int])(chance.choice([0, 5, 2**40, chance.randrange(least, 1000)]))
@@ -79,16 +85,16 @@ class Series:
             point |= {"flags": chance.choice([0, 2]), "exemplars": [], "unknown": {"a": [1.5, None]}}
         return point, end
 
-    def metric(self, points):
-        data = {"aggregationTemporality": DELTA, "dataPoints": points}
+    def metric(self, points: list[dict[str, Any]]) -> dict[str, Any]:
+        data: dict[str, Any] = {"aggregationTemporality": DELTA, "dataPoints": points}
         if self.kind == "histogram":
             return {"name": self.name, "unit": self.unit, "histogram": data}
         return {"name": self.name, "unit": self.unit, "sum": data | ({"isMonotonic": True} if self.kind == "counter" else {})}
 
 
-def foreign(chance, point, data):
+def foreign(chance: random.Random, point: dict[str, Any], data: dict[str, Any]) -> None:
     """Makes a point foreign, or all of its metric."""
-    chance.choice([
+    deeds: list[Callable[[], object]] = [
         lambda: point.update(flags=1), lambda: point.update(timeUnixNano=point["startTimeUnixNano"]),
         lambda: point.pop("startTimeUnixNano"), lambda: point.update(startTimeUnixNano="-1"), lambda: point.update(attributes="a"),
         lambda: point.update(attributes=[{"key": "a"}, {"key": "a"}]), lambda: point.update(asDouble=0.5),
@@ -96,17 +102,18 @@ def foreign(chance, point, data):
         lambda: point.update(attributes=[{"key": "a", "value": {"stringValue": "x" * 4097}}]),
         lambda: point.update(bucketCounts=["1", "2", "3", "4", "5", "6", "7"], asInt=str(2**63)),
         lambda: point.update(count=str(2**64), asInt="x"), lambda: data.update(aggregationTemporality=2),
-        lambda: data.update(isMonotonic="yes", aggregationTemporality=0)])()
+        lambda: data.update(isMonotonic="yes", aggregationTemporality=0)]
+    chance.choice(deeds)()
 
 
-def request(chance, chosen):
+def request(chance: random.Random, chosen: list[Series]) -> dict[str, Any]:
     """A request with a few points of these series, which go on unless it is one out of order."""
-    groups = []
+    groups: list[dict[str, Any]] = []
     for series in chosen:
         start = series.time + chance.choice([0, 0, 0, 0, 0, 5])
         if chance.random() < 0.03:
             start = max(1, start - chance.choice([1, 10, 900]))
-        points = []
+        points: list[dict[str, Any]] = []
         for _ in range(chance.choice([1, 1, 1, 2, 3])):
             point, start = series.point(chance, start)
             points.append(point)
@@ -125,7 +132,7 @@ def request(chance, chosen):
     return {"resourceMetrics": groups}
 
 
-def places(value, path=()):
+def places(value: Any, path: tuple[Any, ...] = ()) -> Iterator[tuple[Any, ...]]:
     """Each container below a value, by its path."""
     for key, one in value.items() if isinstance(value, dict) else enumerate(value):
         if isinstance(one, (dict, list)):
@@ -133,11 +140,11 @@ def places(value, path=()):
             yield from places(one, (*path, key))
 
 
-def nested(depth):
+def nested(depth: int) -> str:
     return "[" * depth + "]" * depth
 
 
-def strange(chance, body):
+def strange(chance: random.Random, body: dict[str, Any]) -> bytes:
     """What is no request, or one with something that nobody reads."""
     text = json.dumps(body)
     deep = nested(chance.choice([3, 60, 120, 124, 125, 126, 127, 128, 129, 200, 5000]))
@@ -157,7 +164,7 @@ def strange(chance, body):
         at = chance.randrange(len(text))
         return text[:at].encode() + chance.choice([b"\xff", b"\xc3", b"\\ud800", b"\x01", b","]) + text[at:].encode()
     *path, last = chance.choice(list(places(body)))
-    where = body
+    where: Any = body
     for key in path:
         where = where[key]
     where[last] = chance.choice([None, "a", 5, True, [], {}, [None], [[]], ["a"]])
@@ -171,18 +178,18 @@ def strange(chance, body):
 class Bare:
     """The gateway, and a back end that keeps what it forwards."""
 
-    def __init__(self, stack, program):
+    def __init__(self, stack: contextlib.ExitStack, program: str) -> None:
         self.back_end = BackEnd()
         stack.callback(self.back_end.close)
         self.port = self.orders = gateway_at(stack, program, self.back_end.port).port
 
-    def post(self, body, headers):
+    def post(self, body: bytes, headers: dict[str, Any]) -> Answer:
         status, text = ask(self.port, "POST", "/v1/metrics", body, headers, PATIENCE)
         if status is None:
-            raise OSError(f"the gateway does not answer: {text} to {body[:200]}")
+            raise OSError(f"the gateway does not answer: {text!r} to {body[:200]!r}")
         return status, text
 
-    def flushed(self):
+    def flushed(self) -> list[bytes]:
         """The requests that a flush forwards."""
         self.back_end.bodies.clear()
         flush_all(self.port)
@@ -192,7 +199,7 @@ class Bare:
 class Served:
     """A service whose books take so many series, and a sink."""
 
-    def __init__(self, stack, program, most_series):
+    def __init__(self, stack: contextlib.ExitStack, program: str, most_series: int) -> None:
         self.sink = OtlpSink()
         stack.callback(self.sink.close)
         data = stack.enter_context(tempfile.TemporaryDirectory(prefix="same-"))
@@ -203,9 +210,10 @@ class Served:
         self.service.start()
         if not self.service.wait_ready():
             raise OSError(f"the service is not ready: {self.service.last_lines()}")
-        self.orders, self.connection = self.service.socket, None
+        self.orders = self.service.socket
+        self.connection: http.client.HTTPConnection = None
 
-    def post(self, body, headers):
+    def post(self, body: bytes, headers: dict[str, Any]) -> Answer:
         if self.connection is None:
             self.connection = http.client.HTTPConnection("127.0.0.1", self.service.listen, timeout=PATIENCE)
         self.connection.request("POST", "/v1/metrics", body, headers)
@@ -215,14 +223,14 @@ class Served:
             self.connection = None
         return answer.status, text
 
-    def flushed(self):
+    def flushed(self) -> list[bytes]:
         self.sink.taken.clear()
         if self.service.order("/flush") != 200 or not wait_until(self.service.is_drained):
             raise OSError(f"what was flushed is not delivered: {self.service.last_lines()}")
         return list(self.sink.taken.values())
 
 
-def is_same(wanted, found):
+def is_same(wanted: Answer, found: Answer) -> bool:
     """Of a refusal the service's answer has a code beside the message; a text that goes on does so after a colon."""
     if wanted[0] != found[0] or wanted[1] == b"{}":
         return wanted == found
@@ -234,13 +242,13 @@ def is_same(wanted, found):
     return goes_on(message, there["message"]) or (wanted[0] == 400 and message in OWN_TEXTS)
 
 
-def goes_on(text, longer):
+def goes_on(text: str, longer: str) -> bool:
     return longer == text or longer.startswith(f"{text}: ")
 
 
-def points_of(bodies):
+def points_of(bodies: list[bytes]) -> list[str]:
     """Each point by its series and its span, as it is forwarded."""
-    found = []
+    found: list[str] = []
     for body in bodies:
         for group in json.loads(body)["resourceMetrics"]:
             for part in group["scopeMetrics"]:
@@ -252,7 +260,7 @@ def points_of(bodies):
     return sorted(found)
 
 
-def series_of(report):
+def series_of(report: bytes) -> tuple[list[str], list[str]]:
     """What no round forgets: of each series owner, frontier and what is pending."""
     lines = report.decode().splitlines()
     return lines[-1:], sorted(" ".join(LINE.match(line).groups()) for line in lines[:-1])
@@ -263,18 +271,18 @@ def series_of(report):
 
 
 class Run:
-    def __init__(self, checks, bare, services, seed):
+    def __init__(self, checks: Checks, bare: Bare, services: dict[str, Served], seed: str) -> None:
         self.checks, self.bare, self.services = checks, bare, services
         self.chance = random.Random(f"same answers {seed}")
         self.series = {sender: [Series(self.chance, f"{sender}.{number}") for number in range(SERIES)] for sender in SENDERS}
-        self.last = {}
-        self.answers = collections.Counter()
-        self.wrong = []
+        self.last: dict[str, bytes] = {}
+        self.answers: collections.Counter[str] = collections.Counter()
+        self.wrong: list[tuple[Any, ...]] = []
 
-    def parties(self):
+    def parties(self) -> dict[str, Bare | Served]:
         return {"gateway": self.bare, **self.services}
 
-    def post(self, body, sender):
+    def post(self, body: bytes, sender: bytes | str) -> None:
         headers = {"Content-Type": JSON, "x-sender": sender}
         wanted = self.bare.post(body, headers)
         text = json.loads(wanted[1])
@@ -285,7 +293,7 @@ class Run:
             if not is_same(wanted, found):
                 self.wrong.append((name, sender, body[:300], wanted, found))
 
-    def one(self):
+    def one(self) -> None:
         """A post of a sender, mostly of its own series."""
         chance, sender = self.chance, self.chance.choice(SENDERS)
         if sender in self.last and chance.random() < 0.05:
@@ -301,7 +309,7 @@ class Run:
             self.last[sender] = json.dumps(made).encode()
             self.post(self.last[sender], sender)
 
-    def order(self):
+    def order(self) -> None:
         """A quarantine or its end, which may be refused."""
         path = f"/{self.chance.choice(['quarantine'] + ['lift'] * 8)}/{self.chance.choice(SENDERS)}"
         found = {name: ask(party.orders, "POST", path) for name, party in self.parties().items()}
@@ -309,7 +317,7 @@ class Run:
             self.wrong.append((path, found))
         self.answers[f"{found['gateway'][0]} to an order"] += 1
 
-    def flush(self):
+    def flush(self) -> None:
         bodies = {name: party.flushed() for name, party in self.parties().items()}
         wanted = points_of(bodies["gateway"])
         self.answers["forwarded points"] += len(wanted)
@@ -320,7 +328,7 @@ class Run:
         if bodies["one book"] != bodies["gateway"]:
             self.wrong.append(("one book", "forwards other bytes", [(a[:200], b[:200]) for a, b in zip(*bodies.values()) if a != b][:1]))
 
-    def go(self, posts):
+    def go(self, posts: int) -> None:
         for number in range(1, posts + 1):
             self.one()
             if self.chance.random() < 1 / ORDER:
@@ -333,10 +341,10 @@ class Run:
             for party in self.parties().values():
                 ask(party.orders, "POST", f"/lift/{sender}")
 
-    def reports(self):
+    def reports(self) -> dict[str, tuple[list[str], list[str]]]:
         return {name: series_of(ask(party.orders, "GET", "/report")[1]) for name, party in self.parties().items()}
 
-    def past_the_limit(self):
+    def past_the_limit(self) -> None:
         """More series than one book takes: those that fit, and none of a request that does not fit."""
         self.services = {"one book": self.services["one book"]}
         for first in range(0, TAKES + 2000, 900):
@@ -346,13 +354,13 @@ class Run:
             self.post(json.dumps(request(random.Random(1), [Series(self.chance, f"more.{number}")])).encode(), "more")
         self.flush()
 
-    def look(self, what):
+    def look(self, what: str) -> None:
         self.checks.same(f"{what}: each answer and each flush is that of the gateway", [], self.wrong[:3])
         self.wrong.clear()
 
 
-def work(totxegun, gateway, checks, stack):
-    posts, seed = int((sys.argv[3:4] or [POSTS])[0]), (sys.argv[4:5] or ["1"])[0]
+def work(totxegun: str, gateway: str, checks: Checks, stack: contextlib.ExitStack) -> None:
+    posts, seed = int((sys.argv[3:4] or [str(POSTS)])[0]), (sys.argv[4:5] or ["1"])[0]
     services = {"one book": Served(stack, totxegun, 8000), "many books": Served(stack, totxegun, 100_000)}
     run = Run(checks, Bare(stack, gateway), services, seed)
     run.go(posts)

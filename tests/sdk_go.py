@@ -27,19 +27,17 @@ import subprocess
 import sys
 import tempfile
 import time
+from typing import Any
 
-from protobuf_bodies import definitions, descriptor_pb2
-from checks import Checks
+from testing import ROOT, TESTS
+from testing.checks import Checks
+from testing.database import Database, initdb
+from testing.loopback import free_port
+from testing.service import Service, wait_until
 from handed_on import Receiver
-from loopback import free_port
-from service import Service, wait_until
+from protobuf_bodies import HAS_LIBRARY, file_of_definitions
 
-HERE = os.path.dirname(os.path.abspath(__file__))
-sys.path.append(os.path.join(os.path.dirname(HERE), "demo"))
-
-from parts import Database, initdb  # noqa: E402
-
-CACHE = os.path.join(os.path.dirname(HERE), "out", "go")
+CACHE = os.path.join(ROOT, "out", "go")
 GOPATH = "/usr/share/gocode"
 PACKAGES = {"golang-opentelemetry-otel-dev": "go.opentelemetry.io/otel/sdk/metric",
             "golang-google-grpc-dev": "google.golang.org/grpc", "golang-google-protobuf-dev": "google.golang.org/protobuf"}
@@ -60,24 +58,25 @@ EXPECTED = ("200", "503", "no answer", "no whole answer", "OK", "Unavailable", "
             "DeadlineExceeded")
 
 
-def missing():
+def missing() -> list[str]:
     found = [] if shutil.which("go") else ["golang-go"]
     found += [package for package, path in PACKAGES.items() if not os.path.isdir(f"{GOPATH}/src/{path}")]
-    return found + ([] if descriptor_pb2 else ["python3-protobuf"])
+    return found + ([] if HAS_LIBRARY else ["python3-protobuf"])
 
 
-def build(folder):
+def build(folder: str) -> tuple[str, str]:
     """The program, and OTLP's messages beside it; or what the compiler said."""
     program = f"{folder}/sender"
     with open(f"{folder}/descriptors", "wb") as file:
-        file.write(descriptor_pb2.FileDescriptorSet(file=[definitions()]).SerializeToString())
+        file.write(file_of_definitions())
     environment = dict(os.environ, GO111MODULE="off", GOPATH=GOPATH, GOCACHE=CACHE, GOFLAGS="-p=2")
-    built = subprocess.run(["go", "build", "-o", program, *glob.glob(f"{HERE}/sdk_go/*.go")], env=environment,
+    built = subprocess.run(["go", "build", "-o", program, *glob.glob(f"{TESTS}/sdk_go/*.go")], env=environment,
                            capture_output=True, text=True, check=False)
     return program, built.stderr if built.returncode else ""
 
 
-def start(program, folder, service, grpc, number, round_, seconds):
+def start(program: str, folder: str, service: Service, grpc: int, number: int, round_: Any,
+          seconds: float) -> subprocess.Popen[bytes]:
     encoding, packed, in_seconds, temporality = PROGRAMS[number]
     words = [program, "-encoding", encoding, "-url", f"http://127.0.0.1:{service.listen}/v1/metrics",
              "-grpc", f"127.0.0.1:{grpc}", "-instance", f"i-{number}", "-seconds", str(seconds),
@@ -94,11 +93,11 @@ class File:
 
     name = "SQLite"
 
-    def __init__(self, folder, file="sink.db"):
+    def __init__(self, folder: str, file: str = "sink.db") -> None:
         self.path = f"{folder}/{file}"
         self.address = f"sqlite:{self.path}"
 
-    def rows(self, instance):
+    def rows(self, instance: str) -> Any:
         """Of a program each series: name, unit, attributes, total and buckets."""
         query = "select name, unit, attributes, total, buckets from totals where resource like ?"
         with contextlib.closing(sqlite3.connect(f"file:{self.path}?mode=ro", uri=True)) as database:
@@ -106,10 +105,10 @@ class File:
         return [(name, unit, json.loads(attributes), total, counts and json.loads(counts))
                 for name, unit, attributes, total, counts in rows]
 
-    def kill(self):
+    def kill(self) -> None:
         """It has no process."""
 
-    def close(self):
+    def close(self) -> None:
         """As above."""
 
 
@@ -118,25 +117,25 @@ class Postgres:
 
     name = "PostgreSQL"
 
-    def __init__(self, _):
+    def __init__(self, _: object) -> None:
         self.database = Database()
         self.address = self.database.address
         self.database.start()
         self.database.wait_ready()
 
-    def rows(self, instance):
+    def rows(self, instance: Any) -> Any:
         return json.loads(self.database.ask(TOTALS.format(instance)))
 
-    def kill(self):
+    def kill(self) -> None:
         self.database.crash()
         time.sleep(0.1)
         self.database.start()
 
-    def close(self):
+    def close(self) -> None:
         self.database.close()
 
 
-def trouble(service, sink, seconds):
+def trouble(service: Service, sink: Any, seconds: float) -> int:
     """Kills, of which every other one is soon after a start."""
     until, kills = time.monotonic() + seconds, 0
     while time.monotonic() < until:
@@ -151,7 +150,7 @@ def trouble(service, sink, seconds):
     return kills
 
 
-def add(all_, told):
+def add(all_: Any, told: Any) -> None:
     for key, count in told["totals"].items():
         all_["totals"][key] = all_["totals"].get(key, 0) + count
     for key, counts in told["buckets"].items():
@@ -159,10 +158,10 @@ def add(all_, told):
         all_["buckets"][key] = [one + other for one, other in zip(before, counts)]
 
 
-def told_of(folder, number):
+def told_of(folder: str, number: int) -> tuple[list[dict[str, Any]], dict[str, Any]]:
     """What a program counted in all rounds, in each way that may be; and what it was answered."""
-    ways = [{"totals": {}, "buckets": {}} for _ in range(2)]
-    answers = {"answers": {}, "rejected": 0, "gave_up": 0}
+    ways: list[dict[str, Any]] = [{"totals": {}, "buckets": {}} for _ in range(2)]
+    answers: dict[str, Any] = {"answers": {}, "rejected": 0, "gave_up": 0}
     for round_, end in enumerate(ROUNDS):
         with open(f"{folder}/{number}-{round_}.{'json' if end == ENDS else 'tally'}", encoding="utf-8") as file:
             told = json.load(file)
@@ -176,9 +175,10 @@ def told_of(folder, number):
     return ways, answers
 
 
-def found_of(sink, number):
+def found_of(sink: File, number: int) -> tuple[dict[str, Any], set[tuple[str, str]]]:
     """What the sink has of a program: totals and buckets, by name and route; and the units."""
-    found, units = {"totals": {}, "buckets": {}}, set()
+    found: dict[str, Any] = {"totals": {}, "buckets": {}}
+    units: set[tuple[str, str]] = set()
     for name, unit, attributes, total, counts in sink.rows(f"i-{number}"):
         key = f"{name} {attributes['http.route']}"
         found["totals"][key] = int(total)
@@ -188,14 +188,14 @@ def found_of(sink, number):
     return found, units
 
 
-def difference(told, found):
+def difference(told: Any, found: Any) -> list[str]:
     """The first series that differ."""
     told, found = ({(part, key): value for part, values in of.items() for key, value in values.items()} for of in (told, found))
     wrong = [key for key in sorted(told.keys() | found.keys()) if told.get(key) != found.get(key)]
     return [f"{key}: counted {told.get(key)}, in the sink {found.get(key)}" for key in wrong[:3]]
 
 
-def compare(checks, what, sink, number, folder):
+def compare(checks: Checks, what: str, sink: Any, number: int, folder: str) -> None:
     (ways, answers), (found, units) = told_of(folder, number), found_of(sink, number)
     checks.true(f"{what}: there are totals", len(found["totals"]) > 10, found["totals"])
     wrong = [difference(way, found) for way in ways]
@@ -213,7 +213,7 @@ def compare(checks, what, sink, number, folder):
     print(f"note: {what}: {answers['answers']}", flush=True)
 
 
-def look_at_others(checks, receiver):
+def look_at_others(checks: Checks, receiver: Receiver) -> None:
     """What is not added up is at the other receiver: of each program, in its own encoding."""
     for number, (encoding, _, in_seconds, _) in enumerate(PROGRAMS):
         names = [b"queue.length", b"i-%d" % number] + ([] if in_seconds else [b"money"])
@@ -224,7 +224,7 @@ def look_at_others(checks, receiver):
     checks.same("it has nothing that is counted here", [], counted[:1])
 
 
-def rounds(checks, program, folder, service, grpc, sink, seconds):
+def rounds(checks: Checks, program: str, folder: str, service: Service, grpc: int, sink: Any, seconds: float) -> int:
     """Has all programs work, and be killed or end; how often the service was killed."""
     kills = 0
     for round_, end in enumerate(ROUNDS):
@@ -239,7 +239,7 @@ def rounds(checks, program, folder, service, grpc, sink, seconds):
     return kills
 
 
-def run(checks, totxegun, seconds, folder, program, sink):
+def run(checks: Checks, totxegun: str, seconds: float, folder: str, program: str, sink: Any) -> None:
     grpc, receiver = free_port(), Receiver()
     service = Service(totxegun, f"{folder}/data", sink.address, "--flush-every", "1s", "--listen-grpc",
                       f"127.0.0.1:{grpc}", "--sender-from", "service.instance.id", "--log-foreign", "2",
@@ -271,13 +271,14 @@ def run(checks, totxegun, seconds, folder, program, sink):
         sink.close()
 
 
-def main(totxegun, seconds=SECONDS):
+def main(totxegun: str, seconds: int | str = SECONDS) -> int:
     checks = Checks()
     if checks.has("the SDK for Go", *missing()):
         with tempfile.TemporaryDirectory(prefix="sdk-") as folder:
             program, fault = build(folder)
             checks.same("the program is built", "", fault)
-            for kind in [File, Postgres] if initdb() else [File]:
+            kinds: list[type[File] | type[Postgres]] = [File, Postgres] if initdb() else [File]
+            for kind in kinds:
                 place = f"{folder}/{kind.name}"
                 os.makedirs(place)
                 shutil.copy(f"{folder}/descriptors", place)

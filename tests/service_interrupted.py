@@ -36,10 +36,13 @@ import tarfile
 import tempfile
 import threading
 import time
+from collections.abc import Iterator, Sequence
+from typing import Any
 
-from service import OUT_OF_ORDER, Sender, Service, SqliteSink, add_points, differences, overlaps, told_to_all, wait_until
+from testing import TESTS
+from testing.service import OUT_OF_ORDER, Sender, Service, SqliteSink, Value, add_points, differences, overlaps, told_to_all, wait_until
+from tooling.files import content
 
-HERE = os.path.dirname(os.path.abspath(__file__))
 WAYS = ("before", "middle", "behind", "ENOSPC", "EIO", "cut", "torn", "twice", "late", "held")
 POWER = ("cut", "torn", "late", "held", "forgetful")
 FAULTS = ("ENOSPC", "EIO")
@@ -53,7 +56,7 @@ SCRIPT = ("A", "B", "A", "D/flush", "B", "C", "/quarantine/sender-B", "A", "/flu
           "/lift/sender-B", "B", "/flush", "A", "B", "C")
 # A folder with three slots, of which this made it: each sender posted, all was flushed and nothing delivered, each posted again,
 # and the service was killed.
-THREE_SLOTS = os.path.join(HERE, "folders", "three_slots.tar.gz")
+THREE_SLOTS = os.path.join(TESTS, "folders", "three_slots.tar.gz")
 # Of memory, where nothing else is said: what is durable is what the library has seen synced.
 FOLDERS = "/dev/shm" if os.access("/dev/shm", os.W_OK) and not os.environ.get("TMPDIR") else None
 
@@ -62,11 +65,11 @@ class Failed(Exception):
     """What is wrong with a run."""
 
 
-def build(folder):
+def build(folder: str) -> str:
     """The library, built into a folder."""
     library = os.path.join(folder, "interrupt_files.so")
     command = ["gcc", "-O1", "-Wall", "-Wextra", "-Werror", "-Wno-unused-result", "-shared", "-fPIC"]
-    subprocess.run(command + ["-o", library, os.path.join(HERE, "interrupt_files.c")], check=True)
+    subprocess.run(command + ["-o", library, os.path.join(TESTS, "interrupt_files.c")], check=True)
     return library
 
 
@@ -74,7 +77,7 @@ def build(folder):
 # A loss of power
 
 
-def lose_power(data, shadow, is_torn):
+def lose_power(data: str, shadow: str, is_torn: bool) -> None:
     """Makes the folder what a loss of power leaves of it, by what the library has kept."""
     left = f"{data}.left"
     leave(data, left, shadow, is_torn)
@@ -82,7 +85,7 @@ def lose_power(data, shadow, is_torn):
     os.rename(left, data)
 
 
-def leave(folder, left, shadow, is_torn):
+def leave(folder: str, left: str, shadow: str, is_torn: bool) -> None:
     """Copies what is left of a folder."""
     os.mkdir(left)
     names = synced_names(folder, shadow)
@@ -97,7 +100,7 @@ def leave(folder, left, shadow, is_torn):
                 file.write(left_bytes(path if is_torn else None, f"{shadow}/file-{inode}"))
 
 
-def synced_names(folder, shadow):
+def synced_names(folder: str, shadow: str) -> dict[str, int]:
     """The names that a folder had when it was last synced, with the numbers of their files."""
     try:
         with open(f"{shadow}/folder-{os.stat(folder).st_ino}", encoding="utf-8") as file:
@@ -107,7 +110,7 @@ def synced_names(folder, shadow):
     return {name: int(inode) for inode, name in lines}
 
 
-def keep_all(folder, shadow):
+def keep_all(folder: str, shadow: str) -> None:
     """Notes that all of a folder is durable, as the library notes it."""
     names = {name: os.stat(f"{folder}/{name}").st_ino for name in os.listdir(folder)}
     with open(f"{shadow}/folder-{os.stat(folder).st_ino}", "w", encoding="utf-8") as file:
@@ -119,20 +122,12 @@ def keep_all(folder, shadow):
             shutil.copyfile(f"{folder}/{name}", f"{shadow}/file-{inode}")
 
 
-def read(path):
-    try:
-        with open(path, "rb") as file:
-            return file.read()
-    except FileNotFoundError:
-        return b""
-
-
-def left_bytes(path, kept):
+def left_bytes(path: str | None, kept: str) -> bytes:
     """What was synced of a file; where it is torn, also the first half of what has changed since."""
-    synced = read(kept)
+    synced = content(kept)
     if path is None:
         return synced
-    now = read(path)
+    now = content(path)
     before = synced.ljust(len(now), b"\0")
     changed = [place for place in range(0, len(now), 256) if now[place:place + 256] != before[place:place + 256]]
     if not changed:
@@ -149,7 +144,7 @@ def left_bytes(path, kept):
 class Run:
     """One run of the script, in a folder of its own."""
 
-    def __init__(self, program, library, folder, at, way, adopts):
+    def __init__(self, program: str, library: str, folder: str, at: int, way: str, adopts: bool) -> None:
         self.folder, self.at, self.way, self.adopts = folder, at, way, adopts
         self.data, self.shadow, self.log = f"{folder}/data", f"{folder}/shadow", f"{folder}/calls"
         os.mkdir(self.data)
@@ -166,17 +161,17 @@ class Run:
         self.until = time.monotonic() + SECONDS
         self.reviving = threading.Lock()
 
-    def fill(self):
+    def fill(self) -> None:
         """Three slots, each with a group and posts that only the journal has; the senders were told of all."""
         with tarfile.open(THREE_SLOTS) as archive:
-            archive.extractall(self.data, filter="data")
+            archive.extractall(self.data, filter="data")  # type: ignore[call-arg]
         for _ in range(2):
             for sender in self.senders.values():
                 points = sender.next_points()
                 sender.note(points, sender.encoded(points))
         keep_all(self.data, self.shadow)
 
-    def start(self):
+    def start(self) -> None:
         environment = {"LD_PRELOAD": self.library, "INTERRUPT_FOLDER": self.data, "INTERRUPT_LOG": self.log}
         if self.way in POWER:
             environment["INTERRUPT_SHADOW"] = self.shadow
@@ -187,14 +182,14 @@ class Run:
             environment["INTERRUPT_HOW"] = self.way if self.way in ("middle", "behind", "held", *FAULTS) else "before"
         self.service.start(environment if self.stages else None)
 
-    def revive(self):
+    def revive(self) -> None:
         """Starts the service again where it has ended."""
         if time.monotonic() > self.until:
             raise Failed("no end in time")
         with self.reviving:
             self.start_until_it_runs()
 
-    def start_until_it_runs(self):
+    def start_until_it_runs(self) -> None:
         while not self.service.is_running():
             if len(self.stages) == 1 and self.way in POWER:
                 lose_power(self.data, self.shadow, self.way == "torn")
@@ -203,7 +198,7 @@ class Run:
             if not self.service.wait_ready(SECONDS) and not self.stages:
                 raise Failed("it does not start again")
 
-    def step(self, step):
+    def step(self, step: str) -> None:
         """A post, or an order of the operator, until it is done."""
         self.until = time.monotonic() + SECONDS
         self.revive()
@@ -217,24 +212,24 @@ class Run:
             if posted:
                 posted.result()
 
-    def is_interrupted(self):
+    def is_interrupted(self) -> bool:
         return self.at > 0 and os.path.exists(self.log)
 
-    def post(self, sender):
+    def post(self, sender: Sender) -> None:
         if not sender.post(sender.next_points(), self.revive):
             raise Failed(f"a post was answered {sender.surprises[-1]}")
 
-    def order(self, step):
+    def order(self, step: str) -> None:
         while True:
             status, text = self.service.asked("POST", step, seconds=10)
             if status == 200 or (status == 400 and b"quarantined" in text):
                 return
             if status not in (None, 503):
-                raise Failed(f"{step} was answered {status} {text}")
+                raise Failed(f"{step} was answered {status} {text!r}")
             time.sleep(0.02)
             self.revive()
 
-    def make(self):
+    def make(self) -> None:
         """The whole run. Raises Failed."""
         if self.adopts:
             self.fill()
@@ -251,27 +246,28 @@ class Run:
         self.step("/flush")
         self.look()
 
-    def look(self):
+    def look(self) -> None:
         """What is wrong at the end."""
         if not wait_until(self.service.is_drained, SECONDS):
             raise Failed("the sink does not get all")
-        found, points = {}, self.sink.points()
+        found: dict[str, Value] = {}
+        points = self.sink.points()
         add_points(found, points)
         wrong = differences(told_to_all(self.senders.values()), found) or overlaps(points) or self.service.faults()
         repeats = [sender.late_repeat() for sender in self.senders.values()]
-        wrong = wrong or [repeat for repeat in repeats if repeat[0] != 400 or OUT_OF_ORDER not in repeat[1]]
+        wrong = wrong or [str(repeat) for repeat in repeats if repeat[0] != 400 or OUT_OF_ORDER not in repeat[1]]
         wrong = wrong or [f"the sink refused {letter}" for letter in os.listdir(f"{self.data}/dead")]
         if wrong:
             raise Failed(str(wrong))
 
-    def went_on(self):
+    def went_on(self) -> bool:
         """Whether a write or a sync failed and the service did not end. It may go on without the record of acts."""
         if self.way not in FAULTS or not os.path.exists(self.log):
             return False
         _, call, path = self.calls()[0].split(" ", 2)
         return call in WRITES_AND_SYNCS and path != "/acts.jsonl" and bool(self.stages)
 
-    def calls(self):
+    def calls(self) -> list[str]:
         """The calls that were noted: all of a run that was not interrupted, else those that were."""
         with open(self.log, encoding="utf-8") as file:
             return file.read().splitlines()
@@ -280,18 +276,18 @@ class Run:
 class Runs:
     """All runs, and how they ended."""
 
-    def __init__(self, program, library, folder):
+    def __init__(self, program: str, library: str, folder: str) -> None:
         self.program, self.library, self.folder = program, library, folder
         self.lock = threading.Lock()
         self.passed = self.failed = self.interrupted = 0
 
-    def one(self, at, way, adopts):
+    def one(self, at: int, way: str, adopts: bool) -> list[str]:
         """Makes a run and counts it. Returns its calls."""
         calls, fault = self.made(at, way, adopts)
         self.count(at, f"{way}, of a folder of three slots," if adopts else way, calls, fault)
         return calls
 
-    def made(self, at, way, adopts=False):
+    def made(self, at: int, way: str, adopts: bool = False) -> tuple[list[str], str | None]:
         """Makes a run: its calls, and what is wrong with it."""
         folder = tempfile.mkdtemp(dir=self.folder)
         run = Run(self.program, self.library, folder, at, way, adopts)
@@ -308,12 +304,12 @@ class Runs:
         shutil.rmtree(folder, ignore_errors=True)
         return calls, fault
 
-    def forgetful(self, at):
+    def forgetful(self, at: int) -> None:
         """A loss of power at this call, of which no sync of a file had any effect: a run that has to fail."""
         calls, fault = self.made(at, "forgetful")
         self.count(at, "forgetful", calls, None if fault else "a power loss without syncs is not seen")
 
-    def count(self, at, way, calls, fault):
+    def count(self, at: int, way: str, calls: list[str], fault: str | None) -> None:
         with self.lock:
             self.interrupted += bool(at and calls)
             if fault is None:
@@ -323,7 +319,7 @@ class Runs:
                 print(f"failed: {way} call {', '.join(calls) if at else at}: {fault}", flush=True)
 
 
-def places_of(calls, every, ways):
+def places_of(calls: list[str], every: int, ways: Sequence[str]) -> Iterator[Any]:
     """Where a run is interrupted, and how."""
     for at in range(1, len(calls) + 1, every):
         _, call, path = calls[at - 1].split(" ")
@@ -331,7 +327,7 @@ def places_of(calls, every, ways):
         yield from ((at, way) for way in ways if way != "held" or is_of_journal)
 
 
-def main(program, every=1, ways=WAYS):
+def main(program: str, every: int = 1, ways: Sequence[str] = WAYS) -> int:
     with tempfile.TemporaryDirectory(dir=FOLDERS, prefix="interrupted-") as folder:
         runs = Runs(program, build(folder), folder)
         calls, of_three = (runs.one(0, "before", adopts) for adopts in (False, True))
@@ -349,4 +345,4 @@ def main(program, every=1, ways=WAYS):
 if __name__ == "__main__":
     if len(sys.argv) < 2:
         sys.exit(f"usage: {sys.argv[0]} TOTXEGUN [EVERY [WAY ..]]")
-    sys.exit(main(os.path.abspath(sys.argv[1]), *map(int, sys.argv[2:3]), sys.argv[3:] or WAYS))
+    sys.exit(main(os.path.abspath(sys.argv[1]), int((sys.argv[2:3] or ["1"])[0]), sys.argv[3:] or WAYS))

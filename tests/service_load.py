@@ -20,6 +20,7 @@ by series and bucket by bucket, what the senders were told is taken.
 Each line is one check; the last line counts those that passed and failed, and the status is 0 where none failed.
 """
 import argparse
+import contextlib
 import json
 import os
 import random
@@ -28,12 +29,13 @@ import sys
 import tempfile
 import threading
 import time
-from contextlib import nullcontext
+from collections.abc import Callable, Sequence
+from typing import Any
 
-from checks import Checks
-from own_disk import OwnDisk
-from service import (AGAIN, JSON, OUT_OF_ORDER, OtlpSink, Sender, Service, SqliteSink, add_points, differences, in_json,
-                     overlaps, told_to_all, wait_until)
+from testing.checks import Checks
+from testing.own_disk import OwnDisk
+from testing.service import (AGAIN, JSON, OUT_OF_ORDER, OtlpSink, Sender, Service, Sink, SqliteSink, Told, Value, add_points,
+                             differences, in_json, overlaps, told_to_all, wait_until)
 
 SENDERS = 6
 SECONDS = 60
@@ -48,57 +50,57 @@ NO_ANSWER = b"the disk does not answer"
 class Trouble:
     """What is done to the service while senders post: one event after another, drawn by chance."""
 
-    def __init__(self, service, senders, seed, most_series, disk):
+    def __init__(self, service: Service, senders: list[Sender], seed: str, most_series: list[int], disk: OwnDisk | None) -> None:
         self.service = service
         self.senders = senders
         self.most_series = most_series
         self.chance = random.Random(f"trouble {seed}")
-        self.quarantined = set()
-        self.counts = {}
+        self.quarantined: set[str] = set()
+        self.counts: dict[str, int] = {}
         self.events = [self.kill_service, self.kill_twice, self.change_books, self.stop_service, self.flush, self.quarantine, self.lift]
         self.disk = disk
-        self.silences = []  # what the service did not say while the disk stood still
+        self.silences: list[str] = []  # what the service did not say while the disk stood still
         if disk is not None:
             self.events += [self.stall]
 
-    def go_on(self, until):
+    def go_on(self, until: float) -> None:
         while time.monotonic() < until:
             event = self.chance.choice(self.events)
             self.counts[event.__name__] = self.counts.get(event.__name__, 0) + 1
             event()
             self.let_post(self.chance.choice([0, 5, 50, 200]), until)
 
-    def let_post(self, count, until):
+    def let_post(self, count: int, until: float) -> None:
         """Waits until so many posts more were answered, and three seconds at most."""
         wanted = count + sum(sender.posts for sender in self.senders)
         wait_until(lambda: sum(sender.posts for sender in self.senders) >= wanted or time.monotonic() > until, 3)
 
-    def start(self):
+    def start(self) -> None:
         """Starts it where it does not run: senders would try for ever."""
         if not self.service.is_running():
             self.service.start()
 
-    def kill_service(self):
+    def kill_service(self) -> None:
         self.service.kill()
         self.start()
 
-    def kill_twice(self):
+    def kill_twice(self) -> None:
         """The second kill meets a service that is starting."""
         self.kill_service()
         time.sleep(self.chance.choice([0, 0.01, 0.05, 0.2]))
         self.kill_service()
 
-    def change_books(self):
+    def change_books(self) -> None:
         """Another number of them, by two starts of which the first one is killed."""
         self.service.words[-1] = str(self.chance.choice(self.most_series))
         self.kill_twice()
 
-    def stop_service(self):
+    def stop_service(self) -> None:
         self.service.signal(signal.SIGSTOP)
         time.sleep(self.chance.choice([0.05, 0.3, 1.0]))
         self.service.signal(signal.SIGCONT)
 
-    def stall(self):
+    def stall(self) -> None:
         """The disk stands still for a while, also for a service that is killed meanwhile."""
         is_serving, is_written = self.service.is_ready(), self.is_taken_of_some()
         until = time.monotonic() + self.chance.choice(STALLS)
@@ -114,13 +116,13 @@ class Trouble:
         if is_killed:
             self.kill_service()
 
-    def is_taken_of_some(self):
+    def is_taken_of_some(self) -> bool:
         """Whether posts of some sender are taken: where all are quarantined nothing is written, so no call stands still."""
         status = self.service.status()
         quarantined = {sender for slot in status["slots"] for sender in slot["quarantined"]} if status else set()
         return len(quarantined) < len(self.senders)
 
-    def look(self, seconds, is_written):
+    def look(self, seconds: float, is_written: bool) -> None:
         """What must be said while the disk has been still for so long."""
         status, _ = self.service.asked("GET", "/health", 2)
         if status != 200:
@@ -128,24 +130,24 @@ class Trouble:
         if seconds > SEEN_AFTER and is_written:
             status, text = self.service.asked("GET", "/ready", 2)
             if status != 503 or NO_ANSWER not in text:
-                self.silences.append(f"/ready {status} {text} after {seconds:.1f} s")
+                self.silences.append(f"/ready {status} {text!r} after {seconds:.1f} s")
 
-    def flush(self):
+    def flush(self) -> None:
         self.service.order("/flush", 5)
 
-    def quarantine(self):
+    def quarantine(self) -> None:
         sender = f"sender-{self.chance.randrange(SENDERS)}"
         self.quarantined.add(sender)
         self.service.order(f"/quarantine/{sender}", 5)
 
-    def lift(self):
+    def lift(self) -> None:
         """What was ordered without an answer may be done or not, so it is ordered again at the end."""
         if self.quarantined:
             self.service.order(f"/lift/{self.chance.choice(sorted(self.quarantined))}", 5)
 
-    def lift_all(self):
+    def lift_all(self) -> bool:
         """Whether none is quarantined, by what the service says."""
-        def is_done():
+        def is_done() -> bool:
             status = self.service.status()
             left = [sender for slot in status["slots"] for sender in slot["quarantined"]] if status else [None]
             for sender in filter(None, left):
@@ -154,7 +156,7 @@ class Trouble:
         return wait_until(is_done)
 
 
-def intrude(sender, senders):
+def intrude(sender: Sender, senders: list[Sender]) -> None:
     """Now and then, a post to a series that another sender has: it is refused."""
     if sender.chance.random() > 0.05:
         return
@@ -167,9 +169,10 @@ def intrude(sender, senders):
             sender.surprises.append((status, text))
 
 
-def post_meanwhile(senders, is_over, between=lambda sender: None):
+def post_meanwhile(senders: Sequence[Sender], is_over: Callable[[], bool],
+                   between: Callable[[Sender], object] = lambda sender: None) -> list[threading.Thread]:
     """Threads in which the senders post until it is over; each ends with a post that was answered."""
-    def go_on(sender):
+    def go_on(sender: Sender) -> None:
         while not is_over():
             sender.post(sender.next_points())
             between(sender)
@@ -179,7 +182,8 @@ def post_meanwhile(senders, is_over, between=lambda sender: None):
     return threads
 
 
-def load(checks, what, service, sink, seconds, seed, most_series, disk):
+def load(checks: Checks, what: str, service: Service, sink: Sink, seconds: float, seed: str, most_series: list[int],
+         disk: OwnDisk | None) -> list[Sender]:
     """Senders and trouble at once; whether all senders were answered."""
     service.start()
     checks.true(f"{what}: it is ready", service.wait_ready(), service.last_lines())
@@ -202,28 +206,28 @@ def load(checks, what, service, sink, seconds, seed, most_series, disk):
     return senders
 
 
-def letters(service):
+def letters(service: Service) -> Any:
     """The keys of what the sink has refused, or nothing where the service does not say."""
     status, body = service.asked("GET", "/dead")
     return [letter["key"] for letter in json.loads(body)] if status == 200 else None
 
 
-def send_letters_again(service):
+def send_letters_again(service: Service) -> bool:
     """Whether what the sink had refused is taken."""
-    def is_done():
+    def is_done() -> bool:
         left = letters(service)
         for key in left or ():
             service.order(f"/dead/{key}/resend")
-        return left == []
+        return bool(left == [])
     return wait_until(is_done)
 
 
-def repeat_late(checks, what, senders):
+def repeat_late(checks: Checks, what: str, senders: Sequence[Sender]) -> None:
     repeats = [sender.late_repeat() for sender in senders]
     checks.true(what, all(status == 400 and OUT_OF_ORDER in text for status, text in repeats), repeats)
 
 
-def end(checks, what, service, sink, senders):
+def end(checks: Checks, what: str, service: Service, sink: Sink, senders: list[Sender]) -> None:
     """The end, a start after it, and what the sink has."""
     surprises = [surprise for sender in senders for surprise in sender.surprises]
     checks.same(f"{what}: no post was answered otherwise", [], surprises[:3])
@@ -247,9 +251,9 @@ def end(checks, what, service, sink, senders):
     service.end()
 
 
-def compare(checks, what, sink, senders):
+def compare(checks: Checks, what: str, sink: Told, senders: Sequence[Sender]) -> None:
     points = sink.points()
-    found = {}
+    found: dict[str, Value] = {}
     add_points(found, points)
     checks.same(f"{what}: no spans of a series overlap at the sink", [], overlaps(points))
     checks.same(f"{what}: a key brings the same bytes", [], sink.wrong())
@@ -257,10 +261,14 @@ def compare(checks, what, sink, senders):
     checks.same(f"{what}: the sink has what the senders were told, {len(wanted)} series", [], differences(wanted, found))
 
 
-def run(checks, program, durable, kind, seconds, seed, most_series, stalls):
+def run(checks: Checks, program: str, durable: str, kind: str, seconds: float, seed: str, most_series: list[int],
+        stalls: bool) -> None:
     what = f"{durable}, {kind}"
-    with tempfile.TemporaryDirectory(prefix="service-") as folder, OwnDisk(folder) if stalls else nullcontext() as disk:
-        sink = OtlpSink(seed) if kind == "OTLP" else SqliteSink(f"{folder}/sink.db")
+    with contextlib.ExitStack() as stack:
+        folder = stack.enter_context(tempfile.TemporaryDirectory(prefix="service-"))
+        disk = stack.enter_context(OwnDisk(folder)) if stalls else None
+        sinks: dict[str, Callable[[], Sink]] = {"OTLP": lambda: OtlpSink(seed), "SQLite": lambda: SqliteSink(f"{folder}/sink.db")}
+        sink = sinks[kind]()
         words = ["--durable", durable, "--flush-every", "1s", "--most-series", str(most_series[0])]
         place = folder if disk is None else disk.folder
         service = Service(program, f"{place}/data", sink.address, *words)
@@ -273,7 +281,7 @@ def run(checks, program, durable, kind, seconds, seed, most_series, stalls):
             sink.close()
 
 
-def main(arguments):
+def main(arguments: argparse.Namespace) -> int:
     checks = Checks()
     print(f"note: seed {arguments.seed}", flush=True)
     for durable, kind in (("disk", "OTLP"), ("disk", "SQLite"), ("process", "OTLP"), ("process", "SQLite")):
@@ -284,7 +292,7 @@ def main(arguments):
 
 if __name__ == "__main__":
     parser = argparse.ArgumentParser(description=__doc__.split("\n", maxsplit=1)[0])
-    parser.add_argument("totxegun", type=os.path.abspath)
+    parser.add_argument("totxegun", type=lambda word: os.path.abspath(word))
     parser.add_argument("seconds", type=float, nargs="?", default=SECONDS)
     parser.add_argument("seed", nargs="?", default="1")
     parser.add_argument("--most-series", type=lambda text: [int(word) for word in text.split(",")], default=[8_000, 30_000, 100_000])

@@ -3,12 +3,12 @@
 
     tests/service_model.py
 
-It needs no program. Two senders have three posts on two series, each of which is in a book of its own: A posts one point of
-x, then one of x and one of y; B posts one of y, so that one of the two senders owns y and the other is refused. Each point of
-x is of another hour, and that of y of a third one: so A's second post is of several hours. Posts are on
-the way at once, answers are lost, and a sender repeats until it is answered. Meanwhile there are checkpoints, a quarantine, a
-lift, and deliveries to a sink. In a search of its own the outbox has x ahead of its time, as a wrong clock has left it, and an
-operator has it put back: A posts once he was told so. Faults come at any place: the service is killed, the power is lost, a write of the outbox fails.
+It needs no program. Two senders have three posts on two series, each of which is in a book of its own: A posts one point of x,
+then one of x and one of y; B posts one of y, so that one of the two senders owns y and the other is refused. Each point of x is
+of another hour, and that of y of a third one: so A's second post is of several hours. Posts are on the way at once, answers are
+lost, and a sender repeats until it is answered. Meanwhile there are checkpoints, a quarantine, a lift, and deliveries to a sink.
+In a search of its own the outbox has x ahead of its time, as a wrong clock has left it, and an operator has it put back: A posts
+once he was told so. Faults come at any place: the service is killed, the power is lost, a write of the outbox fails.
 
 In each state in which nothing is on its way:
   - a post whose sender was told that it is taken (200, or `out of order` to a repeat) counts exactly once: in the sink,
@@ -19,9 +19,9 @@ In each state in which nothing is on its way:
 
 And in each state what is pending of a series, and each request, is of one hour, and requests have a series' points in order.
 
-With all rules kept no state breaks this, over all states of two faults and one checkpoint, of one fault and two checkpoints,
-and of one of each where x is put back. Without any one of the rules some state does: so the rule is needed, and the model can see it. The search
-goes by breadth, so what is printed is a shortest way. It takes a minute. That no state at all breaks it is proved of a
+With all rules kept no state breaks this, over all states of two faults and one checkpoint, of one fault and two checkpoints, and
+of one of each where x is put back. Without any one of the rules some state does: so the rule is needed, and the model can see it.
+The search goes by breadth, so what is printed is a shortest way. It takes a minute. That no state at all breaks it is proved of a
 coarser machine, in crates/service_law; this is what finds a way where a rule is missing.
 
 Each line is one check; the last line counts those that passed and failed, and the status is 0 where none failed.
@@ -30,9 +30,10 @@ import dataclasses
 import sys
 import time
 from collections import deque
-from typing import NamedTuple
+from collections.abc import Iterable, Iterator
+from typing import NamedTuple, TypeVar
 
-from checks import Checks
+from testing.checks import Checks
 
 # Where a search is cut off: that is a failure.
 MOST_STATES = 1_000_000
@@ -98,7 +99,7 @@ SERIES = (X, Y)
 class Post(NamedTuple):
     sender: str
     # Of each series that it has a point of: the span (start, end].
-    spans: dict
+    spans: dict[int, tuple[int, int]]
 
 
 POSTS = (Post(A, {X: (0, 1)}), Post(A, {X: (1, 2), Y: (0, 1)}), Post(B, {Y: (0, 1)}))
@@ -156,11 +157,11 @@ class Books(NamedTuple):
     """What the books have in memory. They take a post whole or refuse it whole."""
 
     # Of each series (owner, frontier), or None where it is not known.
-    series: tuple
+    series: tuple[tuple[str, int] | None, ...]
     # Points that were taken and not flushed.
     pending: int
     # Requests of earlier hours, for the next group.
-    earlier: tuple
+    earlier: tuple[int, ...]
     is_quarantined: bool
 
 
@@ -178,13 +179,13 @@ class Outbox(NamedTuple):
     """What the outbox says."""
 
     # Sets of points; a request's number is its place, from 1.
-    requests: tuple
+    requests: tuple[int, ...]
     # So many of them are acknowledged.
     acknowledged: int
     # The first segment of the journal whose posts are in no group.
     journal: int
     # Of each series, where it was found; its frontier is that of its requests.
-    owners: tuple
+    owners: tuple[str | None, ...]
     is_quarantined: bool
     # Whether x ends ahead of its time, as A's.
     is_ahead: bool
@@ -200,7 +201,7 @@ class Step:
 class Checkpoint(NamedTuple):
     step: int
     # What was taken of the books: the requests of the group.
-    group: tuple
+    group: tuple[int, ...]
 
 
 class Left(NamedTuple):
@@ -217,14 +218,14 @@ class Left(NamedTuple):
 
 
 class State(NamedTuple):
-    told: tuple
-    attempts: tuple
-    requests: tuple
+    told: tuple[int, ...]
+    attempts: tuple[int, ...]
+    requests: tuple[Request, ...]
     # None where the service is down.
     books: Books
     segment: int
     # The queue is the end of it.
-    journal: tuple
+    journal: tuple[Record, ...]
     outbox: Outbox
     # What a power loss leaves of the outbox.
     synced_outbox: Outbox
@@ -246,27 +247,32 @@ BEGIN = State(
     outbox=EMPTY_OUTBOX, synced_outbox=EMPTY_OUTBOX, checkpoint=None, sink=0, twice=0, highest=0, left=None)
 BOUNDS = (Left(2, 1, 1, 1, 1, 0), Left(1, 2, 1, 0, 1, 0), Left(1, 1, 1, 0, 1, 1))
 
+# What happens, and the state after it.
+Event = tuple[str, State]
+Events = Iterator[Event]
+T = TypeVar("T")
 
-def put(items, place, item):
+
+def put(items: tuple[T, ...], place: int, item: T) -> tuple[T, ...]:
     """The tuple with another item at this place."""
     return items[:place] + (item,) + items[place + 1:]
 
 
-def without(items, place):
+def without(items: tuple[T, ...], place: int) -> tuple[T, ...]:
     return items[:place] + items[place + 1:]
 
 
-def answered(state, number, told):
+def answered(state: State, number: int, told: int) -> State:
     """The sender knows what became of its post. How often it tried does not matter any more."""
     return state._replace(told=put(state.told, number, told), attempts=put(state.attempts, number, 0))
 
 
-def with_request(state, *requests):
+def with_request(state: State, *requests: Request) -> State:
     """The state with these requests more, in an order that does not tell which came first."""
     return state._replace(requests=tuple(sorted(state.requests + requests)))
 
 
-def spend(state, kind):
+def spend(state: State, kind: str) -> Left | None:
     """The budget with one less of a kind, or None where it is used up."""
     count = getattr(state.left, kind)
     return state.left._replace(**{kind: count - 1}) if count else None
@@ -276,7 +282,7 @@ def spend(state, kind):
 # The books
 
 
-def answer_of(books, post):
+def answer_of(books: Books, post: int) -> int | None:
     """What the books say to a post of a sender that is not quarantined."""
     sender, spans = POSTS[post]
     for series in spans:
@@ -291,11 +297,11 @@ def answer_of(books, post):
     return Told.TAKEN
 
 
-def hour_of(post, series):
+def hour_of(post: int, series: int) -> int:
     return HOURS[series][POSTS[post].spans[series][1]]
 
 
-def taken(rules, books, post, only=SERIES, is_held=False):
+def taken(rules: Rules, books: Books, post: int, only: Iterable[int] = SERIES, is_held: bool = False) -> Books:
     """The books with a post that they take, or with its part of these series: hour by hour. Nothing is taken of what is held."""
     series, pending, earlier = list(books.series), books.pending, books.earlier
     for one in sorted(set(POSTS[post].spans) & set(only), key=lambda one: hour_of(post, one)):
@@ -307,7 +313,7 @@ def taken(rules, books, post, only=SERIES, is_held=False):
     return books._replace(series=tuple(series), pending=pending, earlier=earlier)
 
 
-def with_parts(rules, books, post):
+def with_parts(rules: Rules, books: Books, post: int) -> Books:
     """The books with those parts of a refused post that one book alone would take, or the hours before the one that is refused."""
     sender, spans = POSTS[post]
     known = {one: books.series[one] or (sender, 0) for one in spans}
@@ -318,7 +324,7 @@ def with_parts(rules, books, post):
     return taken(rules, books, post, kept)
 
 
-def flushable(books):
+def flushable(books: Books) -> int:
     """The points that a flush may take."""
     return books.pending & ~(OF_SENDER[QUARANTINED] if books.is_quarantined else 0)
 
@@ -327,12 +333,12 @@ def flushable(books):
 # Posts
 
 
-def next_post(state, sender):
+def next_post(state: State, sender: str) -> int | None:
     """The first post of the sender that it has no answer to, or None."""
     return next((number for number, one in enumerate(POSTS) if one.sender == sender and not state.told[number]), None)
 
 
-def post(rules, state):
+def post(rules: Rules, state: State) -> Events:
     """A sender posts what it does not have an answer to, if it waits for no attempt at it, and the books are asked."""
     for sender in (A, B) if state.books else ():
         number = next_post(state, sender)
@@ -345,7 +351,7 @@ def post(rules, state):
             yield asked(rules, tried, number)
 
 
-def asked(rules, state, number):
+def asked(rules: Rules, state: State, number: int) -> Event:
     """The books take a post or refuse it."""
     if answer_of(state.books, number) != Told.TAKEN:
         return f"post {number} is refused", refused(rules, state, number)
@@ -355,7 +361,7 @@ def asked(rules, state, number):
     return f"post {number} is taken", with_request(state, Request(number, Told.NOTHING, Sync.QUEUED, True))
 
 
-def placed(rules, state, number, is_awaited):
+def placed(rules: Rules, state: State, number: int, is_awaited: bool) -> State:
     """Its record is the last one of the queue."""
     state = state._replace(journal=state.journal + (Record(state.segment, number, False, Sync.QUEUED),))
     if not rules.answer_waits_for_journal:
@@ -363,7 +369,7 @@ def placed(rules, state, number, is_awaited):
     return with_request(state, Request(number, Told.TAKEN, Sync.QUEUED, is_awaited))
 
 
-def refused(rules, state, number):
+def refused(rules: Rules, state: State, number: int) -> State:
     """A refusal waits for what has a place before it."""
     answer = answer_of(state.books, number) or Told.TAKEN
     if not (rules.post_is_in_all_books_or_none and rules.post_of_several_hours_is_tried_whole):
@@ -374,7 +380,7 @@ def refused(rules, state, number):
     return answered(state, number, answer)
 
 
-def stop_waiting(rules, state):
+def stop_waiting(rules: Rules, state: State) -> Events:
     """A sender's time is over, or its connection broke: it never gets the answer to this attempt."""
     left = spend(state, "lost_answers")
     for place, request in enumerate(state.requests if left else ()):
@@ -383,7 +389,7 @@ def stop_waiting(rules, state):
             yield f"the sender of post {request.post} waits no longer", with_request(others, request._replace(is_awaited=False))
 
 
-def place_late(rules, state):
+def place_late(rules: Rules, state: State) -> Events:
     """Where that is a step of its own, a post that was taken gets its place."""
     for place, request in enumerate(state.requests):
         if request.answer == Told.NOTHING:
@@ -391,11 +397,11 @@ def place_late(rules, state):
             yield f"post {request.post} has its place in the queue", placed(rules, others, request.post, request.is_awaited)
 
 
-def moved(records, before, after):
+def moved(records: Iterable[Record], before: int, after: int) -> tuple[Record, ...]:
     return tuple(one._replace(sync=after) if one.sync == before else one for one in records)
 
 
-def write_journal(rules, state):
+def write_journal(rules: Rules, state: State) -> Events:
     """All of the queue, in its order."""
     if any(record.sync == Sync.QUEUED for record in state.journal):
         requests = (one._replace(last=Sync.WRITTEN) if one.answer != Told.NOTHING else one for one in state.requests)
@@ -403,7 +409,7 @@ def write_journal(rules, state):
             journal=moved(state.journal, Sync.QUEUED, Sync.WRITTEN), requests=tuple(sorted(requests)))
 
 
-def sync_journal(rules, state):
+def sync_journal(rules: Rules, state: State) -> Events:
     """One sync is for all that was written, and for all who wait for it."""
     if all(record.sync != Sync.WRITTEN for record in state.journal):
         return
@@ -420,7 +426,7 @@ def sync_journal(rules, state):
 # Checkpoints
 
 
-def begin_checkpoint(rules, state):
+def begin_checkpoint(rules: Rules, state: State) -> Events:
     """All that may be flushed is taken of the books, a request a series, and the journal turns."""
     left = spend(state, "checkpoints")
     if not left or not state.books or state.checkpoint:
@@ -432,7 +438,7 @@ def begin_checkpoint(rules, state):
         yield f"{state.checkpoint.group} are taken of the books", state
 
 
-def all_taken(rules, state):
+def all_taken(rules: Rules, state: State) -> State:
     """A flush that was taken is settled at once: its points are the checkpoint's alone."""
     points, earlier = flushable(state.books), state.books.earlier
     group = tuple(points & of for of in OF_SERIES if points & of)
@@ -441,24 +447,24 @@ def all_taken(rules, state):
     return state._replace(books=books, checkpoint=Checkpoint(Step.TAKEN, group))
 
 
-def turn_late(rules, state):
+def turn_late(rules: Rules, state: State) -> Events:
     """Where that is a step of its own, posts come between."""
     if state.checkpoint and state.checkpoint.step == Step.TAKEN:
         yield "the journal turns", turned(rules, state)
 
 
-def turned(rules, state):
+def turned(rules: Rules, state: State) -> State:
     """A new segment, in which the next posts have their places: it holds what no flush takes. Where these posts lie, in the
     segment or in files that it names, is all one here: they count where it is the first that is replayed."""
     segment = state.segment + 1
-    held = ()
+    held: tuple[Record, ...] = ()
     if state.books.is_quarantined and rules.quarantined_posts_are_held:
         held = tuple(Record(segment, record.post, True, Sync.QUEUED) for record in replayed(state.outbox, state.journal)
                      if POSTS[record.post].sender == QUARANTINED)
     return state._replace(segment=segment, journal=state.journal + held, checkpoint=state.checkpoint._replace(step=Step.TURNED))
 
 
-def commit(rules, state):
+def commit(rules: Rules, state: State) -> Events:
     """What was taken is written as one group, which names the segment from which posts are in no group."""
     if not state.checkpoint or state.checkpoint.step != Step.TURNED:
         return
@@ -477,7 +483,7 @@ def commit(rules, state):
         yield "the group can't be written", after
 
 
-def give_back(rules, state):
+def give_back(rules: Rules, state: State) -> Events:
     """There is no memory to write what was taken: with the rule that is tried again, or the process ends."""
     left = spend(state, "faults")
     if left and state.checkpoint and state.checkpoint.step == Step.TURNED and not rules.what_was_taken_is_not_given_back:
@@ -485,13 +491,13 @@ def give_back(rules, state):
         yield "what was taken is given back", state._replace(books=books, checkpoint=None, left=left)
 
 
-def sync_outbox(rules, state):
+def sync_outbox(rules: Rules, state: State) -> Events:
     if state.checkpoint and state.checkpoint.step == Step.COMMITTED:
         yield "the group is synced", state._replace(
             synced_outbox=state.outbox, checkpoint=state.checkpoint._replace(step=Step.SYNCED))
 
 
-def end_checkpoint(rules, state):
+def end_checkpoint(rules: Rules, state: State) -> Events:
     """The owners of new series are found in the segments, which are then deleted."""
     if state.checkpoint and state.checkpoint.step == Step.SYNCED:
         outbox = with_owners(state.outbox, state.journal)
@@ -499,7 +505,7 @@ def end_checkpoint(rules, state):
         yield "the checkpoint ends", state._replace(outbox=outbox, synced_outbox=outbox, journal=journal, checkpoint=None)
 
 
-def frontier(outbox, series):
+def frontier(outbox: Outbox, series: int) -> int | None:
     """Where the last forwarded point of a series ends, or None."""
     points = 0
     for request in outbox.requests:
@@ -508,7 +514,7 @@ def frontier(outbox, series):
     return AHEAD if series == X and outbox.is_ahead else max(ends, default=None)
 
 
-def with_owners(outbox, journal):
+def with_owners(outbox: Outbox, journal: tuple[Record, ...]) -> Outbox:
     """The posts of a group are in the journal, and say who owns its series."""
     owners = list(outbox.owners)
     for series in SERIES:
@@ -522,7 +528,7 @@ def with_owners(outbox, journal):
 # Deliveries
 
 
-def deliver(rules, state):
+def deliver(rules: Rules, state: State) -> Events:
     """The sink gets the first request that is not acknowledged. It takes a number once. Its answer may be lost."""
     is_committing = state.checkpoint is not None and state.checkpoint.step == Step.COMMITTED
     number = state.outbox.acknowledged + 1
@@ -537,7 +543,7 @@ def deliver(rules, state):
         yield f"the sink takes request {number}, and its answer is lost", delivered(state, number)._replace(left=left)
 
 
-def delivered(state, number):
+def delivered(state: State, number: int) -> State:
     if number <= state.highest:
         return state
     points = state.outbox.requests[number - 1]
@@ -548,7 +554,7 @@ def delivered(state, number):
 # The operator
 
 
-def quarantine(rules, state):
+def quarantine(rules: Rules, state: State) -> Events:
     """All books have it, and then it is noted in the outbox: a kill between the two leaves neither."""
     left = spend(state, "quarantines")
     # What was taken of earlier hours is in a group before: it can't be held any more.
@@ -556,18 +562,18 @@ def quarantine(rules, state):
         yield f"{QUARANTINED} is quarantined", noted(state._replace(left=left), True)
 
 
-def lift(rules, state):
+def lift(rules: Rules, state: State) -> Events:
     if state.books and state.books.is_quarantined and not state.checkpoint:
         yield f"{QUARANTINED} is released", noted(state, False)
 
 
-def noted(state, is_quarantined):
+def noted(state: State, is_quarantined: bool) -> State:
     """A record of its own, synced at once; what was written before it is synced with it."""
     outbox = state.outbox._replace(is_quarantined=is_quarantined)
     return state._replace(books=state.books._replace(is_quarantined=is_quarantined), outbox=outbox, synced_outbox=outbox)
 
 
-def put_back(rules, state):
+def put_back(rules: Rules, state: State) -> Events:
     """Under the lock, where nothing is taken of the books and on its way; then the operator is told so. A's first post is next: x
     has no other points."""
     left = spend(state, "repairs")
@@ -587,13 +593,13 @@ def put_back(rules, state):
 # Ends and beginnings
 
 
-def replayed(outbox, journal):
+def replayed(outbox: Outbox, journal: tuple[Record, ...]) -> tuple[Record, ...]:
     """The records that count."""
     return tuple(record for record in journal if record.segment >= outbox.journal
                  and (not record.is_held or record.segment == outbox.journal))
 
 
-def fresh_books(rules, outbox, journal):
+def fresh_books(rules: Rules, outbox: Outbox, journal: tuple[Record, ...]) -> Books:
     """Primed, then given the posts that no group has, then the quarantine."""
     known = tuple((owner, frontier(outbox, series)) if owner and frontier(outbox, series) is not None else None
                   for series, owner in enumerate(outbox.owners))
@@ -606,19 +612,19 @@ def fresh_books(rules, outbox, journal):
     return books._replace(is_quarantined=outbox.is_quarantined)
 
 
-def kill_service(rules, state):
+def kill_service(rules: Rules, state: State) -> Events:
     left = spend(state, "faults")
     if left and state.books:
         yield "the service is killed", ended(state._replace(left=left))
 
 
-def ended(state):
+def ended(state: State) -> State:
     """Books and queue go with the service, and all that is on the way. What was written stays."""
     written = tuple(record for record in state.journal if record.sync != Sync.QUEUED)
     return state._replace(requests=(), books=None, checkpoint=None, journal=moved(written, Sync.WRITTEN, Sync.LEFT))
 
 
-def lose_power(rules, state):
+def lose_power(rules: Rules, state: State) -> Events:
     """What was not synced is gone."""
     left = spend(state, "faults")
     if left:
@@ -626,7 +632,7 @@ def lose_power(rules, state):
         yield "the power is lost", ended(state._replace(journal=journal, outbox=state.synced_outbox, left=left))
 
 
-def start_service(rules, state):
+def start_service(rules: Rules, state: State) -> Events:
     """Files are synced, read and believed; a segment begins after all that are there or that the outbox names."""
     if state.books:
         return
@@ -649,18 +655,18 @@ ACTIONS = (post, stop_waiting, place_late, write_journal, sync_journal, begin_ch
 # What holds
 
 
-def is_quiet(state):
+def is_quiet(state: State) -> bool:
     return state.books is not None and not state.requests and not state.checkpoint
 
 
-def counted(state):
+def counted(state: State) -> list[int]:
     """Of each point, how often it counts, where nothing more is posted and nothing fails."""
     waiting = state.outbox.requests[max(state.outbox.acknowledged, state.highest):]
     sets = (state.sink, state.twice, state.books.pending, *state.books.earlier, *waiting)
     return [sum(points >> place & 1 for points in sets) for place in range(len(POINTS))]
 
 
-def fault_of_hours(state):
+def fault_of_hours(state: State) -> str | None:
     """Which series is in two hours at once, or out of order; or None."""
     group = state.checkpoint.group if state.checkpoint and state.checkpoint.step < Step.COMMITTED else ()
     pending = (state.books.pending, *group, *state.books.earlier) if state.books else ()
@@ -675,7 +681,7 @@ def fault_of_hours(state):
     return None
 
 
-def fault_of(state):
+def fault_of(state: State) -> str | None:
     """What is wrong in a state in which nothing is on its way, or None."""
     counts = counted(state)
     for post, told in enumerate(state.told):
@@ -696,31 +702,31 @@ class Found(NamedTuple):
     states: int
     fault: str
     # The labels of the actions that lead to it.
-    way: tuple
+    way: tuple[str, ...]
     is_whole: bool
 
 
-def way_to(parents, state):
-    labels = []
+def way_to(parents: dict[State, Event | None], state: State) -> tuple[str, ...]:
+    labels: list[str] = []
     while parents[state]:
-        state, label = parents[state]
+        label, state = parents[state]
         labels.append(label)
     return tuple(reversed(labels))
 
 
-def explore(rules, left):
+def explore(rules: Rules, left: Left) -> Found:
     """All states by breadth, until one is at fault."""
     begin = BEGIN._replace(left=left)
     if left.repairs:
         begin = begin._replace(outbox=AHEAD_OUTBOX, synced_outbox=AHEAD_OUTBOX, books=fresh_books(rules, AHEAD_OUTBOX, ()))
-    parents = {begin: None}
+    parents: dict[State, Event | None] = {begin: None}
     waiting = deque([begin])
     while waiting and len(parents) < MOST_STATES:
         state = waiting.popleft()
         for label, after in (step for action in ACTIONS for step in action(rules, state)):
             if after in parents:
                 continue
-            parents[after] = state, label
+            parents[after] = label, state
             fault = fault_of_hours(after) or (fault_of(after) if is_quiet(after) else None)
             if fault:
                 return Found(len(parents), fault, way_to(parents, after), False)
@@ -728,12 +734,12 @@ def explore(rules, left):
     return Found(len(parents), None, (), not waiting)
 
 
-def show(found):
+def show(found: Found) -> None:
     for label in found.way:
         print(f"    {label}")
 
 
-def main():
+def main() -> int:
     checks = Checks()
     for left in BOUNDS:
         found = explore(Rules(), left)

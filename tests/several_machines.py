@@ -38,11 +38,11 @@ import sys
 import tempfile
 import time
 
-from checks import Checks
+from testing.checks import Checks
 from clock_jumps import HOUR, Clock
-from machines import LED, OWN, Router, may_have_machines
-from servers import LIMIT, Pair, initdb
-from service import OtlpSink, Service, add_points, differences, overlaps, told_to_all, wait_until
+from testing.machines import LED, OWN, Router, may_have_machines
+from testing.servers import LIMIT, Pair, initdb
+from testing.service import OtlpSink, Service, add_points, differences, overlaps, told_to_all, wait_until
 from several_trouble import OfMachines, OfServers, befall
 from store import OfTwoSlots, post_while
 

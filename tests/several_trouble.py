@@ -5,8 +5,8 @@ import signal
 import threading
 import time
 
-from machines import OWN, both_ways
-from service import wait_until
+from testing.machines import OWN, both_ways
+from testing.service import wait_until
 
 SHORT, LONG = [0.5, 1, 2, 4], [1, 2, 5, 10, 20, 40, 60]
 AWAY = {False: 6, True: 120}

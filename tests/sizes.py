@@ -12,22 +12,25 @@ The last line counts the checks that passed and failed, and the status is 0 wher
 import json
 import subprocess
 import sys
+from collections.abc import Sequence
+from typing import Any
 
-from checks import Checks
+from testing.checks import Checks
 
 SECONDS = 60
 LONG = "z" * 4096
 
 
-def attribute(key, value):
+def attribute(key: str, value: dict[str, Any] | dict[str, str]) -> dict[str, Any]:
     return {"key": key, "value": value}
 
 
-def point(start, **more):
+def point(start: int, **more: Any) -> dict[str, Any]:
     return {"asInt": "1", "startTimeUnixNano": start, "timeUnixNano": start + 1, **more}
 
 
-def post(name, points, field="sum", unit="", resource=()):
+def post(name: str, points: list[dict[str, Any]], field: str = "sum", unit: str = "",
+         resource: Sequence[dict[str, Any]] = ()) -> str:
     """The line that posts these points of one metric."""
     data = {"aggregationTemporality": 1, "dataPoints": points}
     scope = {"metrics": [{"name": name, "unit": unit, field: data}]}
@@ -38,26 +41,28 @@ def post(name, points, field="sum", unit="", resource=()):
 class Script:
     """Lines, each with how its reply begins and how many lines it has."""
 
-    def __init__(self):
-        self.lines, self.wanted, self.batches = [], [], 0
+    def __init__(self) -> None:
+        self.lines: list[str] = []
+        self.wanted: list[tuple[str, int]] = []
+        self.batches = 0
 
-    def say(self, line, begins, count=1):
+    def say(self, line: str, begins: str, count: int = 1) -> None:
         self.lines.append(line)
         self.wanted.append((begins, count))
 
-    def bring(self, line, behind=""):
+    def bring(self, line: str, behind: str = "") -> None:
         self.batches += 1
         self.say(line, f"batch {self.batches}{behind}\n")
 
-    def admit(self, line, behind=""):
+    def admit(self, line: str, behind: str = "") -> None:
         self.bring(line, behind)
         self.say(f"confirm {self.batches}", f"confirmed {self.batches}\n")
 
-    def flush(self, number, points):
+    def flush(self, number: int, points: int) -> None:
         """A flush that takes so many series, each of which is sent as one point."""
         self.say(f"take {points}", f"flush {number} points {points}\npoint ", 1 + points)
 
-    def run(self, program, checks, what):
+    def run(self, program: str, checks: Checks, what: str) -> None:
         text = "".join(line + "\n" for line in self.lines)
         run = subprocess.run([program], input=text.encode(), capture_output=True, timeout=SECONDS)
         replies = run.stdout.decode().splitlines(keepends=True)
@@ -70,7 +75,7 @@ class Script:
         checks.true(what, is_right, (run.returncode, run.stderr, replies[:3], wrong[:3]))
 
 
-def series(program, checks):
+def series(program: str, checks: Checks) -> None:
     """As many series as there may be, and quarantined senders."""
     it = Script()
     it.admit("admit A " + " ".join(f"s{i:04} 10 20 1" for i in range(10_000)))
@@ -87,7 +92,7 @@ def series(program, checks):
     it.run(program, checks, "10,000 series and 1,000 quarantined senders")
 
 
-def points(program, checks):
+def points(program: str, checks: Checks) -> None:
     """Many points and batches of a series, and many rounds."""
     it = Script()
     for k in range(6):
@@ -102,7 +107,7 @@ def points(program, checks):
     it.run(program, checks, "6,000 points, 1,100 batches and 12,000 points of a series, 110 rounds")
 
 
-def open_ends(program, checks):
+def open_ends(program: str, checks: Checks) -> None:
     """As many open batches and live flushes as there may be."""
     it = Script()
     for i in range(1_024):
@@ -118,7 +123,7 @@ def open_ends(program, checks):
     it.run(program, checks, "1,024 open batches and 64 live flushes")
 
 
-def texts(program, checks):
+def texts(program: str, checks: Checks) -> None:
     """The longest texts, sets, lists and bounds."""
     pairs = [attribute(f"k{i}", {"stringValue": "v"}) for i in range(127)]
     pairs.append(attribute("l", {"arrayValue": {"values": [{"stringValue": LONG}] * 128}}))
@@ -133,7 +138,7 @@ def texts(program, checks):
     it.run(program, checks, "texts, attributes, lists and bounds at their limits")
 
 
-def main(program):
+def main(program: str) -> int:
     checks = Checks()
     series(program, checks)
     points(program, checks)

@@ -26,10 +26,13 @@ import socket
 import sys
 import threading
 import time
+from collections.abc import Callable
+from typing import Any
 
-from checks import Checks
-from loopback import BackEnd, Gateway, ordered, point, posted, read_all, response
-from shipped import listens, wait_until
+from testing.checks import Checks
+from testing.loopback import BackEnd, Gateway, ordered, point, posted, read_all, response
+from testing.service import wait_until
+from testing.shipped import listens
 
 # What a request and an answer may take, as docs/FORMATS.md has it, and what the test allows beside.
 REQUEST_SECONDS = 60
@@ -43,7 +46,7 @@ DONE = response(b"200 OK", b"application/json", b"{}")
 NOBODY = 9
 
 
-def asked(gateway, request):
+def asked(gateway: Gateway, request: bytes) -> tuple[bytes | str, float]:
     """The whole answer, and the seconds that it took."""
     begin = time.monotonic()
     connection = gateway.connect()
@@ -51,6 +54,7 @@ def asked(gateway, request):
         return "no connection", 0.0
     with connection:
         connection.settimeout(4 * REQUEST_SECONDS)
+        answer: bytes | str
         try:
             connection.sendall(request)
             answer = read_all(connection)
@@ -59,12 +63,12 @@ def asked(gateway, request):
     return answer, time.monotonic() - begin
 
 
-def batch(number, name="a"):
+def batch(number: int, name: str = "a") -> bytes:
     """A post of one point behind those of lower numbers."""
     return posted(point(10 * number + 10, 10 * number + 20, 1, name))
 
 
-def report(points, name="a"):
+def report(points: int, name: str = "a") -> bytes:
     """What is printed at the end of so many batches."""
     frontier = 10 * points + 10
     return (f"series {name} monotonic owner A frontier {frontier} accepted {points},{points},0 acknowledged 0,0,0 "
@@ -72,7 +76,7 @@ def report(points, name="a"):
             f"admitted {points} acknowledged 0\n").encode()
 
 
-def end_of(gateway):
+def end_of(gateway: Gateway) -> Any:
     """The status and what was printed, once the gateway has ended."""
     out, err = gateway.process.communicate(timeout=4 * REQUEST_SECONDS)
     return gateway.process.returncode, out, err
@@ -81,15 +85,15 @@ def end_of(gateway):
 class Slow(threading.Thread):
     """A slow sender: what it does on its connection, what it read at last, and the seconds up to then."""
 
-    def __init__(self, connection, act):
+    def __init__(self, connection: socket.socket | None, act: Callable[[socket.socket], None]) -> None:
         super().__init__(daemon=True)
         self.connection = connection
         self.act = act
-        self.read = None
-        self.seconds = None
+        self.read: bytes | str = None
+        self.seconds: float = None
         self.start()
 
-    def run(self):
+    def run(self) -> None:
         begin = time.monotonic()
         with self.connection:
             self.connection.settimeout(4 * REQUEST_SECONDS)
@@ -101,15 +105,15 @@ class Slow(threading.Thread):
         self.seconds = time.monotonic() - begin
 
 
-def stall_in_head(connection):
+def stall_in_head(connection: socket.socket) -> None:
     connection.sendall(b"POST /v1/metrics HTTP/1.1\r\nContent-Le")
 
 
-def stall_in_body(connection):
+def stall_in_body(connection: socket.socket) -> None:
     connection.sendall(b"POST /v1/metrics HTTP/1.1\r\nContent-Length: 9\r\n\r\n{")
 
 
-def trickle(connection):
+def trickle(connection: socket.socket) -> None:
     """A byte a second, for as long as somebody takes them."""
     connection.sendall(b"POST /v1/metrics HTTP/1.1\r\nContent-Length: 900\r\n\r\n")
     for _ in range(900):
@@ -117,7 +121,7 @@ def trickle(connection):
         time.sleep(1)
 
 
-def late(connection):
+def late(connection: socket.socket) -> None:
     """A body that is whole after three quarters of its time."""
     request = batch(0, "late")
     connection.sendall(request[:-100])
@@ -125,7 +129,7 @@ def late(connection):
     connection.sendall(request[-100:])
 
 
-def slow_sender(program, checks, what, act):
+def slow_sender(program: str, checks: Checks, what: str, act: Callable[[socket.socket], None]) -> None:
     """A slow sender in the first round; the posts of others."""
     posts = ROUND + 4
     gateway = Gateway(program, NOBODY, 1 + posts, options=["--round", str(ROUND), "--receivers", "4"])
@@ -142,7 +146,7 @@ def slow_sender(program, checks, what, act):
     checks.same(f"{what}: the end", (0, report(posts), b""), end_of(gateway))
 
 
-def late_sender(program, checks):
+def late_sender(program: str, checks: Checks) -> None:
     gateway = Gateway(program, NOBODY, 1)
     slow = Slow(gateway.connect(), late)
     slow.join(2 * REQUEST_SECONDS)
@@ -150,13 +154,13 @@ def late_sender(program, checks):
     checks.same("a late sender: the end", (0, report(1, "late"), b""), end_of(gateway))
 
 
-def never_reads(connection):
+def never_reads(connection: socket.socket) -> None:
     """Asks for the report and reads nothing until long after an answer's time is over."""
     connection.sendall(ordered("GET /report"))
     time.sleep(ANSWER_SECONDS + 3 * SLACK)
 
 
-def narrow(gateway):
+def narrow(gateway: Gateway) -> socket.socket:
     """A connection that takes few bytes until they are read."""
     connection = socket.socket()
     connection.setsockopt(socket.IPPROTO_TCP, socket.TCP_MAXSEG, 536)
@@ -165,7 +169,7 @@ def narrow(gateway):
     return connection
 
 
-def many_series(count):
+def many_series(count: int) -> bytes:
     """A body with one point of each of so many series."""
     one = '{{"name":"s{:04}","sum":{{"aggregationTemporality":1,"isMonotonic":true,"dataPoints":[{{"asInt":"1",' \
           '"startTimeUnixNano":"10","timeUnixNano":"20"}}]}}}}'
@@ -173,7 +177,7 @@ def many_series(count):
     return posted(('{"resourceMetrics":[{"scopeMetrics":[{"metrics":[' + metrics + "]}]}]}").encode())
 
 
-def slow_reader(program, checks):
+def slow_reader(program: str, checks: Checks) -> None:
     """A client that never reads its answer, which is longer than what sockets keep."""
     posts = ROUND + 4
     gateway = Gateway(program, NOBODY, 2 + posts, options=["--round", str(ROUND), "--receivers", "4"])
@@ -192,7 +196,7 @@ def slow_reader(program, checks):
                 (status, *out.splitlines()[-2:], err))
 
 
-def crowd(program, checks, count, seconds):
+def crowd(program: str, checks: Checks, count: int, seconds: float) -> None:
     """So many senders stall at 8 receivers, and one more comes."""
     gateway = Gateway(program, NOBODY, count + 1, options=["--receivers", "8"])
     slow = [Slow(gateway.connect(), stall_in_body) for _ in range(count)]
@@ -205,13 +209,14 @@ def crowd(program, checks, count, seconds):
     checks.same(f"{count} stalled senders: the end", (0, report(1), b""), end_of(gateway))
 
 
-def long_bodies(program, checks):
+def long_bodies(program: str, checks: Checks) -> None:
     """A client that sends all before it reads."""
     sizes = (9, 20, 50)
     gateway = Gateway(program, NOBODY, len(sizes))
     for size in sizes:
         client = http.client.HTTPConnection("127.0.0.1", gateway.port, timeout=REQUEST_SECONDS)
         wait_until(lambda: listens(gateway.port))
+        found: tuple[int, bytes] | str
         try:
             client.request("POST", "/v1/metrics", b" " * (size * 1_000_000), {"Content-Type": "application/json"})
             answer = client.getresponse()
@@ -223,7 +228,7 @@ def long_bodies(program, checks):
     checks.same("long bodies: the end", (0, b"end\nadmitted 0 acknowledged 0\n", b""), end_of(gateway))
 
 
-def refused_sender(program, checks):
+def refused_sender(program: str, checks: Checks) -> None:
     """A sender that is refused, keeps its side open and says nothing more."""
     gateway = Gateway(program, NOBODY, 2, options=["--receivers", "1"])
     with gateway.connect() as connection:
@@ -239,7 +244,7 @@ def refused_sender(program, checks):
     checks.same("a refused sender: the end", (0, report(1), b""), end_of(gateway))
 
 
-def refused_whole(program, checks):
+def refused_whole(program: str, checks: Checks) -> None:
     """Senders whose request is whole and refused, and who keep their side open and say nothing more."""
     refused = [
         ("out of order", batch(0), b'{"message":"out of order: point 0, frontier 20"}'),
@@ -260,7 +265,7 @@ def refused_whole(program, checks):
     checks.same("a whole request: the end", (0, report(1 + len(refused)), b""), end_of(gateway))
 
 
-def stop_and_go(gateway):
+def stop_and_go(gateway: Gateway) -> None:
     """Stops the gateway while it waits, and lets it go on."""
     for pause in (signal.SIGSTOP, signal.SIGCONT):
         time.sleep(0.5)
@@ -271,16 +276,16 @@ def stop_and_go(gateway):
 class LateBackEnd(BackEnd):
     """A back end that takes requests and answers them once it is released."""
 
-    def __init__(self):
+    def __init__(self) -> None:
         self.released = threading.Event()
         super().__init__()
 
-    def answer(self, connection):
+    def answer(self, connection: socket.socket) -> None:
         self.released.wait(REQUEST_SECONDS)
         super().answer(connection)
 
 
-def stopped(program, checks):
+def stopped(program: str, checks: Checks) -> None:
     """The gateway is stopped and goes on in the middle of each thing that it waits for."""
     back_end = LateBackEnd()
     gateway = Gateway(program, back_end.port, 6, options=["--receivers", "2"])
@@ -293,6 +298,7 @@ def stopped(program, checks):
             connection.settimeout(REQUEST_SECONDS)
             connection.sendall(request[:end])
             stop_and_go(gateway)
+            answer: bytes | str
             try:
                 connection.sendall(request[end:])
                 answer = read_all(connection)
@@ -323,19 +329,19 @@ def stopped(program, checks):
 class HungBackEnd(BackEnd):
     """A back end that takes requests and answers none until it is released."""
 
-    def __init__(self):
+    def __init__(self) -> None:
         self.released = threading.Event()
         super().__init__()
 
-    def answer(self, connection):
+    def answer(self, connection: socket.socket) -> None:
         self.released.wait(REQUEST_SECONDS)
 
 
-def hung_back_end(program, checks):
+def hung_back_end(program: str, checks: Checks) -> None:
     back_end = HungBackEnd()
     gateway = Gateway(program, back_end.port, 24, options=["--receivers", "4"])
     checks.same("a hung back end: a post before", DONE, asked(gateway, batch(0))[0])
-    turns = []
+    turns: list[bytes | str] = []
     orders = [threading.Thread(target=lambda: turns.append(asked(gateway, ordered("POST /flush"))[0]))
               for _ in range(2)]
     for order in orders:
@@ -344,20 +350,21 @@ def hung_back_end(program, checks):
     answers = [asked(gateway, batch(number)) for number in range(1, 20)]
     answers.append(asked(gateway, ordered("GET /report")))
     checks.same("a hung back end: posts are answered", [DONE] * 19, [answer for answer, _ in answers[:-1]])
-    checks.true("a hung back end: the report is", answers[-1][0].startswith(b"HTTP/1.1 200 OK\r\n"), answers[-1][0])
+    last = answers[-1][0]
+    checks.true("a hung back end: the report is", isinstance(last, bytes) and last.startswith(b"HTTP/1.1 200 OK\r\n"), last)
     checks.between("a hung back end: all at once", 0, AT_ONCE, max(took for _, took in answers))
     checks.same("a hung back end: the orders wait", [], turns)
     back_end.released.set()
     for order in orders:
         order.join(AT_ONCE)
     checks.true("a hung back end: both are given back once it is released",
-                len(turns) == 2 and all(b'{"act":"returned",' in turn for turn in turns), turns)
+                len(turns) == 2 and all(isinstance(turn, bytes) and b'{"act":"returned",' in turn for turn in turns), turns)
     checks.same("a hung back end: one more post", DONE, asked(gateway, batch(20))[0])
     checks.same("a hung back end: the end", (0, report(21), b""), end_of(gateway))
     back_end.close()
 
 
-def main(program, long):
+def main(program: str, long: bool) -> int:
     checks = Checks()
     cases = [
         (slow_sender, "a sender that stalls in its head", stall_in_head),
@@ -375,7 +382,7 @@ def main(program, long):
     if long:
         cases.append((crowd, 24, 3 * REQUEST_SECONDS))
 
-    def run(case, *words):
+    def run(case: Any, *words: str) -> None:
         try:
             case(program, checks, *words)
         except Exception as error:

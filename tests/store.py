@@ -22,11 +22,11 @@ import time
 ROOT = os.path.dirname(os.path.dirname(os.path.abspath(__file__)))
 sys.path.insert(1, f"{ROOT}/demo")
 
-from checks import Checks  # noqa: E402
-from loopback import free_port  # noqa: E402
-from parts import initdb  # noqa: E402
-from servers import Pair  # noqa: E402
-from service import (JSON, PROTOBUF, OtlpSink, Sender, Service, add_points, by_resource, differences, overlaps,  # noqa: E402
+from testing.checks import Checks  # noqa: E402
+from testing.loopback import free_port  # noqa: E402
+from testing.database import initdb  # noqa: E402
+from testing.servers import Pair  # noqa: E402
+from testing.service import (JSON, PROTOBUF, OtlpSink, Sender, Service, add_points, by_resource, differences, overlaps,  # noqa: E402
                      told_to_all, wait_until)
 
 SLOTS = "8"

@@ -3,10 +3,10 @@
 
     tests/store_databases.py PROGRAM
 
-Senders of one resource each post to either instance. While a database is down, posts of its slots get 503, those of the other go
-on, no slot moves, and `totxegun status` names it; the same of the other database, in which the other half is. Then all are
-answered, and the sink has what senders were told. A start refuses databases in another order, or another number of them. Skipped
-without PostgreSQL.
+Senders of one resource each post to either instance. While a database is down, posts of its slots get 503 at once, those of the
+other go on, no slot moves, both instances are ready, and `totxegun status` names the database; the same of the other one, in which
+the other half is. Then all are answered, and the sink has what senders were told. A start refuses databases in another order, or
+another number of them. Skipped without PostgreSQL.
 
 Each line is one check; the last line counts those that passed and failed, and the status is 0 where none failed.
 """
@@ -21,16 +21,19 @@ import time
 ROOT = os.path.dirname(os.path.dirname(os.path.abspath(__file__)))
 sys.path.insert(1, f"{ROOT}/demo")
 
-from checks import Checks  # noqa: E402
-from loopback import free_port  # noqa: E402
-from parts import initdb  # noqa: E402
-from service import JSON, OUT_OF_ORDER, OtlpSink, Sender, Service, add_points, differences, in_json, overlaps, told_to_all, wait_until  # noqa: E402
-from servers import Server, send  # noqa: E402
+from testing.checks import Checks  # noqa: E402
+from testing.loopback import free_port  # noqa: E402
+from testing.database import initdb  # noqa: E402
+from testing.service import JSON, OUT_OF_ORDER, OtlpSink, Sender, Service, add_points, differences, in_json, overlaps, told_to_all, wait_until  # noqa: E402
+from testing.servers import Server, send  # noqa: E402
+from testing.slots import come_to_rest  # noqa: E402
 
-SENDERS = 16
+SENDERS, SLOTS = 16, 8
 ONE_COPY = ("--store-copies", "1")
-# An instance finds within these that a database does not answer, and that it does again.
-FINDS = 6
+# After so many seconds of silence an instance counts as gone, also where each beat is late.
+GONE = 8
+# So soon a sender hears 503, where nobody waits for anything.
+AT_ONCE = 2
 
 
 class OfOneSlot(Sender):
@@ -51,7 +54,7 @@ class Cluster:
             server.make()
             server.start()
         self.addresses = [f"postgres://postgres@127.0.0.1:{server.port}/postgres" for server in self.servers]
-        self.run("store", "init", *self.addresses, "--slots", "16")
+        self.run("store", "init", *self.addresses, "--slots", str(SLOTS))
         self.instances = [self.instance(folder, name) for name in "ab"]
         self.senders = [OfOneSlot(self.instances[number % 2], number) for number in range(SENDERS)]
 
@@ -76,11 +79,13 @@ class Cluster:
 
     def answers(self):
         """What each sender is told at one try: of the post that was not taken last, or of the next."""
-        found = {}
+        found, self.longest = {}, 0
         for sender in self.senders:
             points, before = sender.pending or (sender.next_points(), False)
             body, headers = sender.encoded(points)
+            begun = time.monotonic()
             status, sender.said = sender.try_once(body, headers)
+            self.longest = max(self.longest, time.monotonic() - begun)
             if status == 200 or status == 400 and OUT_OF_ORDER in sender.said and before:
                 sender.note(points, (body, headers))
                 sender.pending, status = None, 200
@@ -92,6 +97,11 @@ class Cluster:
     def terms(self, server):
         return server.ask("select string_agg(slot || ':' || term || owner, ' ' order by slot) from totxegun_store.slot")
 
+    def named(self, server):
+        """Of each instance the lines of its status that say that a database does not answer."""
+        status = [self.run("status", "--operate", f"unix:{one.socket}")[1] for one in self.instances]
+        return [[line for line in text.splitlines() if "get 503" in line and str(server.port) in line] for text in status]
+
     def down(self, number, how):
         """Senders whose posts get 503 while a database does not answer."""
         server, other = self.servers[number], self.servers[1 - number]
@@ -102,19 +112,19 @@ class Cluster:
                 send(pid, signal.SIGSTOP)
         else:
             server.kill()
-        began = time.monotonic()
-        time.sleep(FINDS)
-        all_found = [self.answers() for _ in range(3)]
-        what = f"while database {number} is {how}"
-        refused = {name for name, status in all_found[-1].items() if status != 200}
+        began, what = time.monotonic(), f"while database {number} is {how}"
+        is_named = wait_until(lambda: all(self.named(server)) or time.sleep(0.5))
+        self.checks.true(f"{what} `status` of both names it", is_named, self.named(server))
+        all_found = [(self.answers(), self.longest) for _ in range(3)]
+        refused = {name for name, status in all_found[0][0].items() if status != 200}
         self.checks.true(f"{what} some posts get 503, and others are taken", 0 < len(refused) < SENDERS, all_found)
-        self.checks.true(f"{what} it is the same senders each time",
-                         all({name for name, status in found.items() if status != 200} == refused for found in all_found), all_found)
-        self.checks.same(f"{what} they get 503", {503}, {all_found[-1][name] for name in refused})
-        status = [self.run("status", "--operate", f"unix:{one.socket}")[1] for one in self.instances]
-        port = str(server.port)
-        named = [[line for line in text.splitlines() if "get 503" in line and port in line] for text in status]
-        self.checks.true(f"{what} `status` of both names it", all(named), status)
+        wanted = {sender.name: 503 if sender.name in refused else 200 for sender in self.senders}
+        self.checks.same(f"{what} it is the same each time", [wanted] * 3, [found for found, _ in all_found])
+        self.checks.true(f"{what} each is told so at once", max(longest for _, longest in all_found) < AT_ONCE, all_found)
+        self.checks.same(f"{what} both are ready", [200, 200], [one.asked("GET", "/ready")[0] for one in self.instances])
+        while time.monotonic() < began + GONE:
+            self.answers()
+            time.sleep(0.2)
         self.checks.same(f"{what} no slot of the other moves", before[1], self.terms(other))
         print(f"note: down for {time.monotonic() - began:.0f} s", flush=True)
         if how == "held":
@@ -125,8 +135,7 @@ class Cluster:
         is_back = wait_until(lambda: set(self.answers().values()) == {200}, 60)
         self.checks.true(f"after database {number} was {how} each post is taken", is_back,
                          [{sender.name: sender.said for sender in self.senders}, *[one.last_lines() for one in self.instances]])
-        if how == "killed":
-            self.checks.same(f"after database {number} was {how} its slots are where they were", before[0], self.terms(server))
+        self.checks.same(f"after database {number} was {how} its slots are where they were", before[0], self.terms(server))
         return refused
 
     def compare(self):
@@ -161,10 +170,9 @@ def main(words):
             for one in cluster.instances:
                 one.start()
                 checks.true("an instance serves", one.wait_ready(), one.last_lines())
-            checks.true("both have slots",
-                        wait_until(lambda: {"a", "b"} <= {row[-1] for one in cluster.servers for row in cluster.terms(one).split()}
-                                   and set(cluster.answers().values()) == {200}), [cluster.terms(one) for one in cluster.servers])
-            time.sleep(2)
+            checks.true("each slot comes to its place", come_to_rest(cluster.servers, SLOTS, "ab"),
+                        [cluster.terms(one) for one in cluster.servers])
+            checks.true("each post is taken", wait_until(lambda: set(cluster.answers().values()) == {200}), cluster.answers())
             second = cluster.down(1, "killed")
             first = cluster.down(0, "killed")
             checks.same("each sender has its slot in one of both", ({sender.name for sender in cluster.senders}, set()),

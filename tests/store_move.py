@@ -1,15 +1,15 @@
 #!/usr/bin/env python3
 """A folder is moved into a store and back, and killed at each step.
 
-    tests/store_move.py PROGRAM [EVERY]
+    tests/store_move.py PROGRAM [KILLS [SEED]]
 
 A folder has all that there can be: series whose senders go on, cumulative ones among them, posts that are in no group, requests
 that wait, of which the sink has one already, a request that was refused for good, a quarantined sender with posts, and the sink
-that it was told. `totxegun store move` brings it into a store of PostgreSQL and from there into another folder. For each call on
-the folder's files (by the library interrupt_files.c, which needs gcc), and each request to the server, or each EVERY-th (17), it is
-killed there, before it or after it: then exactly one of both counts by `check` and `store check`, no service starts on the other,
-and the same command again brings all of it there. At last services go on over the store, and over the folder that it was moved
-back to: each series has in the sink what its sender was told.
+that it was told. `totxegun store move` brings it into a store of PostgreSQL and from there into another folder. Each way KILLS (60) times
+it is killed, drawn by SEED (1) of all calls on the folder's files (by the library interrupt_files.c, which needs gcc) and all
+requests to the server, before it or after it, and such a call may fail: then exactly one of both counts by `check` and `store check`,
+no service starts on the other, and the same command again brings all of it there. Services go on over the store, and over the folder
+that it was moved back to: each series has in the sink what its sender was told.
 
 The same of a folder that totxegun 0.5.0 has left with three slots. Skipped without PostgreSQL.
 
@@ -20,6 +20,7 @@ import contextlib
 import itertools
 import json
 import os
+import random
 import shutil
 import signal
 import socket
@@ -33,13 +34,13 @@ import time
 ROOT = os.path.dirname(os.path.dirname(os.path.abspath(__file__)))
 sys.path.insert(1, f"{ROOT}/demo")
 
-from checks import Checks  # noqa: E402
-from loopback import free_port  # noqa: E402
-from parts import initdb  # noqa: E402
-from service import (JSON, PROTOBUF, OtlpSink, Sender, Service, add_points, ask, differences, field, fixed, in_json,  # noqa: E402
+from testing.checks import Checks  # noqa: E402
+from testing.loopback import free_port  # noqa: E402
+from testing.database import initdb  # noqa: E402
+from testing.service import (JSON, PROTOBUF, OtlpSink, Sender, Service, add_points, ask, differences, field, fixed, in_json,  # noqa: E402
                      in_protobuf, overlaps, told_to_all, wait_until)
 from service_interrupted import THREE_SLOTS, build  # noqa: E402
-from servers import Server  # noqa: E402
+from testing.servers import Server  # noqa: E402
 
 SLOTS = "4"
 SENDERS = 4
@@ -363,8 +364,8 @@ class Moves:
                 process.kill()
         if "senders post to" in text:
             return True
-        if process.returncode == 1 and ("store move" in text or "moved into" in text or "delivers to" in text):
-            return "delivers to" in text
+        if process.returncode == 1 and ("store move" in text or "moved into" in text or "deliver" in text):
+            return "deliver" in text
         raise Failed(f"it did not start, and did not say why: {text}")
 
     def one(self, direction, kill=None, calls=None):
@@ -406,24 +407,25 @@ class Moves:
         shutil.rmtree(place)
         return requests, made
 
-    def kills(self, direction, every):
+    def kills(self, direction, kills, chance):
         try:
             requests, calls = self.one(direction)
         except Failed as failed:
             return self.checks.true(f"{direction}: it is moved", False, failed)
         self.checks.true(f"{direction}: it is moved, by {requests} requests and {calls} calls on files", True, "")
-        ways = [(way, (at, way), None) for at in range(1, requests + 1, every) for way in ("before", "after")]
-        ways += [(f"{way} call", None, {"INTERRUPT_AT": str(at), "INTERRUPT_HOW": way}) for at in range(1, calls + 1, every)
+        ways = [(f"{way} request {at}", (at, way), None) for at in range(1, requests + 1) for way in ("before", "after")]
+        ways += [(f"{way} call {at}", None, {"INTERRUPT_AT": str(at), "INTERRUPT_HOW": way}) for at in range(1, calls + 1)
                  for way in ("before", "middle", "behind", "ENOSPC")]
+        ways = chance.sample(ways, min(kills, len(ways)))
 
         def try_one(way):
             try:
                 self.one(direction, *way[1:])
                 return None
             except Failed as failed:
-                return f"{way}: {failed}"
+                return f"{way[0]}: {failed}"
             except Exception as error:  # A test that breaks is a failure with its place.
-                return f"{way}: {type(error).__name__} {error}"
+                return f"{way[0]}: {type(error).__name__} {error}"
 
         with concurrent.futures.ThreadPoolExecutor(4) as pool:
             faults = [fault for fault in pool.map(try_one, ways) if fault]
@@ -459,7 +461,7 @@ def go_there_and_back(checks, program, moves, filled, folder):
     options = ["--store", address, "--instance", "a", "--peer", peer, "--cumulative", "on", "--flush-every", "1h", *ONE_COPY]
     status, text = run(program, "serve", "--data", f"{folder}/x", "--sink", "http://127.0.0.1:1/", *options, "--listen",
                        f"127.0.0.1:{free_port()}", "--operate", f"127.0.0.1:{free_port()}")
-    checks.true("another sink than the folder's is refused", status == 1 and "this store delivers to" in text, text)
+    checks.true("another sink than the folder's is refused", status == 1 and "the instances of this store deliver to" in text, text)
     over = Service(program, f"{folder}/a", filled.sink.address, *options)
     filled.go_on(checks, "over the store", over)
     letters = json.loads(over.asked("GET", "/dead")[1])
@@ -516,10 +518,10 @@ def old_folder(checks, moves):
 
 
 def main(words):
-    if not 1 <= len(words) <= 2:
+    if not 1 <= len(words) <= 3:
         sys.exit(__doc__.split("\n\n")[1].strip())
-    program, every = os.path.abspath(words[0]), int((words[1:] + ["17"])[0])
-    checks = Checks()
+    program, (kills, seed) = os.path.abspath(words[0]), words[1:] + ["60", "1"][len(words) - 1:]
+    checks, chance = Checks(), random.Random(seed)
     if not checks.has("a store", *[] if initdb() else ["postgresql"]):
         return checks.end()
     server = Server()
@@ -535,7 +537,7 @@ def main(words):
                 archive.extractall(f"{folder}/three", filter="data")
             old_folder(checks, Moves(program, server, folder, f"{folder}/three", checks))
             for direction in ("into", "back"):
-                moves.kills(direction, every)
+                moves.kills(direction, int(kills), chance)
             filled.sink.close()
         finally:
             server.close()

@@ -22,11 +22,12 @@ import time
 ROOT = os.path.dirname(os.path.dirname(os.path.abspath(__file__)))
 sys.path.insert(1, f"{ROOT}/demo")
 
-from checks import Checks  # noqa: E402
-from loopback import free_port  # noqa: E402
-from parts import initdb  # noqa: E402
-from servers import Server  # noqa: E402
-from service import DELTA, JSON, OtlpSink, Service, wait_until  # noqa: E402
+from testing.checks import Checks  # noqa: E402
+from testing.loopback import free_port  # noqa: E402
+from testing.database import initdb  # noqa: E402
+from testing.servers import Server  # noqa: E402
+from testing.service import DELTA, JSON, OtlpSink, Service, wait_until  # noqa: E402
+from testing.slots import IN_THE_END, come_to_rest, place  # noqa: E402
 
 SLOTS = 8
 SECOND = 1_000_000_000
@@ -44,6 +45,9 @@ class Store:
     def ask(self, query):
         return self.server.ask(query)
 
+    def term(self, slot):
+        return int(self.ask(f"select term from totxegun_store.slot where slot = {slot}"))
+
     def owners(self):
         return (self.ask("select string_agg(owner, ',' order by slot) from totxegun_store.slot") or "").split(",")
 
@@ -59,6 +63,12 @@ class Instance(Service):
     def post(self, resource, value, name="a", unit="1", sender="s"):
         """The status and the text of an answer, or None."""
         return post(self.listen, request(resource, value, name, unit), sender)
+
+    def posted(self, body):
+        """The same once somebody has its slot."""
+        said = []
+        wait_until(lambda: said.append(post(self.listen, body)) or said[-1][0] != 503, IN_THE_END)
+        return said[-1]
 
     def slots(self):
         answer = self.asked("GET", "/status")
@@ -81,7 +91,7 @@ def request(resource, value, name="a", unit="1"):
 
 
 def post(port, body, sender="s"):
-    connection = http.client.HTTPConnection("127.0.0.1", port, timeout=15)
+    connection = http.client.HTTPConnection("127.0.0.1", port, timeout=60)
     try:
         connection.request("POST", "/v1/metrics", body, {"Content-Type": JSON, "x-sender": sender})
         answer = connection.getresponse()
@@ -111,8 +121,8 @@ def of_tls(folder, name, by="ca"):
 
 
 def settled(store, *names):
-    """Each slot has an owner of these, and each of these has some."""
-    return wait_until(lambda: set(store.owners()) == set(names), 120)
+    """Each slot is at its place among these."""
+    return come_to_rest([store.server], SLOTS, names)
 
 
 def ended(checks, what, *instances):
@@ -148,7 +158,7 @@ def try_tls(checks, program, folder, store, sink):
         instance.start()
     checks.true("two over TLS have their slots", settled(store, "a", "b"), [one.last_lines(), other.last_lines()])
     resources = [f"r{number}" for number in range(40)]
-    answers = [instance.post(resource, 1) for resource in resources for instance in (one, other)]
+    answers = [instance.posted(request(resource, 1)) for resource in resources for instance in (one, other)]
     checks.same("posts are brought over TLS", {200}, {status for status, _ in answers})
     secret = store.ask("select secret from totxegun_store.cluster")
     for what, line in (("a stranger's certificate", ["--cacert", "ca.pem", "--cert", "x.pem", "--key", "x.key"]),
@@ -180,16 +190,23 @@ def try_no_store(checks, program, folder, store, sink):
     checks.true("posts are taken", wait_until(lambda: one.post("r0", 1)[0] == 200), one.last_lines())
     for pid in [store.server.process.pid, *store.server.kinds("")]:
         os.kill(pid, signal.SIGSTOP)
-    time.sleep(4)
+    checks.true("a store that stands still is seen", wait_until(lambda: one.post("r0", 1)[0] == 503, IN_THE_END), one.last_lines())
     begun = time.monotonic()
     answers = [one.post(f"r{number}", 1) for number in range(10)]
     took = time.monotonic() - begun
-    checks.same("a store that stands still is seen at the door", {503}, {status for status, _ in answers})
+    checks.same("at the door", {503}, {status for status, _ in answers})
     checks.true("at once", took < 10, f"10 posts in {took:.1f} s")
     for pid in [store.server.process.pid, *store.server.kinds("")]:
         os.kill(pid, signal.SIGCONT)
     checks.true("all goes on", wait_until(lambda: one.post("r1", 1)[0] == 200), one.last_lines())
     ended(checks, "after the store was away", one)
+
+
+def refusing(instance, slot):
+    """Those that an instance's status says can't open a slot."""
+    status = instance.status() or {"cluster": {"instances": []}}
+    words = f"it can't open slot {slot}:"
+    return {one["name"] for one in status["cluster"]["instances"] if (one["trouble"] or "").startswith(words)}
 
 
 def try_broken_slot(checks, program, folder, store, sink):
@@ -210,37 +227,49 @@ def try_broken_slot(checks, program, folder, store, sink):
     for instance in (one, other):
         instance.start()
     refused = "select count(*) from totxegun_store.instance where refused like '%" + f'"{slot}":' + "%'"
-    checks.true("both refuse a slot that nobody can open", wait_until(lambda: store.ask(refused) == "2", 60),
+    checks.true("both refuse a slot that nobody can open", wait_until(lambda: store.ask(refused) == "2", IN_THE_END),
                 [store.ask("select * from totxegun_store.instance"), one.last_lines(), other.last_lines()])
     checks.true("the others are served", wait_until(lambda: store.owners().count("") == 1
-                                                    and {"a", "b"} <= set(store.owners()), 60), store.owners())
-    term = int(store.ask(f"select term from totxegun_store.slot where slot = {slot}"))
+                                                    and {"a", "b"} <= set(store.owners()), IN_THE_END), store.owners())
+    for instance in (one, other):
+        checks.true(f"{instance.name} shows that both can't open it", wait_until(lambda at=instance: refusing(at, slot) == {"a", "b"},
+                                                                                IN_THE_END), instance.status())
+    term, begun = store.term(slot), time.monotonic()
     time.sleep(5)
-    checks.true("it is not thrown to and fro", int(store.ask(f"select term from totxegun_store.slot where slot = {slot}"))
-                - term <= 3, term)
+    most = 3 + (time.monotonic() - begun) / 5
+    checks.true("it is not thrown to and fro", store.term(slot) - term <= most, (term, store.term(slot)))
     checks.true("both go on", one.is_running() and other.is_running(), [one.last_lines(), other.last_lines()])
     store.ask(f"delete from totxegun_store.piece where slot = {slot};"
               f" insert into totxegun_store.piece (slot, file, number, place, length, bytes) values {saved}")
-    checks.true("once it is mended it is opened", wait_until(lambda: "" not in store.owners(), 150), store.owners())
-    checks.true("and serves", wait_until(lambda: one.post("r2", 1)[0] == 200, 60), one.last_lines())
+    checks.true("once it is mended it is opened", wait_until(lambda: "" not in store.owners(), IN_THE_END), store.owners())
+    checks.true("and serves", wait_until(lambda: one.post("r2", 1)[0] == 200, IN_THE_END), one.last_lines())
     ended(checks, "after a slot was mended", one, other)
 
 
-def slot_of(instances, resource):
-    """The slot that a resource is in, by where its series is."""
-    def series():
-        return {slot["slot"]: slot["series"] for one in instances for slot in (one.status() or {"slots": []})["slots"]}
+def series(instance):
+    """Of each slot how many series it has, once all say so."""
+    said = []
 
-    before = series()
-    found = []
+    def is_whole():
+        slots = (instance.status() or {"slots": []})["slots"]
+        said.append({slot["slot"]: slot["series"] for slot in slots if "unknown" not in slot})
+        return len(said[-1]) == SLOTS
+
+    wait_until(is_whole, IN_THE_END)
+    return said[-1]
+
+
+def slot_of(instance, resource):
+    """The slot that a new resource is in: it has one series more."""
+    before, found = series(instance), []
+    instance.posted(request(resource, 1, "probe"))
 
     def is_seen():
-        now = series()
-        found[:] = [slot for slot in now if now[slot] > before.get(slot, 0)]
-        return bool(found)
+        now = series(instance)
+        found[:] = [slot for slot in now if now[slot] > before.get(slot, now[slot])]
+        return len(found) == 1
 
-    if not wait_until(lambda: instances[0].post(resource, 1, "probe")[0] == 200) or not wait_until(is_seen):
-        return None
+    wait_until(is_seen, IN_THE_END)
     return found[0]
 
 
@@ -250,22 +279,17 @@ def try_units(checks, program, folder, store, sink):
     for instance in (one, other):
         instance.start()
     checks.true("two have their slots", settled(store, "a", "b"), [one.last_lines(), other.last_lines()])
-    owners, homes = store.owners(), {}
-    for number in range(60):
-        slot = slot_of((one, other), f"u{number}")
-        if slot is not None:
-            homes.setdefault(owners[slot], f"u{number}")
-        if set(homes) == {"a", "b"}:
-            break
+    resources = [f"resource-{number:02}" for number in range(12)]
+    homes = {place(slot_of(one, resource), "ab"): resource for resource in resources}
     checks.same("each has a resource", {"a", "b"}, set(homes))
     # The one that takes over has taken the name in whole seconds, in a slot of its own.
-    checks.same("whole numbers come first at the one", 200, other.post(homes["b"], 7, "whole", "s")[0])
+    checks.same("whole numbers come first at the one", 200, other.posted(request(homes["b"], 7, "whole", "s"))[0])
     body = request(homes["a"], 0.25, "whole", "s")
-    status, text = post(one.listen, body)
+    status, text = one.posted(body)
     checks.true("and doubles at the other", status == 200 and "rejected" not in text, (status, text))
     one.kill()
     checks.true("it takes over", settled(store, "b") and wait_until(other.is_ready), other.last_lines())
-    status, text = post(other.listen, body)
+    status, text = other.posted(body)
     checks.true("the repeat is known", status == 400 and "out of order" in text, (status, text))
     ended(checks, "units", other)
 

@@ -15,6 +15,7 @@ It needs curl, openssl, python3-grpcio, and what tests/sdk_go.py needs; where on
 77. Each other line is one check; the last one counts those that passed and failed, and the status is 1 where one failed.
 """
 import contextlib
+import functools
 import http.client
 import importlib.util
 import json
@@ -29,15 +30,18 @@ import sys
 import tempfile
 import threading
 import time
+from collections.abc import Callable, Sequence
+from typing import Any
 
 # Debian's package is for Debian's Python.
 if importlib.util.find_spec("grpc") is None and os.path.realpath(sys.executable) != os.path.realpath("/usr/bin/python3"):
     os.execv("/usr/bin/python3", ["/usr/bin/python3", *sys.argv])
 
+from testing.checks import Checks
+from testing.loopback import free_port
+from testing.service import JSON, PROTOBUF, Point, Service, in_json, in_protobuf, wait_until
+from tooling.files import text_of
 import sdk_go
-from checks import Checks
-from loopback import free_port
-from service import JSON, PROTOBUF, Service, in_json, in_protobuf, wait_until
 
 try:
     import grpc
@@ -55,15 +59,15 @@ PROGRAMS = [("json", "cert"), ("protobuf", "token"), ("grpc", "cert"), ("grpc", 
 # Certificates and tokens
 
 
-def openssl(at, *words):
+def openssl(at: str, *words: str) -> None:
     subprocess.run(["openssl", *words], check=True, cwd=at, capture_output=True, timeout=60)
 
 
-def root(at, name):
+def root(at: str, name: str) -> None:
     openssl(at, "req", "-x509", *KEY, "-keyout", f"{name}.key", "-out", f"{name}.pem", "-subj", f"/CN={name}", "-days", "30")
 
 
-def signed(at, name, by="ca", names=None, days=30):
+def signed(at: str, name: str, by: str = "ca", names: str | None = None, days: int = 30) -> None:
     """NAME.pem and NAME.key; the name of a sender is its DNS name."""
     with open(f"{at}/names", "w", encoding="utf-8") as file:
         file.write(f"subjectAltName={names or f'DNS:{name}'}\nbasicConstraints=CA:FALSE\n")
@@ -72,7 +76,7 @@ def signed(at, name, by="ca", names=None, days=30):
             "-extfile", "names", "-days", str(days), "-out", f"{name}.pem")
 
 
-def make_certificates(at):
+def make_certificates(at: str) -> None:
     for name in ("ca", "other"):
         root(at, name)
     signed(at, "server", names="DNS:localhost,IP:127.0.0.1")
@@ -81,22 +85,17 @@ def make_certificates(at):
     signed(at, "expired", days=-1)
     signed(at, "stranger", by="other")
     with open(f"{at}/roots", "w", encoding="utf-8") as both:
-        both.write(read(f"{at}/ca.pem") + read(f"{at}/other.pem"))
+        both.write(text_of(f"{at}/ca.pem") + text_of(f"{at}/other.pem"))
 
 
-def read(path):
-    with open(path, encoding="utf-8", errors="replace") as file:
-        return file.read()
-
-
-def put(path, text):
+def put(path: str, text: str) -> None:
     """In its place at once, as who renews a file should."""
     with open(f"{path}.new", "w", encoding="utf-8") as file:
         file.write(text)
     os.replace(f"{path}.new", path)
 
 
-def context(at, certificate=None):
+def context(at: str, certificate: str | None = None) -> ssl.SSLContext:
     made = ssl.create_default_context(cafile=f"{at}/ca.pem")
     if certificate:
         made.load_cert_chain(f"{at}/{certificate}.pem", f"{at}/{certificate}.key")
@@ -107,7 +106,7 @@ def context(at, certificate=None):
 # Starts
 
 
-def refusals(checks, program, at):
+def refusals(checks: Checks, program: str, at: str) -> None:
     """Each of these is refused with status 2, and says why."""
     port, beyond = free_port(), "open to other machines"
     tls = ["--tls-cert", f"{at}/server.pem", "--tls-key", f"{at}/server.key"]
@@ -131,7 +130,7 @@ def refusals(checks, program, at):
             checks.same(f"{what}: status {status}, and why", status, "it serves")
 
 
-def make_token(program, at, who):
+def make_token(program: str, at: str, who: str) -> str:
     """What the command gives: its line is put into the file, its token returned."""
     done = subprocess.run([program, "token", who], capture_output=True, text=True, timeout=60, check=True)
     with open(f"{at}/tokens", "a", encoding="utf-8") as file:
@@ -146,25 +145,27 @@ def make_token(program, at, who):
 class Clients:
     """Each posts one point of a series of its own, and gives the status."""
 
-    def __init__(self, at, service, callers):
+    def __init__(self, at: str, service: Service, callers: int) -> None:
         self.at, self.service, self.callers = at, service, callers
         self.time = 10**9
+        # Tokens, once they are given.
+        self.collector = self.fleeting = ""
 
-    def body(self, write=in_json):
+    def body(self, write: Callable[[Sequence[Point]], bytes] = in_json) -> bytes:
         self.time += 10
         return write([(f"one.{self.time}", self.time, self.time + 10, 1)])
 
-    def curl(self, *words, host="localhost"):
+    def curl(self, *words: str, host: str = "localhost") -> str:
         """The status, or none and what curl said."""
-        words = ["curl", "-sS", "-o", "/dev/null", "-w", "%{http_code} %{http_version}", "--cacert", f"{self.at}/ca.pem", *words]
-        words += ["-H", f"Content-Type: {JSON}", "-d", self.body().decode(), f"https://{host}:{self.service.listen}/v1/metrics"]
-        done = subprocess.run(words, capture_output=True, text=True, timeout=60, check=False)
+        command = ["curl", "-sS", "-o", "/dev/null", "-w", "%{http_code} %{http_version}", "--cacert", f"{self.at}/ca.pem", *words]
+        command += ["-H", f"Content-Type: {JSON}", "-d", self.body().decode(), f"https://{host}:{self.service.listen}/v1/metrics"]
+        done = subprocess.run(command, capture_output=True, text=True, timeout=60, check=False)
         return done.stdout if done.returncode == 0 else f"none {done.returncode}"
 
-    def shown(self, name):
+    def shown(self, name: str) -> list[str]:
         return ["--cert", f"{self.at}/{name}.pem", "--key", f"{self.at}/{name}.key"]
 
-    def python(self, certificate=None, token=None, sender=None):
+    def python(self, certificate: str | None = None, token: str | None = None, sender: str | None = None) -> Sequence[Any]:
         """The status, the text and the challenge of an answer; none where there is none."""
         headers = {"Content-Type": PROTOBUF}
         headers |= {"Authorization": f"Bearer {token}"} if token else {}
@@ -180,9 +181,9 @@ class Clients:
         finally:
             connection.close()
 
-    def call(self, certificate=None, token=None, sender=None):
+    def call(self, certificate: str | None = None, token: str | None = None, sender: str | None = None) -> tuple[str, str]:
         """The name of gRPC's status, and its text."""
-        def part(name):
+        def part(name: str) -> bytes:
             with open(f"{self.at}/{name}", "rb") as file:
                 return file.read()
         pair = (part(f"{certificate}.key"), part(f"{certificate}.pem")) if certificate else (None, None)
@@ -200,9 +201,9 @@ class Clients:
                 return error.code().name, error.details()
 
 
-def post_by_curl(checks, clients, token):
+def post_by_curl(checks: Checks, clients: Clients, token: str) -> None:
     bearer = ["-H", f"Authorization: Bearer {token}"]
-    for what, wanted, words in (
+    cases: tuple[tuple[str, str, list[str]], ...] = (
             ("a certificate", "200 1.1", clients.shown("shop-1")),
             ("a token", "200 1.1", bearer),
             ("a certificate, TLS 1.2", "200 1.1", [*clients.shown("shop-1"), "--tls-max", "1.2"]),
@@ -212,7 +213,8 @@ def post_by_curl(checks, clients, token):
             ("neither", "401 1.1", []),
             ("a wrong token", "401 1.1", ["-H", f"Authorization: Bearer {token}x"]),
             ("a name of its own", "200 1.1", [*clients.shown("shop-1"), "-H", "x-sender: shop-1"]),
-            ("another's name", "403 1.1", [*clients.shown("shop-1"), "-H", "x-sender: shop-2"])):
+            ("another's name", "403 1.1", [*clients.shown("shop-1"), "-H", "x-sender: shop-2"]))
+    for what, wanted, words in cases:
         checks.same(f"curl, {what}", wanted, clients.curl(*words))
     elsewhere = ["--resolve", f"example.org:{clients.service.listen}:127.0.0.1"]
     checks.same("curl, another name than the certificate's", "none 60", clients.curl(*bearer, *elsewhere, host="example.org"))
@@ -220,9 +222,9 @@ def post_by_curl(checks, clients, token):
         checks.true(f"curl, a certificate that is not believed: {name}", clients.curl(*clients.shown(name)).startswith("none"), "taken")
 
 
-def post_by_python(checks, clients, token):
+def post_by_python(checks: Checks, clients: Clients, token: str) -> None:
     many = clients.collector
-    for what, wanted, how in (
+    cases: tuple[tuple[str, tuple[int, str], dict[str, str]], ...] = (
             ("a certificate", (200, "OK"), {"certificate": "shop-1"}),
             ("a token", (200, "OK"), {"token": token}),
             ("a collector's token for another", (200, "OK"), {"token": many, "sender": "shop-77"}),
@@ -231,7 +233,8 @@ def post_by_python(checks, clients, token):
             ("a collector's token beyond its names", (403, "PERMISSION_DENIED"), {"token": many, "sender": "else"}),
             ("a wrong token", (401, "UNAUTHENTICATED"), {"token": "t0ken"}),
             ("nothing", (401, "UNAUTHENTICATED"), {}),
-            ("a name alone", (401, "UNAUTHENTICATED"), {"sender": "shop-1"})):
+            ("a name alone", (401, "UNAUTHENTICATED"), {"sender": "shop-1"}))
+    for what, wanted, how in cases:
         status, text, challenge = clients.python(**how)
         code, details = clients.call(**how)
         checks.same(f"Python over HTTP and gRPC, {what}", wanted, (status, code))
@@ -240,26 +243,30 @@ def post_by_python(checks, clients, token):
                     (text, details))
 
 
-def what_stops(checks, clients, at):
+def what_stops(checks: Checks, clients: Clients, at: str) -> None:
     """A token and a root, on connections that are kept."""
     headers = {"Content-Type": JSON, "Authorization": f"Bearer {clients.fleeting}"}
     by_token = http.client.HTTPSConnection("localhost", clients.service.listen, timeout=20, context=context(at))
     by_root = http.client.HTTPSConnection("localhost", clients.service.listen, timeout=20, context=context(at, "stranger"))
 
-    def status(connection, headers):
+    def status(connection: http.client.HTTPSConnection,
+               headers: dict[str, str]) -> int:
         connection.request("POST", "/v1/metrics", clients.body(), headers)
         answer = connection.getresponse()
         answer.read()
         return answer.status
 
+    def is_refused(connection: http.client.HTTPSConnection, headers: dict[str, str]) -> bool:
+        return status(connection, headers) == 401
+
     both = (by_token, headers), (by_root, {"Content-Type": JSON})
     checks.same("both are taken", [200, 200], [status(*one) for one in both])
-    lines = read(f"{at}/tokens").splitlines(keepends=True)
+    lines = text_of(f"{at}/tokens").splitlines(keepends=True)
     put(f"{at}/tokens", "".join(line for line in lines if not line.startswith("fleeting ")))
-    put(f"{at}/clients", read(f"{at}/ca.pem"))
+    put(f"{at}/clients", text_of(f"{at}/ca.pem"))
     for what, one in zip(("a token", "a root"), both):
         begun = time.monotonic()
-        stopped = wait_until(lambda one=one: status(*one) == 401, 5)
+        stopped = wait_until(functools.partial(is_refused, *one), 5)
         checks.true(f"{what} that is taken out stops within a second", stopped and time.monotonic() - begun < 1,
                     time.monotonic() - begun)
     put(f"{at}/tokens", "fleeting t0ken\n")
@@ -278,16 +285,18 @@ def what_stops(checks, clients, at):
 class Poster(threading.Thread):
     """Posts until it is told to end: on a connection that it keeps, or on a new one each time."""
 
-    def __init__(self, at, service, name, kept):
+    def __init__(self, at: str, service: Service, name: str, kept: bool) -> None:
         super().__init__(daemon=True)
         self.at, self.service, self.name, self.kept = at, service, name, kept
-        self.over, self.told, self.surprises = threading.Event(), {}, []
+        self.over = threading.Event()
+        self.told: dict[str, int] = {}
+        self.surprises: list[Any] = []
 
-    def connection(self):
+    def connection(self) -> http.client.HTTPSConnection:
         made = context(self.at, "kept")
         return http.client.HTTPSConnection("localhost", self.service.listen, timeout=20, context=made)
 
-    def run(self):
+    def run(self) -> None:
         connection, start = self.connection(), 1000
         while not self.over.wait(0.01):
             start += 10
@@ -306,7 +315,7 @@ class Poster(threading.Thread):
                 connection = self.connection()
 
 
-def renew(at, seconds):
+def renew(at: str, seconds: float) -> int:
     """New certificates, of which some come before their keys."""
     until, count = time.monotonic() + seconds, 0
     while time.monotonic() < until:
@@ -315,14 +324,15 @@ def renew(at, seconds):
             shutil.copy(f"{at}/{name}", f"{at}/made/{name}")
         signed(f"{at}/made", "server", names="DNS:localhost,IP:127.0.0.1", days=10 + count)
         for end in ("pem", "key"):
-            put(f"{at}/server.{end}", read(f"{at}/made/server.{end}"))
+            put(f"{at}/server.{end}", text_of(f"{at}/made/server.{end}"))
             time.sleep(0.8 if count % 2 else 0)
         count += 1
         time.sleep(0.7)
     return count
 
 
-def start_go(program, folder, at, service, callers, number, seconds, token):
+def start_go(program: str, folder: str, at: str, service: Service, callers: int, number: int, seconds: float,
+             token: str) -> subprocess.Popen[bytes]:
     encoding, by = PROGRAMS[number]
     words = [program, "-encoding", encoding, "-url", f"https://localhost:{service.listen}/v1/metrics", "-ca", f"{at}/ca.pem",
              "-grpc", f"localhost:{callers}", "-instance", f"i-{number}", "-seconds", str(seconds),
@@ -332,7 +342,7 @@ def start_go(program, folder, at, service, callers, number, seconds, token):
         return subprocess.Popen(words, stdin=subprocess.DEVNULL, stdout=log, stderr=log)
 
 
-def under_load(checks, folder, at, service, callers, seconds, token):
+def under_load(checks: Checks, folder: str, at: str, service: Service, callers: int, seconds: float, token: str) -> None:
     program, fault = sdk_go.build(folder)
     checks.same("the programs on the SDK for Go are built", "", fault)
     if fault:
@@ -357,20 +367,20 @@ def under_load(checks, folder, at, service, callers, seconds, token):
         checks.true(f"{poster.name}: there were many", poster.told[poster.name] > 10 * seconds, poster.told)
         checks.same(f"{poster.name}: the sink has them", poster.told[poster.name], found.get(poster.name))
     for number, (encoding, by) in enumerate(PROGRAMS):
-        told = json.loads(read(f"{folder}/{number}.json"))
+        told = json.loads(text_of(f"{folder}/{number}.json"))
         wanted, in_sink = told["totals"], sdk_go.found_of(sdk_go.File(folder), number)[0]["totals"]
         what = f"Go, {encoding} by {by}"
         checks.true(f"{what}: the sink has its totals", len(wanted) > 5 and wanted == in_sink, (wanted, in_sink))
         checks.same(f"{what}: each post was taken", set(), set(told["answers"]) - {"200", "OK"})
 
 
-def totals(sink):
+def totals(sink: str) -> Any:
     import sqlite3
     with contextlib.closing(sqlite3.connect(f"file:{sink}?mode=ro", uri=True)) as database:
         return {name: int(total) for name, total in database.execute("select name, total from totals where name like 'load.%'")}
 
 
-def run(checks, program, seconds, folder):
+def run(checks: Checks, program: str, seconds: float, folder: str) -> None:
     at, callers = f"{folder}/tls", free_port()
     os.mkdir(at)
     make_certificates(at)
@@ -388,7 +398,7 @@ def run(checks, program, seconds, folder):
         service.start()
         checks.true("beyond loopback, with TLS and names, it is ready", service.wait_ready(), service.last_lines())
         checks.true("the log says by what senders are named",
-                    "senders are named by the certificate that they show, else by their token, over TLS" in read(service.log),
+                    "senders are named by the certificate that they show, else by their token, over TLS" in text_of(service.log),
                     service.last_lines())
         post_by_curl(checks, clients, token)
         post_by_python(checks, clients, token)
@@ -397,10 +407,11 @@ def run(checks, program, seconds, folder):
         page = service.asked("GET", "/metrics")[1].decode()
         left = [int(line.split()[1]) for line in page.splitlines() if line.startswith("totxegun_certificate_expires_seconds ")]
         checks.true("the page says when the certificate ends", left and 9 * 86_400 < left[0] < 30 * 86_400, left)
-        log = read(service.log)
+        log = text_of(service.log)
         secret = [word for word in (token, clients.collector, clients.fleeting, go, "t0ken") if word in log]
         checks.same("the log has nothing of a token", [], secret)
-        checks.true("the log says who is refused, and why", re.search(r"a post of address \S+ is refused with 401: the token is not known", log),
+        checks.true("the log says who is refused, and why",
+                    re.search(r"a post of address \S+ is refused with 401: the token is not known", log),
                     service.last_lines())
         checks.true("the log says that a file can't be used", "--tokens has changed, and can't be used" in log, service.last_lines())
         service.signal(signal.SIGTERM)
@@ -409,7 +420,7 @@ def run(checks, program, seconds, folder):
         service.kill()
 
 
-def main(totxegun, seconds=SECONDS):
+def main(totxegun: str, seconds: int | str = SECONDS) -> int:
     checks = Checks()
     missing = [name for name in ("curl", "openssl") if not shutil.which(name)] + ([] if grpc else ["python3-grpcio"])
     if checks.has("TLS by real clients", *missing, *sdk_go.missing()):

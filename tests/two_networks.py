@@ -27,14 +27,15 @@ import subprocess
 import sys
 import tempfile
 import time
+from typing import Any
 
+from testing import ROOT
+from testing.checks import Checks
+from testing.machines import ip, may_have_machines, on
+from testing.service import JSON, ask, in_json, wait_until
 import sdk_go
-from checks import Checks
-from machines import ip, may_have_machines, on
-from service import JSON, ask, in_json, wait_until
 
-HERE = os.path.dirname(os.path.abspath(__file__))
-PAGE = f"{os.path.dirname(HERE)}/docs/OPERATING.md"
+PAGE = f"{ROOT}/docs/OPERATING.md"
 SECONDS = 4
 NAME = "gateway.test"
 LISTEN, GRPC, OPERATE = 4318, 4317, 4319
@@ -77,7 +78,7 @@ public class Post {
 # Machines
 
 
-def make_machines(stack):
+def make_machines(stack: contextlib.ExitStack) -> list[str]:
     """Two, by their names. What they call the first one stands in their own /etc/hosts."""
     names = [f"totxegun-{os.getpid()}-{what}" for what in ("gateway", "shop")]
     for name in names:
@@ -99,7 +100,7 @@ def make_machines(stack):
 # The service
 
 
-def commands(folder, program):
+def commands(folder: str, program: str) -> str:
     """Those of the page, for a shell: with other folders, and no unit that is started anew."""
     with open(PAGE, encoding="utf-8") as file:
         block = re.search(r"^```\n(# cd /var/lib/private/totxegun.*?)^```$", file.read(), re.DOTALL | re.MULTILINE)[1]
@@ -113,7 +114,7 @@ def commands(folder, program):
     return text
 
 
-def settings(folder):
+def settings(folder: str) -> dict[str, str]:
     """As the unit reads them."""
     with open(f"{folder}/totxegun.env", encoding="utf-8") as file:
         return dict(line.strip().split("=", 1) for line in file if "=" in line)
@@ -123,7 +124,7 @@ def settings(folder):
 # Senders
 
 
-def post_by_python(at, seconds):
+def post_by_python(at: str, seconds: float) -> None:
     """A sender by token; prints how many points were taken. It is what the page says: no x-sender, and the root that it has."""
     context = ssl.create_default_context(cafile=f"{at}/ca.pem")
     headers = {"Content-Type": JSON, "Authorization": f"Bearer {os.environ['TOKEN']}"}
@@ -139,7 +140,7 @@ def post_by_python(at, seconds):
     print(taken)
 
 
-def try_without(at):
+def try_without(at: str) -> None:
     """What who has neither is answered, over TLS and without."""
     context = ssl.create_default_context(cafile=f"{at}/ca.pem")
     connection = http.client.HTTPSConnection(NAME, LISTEN, timeout=20, context=context)
@@ -153,7 +154,8 @@ def try_without(at):
         print("not reached")
 
 
-def start_go(program, folder, at, machine, number, encoding, seconds):
+def start_go(program: str, folder: str, at: str, machine: str, number: int, encoding: Any,
+             seconds: float) -> subprocess.Popen[bytes]:
     words = [program, "-encoding", encoding, "-url", f"https://{NAME}:{LISTEN}/v1/metrics", "-grpc", f"{NAME}:{GRPC}",
              "-instance", f"i-{number}", "-seconds", str(seconds), "-descriptors", f"{folder}/descriptors",
              "-out", f"{folder}/{number}.json", "-ca", f"{at}/ca.pem", "-cert", f"{at}/shop-1.crt", "-key", f"{at}/shop-1.key"]
@@ -161,7 +163,7 @@ def start_go(program, folder, at, machine, number, encoding, seconds):
         return subprocess.Popen(on(machine, *words), stdin=subprocess.DEVNULL, stdout=log, stderr=log)
 
 
-def post_by_java(checks, folder, at, machine, token):
+def post_by_java(checks: Checks, folder: str, at: str, machine: str, token: str | None) -> list[str]:
     """The names of series that it has posted; none where there is no JDK."""
     if not shutil.which("javac"):
         print("note: no JDK, so Java did not post", flush=True)
@@ -170,7 +172,9 @@ def post_by_java(checks, folder, at, machine, token):
         file.write(JAVA)
     built = subprocess.run(["javac", "-d", folder, f"{folder}/Post.java"], capture_output=True, text=True, check=False)
     checks.same("the program in Java is built", "", built.stderr)
-    for name, more, environment in (("java-1", [f"{at}/shop-1.crt", f"{at}/shop-1.key"], {}), ("java-2", [], {"TOKEN": token})):
+    ways: list[tuple[str, list[str], dict[str, str]]] = [
+        ("java-1", [f"{at}/shop-1.crt", f"{at}/shop-1.key"], {}), ("java-2", [], {"TOKEN": token})]
+    for name, more, environment in ways:
         os.mkdir(f"{folder}/{name}")
         for number in range(3):
             with open(f"{folder}/{name}/{number}", "wb") as file:
@@ -186,7 +190,7 @@ def post_by_java(checks, folder, at, machine, token):
 # What is checked
 
 
-def run(checks, totxegun, seconds, folder, stack):
+def run(checks: Checks, totxegun: str, seconds: float, folder: str, stack: contextlib.ExitStack) -> None:
     gateway, shop = make_machines(stack)
     data, at = f"{folder}/data", f"{folder}/data/tls"
     os.mkdir(data)
@@ -200,7 +204,7 @@ def run(checks, totxegun, seconds, folder, stack):
         service = subprocess.Popen(words, env={**os.environ, **settings(folder)}, stdout=log, stderr=log)
     stack.callback(service.kill)
 
-    def said(*words):
+    def said(*words: str) -> str:
         return subprocess.run([totxegun, *words, "--data", data], capture_output=True, text=True, timeout=120, check=False).stdout
 
     checks.true("the service is ready", wait_until(lambda: "ready, up" in said("status") and "not ready" not in said("status")),
@@ -235,7 +239,7 @@ def run(checks, totxegun, seconds, folder, stack):
     checks.same("SIGTERM ends the service", 0, service.wait(60))
 
 
-def main(totxegun, seconds=SECONDS):
+def main(totxegun: str, seconds: int | str = SECONDS) -> int:
     checks = Checks()
     missing = [] if shutil.which("openssl") else ["openssl"]
     missing += [] if may_have_machines() else ["network namespaces"]
@@ -248,7 +252,11 @@ def main(totxegun, seconds=SECONDS):
 
 if __name__ == "__main__":
     if sys.argv[1:2] == [AS_SENDER]:
-        sys.exit(post_by_python(sys.argv[2], float(sys.argv[3])) if len(sys.argv) > 3 else try_without(sys.argv[2]))
+        if len(sys.argv) > 3:
+            post_by_python(sys.argv[2], float(sys.argv[3]))
+        else:
+            try_without(sys.argv[2])
+        sys.exit()
     if len(sys.argv) < 2:
         sys.exit(f"usage: {sys.argv[0]} TOTXEGUN [SECONDS]")
     sys.exit(main(os.path.abspath(sys.argv[1]), *sys.argv[2:3]))

@@ -26,6 +26,7 @@ is 1 where one failed.
 """
 import argparse
 import contextlib
+import functools
 import json
 import os
 import random
@@ -35,17 +36,17 @@ import subprocess
 import sys
 import threading
 import time
+from collections.abc import Callable
+from typing import Any
 
-ROOT = os.path.dirname(os.path.dirname(os.path.abspath(__file__)))
-sys.path[1:1] = [f"{ROOT}/demo", f"{ROOT}/tools"]
-
-import own_network  # noqa: E402
-from behind_proxies import Client, Proxy, make_names  # noqa: E402
-from checks import LEFT_OUT  # noqa: E402
-from parts import Database, initdb  # noqa: E402
-from service import Service, SqliteSink  # noqa: E402
-from service_load import compare, post_meanwhile, repeat_late  # noqa: E402
-from shipped import folder, missing, run_script, shipped, wait_until  # noqa: E402
+from testing import ROOT
+from testing.checks import LEFT_OUT, Checks
+from testing.database import Database, initdb
+from testing.service import Point, Service, SqliteSink, wait_until
+from testing.shipped import folder, missing, run_script, shipped
+from behind_proxies import Client, Proxy, make_names
+import own_network
+from service_load import compare, post_meanwhile, repeat_late
 
 SENDERS = 12
 RUN_SECONDS = 30
@@ -81,11 +82,11 @@ from totxegun.span join totxegun.series on series.id = span.series"""
 # Machines
 
 
-def ip(*words):
+def ip(*words: str) -> None:
     subprocess.run(["ip", *words], check=True, capture_output=True, timeout=20)
 
 
-def make_bridge():
+def make_bridge() -> None:
     """Between the machines and this network, which is one of its own."""
     ip("link", "add", "bridge", "type", "bridge")
     ip("addr", "add", "10.0.0.254/24", "dev", "bridge")
@@ -95,7 +96,7 @@ def make_bridge():
 class Machine:
     """A network namespace with an address of its own."""
 
-    def __init__(self, stack, number):
+    def __init__(self, stack: contextlib.ExitStack, number: int) -> None:
         self.name, self.address, self.cable = f"totxegun-{os.getpid()}-{number}", f"10.0.0.{number}", f"cable{number}"
         ip("netns", "add", self.name)
         stack.callback(ip, "netns", "del", self.name)
@@ -106,7 +107,7 @@ class Machine:
             ip("-n", self.name, "link", "set", it, "up")
         self.plug("up")
 
-    def plug(self, how):
+    def plug(self, how: str) -> None:
         """Its cable, `up` or `down`."""
         ip("link", "set", self.cable, how)
 
@@ -115,19 +116,19 @@ class Machine:
 # haproxy
 
 
-def page():
+def page() -> str:
     with open(PAGE, encoding="utf-8") as file:
         return file.read()
 
 
-def listed(words):
+def listed(words: str) -> str:
     """These words, which the page has to have."""
     if words not in page():
         raise OSError(f"docs/OPERATING.md has no {words}")
     return words
 
 
-def parts():
+def parts() -> str:
     """What the page has for two services, with the addresses of machines 1 and 2."""
     return re.search(r"^```\n( +use_backend t.*?)^```$", page(), re.DOTALL | re.MULTILINE)[1]
 
@@ -135,25 +136,25 @@ def parts():
 class Parts(Proxy):
     """haproxy with a backend for each part of the senders, and its socket. `hasty` is how many posts are not waited for."""
 
-    hasty = 0
+    hasty: float = 0
 
-    def __init__(self, stack, at):
+    def __init__(self, stack: contextlib.ExitStack, at: str) -> None:
         text = shipped("haproxy.cfg", {})
         super().__init__(stack, "haproxy", at, 4318, {text[text.index(ONE_SERVICE):]: parts()})
 
-    def ask(self, line):
+    def ask(self, line: str) -> str:
         with socket.socket(socket.AF_UNIX) as it:
             it.connect(f"{self.at}/admin.sock")
             it.sendall(f"{line}\n".encode())
             return b"".join(iter(lambda: it.recv(65536), b"")).decode()
 
-    def order(self, order, part, address=""):
+    def order(self, order: str, part: str, address: str = "") -> None:
         """One that the page has."""
         reply = self.ask(listed(order).replace("t0", part).replace("10.0.0.3", address)).strip()
         if reply and "changed" not in reply and "no need to change" not in reply:
             raise OSError(f"haproxy, asked to {order}: {reply}")
 
-    def write(self, part, address, more=""):
+    def write(self, part: str, address: str, more: str = "") -> None:
         """Into its file, for its next start."""
         with open(self.file, encoding="utf-8") as file:
             text = file.read()
@@ -161,20 +162,20 @@ class Parts(Proxy):
         with open(self.file, "w", encoding="utf-8") as file:
             file.write(text)
 
-    def row(self, part, name):
+    def row(self, part: str, name: str) -> dict[str, str]:
         """A row of its statistics."""
         names, *rows = (line.split(",") for line in self.ask("show stat").removeprefix("# ").splitlines() if line)
         return next(dict(zip(names, row)) for row in rows if row[:2] == [part, name])
 
-    def sessions(self, part):
+    def sessions(self, part: Any) -> int:
         return int(self.row(part, "BACKEND")["scur"])
 
-    def unanswered(self, part):
+    def unanswered(self, part: str) -> int:
         row = self.row(part, part)
         sent, *answered = (int(row[name]) for name in listed(UNANSWERED).split(" - "))
         return sent - sum(answered)
 
-    def restart(self):
+    def restart(self) -> None:
         self.kill()
         self.start()
 
@@ -186,9 +187,10 @@ class Parts(Proxy):
 class Hasty(Client):
     """A sender that goes away now and then before it is answered, and repeats the post."""
 
+    proxy: Parts
     ended = 0
 
-    def try_once(self, body, headers):
+    def try_once(self, body: bytes, headers: dict[str, str]) -> tuple[int | None, bytes]:
         kept = self.connection and self.connection.sock
         if kept:
             is_hasty = self.chance.random() < self.proxy.hasty
@@ -202,33 +204,33 @@ class Hasty(Client):
 class OwnSinks:
     """A SQLite file in each folder."""
 
-    def __init__(self, stack):
-        self.folders = set()
+    def __init__(self, stack: contextlib.ExitStack) -> None:
+        self.folders: set[str] = set()
 
-    def address(self, data):
+    def address(self, data: str) -> str:
         return f"sqlite:{data}/metrics.db"
 
-    def points(self):
+    def points(self) -> list[Point]:
         return [point for data in sorted(self.folders) for point in SqliteSink(f"{data}/metrics.db").points()]
 
-    def wrong(self):
+    def wrong(self) -> list[str]:
         return []
 
 
 class OneSink(OwnSinks):
     """One PostgreSQL for all."""
 
-    def __init__(self, stack):
+    def __init__(self, stack: contextlib.ExitStack) -> None:
         super().__init__(stack)
         self.database = Database()
         stack.callback(self.database.close)
         self.database.start()
         self.database.wait_ready()
 
-    def address(self, data):
+    def address(self, data: str) -> str:
         return self.database.address
 
-    def points(self):
+    def points(self) -> list[Point]:
         return [(name, start, end, total if buckets is None else (tuple(buckets), in_all))
                 for name, start, end, total, in_all, buckets in json.loads(self.database.ask(SPANS))]
 
@@ -240,20 +242,28 @@ SINKS = {"own": OwnSinks, "one": OneSink}
 # What an operator does
 
 
-def flushed(service):
+def flushed(service: Service) -> bool:
     """Whether its sink has all that it took."""
     return wait_until(lambda: service.order("/flush") == 200) and wait_until(service.is_drained)
+
+
+class Placed(Service):
+    """A service with the machine that it is on."""
+
+    machine: Machine
 
 
 class Operator:
     """Does the lists of the page. `of` is the service that has a part, `wrong` what did not go as it should."""
 
-    def __init__(self, program, stack, machines, sinks, chance, without):
+    def __init__(self, program: str, stack: contextlib.ExitStack, machines: list[Machine] | None, sinks: OwnSinks, chance: random.Random,
+                 without: str | None) -> None:
         self.program, self.stack, self.sinks, self.chance, self.without = program, stack, sinks, chance, without
         self.spare = machines[::-1]
         self.hasty, self.pause = (MORE_HASTY, SHORT_PAUSE) if without else (HASTY, PAUSE)
         self.count = 0
-        self.done, self.wrong = [], []
+        self.done: list[str] = []
+        self.wrong: list[Any] = []
         self.at = at = folder(stack)
         make_names(at, SENDERS)
         self.of = {part: self.place() for part in ("t0", "t1")}
@@ -261,35 +271,35 @@ class Operator:
         self.proxy.hasty = self.hasty
         self.senders = [Hasty(None, self.proxy, number, chance.random(), PATIENCE) for number in range(SENDERS)]
 
-    def begin(self):
+    def begin(self) -> None:
         for service in self.services():
             service.start()
         for service in self.services():
             self.see("a service is ready", service.wait_ready(), service.last_lines())
         self.proxy.start()
 
-    def services(self):
+    def services(self) -> list[Placed]:
         """Each that has a part."""
         return [*dict.fromkeys(self.of.values())]
 
-    def see(self, what, holds, found):
+    def see(self, what: str, holds: object, found: object) -> None:
         """One check is for all steps: a run has many."""
         if not holds:
             self.wrong.append((what, found))
 
-    def place(self, data=None):
+    def place(self, data: str | None = None) -> Placed:
         """A service on a spare machine, on this folder or a fresh one."""
         machine, self.count = self.spare.pop(), self.count + 1
         machine.plug("up")
         data = data or f"{self.at}/data-{self.count}"
-        service = Service(self.program, data, self.sinks.address(data), "--flush-every", "1s", "--tokens", f"{self.at}/tokens",
+        service = Placed(self.program, data, self.sinks.address(data), "--flush-every", "1s", "--tokens", f"{self.at}/tokens",
                           host=machine.address, ports=(4318, 4319), before=["ip", "netns", "exec", machine.name])
-        service.machine, service.data = machine, data
+        service.machine = machine
         self.sinks.folders.add(data)
         self.stack.callback(service.kill)
         return service
 
-    def disturb(self, *spared):
+    def disturb(self, *spared: Placed) -> None:
         """Something else is killed, as it may be between two steps."""
         event = self.chance.choice([None, None, "service", "haproxy"])
         others = [it for it in self.services() if it not in spared]
@@ -303,12 +313,12 @@ class Operator:
 
     # The steps
 
-    def stop(self, service):
+    def stop(self, service: Service) -> None:
         """Where it runs."""
         if service.is_running():
             self.see("it ends with status 0", (end := service.end())[0] == 0, end)
 
-    def hold(self, held, is_gone=False):
+    def hold(self, held: list[str], is_gone: bool = False) -> None:
         for part in held:
             self.proxy.write(part, self.of[part].host, " disabled")
             self.proxy.order(HOLD, part)
@@ -317,14 +327,14 @@ class Operator:
         if self.without != "wait":
             self.see("sessions end", wait_until(lambda: not any(map(self.proxy.sessions, held)), 60), held)
 
-    def release(self, held, service):
+    def release(self, held: list[str], service: Placed) -> None:
         for part in held:
             self.of[part] = service
             self.proxy.write(part, service.host)
             self.proxy.order(MOVE, part, service.host)
             self.proxy.order(READY, part)
 
-    def carried(self, data):
+    def carried(self, data: str | None) -> str | None:
         """A folder on another machine: the same disk, or a copy."""
         if self.without == "folder":
             return None
@@ -335,13 +345,13 @@ class Operator:
         self.sinks.folders.discard(data)
         return copy
 
-    def wait_for_senders(self, count, more):
+    def wait_for_senders(self, count: str, more: int) -> None:
         """Until each has so many more `posts` that were answered, or attempts that `ended`."""
         wanted = {sender: getattr(sender, count) + more for sender in self.senders}
         go_on = wait_until(lambda: all(getattr(sender, count) >= least for sender, least in wanted.items()), 60)
         self.see("all senders go on", go_on, [(sender.name, sender.posts, sender.ended) for sender in self.senders])
 
-    def drain(self, service):
+    def drain(self, service: Service) -> None:
         """Ends a service that has no part any more, whose folder has nothing then."""
         if self.without == "drain":
             service.kill()
@@ -357,7 +367,7 @@ class Operator:
 
     # The lists
 
-    def replace(self, how):
+    def replace(self, how: str) -> None:
         """A service starts on another machine, on its folder."""
         service = self.of[self.chance.choice(sorted(self.of))]
         held = [part for part in self.of if self.of[part] is service]
@@ -379,7 +389,7 @@ class Operator:
         self.stop(service)
         self.spare.append(service.machine)
 
-    def give(self, part, to):
+    def give(self, part: str, to: Placed) -> None:
         """A part goes to another folder; its service ends where it was its last."""
         service = self.of[part]
         if self.without == "calm":
@@ -393,7 +403,7 @@ class Operator:
         self.release([part], to)
         self.proxy.hasty = self.hasty
 
-    def hold_calm(self, part):
+    def hold_calm(self, part: str) -> None:
         """Holds a part at a time when none of its senders waits for an answer."""
         self.proxy.hasty = 0
         while True:
@@ -407,13 +417,13 @@ class Operator:
             if self.proxy.unanswered(part) == unanswered:
                 return
 
-    def give_to_fresh(self):
+    def give_to_fresh(self) -> None:
         fresh = self.place()
         fresh.start()
         self.see("a fresh service is ready", fresh.wait_ready(), fresh.last_lines())
         self.give(self.chance.choice(sorted(self.of)), fresh)
 
-    def give_to_other(self):
+    def give_to_other(self) -> None:
         """Both parts are one service's then."""
         part, other = self.chance.sample(sorted(self.of), 2)
         if self.of[part] is self.of[other]:
@@ -421,9 +431,10 @@ class Operator:
         else:
             self.give(part, self.of[other])
 
-    def work(self, until):
+    def work(self, until: float) -> None:
         """Each list at least once. The last one parts a service that has both, where that was not yet."""
-        acts = {f"replaced, {how}": lambda how=how: self.replace(how) for how in ("stopped", "killed", "gone")}
+        acts: dict[str, Callable[[], None]] = {
+            f"replaced, {how}": functools.partial(self.replace, how) for how in ("stopped", "killed", "gone")}
         acts |= {"given to a fresh folder": self.give_to_fresh, "given to the other": self.give_to_other}
         first = [*self.chance.sample(sorted(acts), len(acts)), "given to a fresh folder"]
         while first or time.monotonic() < until:
@@ -439,7 +450,7 @@ class Operator:
 # A run
 
 
-def load(checks, what, operator, seconds):
+def load(checks: Checks, what: str, operator: Operator, seconds: float) -> None:
     """The senders, until the operator has done all."""
     is_over, senders = threading.Event(), operator.senders
     threads = post_meanwhile(senders, is_over.is_set, lambda sender: time.sleep(operator.pause))
@@ -452,7 +463,7 @@ def load(checks, what, operator, seconds):
           f"{', '.join(operator.done)}", flush=True)
 
 
-def run(program, checks, machines, kind, options):
+def run(program: str, checks: Checks, machines: list[Machine] | None, kind: str, options: argparse.Namespace) -> None:
     what = {"own": "a file for each folder", "one": "one database"}[kind]
     with contextlib.ExitStack() as stack:
         chance = random.Random(f"operator {options.seed} {kind}")
@@ -470,7 +481,7 @@ def run(program, checks, machines, kind, options):
         checks.same(f"{what}: each step went as it should", [], operator.wrong[:3])
 
 
-def make_machines(checks, stack):
+def make_machines(checks: Checks, stack: contextlib.ExitStack) -> list[Machine] | None:
     """None where they can't be made, which is said."""
     try:
         make_bridge()
@@ -480,7 +491,7 @@ def make_machines(checks, stack):
         return None
 
 
-def work(totxegun, checks, stack):
+def work(totxegun: str, checks: Checks, stack: contextlib.ExitStack) -> None:
     options = read(sys.argv[2:])
     if not checks.has("two services", *missing(["haproxy", "openssl", "ip"])) or not (machines := make_machines(checks, stack)):
         return
@@ -490,7 +501,7 @@ def work(totxegun, checks, stack):
             run(totxegun, checks, machines, kind, options)
 
 
-def read(words):
+def read(words: list[str]) -> argparse.Namespace:
     parser = argparse.ArgumentParser()
     parser.add_argument("seconds", type=float, nargs="?", default=RUN_SECONDS)
     parser.add_argument("seed", nargs="?", default="1")

@@ -24,10 +24,10 @@ import tempfile
 import time
 
 import sdk_go
-from checks import Checks
-from machines import both_ways
-from servers import NOBODY, PORT, as_nobody, initdb, send
-from service import ask, forwarded_value, wait_until
+from testing.checks import Checks
+from testing.machines import both_ways
+from testing.servers import NOBODY, PORT, as_nobody, initdb, send
+from testing.service import ask, forwarded_value, wait_until
 from several_machines import IN_THE_END, LISTEN, World, missing, options, phase, run, serving, wait_for
 from several_trouble import Trouble
 

@@ -9,12 +9,14 @@ done by it fails.
 
 Each line is one check; the last line counts those that passed and failed, and the status is 1 where one failed.
 """
+import contextlib
 import os
 import re
 import threading
 
-from service import Sender, Service
-from shipped import folder, run_script, shipped
+from testing.checks import Checks
+from testing.service import Sender, Service
+from testing.shipped import folder, run_script, shipped
 
 MOST_THREADS = 64
 # What long work may take: of each of these threads, and of the others together.
@@ -22,15 +24,15 @@ LONG_WORK, OTHER_LONG_WORK = 2, 16
 SENDERS, POSTS = 8, 40
 
 
-def threads(service):
+def threads(service: Service) -> int:
     return len(os.listdir(f"/proc/{service.process.pid}/task"))
 
 
-def post_all(service):
+def post_all(service: Service) -> list[tuple[int | None, bytes]]:
     """Senders at once; whether each was answered as it should be."""
     senders = [Sender(service, number) for number in range(SENDERS)]
 
-    def go_on(sender):
+    def go_on(sender: Sender) -> None:
         for _ in range(POSTS):
             sender.post(sender.next_points())
     posting = [threading.Thread(target=go_on, args=(sender,), daemon=True) for sender in senders]
@@ -41,7 +43,7 @@ def post_all(service):
     return [it for sender in senders for it in sender.surprises]
 
 
-def work(totxegun, checks, stack):
+def work(totxegun: str, checks: Checks, stack: contextlib.ExitStack) -> None:
     at = folder(stack)
     service = Service(totxegun, f"{at}/data", f"sqlite:{at}/sink.db", "--threads", str(MOST_THREADS))
     service.start()

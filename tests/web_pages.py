@@ -23,10 +23,11 @@ import subprocess
 import sys
 import tempfile
 import threading
+from typing import Any
 
-from checks import Checks
+from testing.checks import Checks
+from testing.service import JSON, Service, ask, in_json, wait_until
 from pages import Browser, chromium
-from service import JSON, Service, ask, in_json, wait_until
 
 KEY = "0-a-1"
 SECRET = "s3cret-of-a-letter"
@@ -66,13 +67,13 @@ go();
 class Rebound:
     """A port that is the page's own at first, and then the service's."""
 
-    def __init__(self, service, page):
+    def __init__(self, service: Service, page: bytes) -> None:
         self.service, self.page, self.served = service, page, threading.Event()
         self.listener = socket.create_server(("127.0.0.1", 0))
         self.port = self.listener.getsockname()[1]
         threading.Thread(target=self.accept, daemon=True).start()
 
-    def accept(self):
+    def accept(self) -> None:
         while True:
             try:
                 stream, _ = self.listener.accept()
@@ -80,7 +81,7 @@ class Rebound:
                 return
             threading.Thread(target=self.serve, args=(stream,), daemon=True).start()
 
-    def serve(self, stream):
+    def serve(self, stream: Any) -> None:
         """A browser opens connections ahead, so it is the first request that gets the page."""
         with stream, contextlib.suppress(OSError):
             first = stream.recv(65536)
@@ -99,14 +100,14 @@ class Rebound:
                 back.join(5)
 
 
-def copy(source, target):
+def copy(source: socket.socket, target: socket.socket) -> None:
     with contextlib.suppress(OSError):
         while part := source.recv(65536):
             target.sendall(part)
         target.shutdown(socket.SHUT_WR)
 
 
-def told(browser, place):
+def told(browser: Browser, place: str) -> Any:
     """What a page had of each route: method, path, mode, status, text."""
     names = "--host-resolver-rules=MAP elsewhere.test 127.0.0.1,MAP rebound.test 127.0.0.1"
     dom = browser.run("--dump-dom", "--virtual-time-budget=20000", names, place=place)
@@ -114,7 +115,7 @@ def told(browser, place):
     return json.loads(html.unescape(found[1])) if found and found[1] else dom[-500:]
 
 
-def look(checks, what, found, readable):
+def look(checks: Checks, what: str, found: Any, readable: bool) -> None:
     """`readable` is whether the page's origin is that of what it asks for."""
     checks.true(f"{what}: the page asked for all", isinstance(found, list) and len(found) == 3 * len(ROUTES), found)
     if not isinstance(found, list):
@@ -127,7 +128,7 @@ def look(checks, what, found, readable):
     checks.true(f"{what}: no secret is in them", SECRET not in json.dumps(found), texts[:3])
 
 
-def state(service):
+def state(service: Service) -> Any:
     """All that an order would change."""
     status = service.status()
     slot = status["slots"][0]
@@ -136,13 +137,13 @@ def state(service):
     return acts, slot["quarantined"], slot["series"], status["dead"], json.loads(service.asked("GET", "/dead")[1])
 
 
-def put_letter(service):
+def put_letter(service: Service) -> None:
     letter = {"key": KEY, "since": 1, "reason": SECRET, "bytes": 2}
     with open(f"{service.data}/dead/{KEY}.json", "w", encoding="utf-8") as file:
         file.write(json.dumps(letter) + "\n{}")
 
 
-def run(checks, program, folder):
+def run(checks: Checks, program: str, folder: str) -> None:
     made = subprocess.run([program, "token", "ann"], capture_output=True, text=True, check=True)
     token = made.stderr.split()[-1]
     with open(f"{folder}/operators", "w", encoding="utf-8") as file:
@@ -165,14 +166,14 @@ def run(checks, program, folder):
         browser = Browser(folder, service.operate)
 
         class Elsewhere(http.server.BaseHTTPRequestHandler):
-            def do_GET(self):
+            def do_GET(self) -> None:
                 page = (PAGE % (json.dumps(ROUTES), f"http://127.0.0.1:{service.operate}", token)).encode()
                 self.send_response(200)
                 self.send_header("Content-Type", "text/html")
                 self.end_headers()
                 self.wfile.write(page)
 
-            def log_message(self, *words):
+            def log_message(self, *words: str) -> None:
                 pass
 
         with http.server.ThreadingHTTPServer(("127.0.0.1", 0), Elsewhere) as server:
@@ -192,7 +193,7 @@ def run(checks, program, folder):
         service.kill()
 
 
-def main(program):
+def main(program: str) -> int:
     checks = Checks()
     if checks.has("pages of somebody else", *([] if chromium() else ["chromium"])):
         with tempfile.TemporaryDirectory(prefix="web-") as folder:

@@ -6,7 +6,7 @@
 Each file wrong_sizes/NAME.edit makes a gateway that answers `no memory` where there is some, which no contract refuses.
 Behind `check:` it names the check that has to find it. The rest has the form of an edit of a crate: lines `file:`, `old:`,
 `new:`, where the old text is in that file exactly once. All edits, or those that are named, are tried one after another: the
-gateway is built with no proof, by tests/unproved.py, in out/wrong_sizes. `none` is the gateway as it is, which all checks
+gateway is built with no proof, by tests/testing/unproved.py, in out/wrong_sizes. `none` is the gateway as it is, which all checks
 have to pass.
 
 A line for each; the last line counts those that were found and those that were not, and the status is 0 where all were.
@@ -18,9 +18,9 @@ import subprocess
 import sys
 import time
 
-import unproved
+from testing import ROOT
+from testing import unproved
 
-ROOT = os.path.dirname(os.path.dirname(os.path.abspath(__file__)))
 EDITS = f"{ROOT}/tests/wrong_sizes"
 FOLDER = f"{ROOT}/out/wrong_sizes"
 TEST = f"{ROOT}/tests/gateway_sizes.py"
@@ -28,7 +28,7 @@ NONE = "none"
 LIMIT = 1200
 
 
-def copy_crates():
+def copy_crates() -> None:
     """The crates as they are."""
     shutil.rmtree(FOLDER, ignore_errors=True)
     shutil.copytree(f"{ROOT}/crates", f"{FOLDER}/crates", ignore=shutil.ignore_patterns("out"))
@@ -36,7 +36,7 @@ def copy_crates():
         shutil.copy(f"{ROOT}/{name}", f"{FOLDER}/{name}")
 
 
-def apply(name):
+def apply(name: str) -> str | None:
     """Makes an edit in the copy, and returns its check. What it says wrongly is an error."""
     check = path = old = None
     with open(f"{EDITS}/{name}.edit", encoding="utf-8") as edit:
@@ -60,13 +60,13 @@ def apply(name):
     return check
 
 
-def built():
+def built() -> str:
     """The path of the copy's gateway. Where it can't be built, the program ends."""
     program, said = unproved.build(FOLDER, f"{FOLDER}/gateway")
     return program or sys.exit(f"the gateway could not be built:\n{said}")
 
 
-def seen(program, checks):
+def seen(program: str, checks: list[str | None]) -> str | None:
     """The first check that fails, or nothing."""
     ran = subprocess.run([TEST, program, *checks], stdout=subprocess.PIPE, text=True, timeout=LIMIT, check=False)
     failed = re.search(r"^failed: (.*)$", ran.stdout, re.MULTILINE)
@@ -75,7 +75,7 @@ def seen(program, checks):
     return None
 
 
-def main(names):
+def main(names: list[str]) -> int:
     names = names or [NONE, *sorted(it.removesuffix(".edit") for it in os.listdir(EDITS))]
     right = 0
     for name in names:

@@ -7,7 +7,7 @@ The crates are play, gateway and book_c, which the service is linked with, or th
 not built. A static library stays in the folder out/ of its crate. Crates that don't use each other are proved side by
 side, as many as processors and memory carry; a crate that is proved and has not changed since, nor one below it, is
 not proved again, also not after an interrupt. Beside a program or a static library is written of which revision it is,
-and that it was proved (tools/proved.py). The logs are in out/logs.
+and that it was proved (tools/tooling/proved.py). The logs are in out/logs.
 """
 import hashlib
 import os
@@ -15,11 +15,13 @@ import shlex
 import shutil
 import sys
 import time
+from collections.abc import Collection, Iterable
 
-from crates import OUT, ROOT, Digests, content, read_crates
-from prover import Prover, made_by, room_of
-from proved import write_proof
-from steps import GIGABYTE, Failed, Step, Steps, end_of, locked, shown
+from tooling.crates import OUT, ROOT, Crate, Digests, read_crates
+from tooling.files import content
+from tooling.proved import write_proof
+from tooling.prover import Prover, made_by, room_of
+from tooling.steps import GIGABYTE, Failed, Step, Steps, end_of, locked, shown
 
 PROGRAMS = ["play", "gateway"]
 # What the service is linked with.
@@ -39,26 +41,26 @@ MOST_JOBS = 3
 class Building:
     """Which crates are built as they are, and steps for those that are not."""
 
-    def __init__(self):
+    def __init__(self) -> None:
         self.digests = Digests()
         self.prover = Prover()
-        self.known = {}
+        self.known: dict[str, bool] = {}
 
-    def is_built(self, crate):
+    def is_built(self, crate: Crate) -> bool:
         """Whether what is built was made of the crate as it is, over what is built of the crates below."""
         if crate.name not in self.known:
             is_made = all(map(self.is_built, crate.below)) and os.path.exists(made_by(crate))
             self.known[crate.name] = is_made and content(mark_of(crate)).startswith(self.inputs(crate))
         return self.known[crate.name]
 
-    def inputs(self, crate):
+    def inputs(self, crate: Crate) -> bytes:
         """What a crate is built of, as one word: its text, and each library below as it was built."""
         whole = hashlib.sha256(self.digests.of(crate).encode())
         for below in crate.below:
             whole.update(content(mark_of(below)))
         return whole.hexdigest().encode()
 
-    def step(self, crate, among):
+    def step(self, crate: Crate, among: Collection[Crate]) -> Step:
         lines = crate.lines()
         return Step(
             crate.name,
@@ -70,7 +72,7 @@ class Building:
             most_jobs=MOST_JOBS,
         )
 
-    def build(self, crate, step):
+    def build(self, crate: Crate, step: Step) -> str:
         """Proves a crate and builds it."""
         # No two builds have one mark: a library fits those alone over which it was built.
         mark = b"%s %d\n" % (self.inputs(crate), time.time_ns())
@@ -87,23 +89,23 @@ class Building:
         return "proved"
 
 
-def mark_of(crate):
+def mark_of(crate: Crate) -> str:
     return f"{room_of(crate)}/mark"
 
 
-def steps_for(crates, building):
+def steps_for(crates: Iterable[Crate], building: Building) -> tuple[list[Step], int]:
     """The steps that build these crates and all below them."""
-    wanted = []
+    wanted: list[Crate] = []
     for crate in crates:
         wanted += [it for it in [*crate.all_below(), crate] if it not in wanted]
     missing = [crate for crate in wanted if not building.is_built(crate)]
     return [building.step(crate, missing) for crate in missing], len(wanted)
 
 
-def service_step(after):
+def service_step(after: list[str]) -> Step:
     """The step that builds the service, after these. Nothing of it is proved."""
 
-    def work(step):
+    def work(step: Step) -> str:
         for command in (["tools/needs", "service"], ["tools/cargo", "build", "--release"]):
             if step.run(command) != 0:
                 raise Failed((end_of(step.log) or ["it printed nothing"])[-1])
@@ -115,7 +117,7 @@ def service_step(after):
     )
 
 
-def hand_over(crate):
+def hand_over(crate: Crate) -> str | None:
     """Puts what a crate is for where it belongs, with its proof beside it: its path. A library is for crates alone."""
     if crate.is_program:
         install(made_by(crate), crate.name)
@@ -128,14 +130,14 @@ def hand_over(crate):
     return path
 
 
-def install(made, name):
+def install(made: str, name: str) -> None:
     """Puts a program into bin/, also where the one that lies there is running."""
     os.makedirs(f"{ROOT}/bin", exist_ok=True)
     shutil.copy2(made, f"{ROOT}/bin/{name}.new")
     os.replace(f"{ROOT}/bin/{name}.new", f"{ROOT}/bin/{name}")
 
 
-def main(names):
+def main(names: list[str]) -> int:
     known = read_crates()
     unknown = [name for name in names if name not in known]
     if unknown:

@@ -11,12 +11,12 @@ import os
 import subprocess
 import sys
 
+from tooling.crates import OUT, read_crates
+from tooling.steps import Steps, locked
 from build import MOST_JOBS, Building, steps_for
-from crates import OUT, read_crates
-from steps import Steps, locked
 
 
-def main(words):
+def main(words: list[str]) -> int:
     known = read_crates()
     if not words or words[0] not in known:
         sys.exit("usage: tools/check.py CRATE [FLAG ..], with a crate of crates.txt")

@@ -13,9 +13,11 @@ import os
 import re
 import subprocess
 import sys
+from typing import Any
 
-from crates import ROOT
-from proved import said
+from tooling.crates import ROOT
+from tooling.files import text_of
+from tooling.proved import said
 
 MANIFEST = f"{ROOT}/service/Cargo.toml"
 SYSTEM = "x86_64-unknown-linux-gnu"
@@ -29,30 +31,25 @@ NOT_SAID = "NOASSERTION"
 class Part:
     """A part: `licence` is an expression of SPDX, or of a text that stands for itself `text` has it."""
 
-    def __init__(self, name, version, licence, text="", comment=""):
+    def __init__(self, name: str, version: str, licence: str, text: str = "", comment: str = "") -> None:
         self.name = name
         self.version = version
         self.licence = licence
         self.text = text
         self.comment = comment
 
-    def reference(self):
+    def reference(self) -> str:
         return "SPDXRef-" + re.sub(r"[^A-Za-z0-9.-]", "-", f"{self.name}-{self.version}")
 
-    def shown(self):
+    def shown(self) -> str:
         return f"{self.name} {self.version}: {self.licence}{f' ({self.comment})' if self.comment else ''}"
 
 
-def printed(*command):
+def printed(*command: str) -> str:
     return subprocess.run(command, stdout=subprocess.PIPE, text=True, check=True, cwd=ROOT).stdout
 
 
-def read(path):
-    with open(path, encoding="utf-8", errors="replace") as file:
-        return file.read()
-
-
-def crates():
+def crates() -> list[Part]:
     """What is compiled into the program, but for what only builds or tests it."""
     words = ["metadata", "--format-version", "1", "--filter-platform", SYSTEM]
     found = json.loads(printed(f"{ROOT}/tools/cargo", *words))
@@ -70,29 +67,29 @@ def crates():
     return [crate(it) for it in sorted(linked, key=lambda it: (it["name"], it["version"]))]
 
 
-def is_macro(package):
+def is_macro(package: dict[str, Any]) -> bool:
     """One that runs in the compiler, and is not in the program."""
     return all("proc-macro" in it["kind"] or "custom-build" in it["kind"] for it in package["targets"])
 
 
-def crate(package):
+def crate(package: dict[str, Any]) -> Part:
     name, version, licence = package["name"], package["version"], package["license"]
     if licence:
         return Part(name, version, SLASH.sub(" OR ", licence))
     file = os.path.join(os.path.dirname(package["manifest_path"]), package["license_file"] or "LICENSE")
-    return Part(name, version, f"LicenseRef-{name}", read(file), "its own text")
+    return Part(name, version, f"LicenseRef-{name}", text_of(file, "replace"), "its own text")
 
 
-def book():
+def book() -> list[Part]:
     """The toolchain of the proved book. The book itself is the program's own."""
     toolchain = (said(["rt", "version"]) or "unknown").split()[0]
     comment = "the toolchain that compiled the book, whose libraries are in it"
     return [Part("rattle", toolchain, NOT_SAID, comment=comment)]
 
 
-def libraries(program):
+def libraries(program: str) -> list[Part]:
     """What the program loads, by the packages that it is of."""
-    owners = {}
+    owners: dict[str, None] = {}
     for file in LOADED.findall(printed("ldd", program)):
         for name in (file, os.path.realpath(file)):
             found = subprocess.run(["dpkg", "-S", name], stdout=subprocess.PIPE, stderr=subprocess.DEVNULL, text=True, check=False)
@@ -104,12 +101,12 @@ def libraries(program):
     return [library(it) for it in sorted(owners)]
 
 
-def library(package):
+def library(package: str) -> Part:
     name, version = printed("dpkg-query", "-W", "-f", "${Package} ${Version}", package).split()
     return Part(name, version, NOT_SAID, comment=f"loaded; its licences are in /usr/share/doc/{name}/copyright")
 
 
-def document(program, version, parts):
+def document(program: str, version: str, parts: list[Part]) -> dict[str, Any]:
     """All of it as SPDX 2.3 (its JSON has the names of its clause 7)."""
     with open(program, "rb") as file:
         digest = hashlib.file_digest(file, "sha256").hexdigest()
@@ -135,7 +132,7 @@ def document(program, version, parts):
     }
 
 
-def described(part):
+def described(part: Part) -> dict[str, Any]:
     known = {
         "SPDXID": part.reference(),
         "name": part.name,
@@ -149,17 +146,17 @@ def described(part):
     return {**known, "comment": part.comment} if part.comment else known
 
 
-def relation(whose, kind, which):
+def relation(whose: str, kind: str, which: str) -> dict[str, str]:
     return {"spdxElementId": whose, "relationshipType": kind, "relatedSpdxElement": which}
 
 
-def day(version):
+def day(version: str) -> str:
     """The day of a version, or of the newest one that has a day: the same program gives the same bytes."""
-    days = dict(re.findall(r"^## (\S+), (\S+)", read(f"{ROOT}/CHANGELOG.md"), flags=re.MULTILINE))
+    days: dict[str, str] = dict(re.findall(r"^## (\S+), (\S+)", text_of(f"{ROOT}/CHANGELOG.md"), flags=re.MULTILINE))
     return days.get(version) or next(iter(days.values()))
 
 
-def listed(parts):
+def listed(parts: list[Part]) -> str:
     lines = ["What totxegun is made of, and the licence of each part. Its own is Apache-2.0.", ""]
     lines += [it.shown() for it in parts]
     for it in parts:
@@ -168,11 +165,11 @@ def listed(parts):
     return "\n".join(lines) + "\n"
 
 
-def main(words):
+def main(words: list[str]) -> None:
     if len(words) != 2:
         sys.exit(f"usage: {sys.argv[0]} TOTXEGUN FOLDER")
     program, folder = words
-    version = read(f"{ROOT}/VERSION").strip()
+    version = text_of(f"{ROOT}/VERSION").strip()
     parts = [*crates(), *book(), *libraries(program)]
     with open(f"{folder}/totxegun.spdx.json", "w", encoding="utf-8") as file:
         json.dump(document(program, version, parts), file, indent=1)

@@ -18,9 +18,10 @@ import sys
 import textwrap
 import time
 
-from crates import OUT, ROOT
+from tooling.crates import OUT, ROOT
+from tooling.files import text_of
+from tooling.steps import LOGS, end_of, shown
 from pages import Wrong, version
-from steps import LOGS, end_of, shown
 
 WORK = f"{OUT}/deb"
 LOG = f"{LOGS}/deb.log"
@@ -28,22 +29,18 @@ MAINTAINER = re.compile(r"^Maintainer: (.*)$", re.MULTILINE)
 ITEM = re.compile(r"^- (.*)$", re.MULTILINE)
 
 
-def content(path):
-    with open(path, encoding="utf-8") as file:
-        return file.read()
-
-
-def second_of(day):
+def second_of(day: str) -> int:
     """Noon of a day, as seconds since 1970."""
     return int(datetime.datetime.fromisoformat(f"{day}T12:00:00+00:00").timestamp())
 
 
-def changelog():
+def changelog() -> str:
     """CHANGELOG.md as Debian has it."""
-    maintainer = MAINTAINER.search(content(f"{ROOT}/packaging/debian/control"))[1]
+    maintainer = MAINTAINER.search(text_of(f"{ROOT}/packaging/debian/control"))[1]
     # Of older versions a heading has the revision behind the day.
-    parts = re.split(r"^## (\S+), (\S+).*$", content(f"{ROOT}/CHANGELOG.md"), flags=re.MULTILINE)[1:]
-    entries, days = [], []
+    parts = re.split(r"^## (\S+), (\S+).*$", text_of(f"{ROOT}/CHANGELOG.md"), flags=re.MULTILINE)[1:]
+    entries: list[str] = []
+    days: list[str] = []
     for number, day, text in zip(parts[::3], parts[1::3], parts[2::3]):
         items = "".join(f"{textwrap.fill(item, 78, initial_indent='  * ', subsequent_indent='    ')}\n" for item in ITEM.findall(text))
         # Of one day an older version has an earlier hour.
@@ -53,13 +50,13 @@ def changelog():
     return "\n".join(entries)
 
 
-def proof(programs):
+def proof(programs: str) -> str:
     """What the program that is packed says of its book."""
     ran = subprocess.run([f"{programs}/totxegun", "version"], stdout=subprocess.PIPE, text=True, check=True)
     return ran.stdout.strip()
 
 
-def prepare(folder, programs):
+def prepare(folder: str, programs: str) -> bool:
     """The source tree of the package; what is missing is told by tools/install, and ends this."""
     shutil.rmtree(WORK, ignore_errors=True)
     shutil.copytree(f"{ROOT}/packaging/debian", f"{folder}/debian")
@@ -72,7 +69,7 @@ def prepare(folder, programs):
     return subprocess.run([f"{ROOT}/tools/contents.py", *words], stdout=subprocess.DEVNULL, check=False).returncode == 0
 
 
-def build(folder, second):
+def build(folder: str, second: int) -> bool:
     """Runs debhelper, and returns whether it made the package."""
     os.makedirs(LOGS, exist_ok=True)
     with open(LOG, "wb") as log:
@@ -82,7 +79,7 @@ def build(folder, second):
     return ran.returncode == 0
 
 
-def main(words):
+def main(words: list[str]) -> int:
     if len(words) > 1:
         sys.exit(f"usage: {sys.argv[0]} [FOLDER]")
     begun = time.monotonic()

@@ -16,16 +16,21 @@ The last lines name the edits that were not refused, and those that were refused
 names what they take away. The very last one counts. The status is 0 where all were refused. What the prover
 said is in out/logs/edits-CRATE.log.
 """
+from __future__ import annotations
+
 import os
 import re
 import shutil
 import sys
 import tempfile
+from collections.abc import Collection, Iterable, Sequence
 
+from tooling.crates import OUT, PARTS, Crate, read_crates
+from tooling.files import content, write
+from tooling.functions import Function, functions_of
+from tooling.prover import Prover
+from tooling.steps import GIGABYTE, Failed, Step, Steps, locked
 from build import MOST_JOBS, Building, steps_for
-from crates import OUT, PARTS, content, read_crates
-from functions import functions_of
-from steps import GIGABYTE, Failed, Step, Steps, locked
 
 # With it, a function is also checked over others that are not proved.
 EACH_FUNCTION = "--allow-holes"
@@ -45,6 +50,10 @@ LIST = "--list"
 OF_GATE = "must-fail"
 
 
+# Of each function of a file its place there, and its lines.
+Bodies = dict[tuple[str, str], tuple[int, list[str]]]
+
+
 class BadEdit(Exception):
     """Why an edit can't be made."""
 
@@ -52,9 +61,9 @@ class BadEdit(Exception):
 class Edit:
     """An edit, with the texts of the files that it changes."""
 
-    def __init__(self, file, folder):
+    def __init__(self, file: str, folder: str) -> None:
         self.name = os.path.basename(file).removesuffix(".edit")
-        self.texts = {}
+        self.texts: dict[str, str] = {}
         for line in content(file).decode().splitlines():
             key, _, text = line.partition(":")
             text = text.removeprefix(" ")
@@ -70,9 +79,9 @@ class Edit:
                 self.texts[path] = self.texts[path].replace(old, text)
         self.bodies = self.bodies_of(folder)
 
-    def bodies_of(self, folder):
+    def bodies_of(self, folder: str) -> Bodies:
         """The bodies that it changes, by their functions; none where it changes anything else."""
-        bodies = {}
+        bodies: Bodies = {}
         for path, text in self.texts.items():
             before, after = text_of(folder, path).split("\n"), text.split("\n")
             places = functions_of(before), functions_of(after)
@@ -88,15 +97,15 @@ class Edit:
         return bodies
 
 
-def outside(lines, functions):
+def outside(lines: list[str], functions: list[Function]) -> list[str]:
     """The lines of a file that are in none of these functions."""
     inside = {k for it in functions for k in range(it.start, it.end + 1)}
     return [line for k, line in enumerate(lines) if k not in inside]
 
 
-def groups_of(edits):
+def groups_of(edits: list[Edit]) -> list[list[Edit]]:
     """Edits of bodies, in groups that are tried together: of each function, one at most."""
-    groups = []
+    groups: list[list[Edit]] = []
     for edit in edits:
         for group in groups:
             if all(edit.bodies.keys().isdisjoint(other.bodies) for other in group):
@@ -110,14 +119,14 @@ def groups_of(edits):
 class Edits:
     """The edits of one crate, and which of them were not refused."""
 
-    def __init__(self, crate, prover):
+    def __init__(self, crate: Crate, prover: Prover) -> None:
         self.crate = crate
         self.prover = prover
         self.files = crate.edits()
         self.refused = 0
-        self.notes = []
+        self.notes: list[str] = []
 
-    def step(self, among):
+    def step(self, among: Collection[str]) -> Step:
         name = self.crate.name
         return Step(
             f"edits of {name}",
@@ -131,7 +140,7 @@ class Edits:
             log=f"edits-{name}",
         )
 
-    def work(self, step):
+    def work(self, step: Step) -> str:
         kept = f"{OUT}/edits/{self.crate.name}"
         with tempfile.TemporaryDirectory(prefix=f"edits-{self.crate.name}-") as room:
             trial = Trial(self.crate, self.prover, step, room)
@@ -146,11 +155,11 @@ class Edits:
             raise Failed(f"{self.refused} refused, {others} not")
         return f"{self.refused} refused"
 
-    def try_all(self, trial):
+    def try_all(self, trial: Trial) -> None:
         edits = self.read(trial.folder)
         alone = [edit for edit in edits if not edit.bodies]
         for group in groups_of([edit for edit in edits if edit.bodies]):
-            refused = trial.together(group) if len(group) > 1 else set()
+            refused = trial.together(group) if len(group) > 1 else set[Edit]()
             self.refused += len(refused)
             alone += [edit for edit in group if edit not in refused]
             self.show(trial.step)
@@ -161,7 +170,7 @@ class Edits:
                 self.note(edit.name, note)
             self.show(trial.step)
 
-    def read(self, folder):
+    def read(self, folder: str) -> list[Edit]:
         edits = []
         for file in self.files:
             try:
@@ -170,17 +179,17 @@ class Edits:
                 self.note(os.path.basename(file).removesuffix(".edit"), f"bad edit: {fault}")
         return edits
 
-    def note(self, name, text):
+    def note(self, name: str, text: str) -> None:
         self.notes.append(f"{self.crate.name}/{name}: {text}")
 
-    def show(self, step):
+    def show(self, step: Step) -> None:
         step.count = f"{self.refused} of {len(self.files)}"
 
 
 class Trial:
     """A copy of a crate in which its edits are tried, over what checks have kept."""
 
-    def __init__(self, crate, prover, step, room):
+    def __init__(self, crate: Crate, prover: Prover, step: Step, room: str) -> None:
         self.crate = crate
         self.prover = prover
         self.step = step
@@ -190,9 +199,9 @@ class Trial:
             if os.path.isdir(f"{crate.folder}/{part}"):
                 shutil.copytree(f"{crate.folder}/{part}", f"{self.folder}/{part}")
 
-    def together(self, group):
+    def together(self, group: list[Edit]) -> set[Edit]:
         """Those of a group that are refused for a value of a function that they change."""
-        texts = {}
+        texts: dict[str, list[str]] = {}
         for edit in group:
             for (path, _), (place, body) in edit.bodies.items():
                 lines = texts.get(path) or text_of(self.folder, path).split("\n")
@@ -201,7 +210,7 @@ class Trial:
         _, said = self.check({path: "\n".join(lines) for path, lines in texts.items()}, flags=[EACH_FUNCTION])
         return {edit for edit in group if any(is_unproved(it, said, texts) for it in edit.bodies)}
 
-    def alone(self, edit):
+    def alone(self, edit: Edit) -> tuple[bool, str]:
         """Whether an edit is refused, and what to say of it."""
         status, said = self.check(edit.texts)
         if status == 0:
@@ -211,23 +220,22 @@ class Trial:
         is_value = any(UNPROVED.match(line) or WRONG.match(line) for line in said)
         return True, "" if is_value else "refused for a name"
 
-    def check(self, texts, kept=None, flags=()):
+    def check(self, texts: dict[str, str], kept: str | None = None, flags: Sequence[str] = ()) -> tuple[int, list[str]]:
         """The status of a check of the crate with other texts in some files, and what it says."""
         command = [*self.prover.check(self.crate, self.step.jobs, kept or self.kept), *flags]
         before = {path: text_of(self.folder, path) for path in texts}
-        said = []
+        said: list[str] = []
         self.write(texts)
         status = self.step.run(command, self.folder, said.append)
         self.write(before)
         return status, said
 
-    def write(self, texts):
+    def write(self, texts: dict[str, str]) -> None:
         for path, text in texts.items():
-            with open(f"{self.folder}/{path}", "w", encoding="utf-8") as file:
-                file.write(text)
+            write(f"{self.folder}/{path}", text)
 
 
-def is_unproved(function, said, texts):
+def is_unproved(function: tuple[str, str], said: list[str], texts: dict[str, list[str]]) -> bool:
     """Whether a check says that something of a function is not proved for a value."""
     path, name = function
     bodies = [it for it in functions_of(texts[path]) if it.name == name]
@@ -242,11 +250,11 @@ def is_unproved(function, said, texts):
     return False
 
 
-def text_of(folder, path):
+def text_of(folder: str, path: str) -> str:
     return content(f"{folder}/{path}").decode()
 
 
-def show_list(crates):
+def show_list(crates: Iterable[Crate]) -> None:
     """Prints the edits of these crates, and how many there are."""
     every, of_gate = 0, 0
     for crate in crates:
@@ -259,7 +267,7 @@ def show_list(crates):
     print(f"{every} edits, the gate tries {of_gate}")
 
 
-def listed(file, folder, is_of_gate):
+def listed(file: str, folder: str, is_of_gate: bool) -> str:
     """An edit as a line: where it changes what, and its mistake."""
     try:
         edit = Edit(file, folder)
@@ -270,15 +278,16 @@ def listed(file, folder, is_of_gate):
     return f"{places}: {'* ' if is_of_gate else ''}{edit.name.replace('_', ' ')}"
 
 
-def main(words):
+def main(words: list[str]) -> int:
     known = read_crates()
     names = [it for it in words if it != LIST]
     unknown = [name for name in names if name not in known]
     if unknown:
         sys.exit(f"crates.txt lists no crate {' '.join(unknown)}")
-    crates = [known[name] for name in names] or known.values()
+    crates = [known[name] for name in names] or list(known.values())
     if LIST in words:
-        return show_list(crates)
+        show_list(crates)
+        return 0
     building = Building()
     tried = [Edits(crate, building.prover) for crate in crates if crate.edits()]
     with locked(OUT):

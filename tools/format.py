@@ -13,8 +13,9 @@ import shutil
 import subprocess
 import sys
 import tempfile
+from collections.abc import Iterator
 
-from crates import PARTS, ROOT, read_crates
+from tooling.crates import PARTS, ROOT, Crate, read_crates
 
 # What a crate's folder needs around it, for `rt` to know what it is built over.
 AROUND = ("crates.txt", "HANDLES")
@@ -24,7 +25,7 @@ NARROW, COLUMNS = ("src", "specs"), 100
 WIDE = re.compile(r'"|\\$|^ *#!?\[|^(ghost |pub )?use [^,]*$')
 
 
-def lay_out(folder):
+def lay_out(folder: str) -> bool:
     """Formats the crate in a folder. Returns whether it could."""
     ran = subprocess.run(["rt", "fmt"], cwd=folder, stdout=subprocess.PIPE, stderr=subprocess.STDOUT, text=True)
     if ran.returncode:
@@ -32,7 +33,7 @@ def lay_out(folder):
     return ran.returncode == 0
 
 
-def copy_of(crates, top):
+def copy_of(crates: list[Crate], top: str) -> None:
     """The crates, copied below another folder."""
     for name in AROUND:
         shutil.copy(f"{ROOT}/{name}", top)
@@ -42,13 +43,13 @@ def copy_of(crates, top):
                 shutil.copytree(f"{crate.folder}/{part}", f"{top}/crates/{crate.name}/{part}")
 
 
-def changed(crate, folder):
+def changed(crate: Crate, folder: str) -> list[str]:
     """The crate's files that are otherwise in this folder."""
     names = [os.path.relpath(file, crate.folder) for file in crate.files()]
     return [name for name in names if not filecmp.cmp(f"{crate.folder}/{name}", f"{folder}/{name}", shallow=False)]
 
 
-def too_wide(crate):
+def too_wide(crate: Crate) -> Iterator[str]:
     """The crate's lines that have too many columns, each by its file and number."""
     for file in crate.files():
         name = os.path.relpath(file, crate.folder)
@@ -59,7 +60,7 @@ def too_wide(crate):
                         yield f"{name}:{number}"
 
 
-def check(crates):
+def check(crates: list[Crate]) -> int:
     """How many files would be changed, could not be read, or have a line that is too wide."""
     count = 0
     with tempfile.TemporaryDirectory(prefix="format-") as top:
@@ -76,7 +77,7 @@ def check(crates):
     return count
 
 
-def main(words):
+def main(words: list[str]) -> int:
     if words not in ([], ["--check"]):
         sys.exit("usage: tools/format.py [--check]")
     crates = list(read_crates().values())

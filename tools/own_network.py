@@ -19,7 +19,7 @@ IFF_UP = 1
 NO_NETWORK = 125
 
 
-def enter():
+def enter() -> None:
     """This thread, and what it starts, has one of its own from here on. OSError where it may not."""
     libc = ctypes.CDLL(None, use_errno=True)
     if libc.unshare(CLONE_NEWNET) != 0:
@@ -28,7 +28,7 @@ def enter():
         fcntl.ioctl(any_socket, SIOCSIFFLAGS, struct.pack("16sH22x", b"lo", IFF_UP))
 
 
-def main(command):
+def main(command: list[str]) -> int:
     try:
         enter()
     except OSError as error:

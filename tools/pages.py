@@ -15,8 +15,9 @@ import subprocess
 import sys
 import textwrap
 import tomllib
+from typing import Any
 
-from crates import ROOT
+from tooling.crates import ROOT
 
 PACKAGING = f"{ROOT}/packaging"
 MAN = f"{PACKAGING}/man"
@@ -33,20 +34,25 @@ SETTINGS_HEAD = """\
 """
 
 
+# Its names, and what the program says of it.
+Command = tuple[tuple[str, ...], dict[str, Any]]
+
+
 class Wrong(Exception):
     """Why nothing is written."""
 
 
-def definition(program):
+def definition(program: str) -> dict[str, Any]:
     """The command line as the program describes it."""
-    return json.loads(printed(program, "options"))
+    line: dict[str, Any] = json.loads(printed(program, "options"))
+    return line
 
 
-def printed(program, what):
+def printed(program: str, what: str) -> str:
     return subprocess.run([program, "print", what], stdout=subprocess.PIPE, check=True).stdout.decode()
 
 
-def hand_written(serve):
+def hand_written(serve: dict[str, Any]) -> dict[str, Any]:
     """What packaging/options.toml says of options, each of which the program has to have."""
     with open(f"{PACKAGING}/options.toml", "rb") as file:
         texts = tomllib.load(file)
@@ -59,7 +65,7 @@ def hand_written(serve):
     return texts
 
 
-def version():
+def version() -> tuple[str, str]:
     """The version and its day: VERSION has to be the first one of CHANGELOG.md."""
     with open(f"{ROOT}/VERSION", encoding="ascii") as file:
         number = file.read().strip()
@@ -74,7 +80,7 @@ def version():
 # The settings
 
 
-def settings(serve):
+def settings(serve: dict[str, Any]) -> str:
     """A line of text for each variable, and a line with its default, behind #."""
     out = [SETTINGS_HEAD]
     heading = None
@@ -88,7 +94,7 @@ def settings(serve):
     return "\n".join(out)
 
 
-def setting(option):
+def setting(option: dict[str, Any]) -> str:
     help_line = option["help"].replace("\n", " ")
     if option["long"] == "data":
         return f"# {help_line}. The unit gives it, so this line changes nothing.\n#{option['variable']}=/var/lib/totxegun\n"
@@ -102,32 +108,32 @@ def setting(option):
 # The manual page
 
 
-def in_mdoc(text):
+def in_mdoc(text: str) -> str:
     """Text lines: a sentence a line, no line too long, and nothing that mdoc would take for its own."""
     text = text.replace("\\", "\\e").replace("\n", " ")
     text = re.sub(r"`([^`]*)`", r"\\(oq\1\\(cq", text)
     text = re.sub(r"(?<!\w)--(?=\w)", r"\\-\\-", text)
-    lines = []
+    lines: list[str] = []
     for sentence in SENTENCE.split(text.strip()):
         lines += textwrap.wrap(sentence, WIDTH, break_long_words=False, break_on_hyphens=False)
     return "\n".join(f"\\&{line}" if line[:1] in ".'" else line for line in lines)
 
 
-def with_point(text):
+def with_point(text: str) -> str:
     return text if not text or text.endswith((".", "]")) else f"{text}."
 
 
-def tag(option):
+def tag(option: dict[str, Any]) -> str:
     """How an option is typed, after `.It`."""
     value = f" Ar {quoted(option['value'])}" if option["value"] else ""
     return f"Fl -{option['long']}{value}" if option["long"] else value.strip()
 
 
-def quoted(word):
+def quoted(word: str) -> str:
     return f'"{word}"' if re.search(r"[\s:]", word) else word
 
 
-def item(option, more=""):
+def item(option: dict[str, Any], more: str = "") -> str:
     """An option, its text, and what it is by default."""
     default = f" The default is {option['default']}." if option["default"] else ""
     one_of = f" It is {' or '.join(option['one_of'])}." if option["one_of"] else ""
@@ -140,18 +146,18 @@ def item(option, more=""):
     return "\n".join(lines)
 
 
-def lines_of(command, before=()):
+def lines_of(command: dict[str, Any], before: tuple[str, ...] = ()) -> list[Command]:
     """A command, or the commands below it: their names and themselves."""
     if command["commands"]:
         return [it for below in command["commands"] for it in lines_of(below, (*before, command["name"]))]
     return [((*before, command["name"]), command)]
 
 
-def all_commands(line):
+def all_commands(line: dict[str, Any]) -> list[Command]:
     return [it for command in line["commands"] for it in lines_of(command)]
 
 
-def synopsis(line):
+def synopsis(line: dict[str, Any]) -> str:
     out = []
     for names, command in all_commands(line):
         if names != ("serve",):
@@ -159,21 +165,21 @@ def synopsis(line):
     return "\n".join(out)
 
 
-def synopsis_words(command):
+def synopsis_words(command: dict[str, Any]) -> list[str]:
     return [tag(option) if option["required"] else f"Op {tag(option)}" for option in command["options"]]
 
 
-def shared(line):
+def shared(line: dict[str, Any]) -> list[dict[str, Any]]:
     """Options that several commands have alike: they are told once."""
     lists = [command["options"] for names, command in all_commands(line) if names != ("serve",)]
-    found = {}
+    found: dict[str, dict[str, Any]] = {}
     for option in (option for options in lists for option in options):
         if option["long"] and sum(option in options for options in lists) > 1:
             found.setdefault(option["long"], option)
     return list(found.values())
 
 
-def commands(line):
+def commands(line: dict[str, Any]) -> str:
     out = []
     those = shared(line)
     for names, command in all_commands(line):
@@ -185,7 +191,7 @@ def commands(line):
     return "\n".join(out)
 
 
-def headed(serve, texts):
+def headed(serve: dict[str, Any], texts: dict[str, Any]) -> str:
     """The sections of options that have a heading of their own."""
     out = []
     headings = dict.fromkeys(option["heading"] for option in serve["options"] if option["heading"])
@@ -195,11 +201,11 @@ def headed(serve, texts):
     return "\n".join(out)
 
 
-def with_costs(option, texts):
+def with_costs(option: dict[str, Any], texts: dict[str, Any]) -> str:
     return item(option, texts.get(option["long"], {}).get("costs", ""))
 
 
-def pages(line, serve, texts, places):
+def pages(line: dict[str, Any], serve: dict[str, Any], texts: dict[str, Any], places: dict[str, str]) -> dict[str, str]:
     """Each manual page by its name."""
     plain = [option for option in serve["options"] if not option["heading"]]
     number, day = version()
@@ -227,7 +233,7 @@ def pages(line, serve, texts, places):
     return made
 
 
-def main(words):
+def main(words: list[str]) -> int:
     if len(words) != 2 or not os.access(words[0], os.X_OK):
         sys.exit(f"usage: {sys.argv[0]} TOTXEGUN FOLDER")
     program, folder = os.path.abspath(words[0]), words[1]

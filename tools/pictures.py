@@ -23,11 +23,13 @@ A description has a line for each thing, `#` begins a comment, and `/` begins a 
 import os
 import re
 import sys
+from typing import Any
 
+from tooling.crates import ROOT, Crate, read_crates
+from tooling.files import content
+from tooling.layers import Area, Layers, Spot
+from tooling.shapes import LINE, PAD, Picture, Wrong, width_of
 import promise
-from crates import ROOT, content, read_crates
-from layers import Layers
-from shapes import LINE, PAD, Picture, Wrong, width_of
 
 FOLDER = f"{ROOT}/docs/pictures"
 PAGES = ["README.md", *(f"docs/{it}" for it in sorted(os.listdir(f"{ROOT}/docs")) if it.endswith(".md"))]
@@ -38,14 +40,14 @@ SIDES = {"left": (0, 0.5), "right": (1, 0.5), "top": (0.5, 0), "bottom": (0.5, 1
 END = re.compile(r"(?P<name>\w+)\.(?P<side>left|right|top|bottom)(?P<by>[+-]\d+)?$")
 
 
-def split(text, by="/"):
+def split(text: str, by: str = "/") -> list[str]:
     return [it.strip() for it in text.split(by)] if text else []
 
 
 class Description:
     """A description, drawn line by line."""
 
-    def __init__(self, name):
+    def __init__(self, name: str) -> None:
         self.name = name
         with open(f"{FOLDER}/{name}.drawn", encoding="utf-8") as file:
             self.lines = [it.rstrip("\n") for it in file if it.strip() and not it.startswith("#")]
@@ -54,19 +56,19 @@ class Description:
         self.crates = shown_crates() if "crates" in self.lines else None
         if self.crates:
             self.alt += " " + "; ".join(self.told(it) for it in reversed(self.crates)) + "."
-        self.arrows = set()
-        self.steps = None
+        self.arrows: set[tuple[str, str, str]] = set()
+        self.steps: dict[str, Any] = {}
 
-    def all_of(self, word):
+    def all_of(self, word: str) -> list[str]:
         return [it.partition(" ")[2] for it in self.lines if it.startswith(f"{word} ")]
 
-    def told(self, crate):
+    def told(self, crate: Crate) -> str:
         """A crate in words."""
         note = self.notes.get(crate.name)
         below = ", ".join(it.name for it in direct(crate)) or "no other"
         return f"{crate.name}{f' ({note})' if note else ''} on {below}"
 
-    def draw(self):
+    def draw(self) -> str:
         width, height = map(int, self.all_of("size")[0].split())
         self.picture = Picture(width, height, self.alt)
         self.picture.drawn.append(f"<!-- tools/pictures.py has made this of {self.name}.drawn -->")
@@ -80,20 +82,20 @@ class Description:
                 raise Wrong(f"{line}: {why}") from why
         return self.picture.svg()
 
-    def draw_box(self, how, text):
+    def draw_box(self, how: list[str], text: str) -> None:
         self.picture.box(how[0], area(how[1:5]), how[5], split(text))
 
-    def draw_frame(self, how, text):
+    def draw_frame(self, how: list[str], text: str) -> None:
         self.picture.frame(how[0], area(how[1:5]), text)
 
-    def draw_words(self, how, text):
+    def draw_words(self, how: list[str], text: str) -> None:
         x, top, kind, anchor = how
         for at, line in enumerate(split(text)):
             self.picture.words(float(x), float(top) + LINE * at, line, kind.strip("-"), anchor)
 
-    def draw_arrow(self, how, text):
+    def draw_arrow(self, how: list[str], text: str) -> None:
         kind, *ends = how
-        points = []
+        points: list[Spot] = []
         for it in ends:
             end, is_across = self.point(it, points[-1] if points else None)
             if len(points) > 1 and END.match(it) and points[-1][0] != end[0] and points[-1][1] != end[1]:
@@ -104,7 +106,7 @@ class Description:
         if text:
             self.label(points, split(text))
 
-    def point(self, end, before):
+    def point(self, end: str, before: Spot | None) -> tuple[Spot, bool]:
         """Where an end is, and whether a line comes to it from the left or right."""
         at = END.match(end)
         if not at:
@@ -115,7 +117,7 @@ class Description:
         is_across, by = u != 0.5, float(at["by"] or 0)
         return (left + (right - left) * u + (0 if is_across else by), top + (bottom - top) * v + (by if is_across else 0)), is_across
 
-    def label(self, points, lines):
+    def label(self, points: list[Spot], lines: list[str]) -> None:
         """Words of a line: of a level one the first above it and the others below, else to its right."""
         (a, b), (x, y) = max(zip(points, points[1:]), key=lambda it: abs(it[0][0] - it[1][0]) + abs(it[0][1] - it[1][1]))
         for at, line in enumerate(lines):
@@ -124,11 +126,11 @@ class Description:
             else:
                 self.picture.words(x + PAD, (b + y - LINE * len(lines)) / 2 + LINE * at, line, "quiet")
 
-    def draw_steps(self, how, _):
+    def draw_steps(self, how: list[str], _: str) -> None:
         x, y, width, pitch, *columns = map(int, how)
         self.steps = {"x": x, "y": y, "width": width, "pitch": pitch, "columns": columns, "last": None}
 
-    def draw_step(self, how, text):
+    def draw_step(self, how: list[str], text: str) -> None:
         it = self.steps
         lines = split(text)
         top, bottom = it["y"], it["y"] + LINE * len(lines) + PAD
@@ -138,7 +140,7 @@ class Description:
             self.draw_arrow(["plain", f"{it['last']}.bottom", f"{name}.top"], "")
         it["last"], it["y"], it["bottom"] = name, top + it["pitch"], bottom
 
-    def draw_kill(self, how, text):
+    def draw_kill(self, how: list[str], text: str) -> None:
         it = self.steps
         x, y = it["x"] + it["width"] / 2, (it["bottom"] + it["y"]) / 2
         self.picture.cross(x, y)
@@ -147,7 +149,7 @@ class Description:
             for at, line in enumerate(split(words)):
                 self.picture.words(column, y - LINE * len(split(words)) / 2 + LINE * at, line)
 
-    def draw_crates(self, _how, _text):
+    def draw_crates(self, _how: list[str], _text: str) -> None:
         wide = {it.name: max(width_of(it.name, True), width_of(self.notes.get(it.name, ""))) + 2 * PAD for it in self.crates}
         layers = Layers([it.name for it in self.crates], {it.name: [b.name for b in direct(it)] for it in self.crates}, wide)
         places, lines = layers.placed(self.picture.width, self.picture.height, 2 * LINE + PAD)
@@ -157,31 +159,32 @@ class Description:
             kind = "disk" if crate.is_program or crate.is_static else "plain"
             self.picture.box(crate.name, places[crate.name], kind, [crate.name, *split(self.notes.get(crate.name, ""))])
 
-    def draw_laws(self, _how, _text):
+    def draw_laws(self, _how: list[str], _text: str) -> None:
         wrong = {(one, other) for kind, one, other in self.arrows if kind == "proved"} ^ promise.laws()
         if wrong:
             raise Wrong(f"by the proofs other laws rest on one another: {sorted(wrong)}")
 
 
-def area(how):
+def area(how: list[str]) -> Area:
     x, y, width, height = map(float, how)
     return x, y, x + width, y + height
 
 
-def shown_crates():
+def shown_crates() -> list[Crate]:
     crates = read_crates()
     return [crates[it] for it in list(crates)[:list(crates).index(FIRST_TEST)]]
 
 
-def direct(crate):
+def direct(crate: Crate) -> list[Crate]:
     """What a crate uses, but for what these use themselves."""
     implied = {it.name for below in crate.below for it in below.all_below()}
     return [it for it in crate.below if it.name not in implied]
 
 
-def made():
+def made() -> dict[str, str]:
     """What each file has to have, by its path."""
-    files, alts = {}, {}
+    files: dict[str, str] = {}
+    alts: dict[str, str] = {}
     for name in sorted(it.removesuffix(".drawn") for it in os.listdir(FOLDER) if it.endswith(".drawn")):
         it = Description(name)
         try:
@@ -189,7 +192,7 @@ def made():
         except Wrong as why:
             raise Wrong(f"docs/pictures/{name}.drawn: {why}") from why
         alts[name] = it.alt
-    shown = set()
+    shown: set[str] = set()
     for page in PAGES:
         text = content(f"{ROOT}/{page}").decode()
         shown |= {it[2] for it in SHOWN.finditer(text)}
@@ -199,7 +202,7 @@ def made():
     return files
 
 
-def main(words):
+def main(words: list[str]) -> None:
     if words not in ([], ["--check"]):
         sys.exit(__doc__)
     try:

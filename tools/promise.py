@@ -11,13 +11,17 @@
 It goes by names and imports, and reads no type: what a trait's function means, and the fields of types of src/, are not
 followed. What is named of src/ (types, constants) and of the toolchain's libraries is counted apart, each once.
 """
+from __future__ import annotations
+
 import glob
 import itertools
 import os
 import re
 import sys
+from collections.abc import Iterable, Iterator, Sequence
 
-from crates import ROOT, read_crates
+from tooling.crates import ROOT, read_crates
+from tooling.files import text_of
 
 # The contracts that docs/MODEL.md begins with, by tiers: what a tier is, and of each crate the functions, or a file of
 # definitions. One who reads a tier has read those before it.
@@ -68,22 +72,23 @@ METHOD = re.compile(r"^    (?P<public>pub )?fn (?P<name>\w+)", re.MULTILINE)
 MEANT = re.compile(r"^    ghost \w+ [^;]*= [^;]*;$", re.MULTILINE)
 # The type of `impl<L: Round> Drop for Book<L>`, and whose trait it is.
 IMPLEMENTED = re.compile(r"(?:<.*?> )?(?:(?P<trait>\w+)(?:<.*>)? for )?(?P<type>\w+)")
-EXPORT = re.compile(r"^\s*pub (?:mod (\w+);|use [\w:]+?::(?:\{([^}]*)\}|(\w+));|(?:(?:extern .C. )?fn|trait|struct|enum) (\w+))", re.MULTILINE)
+EXPORT = re.compile(r"^\s*pub (?:mod (\w+);|use [\w:]+?::(?:\{([^}]*)\}|(\w+));|"
+                    r"(?:(?:extern .C. )?fn|trait|struct|enum) (\w+))", re.MULTILINE)
 # A word of a text, with what stands behind its dots; or an operator.
 WORD = re.compile(r"[\w']+(?:\.[\w']+)*|[^\w\s'.,;(){}\[\]]+")
 
 
-def read(path):
-    with open(path, encoding="utf-8") as file:
-        return file.read()
+# A module, and a name there; and functions of crates.
+Named = tuple[str, str]
+Tops = Sequence[tuple[str, list[str]]]
 
 
 class Names:
     """What the names of one file stand for: a module of the repository, and its name there."""
 
-    def __init__(self, text):
-        self.of = {}
-        self.modules = {}
+    def __init__(self, text: str) -> None:
+        self.of: dict[str, Named] = {}
+        self.modules: dict[str, str] = {}
         for module, names, alias in IMPORT.findall(text):
             for name in filter(None, (it.strip() for it in names.split(","))):
                 known, _, renamed = name.partition(" as ")
@@ -92,7 +97,7 @@ class Names:
             if not names:
                 self.modules[alias or module.rpartition(".")[2]] = module
 
-    def meant(self, word):
+    def meant(self, word: str) -> Named | None:
         """The module and the name behind a word, where an import gives it."""
         first, _, rest = word.partition(".")
         if first in self.of:
@@ -102,7 +107,7 @@ class Names:
         return None
 
 
-def parts_of(name):
+def parts_of(name: str) -> list[str]:
     """The words by which a name is used: those of an operator are between its places."""
     return [it for it in name.split("◌") if it] if "◌" in name else [name]
 
@@ -110,7 +115,7 @@ def parts_of(name):
 class Definition:
     """A definition of specs/, with the comment before it."""
 
-    def __init__(self, file, line, text):
+    def __init__(self, file: Specs, line: int, text: str) -> None:
         self.file = file
         self.line = line
         self.lines = text.count("\n") + 1
@@ -123,14 +128,14 @@ class Definition:
 class Specs:
     """A file of specs/, or of proofs/."""
 
-    def __init__(self, crate, path):
+    def __init__(self, crate: str, path: str) -> None:
         self.crate = crate
         self.path = path
         self.module = f"{crate}.{os.path.relpath(path, f'{ROOT}/crates/{crate}')[:-5].replace('/', '.')}"
-        text = read(path)
+        text = text_of(path)
         self.names = Names(text)
         self.imports = {module for module, _, _ in IMPORT.findall(text)}
-        self.definitions = {}
+        self.definitions: dict[str, Definition] = {}
         line = 1
         for block in text.split("\n\n"):
             code = [it for it in block.split("\n") if it and not BEFORE.match(it)]
@@ -142,18 +147,18 @@ class Specs:
             line += block.count("\n") + 2
 
 
-def exports(folder, module):
+def exports(folder: str, module: str) -> set[str]:
     """The names that a module of src/ gives to those who use the crate."""
     path = f"{folder}/{module}.rt"
-    found = set()
+    found: set[str] = set()
     if os.path.isfile(path):
-        for public_module, several, one, item in EXPORT.findall(read(path)):
+        for public_module, several, one, item in EXPORT.findall(text_of(path)):
             found |= exports(folder if module == "lib" else f"{folder}/{module}", public_module) if public_module else set()
             found |= {it.strip() for it in several.split(",")} | {one, item}
     return found
 
 
-def public_contracts(text, exported):
+def public_contracts(text: str, exported: set[str]) -> Iterator[tuple[str, str]]:
     """Each public function or trait of a file, with the text of its contract."""
     for it in ITEM.finditer(text):
         if it["head"] is None:
@@ -171,13 +176,13 @@ def public_contracts(text, exported):
                     yield method["name"], signature(inside, method.start(), "    ")
 
 
-def block(text, start):
+def block(text: str, start: int) -> str:
     """An item from here to the brace that ends it at the margin."""
     end = re.compile(r"^\}|\{\}$", re.MULTILINE).search(text, start)
     return text[start:end.end()]
 
 
-def signature(text, start, indent):
+def signature(text: str, start: int, indent: str) -> str:
     """A function from here to its body."""
     end = re.compile(rf"^{indent}\{{|[;{{]$|\{{\}}$", re.MULTILINE).search(text, start)
     return text[start:end.start() if end else None]
@@ -186,15 +191,15 @@ def signature(text, start, indent):
 class Promise:
     """All files of specs/, by their modules; and those of proofs/, where they are asked for."""
 
-    def __init__(self, parts=("specs",)):
+    def __init__(self, parts: Sequence[str] = ("specs",)) -> None:
         self.crates = list(read_crates())
-        self.files = {}
+        self.files: dict[str, Specs] = {}
         for crate, part in itertools.product(self.crates, parts):
             for path in sorted(glob.glob(f"{ROOT}/crates/{crate}/{part}/**/*.antt", recursive=True)):
                 file = Specs(crate, path)
                 self.files[file.module] = file
 
-    def meant(self, names, word, file=None):
+    def meant(self, names: Names, word: str, file: Specs | None = None) -> Definition | Named | None:
         """What a word of a text with these imports stands for: a definition, or a module elsewhere and its name there."""
         if file and word.partition(".")[0] in file.definitions:
             return file.definitions[word.partition(".")[0]]
@@ -209,22 +214,23 @@ class Promise:
         # It is passed on from another file.
         return self.meant(target.names, parts_of(name)[0])
 
-    def named(self, names, text, file=None):
+    def named(self, names: Names, text: str, file: Specs | None = None) -> set[Definition | Named]:
         """All that a text names; a step with an arrow names its operator."""
         found = (self.meant(names, word, file) for word in WORD.findall(text.replace("←", ">>=")))
         return {it for it in found if it}
 
-    def needed(self, names, text, file=None):
+    def needed(self, names: Names, text: str, file: Specs | None = None) -> set[Definition]:
         """The definitions that a text names."""
         return {it for it in self.named(names, text, file) if isinstance(it, Definition)}
 
-    def apart(self, definitions, tops):
+    def apart(self, definitions: Iterable[Definition], tops: Tops) -> tuple[set[Named | str], set[Named | str]]:
         """What definitions and the contracts of these functions name elsewhere: of src/, and of the toolchain's libraries."""
-        found = set().union(*(self.named(it.file.names, it.code, it.file) for it in definitions))
+        found: set[Definition | Named] = set().union(*(self.named(it.file.names, it.code, it.file) for it in definitions))
         for crate, names in tops:
             for function, contract, imports in self.contracts(crate):
                 found |= self.named(imports, contract) if function in names else set()
-        own, kit = set(), set()
+        own: set[Named | str] = set()
+        kit: set[Named | str] = set()
         for module, name in (it for it in found if isinstance(it, tuple)):
             # A type counts once, however many of its variants are named.
             is_type = ".declared." in module and not module.endswith(".TheConstants")
@@ -232,9 +238,10 @@ class Promise:
             side.add(module.removesuffix(".TheVariants") if is_type else (module, name))
         return own, kit
 
-    def below(self, definitions):
+    def below(self, definitions: Iterable[Definition]) -> set[Definition]:
         """These, and all that they name."""
-        seen, left = set(), list(definitions)
+        seen: set[Definition] = set()
+        left = list(definitions)
         while left:
             it = left.pop()
             if it not in seen:
@@ -242,33 +249,34 @@ class Promise:
                 left += self.needed(it.file.names, it.code, it.file)
         return seen
 
-    def contracts(self, crate):
+    def contracts(self, crate: str) -> Iterator[tuple[str, str, Names]]:
         """The text that says what each public function or trait of a crate does, by its name, with the file's imports."""
         exported = exports(f"{ROOT}/crates/{crate}/src", "lib")
         for path in sorted(glob.glob(f"{ROOT}/crates/{crate}/src/**/*.rt", recursive=True)):
-            text = read(path)
+            text = text_of(path)
             names = Names(text)
             for name, contract in public_contracts(text, exported):
                 yield name, contract, names
 
-    def of(self, crate, name):
+    def of(self, crate: str, name: str) -> set[Definition]:
         """All that a top contract stands on."""
         if name.startswith("specs/"):
             return self.below(self.files[f"{crate}.{name.replace('/', '.')}"].definitions.values())
-        roots = set()
+        roots: set[Definition] = set()
         for function, contract, names in self.contracts(crate):
             if function == name:
                 roots |= self.needed(names, contract)
         return self.below(roots)
 
-    def in_order(self, definitions):
+    def in_order(self, definitions: Iterable[Definition]) -> list[tuple[Specs, list[Definition]]]:
         """Lowest first: by crate, in a crate each file behind those that it names, in a file as it stands."""
-        wanted = {}
+        wanted: dict[Specs, list[Definition]] = {}
         for it in sorted(definitions, key=lambda it: (self.crates.index(it.file.crate), it.file.module, it.line)):
             wanted.setdefault(it.file, []).append(it)
-        seen, ordered = set(), []
+        seen: set[Specs] = set()
+        ordered: list[Specs] = []
 
-        def add(file):
+        def add(file: Specs) -> None:
             if file in seen:
                 return
             seen.add(file)
@@ -282,35 +290,35 @@ class Promise:
         return [(file, wanted[file]) for file in ordered]
 
 
-def number(definitions):
+def number(definitions: set[Definition]) -> dict[str, int]:
     return {"definitions": len(definitions), "lines": sum(it.lines for it in definitions), "files": len({it.file for it in definitions})}
 
 
 class Tier:
     """What a tier adds to those before it."""
 
-    def __init__(self, promise, what, tops, before):
+    def __init__(self, promise: Promise, what: str, tops: Tops, before: list[Tier]) -> None:
         self.what = what
         self.tops = [(crate, name, promise.of(crate, name)) for crate, names in tops for name in names]
-        known = set().union(*(it.all for it in before))
-        self.all = set().union(*(found for _, _, found in self.tops)) | known
+        known: set[Definition] = set().union(*(it.all for it in before))
+        self.all: set[Definition] = set().union(*(found for _, _, found in self.tops)) | known
         self.added = self.all - known
         own, kit = promise.apart(self.all, tops)
-        self.own = own.union(*(it.own for it in before))
-        self.kit = kit.union(*(it.kit for it in before))
+        self.own: set[Named | str] = own.union(*(it.own for it in before))
+        self.kit: set[Named | str] = kit.union(*(it.kit for it in before))
         self.apart = {
             "types": len(self.own) - (len(before[-1].own) if before else 0), "kit": len(self.kit) - (len(before[-1].kit) if before else 0),
         }
 
 
-def tiers(promise):
-    found = []
+def tiers(promise: Promise) -> list[Tier]:
+    found: list[Tier] = []
     for what, tops in TIERS:
         found.append(Tier(promise, what, tops, found))
     return found
 
 
-def show_tiers(promise):
+def show_tiers(promise: Promise) -> None:
     all_tiers = tiers(promise)
     for at, tier in enumerate(all_tiers):
         print(f"{at + 1}. {tier.what}")
@@ -320,12 +328,12 @@ def show_tiers(promise):
     print(f"all together {all_numbers(all_tiers)}")
 
 
-def all_numbers(all_tiers):
+def all_numbers(all_tiers: list[Tier]) -> str:
     last = all_tiers[-1]
     return f"{NUMBERED.format(**number(last.all))}; they name {APART.format(types=len(last.own), kit=len(last.kit))}"
 
 
-def show_tier(promise, at):
+def show_tier(promise: Promise, at: int) -> str | None:
     all_tiers = tiers(promise)
     if not 1 <= at <= len(all_tiers):
         return f"there are tiers 1 to {len(all_tiers)}"
@@ -335,7 +343,7 @@ def show_tier(promise, at):
     return None
 
 
-def show_contract(promise, crate, name):
+def show_contract(promise: Promise, crate: str, name: str) -> str | None:
     found = promise.of(crate, name)
     if not found:
         return f"no public function {name} of {crate} has a contract that names a definition"
@@ -344,17 +352,18 @@ def show_contract(promise, crate, name):
     return None
 
 
-def show_list(promise, found):
+def show_list(promise: Promise, found: set[Definition]) -> None:
     for file, definitions in promise.in_order(found):
         print(f"{os.path.relpath(file.path, ROOT)}, {sum(it.lines for it in definitions)} lines")
         for it in definitions:
             print(f"    {it.line}: {it.name}{it.meaning and f': {it.meaning}'}")
 
 
-def laws():
+def laws() -> set[tuple[str, str]]:
     """Which law rests on which: its proofs, all the way down, cite what proves a clause of the other. Each by its nearest."""
     promise = Promise(("specs", "proofs"))
-    clauses, reached = {}, {}
+    clauses: dict[str, set[Definition]] = {}
+    reached: dict[str, set[Definition]] = {}
     for crate, module, names in LAWS:
         for name in names:
             answers = promise.files[f"{crate}.proofs.{module}.{name}.Answers"]
@@ -364,16 +373,16 @@ def laws():
     return {(a, c) for a, c in rests if not any((a, b) in rests and (b, c) in rests for b in clauses)}
 
 
-def public(promise):
+def public(promise: Promise) -> set[Definition]:
     """All that public contracts need."""
-    found = set()
+    found: set[Definition] = set()
     for crate in promise.crates:
         for _, contract, names in promise.contracts(crate):
             found |= promise.needed(names, contract)
     return promise.below(found)
 
 
-def misplaced(promise):
+def misplaced(promise: Promise) -> Iterator[str]:
     """What stands on the wrong side of specs/inner, a line each."""
     needed = public(promise)
     for module, file in promise.files.items():
@@ -386,8 +395,8 @@ def misplaced(promise):
                 yield f"{path}: imports {imported}"
 
 
-def check(promise):
-    all_tiers, said = tiers(promise), read(PROOFS)
+def check(promise: Promise) -> str | None:
+    all_tiers, said = tiers(promise), text_of(PROOFS)
     store = all_tiers[0]
     wanted = [f"{NUMBERED.format(**number(store.added))}; {APART.format(**store.apart)}", all_numbers(all_tiers)]
     wrong = [f"docs/PROOFS.md has to say: {it}" for it in wanted if it not in said]
@@ -401,16 +410,17 @@ def check(promise):
     return None
 
 
-def main():
+def main() -> str | None:
     promise, words = Promise(), sys.argv[1:]
     if not words:
-        return show_tiers(promise)
+        show_tiers(promise)
+        return None
     if words == ["--check"]:
         return check(promise)
     if len(words) == 1 and words[0].isdigit():
         return show_tier(promise, int(words[0]))
     if len(words) == 2 and words[0] in promise.crates:
-        return show_contract(promise, *words)
+        return show_contract(promise, words[0], words[1])
     return __doc__
 
 

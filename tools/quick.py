@@ -10,23 +10,24 @@ import subprocess
 import sys
 import time
 
-from crates import ROOT, content, read_crates
-from steps import shown
+from tooling.crates import ROOT, Crate, read_crates
+from tooling.files import content
+from tooling.steps import shown
 
 SOURCE = f"{ROOT}/service/src"
 
 
-def commands_of_crate(crate, crates):
+def commands_of_crate(crate: Crate, crates: dict[str, Crate]) -> list[tuple[list[str], str]]:
     """Commands, each with the folder where it runs."""
     above = [it for it in crates.values() if crate in (it, *it.all_below()) and has_tests(it)]
     return [([f"{ROOT}/tools/check.py", crate.name], ROOT), *((["rt", "try", "--test"], it.folder) for it in above)]
 
 
-def has_tests(crate):
+def has_tests(crate: Crate) -> bool:
     return any(b"#[test]" in content(file) for file in crate.files())
 
 
-def commands_of_service(part):
+def commands_of_service(part: str) -> list[tuple[list[str], str]]:
     """The same of a part of the service, as its path below src says."""
     module = part.removesuffix(".rs").removesuffix("/mod").replace("/", "::")
     cargo = f"{ROOT}/tools/cargo"
@@ -36,7 +37,7 @@ def commands_of_service(part):
     ]
 
 
-def commands(name):
+def commands(name: str) -> list[tuple[list[str], str]]:
     crates = read_crates()
     if name in crates:
         return commands_of_crate(crates[name], crates)
@@ -46,7 +47,7 @@ def commands(name):
     sys.exit(f"{sys.argv[0]}: {name!r} is no crate of crates.txt, and no part of service/src")
 
 
-def main(words):
+def main(words: list[str]) -> int:
     if len(words) != 1:
         sys.exit(f"usage: {sys.argv[0]} NAME, of a crate or of a part of service/src")
     begun = time.monotonic()

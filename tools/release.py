@@ -12,10 +12,12 @@ import shutil
 import subprocess
 import sys
 
-from crates import OUT, ROOT
+from tooling.crates import OUT, ROOT
+from tooling.files import text_of, write
 from gate import PASSED, clean_revision
 
 MADE = f"{OUT}/release"
+CHANGELOG = f"{ROOT}/CHANGELOG.md"
 FORM = re.compile(r"\d+\.\d+\.\d+")
 UNRELEASED = "## Unreleased\n"
 # Files that name the version, each by a text around it.
@@ -32,59 +34,49 @@ class Refused(Exception):
     """Why nothing is released."""
 
 
-def read(name):
-    with open(f"{ROOT}/{name}", encoding="utf-8") as file:
-        return file.read()
-
-
-def write(name, text):
-    with open(f"{ROOT}/{name}", "w", encoding="utf-8") as file:
-        file.write(text)
-
-
-def git(*words):
+def git(*words: str) -> str:
     return subprocess.run(["git", *words], cwd=ROOT, stdout=subprocess.PIPE, text=True, check=True).stdout.strip()
 
 
-def check(version):
+def check(version: str) -> None:
     """Whether all is ready for a version after the last one."""
-    last = read("VERSION").strip()
+    last = text_of(f"{ROOT}/VERSION").strip()
     if not FORM.fullmatch(version) or numbers(version) <= numbers(last):
         raise Refused(f"a version is three numbers, and comes after {last}: {version} does not")
     revision = clean_revision()
     if not revision:
         raise Refused("there are changes that are not committed: git status names them")
-    if not os.path.exists(PASSED) or read(os.path.relpath(PASSED, ROOT)).strip() != revision:
+    if not os.path.exists(PASSED) or text_of(PASSED).strip() != revision:
         raise Refused(f"the gate has not passed here on {revision[:12]}: make test")
-    if UNRELEASED not in read("CHANGELOG.md"):
+    if UNRELEASED not in text_of(CHANGELOG):
         raise Refused(f"CHANGELOG.md has no line `{UNRELEASED.strip()}`: it says what this version changes")
 
 
-def numbers(version):
+def numbers(version: str) -> list[int]:
     return [int(it) for it in version.split(".")]
 
 
-def name(version, day):
+def name(version: str, day: str) -> None:
     """Writes the version wherever the last one is named."""
-    last = read("VERSION").strip()
+    last = text_of(f"{ROOT}/VERSION").strip()
     for file, around in NAMING:
-        text = read(file)
+        text = text_of(f"{ROOT}/{file}")
         if around.format(last) not in text:
             raise Refused(f"{file} does not have `{around.format(last)}`")
-        write(file, text.replace(around.format(last), around.format(version)))
-    write("CHANGELOG.md", read("CHANGELOG.md").replace(UNRELEASED, f"## {version}, {day}\n", 1))
+        write(f"{ROOT}/{file}", text.replace(around.format(last), around.format(version)))
+    write(CHANGELOG, text_of(CHANGELOG).replace(UNRELEASED, f"## {version}, {day}\n", 1))
 
 
-def tag(version):
+def tag(version: str) -> None:
     git("commit", "--all", "--quiet", "--message", f"Version {version}")
     git("tag", "--annotate", f"v{version}", "--message", f"Version {version}")
 
 
-def is_tagged(version):
+def is_tagged(version: str) -> bool:
     return f"v{version}" in git("tag", "--points-at", "HEAD").split()
 
 
-def make(version):
+def make(version: str) -> None:
     """Builds what is released."""
     shutil.rmtree(MADE, ignore_errors=True)
     os.makedirs(MADE)
@@ -94,11 +86,11 @@ def make(version):
         shutil.copy(f"{OUT}/{file}", MADE)
     names = sorted(os.listdir(MADE))
     sums = subprocess.run(["sha256sum", *names], cwd=MADE, stdout=subprocess.PIPE, text=True, check=True).stdout
-    write(f"{os.path.relpath(MADE, ROOT)}/SHA256SUMS", sums)
+    write(f"{MADE}/SHA256SUMS", sums)
     print(f"{os.path.relpath(MADE)}: {', '.join(names)}, SHA256SUMS. To publish: git push --follow-tags")
 
 
-def main(words):
+def main(words: list[str]) -> None:
     if len(words) != 1 or not words[0]:
         sys.exit("usage: make release VERSION=X.Y.Z")
     version = words[0]

@@ -15,9 +15,10 @@ import socket
 import subprocess
 import sys
 import time
+from typing import Any
 
-from crates import OUT, ROOT
-from steps import interrupt
+from tooling.crates import OUT, ROOT
+from tooling.steps import interrupt
 
 PORT = 4318
 FOLDER = f"{OUT}/serve"
@@ -34,7 +35,7 @@ What was taken is in {data}: it is there after a kill, and in the next run. Ctrl
 """
 
 
-def body():
+def body() -> str:
     """A sum's point of the last ten seconds."""
     now = time.time_ns()
     point = f'{{"asInt":"5","startTimeUnixNano":"{now - 10_000_000_000}","timeUnixNano":"{now}"}}'
@@ -42,7 +43,7 @@ def body():
     return f'{{"resourceMetrics":[{{"scopeMetrics":[{{"metrics":[{metric}]}}]}}]}}'
 
 
-def is_free(port):
+def is_free(port: int) -> bool:
     with socket.socket() as listener:
         listener.setsockopt(socket.SOL_SOCKET, socket.SO_REUSEADDR, 1)
         try:
@@ -52,18 +53,18 @@ def is_free(port):
     return True
 
 
-def listens(port):
+def listens(port: int) -> bool:
     """Whether someone listens there, by the kernel's table: a connection would be served."""
     with open("/proc/net/tcp", encoding="ascii") as table:
         return f"0100007F:{port:04X} 00000000:0000 0A" in table.read()
 
 
-def is_done(*words, **how):
+def is_done(*words: str, **how: Any) -> bool:
     """Whether a command of tools/ ends well; what is wrong it says itself."""
     return subprocess.run([f"{ROOT}/tools/{words[0]}", *words[1:]], check=False, **how).returncode == 0
 
 
-def has_book():
+def has_book() -> bool:
     """Whether the library is there, proved and built anew where its crates changed."""
     if os.environ.get("TOTXEGUN_BOOK"):
         return True
@@ -74,7 +75,7 @@ def has_book():
     return is_done("build.py", "book_c")
 
 
-def totxegun():
+def totxegun() -> str | None:
     """The path of the program, built anew where its sources changed; nothing where that fails."""
     # What is missing is said before the proofs are begun.
     if not is_done("needs", "service") or not is_done("cargo", "--version", stdout=subprocess.DEVNULL) or not has_book():
@@ -88,7 +89,7 @@ def totxegun():
     return f"{target}/{kind}/totxegun"
 
 
-def serve(program, port):
+def serve(program: str | None, port: int) -> int:
     """Runs the service until it ends, or is interrupted, and returns its status."""
     words = ["--data", f"{FOLDER}/data", "--flush-every", "10s"]
     words += ["--listen", f"127.0.0.1:{port}", "--operate", f"127.0.0.1:{port + 1}"]
@@ -106,7 +107,7 @@ def serve(program, port):
         return service.wait()
 
 
-def main(words):
+def main(words: list[str]) -> int:
     port = int(words[0]) if words else PORT
     for it in (port, port + 1):
         if not is_free(it):

@@ -5,14 +5,16 @@
 
 With a word only those whose name or head has it.
 """
-import ast
 import glob
 import os
 import re
 import sys
 import textwrap
+from collections.abc import Iterator
 
-from crates import ROOT, content, read_crates
+from tooling.crates import ROOT, read_crates
+from tooling.files import content
+from tooling.heads import commands, first_paragraph, head_of
 
 RUST_HEAD = re.compile(r"(?://!.*\n)+")
 TEST = re.compile(r"#\[(?:tokio::)?test\b")
@@ -20,39 +22,29 @@ TEST = re.compile(r"#\[(?:tokio::)?test\b")
 OF_TESTS = re.compile(r"service/tests/|/tests/|tests\.rs$")
 
 
-def first_paragraph(text):
-    return " ".join(text.strip().split("\n\n")[0].split())
-
-
-def of_script(path):
-    return first_paragraph(ast.get_docstring(ast.parse(content(path))) or "")
-
-
-def of_rust(path):
+def of_rust(path: str) -> str:
     head = RUST_HEAD.search(content(path).decode())
     return first_paragraph(re.sub(r"^//! ?", "", head[0], flags=re.MULTILINE)) if head else ""
 
 
-def scripts():
-    """Those that are called; the others are what these share."""
-    for path in sorted(glob.glob(f"{ROOT}/tests/*.py")):
-        if os.access(path, os.X_OK):
-            yield path, of_script(path)
+def scripts() -> Iterator[tuple[str, str]]:
+    for path in commands("tests"):
+        yield path, head_of(path)
 
 
-def crates():
+def crates() -> Iterator[tuple[str, str]]:
     for crate in read_crates().values():
         if any(TEST.search(content(it).decode()) for it in crate.files() if it.endswith(".rt")):
             yield crate.folder, of_rust(f"{crate.folder}/src/{'main' if crate.is_program else 'lib'}.rt")
 
 
-def of_service():
+def of_service() -> Iterator[tuple[str, str]]:
     for path in sorted(glob.glob(f"{ROOT}/service/**/*.rs", recursive=True)):
         if OF_TESTS.search(path) and (TEST.search(content(path).decode()) or path.endswith("main.rs")):
             yield path, of_rust(path)
 
 
-def main(words):
+def main(words: list[str]) -> int | str:
     if len(words) > 1:
         return __doc__
     for path, head in [*scripts(), *crates(), *of_service()]:

@@ -24,8 +24,9 @@ import tempfile
 import threading
 import time
 
-from crates import OUT, ROOT, content
-from steps import LOGS
+from tooling.crates import OUT, ROOT
+from tooling.files import content
+from tooling.steps import LOGS
 
 EDITS = f"{ROOT}/service/wrong"
 FOLDER = f"{OUT}/wrong"
@@ -53,7 +54,7 @@ class BadEdit(Exception):
     """Why an edit can't be made."""
 
 
-def copy_service():
+def copy_service() -> None:
     """The service as it is, beside what earlier copies have built."""
     os.makedirs(f"{FOLDER}/service", exist_ok=True)
     os.makedirs(f"{FOLDER}/tools", exist_ok=True)
@@ -70,9 +71,9 @@ def copy_service():
             shutil.copy(source, copy)
 
 
-def apply(name):
+def apply(name: str) -> str:
     """Makes an edit in the copy, and returns its test."""
-    test = path = old = None
+    test = path = old = ""
     for line in content(f"{EDITS}/{name}.edit").decode().splitlines():
         key, _, text = line.partition(":")
         text = text.removeprefix(" ")
@@ -91,8 +92,10 @@ def apply(name):
     return test
 
 
-def runs(test):
+def runs(test: str) -> list[list[str]]:
     """The commands of a test, one a run."""
+    if not test:
+        raise BadEdit("it names no test")
     script, *words = test.split()
     if script == "cargo":
         return [[CARGO, *words]] * RUNS
@@ -104,13 +107,13 @@ def runs(test):
     return [[*command, words[0], str(seed), *words[1:]] for seed in range(1, RUNS + 1)]
 
 
-def end(child):
+def end(child: subprocess.Popen[str]) -> None:
     """Ends a test with all that it has started."""
     with contextlib.suppress(ProcessLookupError):
         os.killpg(child.pid, signal.SIGKILL)
 
 
-def run(command, log, folder):
+def run(command: list[str], log: str, folder: str) -> tuple[int, str | None]:
     """Runs a command until it has ended or a check has seen the fault: its status, and what the check says."""
     environment = dict(os.environ, TOTXEGUN_BOOK=BOOK, TMPDIR=folder)
     child = subprocess.Popen(command, stdout=subprocess.PIPE, stderr=subprocess.STDOUT, text=True, errors="replace",
@@ -128,7 +131,7 @@ def run(command, log, folder):
     return child.wait(), seen
 
 
-def check_that_finds(name):
+def check_that_finds(name: str) -> str | None:
     """The first check that fails for what is wrong, or nothing."""
     log = f"{LOGS}/wrong-{name}.log"
     open(log, "w", encoding="utf-8").close()
@@ -144,7 +147,7 @@ def check_that_finds(name):
     return None
 
 
-def main(names):
+def main(names: list[str]) -> int:
     os.makedirs(LOGS, exist_ok=True)
     names = names or sorted(file.removesuffix(".edit") for file in os.listdir(EDITS) if file.endswith(".edit"))
     found = 0

@@ -1,7 +1,11 @@
-//! Work of more than a moment, on a thread of its own; and what is seldom waited for.
+//! Work of more than a moment, on a thread of its own, or on several (`line`); and what is seldom waited for.
 //!
 //! A timer is on the heap here: else each future that may need one had room for it, at an address that the allocator has to
 //! look for.
+
+mod line;
+
+pub use line::{in_line, Line};
 
 use std::future::{poll_fn, Future};
 use std::pin::pin;
@@ -33,31 +37,7 @@ pub async fn within<T>(time: Duration, future: impl Future<Output = T>) -> Optio
 /// So many threads at most: more wait for each other.
 const MOST_THREADS: usize = 8;
 
-/// Does something with each, on as many threads as there are processors. Returns once all is done.
-pub fn side_by_side<T: Send>(all: &mut [T], each: impl Fn(&mut T) + Sync) {
-    let threads = thread::available_parallelism().map_or(1, |most| most.get().min(MOST_THREADS));
-    let of_one = all.len().div_ceil(threads).max(1);
-    let each = &each;
-    thread::scope(|scope| {
-        let mut parts = all.chunks_mut(of_one);
-        let own = parts.next();
-        for part in parts {
-            scope.spawn(move || part.iter_mut().for_each(each));
-        }
-        own.into_iter().flatten().for_each(each);
-    });
-}
-
-#[cfg(test)]
-mod tests {
-    use super::*;
-
-    #[test]
-    fn each_is_done_once() {
-        for count in [0, 1, 2, 7, 64, 1000] {
-            let mut all = vec![0; count];
-            side_by_side(&mut all, |one| *one += 1);
-            assert_eq!(all, vec![1; count]);
-        }
-    }
+/// How many there are of those that compute side by side.
+fn threads() -> usize {
+    thread::available_parallelism().map_or(1, |most| most.get().min(MOST_THREADS))
 }

@@ -5,3 +5,5 @@ pub mod ListLemmas
 pub mod PairLemmas
 pub mod MetricLemmas
 pub mod TextLemmas
+pub mod MemberLemmas
+pub mod PartLemmas

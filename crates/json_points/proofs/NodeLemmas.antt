@@ -1,24 +1,23 @@
 -- What `serde_json` makes of a value, level by level.
-use Rattle.std.proofs.Common.{◌≡◌, ℕ, ◌+◌, ◌≤◌, max, List, [], ◌∷◌, ◌++◌, length, Bool, true, false, cond, Option, Some, None, option_map, option_and_then, unwrap_or, refl, sym, ap, ◌∙◌, subst, arith, length-append, inl, inr}
+use Rattle.std.proofs.Common.{◌≡◌, ℕ, ◌≤◌, List, [], ◌∷◌, length, Bool, true, false, cond, Option, Some, None, option_map, option_and_then, unwrap_or, refl, sym, ap, ◌∙◌, subst, arith, length-append}
 use Rattle.std.specs.Prelude.{MatchOption, is_some}
 use Rattle.std.specs.Str.{bytes_eq}
-use Rattle.std.proofs.lemmas.Bool.{cases_Bool}
 use Rattle.std.proofs.lemmas.Slice.Eq.{bytes_eq-Decides}
 use Rattle.json.specs.Token.{Token}
 use Rattle.json.specs.Json as json
 use Rattle.json.specs.Json.{Json, value}
 use Rattle.json.specs.Tree.{json_tokens, items_tokens, members_tokens, depth, items_depth, members_depth}
 use Rattle.json.specs.Find as find
-use Rattle.json.specs.Find.{BeginsWith, InItems, InMembers, NextItem, Finds, later_or}
+use Rattle.json.specs.Find.{BeginsWith, InItems, InMembers, NextItem, NextMember, Finds, later_or}
 use Rattle.json.proofs.Printed.Trees.{value-json_tokens}
 use Rattle.json.proofs.Unique.Spelling.{value-json_tokens_back}
-use Rattle.serde_json.specs.Data.{Num, Data, null, boolean, number, string, array, object, Items, no_items, item, Members, no_members, put}
+use Rattle.serde_json.specs.Data.{Num, Data, null, boolean, number, string, array, object, Items, item, Members, no_members, put}
 use Rattle.serde_json.specs.Read.{number_of, of_json, of_items, of_members}
-use Rattle.serde_json.specs.Find.{get, get_member, as_str, as_bool, as_number, as_array, as_object}
+use Rattle.serde_json.specs.Find.{get, get_member, as_str, as_bool, as_number, as_array}
 use Rattle.serde_json.proofs.Views.{get_member-put, get_member-put_other}
 use Rattle.otlp_read.specs.Containers.{is_object, elements}
 use Rattle.otlp_read.specs.Fields.{present}
-use Rattle.json_points.specs.inner.Nodes.{data_at, IsNode, AreItems, HasItems}
+use Rattle.json_points.specs.inner.Nodes.{data_at, IsNode, AreItems, AreMembers}
 
 -- ---- a value nests no deeper than it has tokens
 
@@ -221,6 +220,31 @@ no_item ts new ds has is =
     let none : has.items ≡ json.no_items = is has.items has.inside in
     let e = ap (λ js. option_map elements (of_items js)) (sym none) ∙ has.says in cc
 
+-- ---- the members one by one
+
+one_member : (k : List ℕ) (j : Json) (ms : json.Members) (before : Members) (d : Data) → option_map object (of_members (json.member k j ms) before) ≡ Some d
+    → (x : Data) × (of_json j ≡ Some x) × (option_map object (of_members ms (put k x before)) ≡ Some d)
+one_member k j ms before d e = go (of_json j) refl e
+  where
+    go : (o : Option Data) → of_json j ≡ o → option_map object (option_and_then (λ x. of_members ms (put k x before)) o) ≡ Some d
+        → (x : Data) × (of_json j ≡ Some x) × (option_map object (of_members ms (put k x before)) ≡ Some d)
+    go None read h = absurd cc
+    go (Some x) read h = (x, read, h)
+
+-- the next member, and those after it
+pub next_member : (ts next new : List Token) (k : List ℕ) (before : Members) (d : Data) → AreMembers ts before d → NextMember ts (Some (k, next)) new
+    → AreMembers new (put k (data_at next) before) d × IsNode next
+next_member ts next new k before d has is =
+    let f = is has.members has.inside in
+    let one = one_member k f.0 f.1 before d (ap (λ js. option_map object (of_members js before)) (sym f.2) ∙ has.says) in
+    let there : data_at next ≡ one.0 = data_is next f.0 one.0 f.3 one.1 in
+    (record { members = f.1; inside = f.4; says = ap (λ x. option_map object (of_members f.1 (put k x before))) there ∙ one.2 }, node_is next f.0 one.0 f.3 one.1)
+
+pub no_member : (ts new : List Token) (before : Members) (d : Data) → AreMembers ts before d → NextMember ts None new → d ≡ object before
+no_member ts new before d has is =
+    let none : has.members ≡ json.no_members = is has.members has.inside in
+    let e = ap (λ js. option_map object (of_members js before)) (sym none) ∙ has.says in cc
+
 -- ---- what the calls of a tape answer
 
 -- what was found at a name
@@ -250,6 +274,15 @@ object_found ts None node found = sym (ap (λ o. is_some o) (found node.json nod
 object_found ts (Some inside) node found =
     let f = found node.json node.begins in
     sym (ap (λ j. is_some (find.as_object j)) f.1) ∙ object_same node.json _ (same node.json _ node.says)
+
+pub members_found : (ts : List Token) (r : Option (List Token)) (inside : List Token) → IsNode ts → ((j : Json) → BeginsWith ts j → FoundMembers r j) → r ≡ Some inside
+    → AreMembers inside no_members (data_at ts)
+members_found ts None inside node found is = absurd cc
+members_found ts (Some at) inside node found is =
+    let f = found node.json node.begins in
+    let at_is : at ≡ inside = cc in
+    let all = subst (λ j. Same j (data_at ts)) f.1 (same node.json _ node.says) in
+    record { members = f.0; inside = subst (λ x. InMembers x f.0) at_is f.2; says = ap (option_map object) all.1 ∙ ap (λ x. Some x) (sym all.2) }
 
 -- the items of an array
 abbrev pub FoundItems : Option (List Token) → Json → Type 0

@@ -3,3 +3,4 @@ pub mod Plain
 pub mod Slots
 pub mod RefViews
 pub mod StreamViews
+pub mod SumParts

@@ -9,9 +9,10 @@ ghost use Rattle.json_points.specs.inner.RefViews.{pair_data};
 
 use crate::fields::{field, text_in};
 use crate::lists::{Element, list_in};
+use crate::members::{Pair, two_members};
 use crate::node::Node;
 use crate::scalar_ref::PairRef;
-use crate::values::{scalar_ref_in, value_in};
+use crate::values::{only_scalar, value_in};
 use series_id::{AttrFault, AttrSet, AttrValue, Text};
 use std::alloc::{AllocError, Global};
 
@@ -56,16 +57,18 @@ fn pair_of(alloc: Global, node: &Node<'_, '_>) -> Result<Option<(Text, AttrValue
     Ok(Some((key, found)))
 }
 
-/// An attribute, if it has a single value.
-#[tactic(auto, unfolding(otlp_read::specs::Attributes::pair_of))]
+/// An attribute that is a key and a single value, in this order and with nothing else.
 pub fn pair_ref<'a>(node: &Node<'_, 'a>) -> Option<PairRef<'a>>
     ensures { IfSome result (λ p. pair_of (data_at node.now) ≡ Some (pair_data p)) }
 {
-    if !node.is_object() {
+    let Some(Pair { first, second }) = two_members(node) else {
+        return None;
+    };
+    if first.name != "key" || second.name != "value" {
         return None;
     }
-    let key = text_in(&field(node, "key"))?;
-    let value = scalar_ref_in(&field(node, "value"))?;
+    let key = text_in(&first.value.present())?;
+    let value = only_scalar(&second.value)?;
     Some(PairRef { key, value })
 }
 

@@ -16,12 +16,12 @@ ghost use Rattle.json_points.specs.inner.StreamViews.{scope_data, stream_data};
 use crate::attributes::pair_ref;
 use crate::identity_cache::IdentityCache;
 use crate::node::{Node, Nodes};
-use crate::scalar_ref::{PairRef, ScalarRef};
+use crate::scalar_ref::{NO_PAIR, PairRef, ScalarRef};
 use crate::streams::{Scope, Stream};
 use series_id::{AttrValue, Attribute, Kind, SeriesId, SharedId};
 
 /// The most attributes of a point that is looked up.
-const MOST_PAIRS: usize = 16;
+pub const MOST_PAIRS: usize = 16;
 
 /// The series of a stream with this kind and these attributes, if the cache has it. Attributes in
 /// any order are found, but only up to `MOST_PAIRS` of them, each with a single value. Takes no
@@ -38,10 +38,7 @@ pub fn look_up(
     if cache.is_empty() {
         return None;
     }
-    let mut room = [PairRef {
-        key: "",
-        value: ScalarRef::Empty,
-    }; MOST_PAIRS];
+    let mut room = [NO_PAIR; MOST_PAIRS];
     let count = pairs_in(&mut room, found)?;
     let pairs = &mut room[..count];
     sort_pairs(pairs);
@@ -50,7 +47,7 @@ pub fn look_up(
 
 /// Puts the attributes of a field at the front of `room`: how many they are. `None` if there are
 /// more than there is room for, or if one has no single value.
-fn pairs_in<'a>(room: &mut [PairRef<'a>], found: &Option<Node<'_, 'a>>) -> Option<usize>
+pub fn pairs_in<'a>(room: &mut [PairRef<'a>], found: &Option<Node<'_, 'a>>) -> Option<usize>
     ensures pairs { IfSome result (λ n. list_in pair_of (slot_data found.now)
         ≡ Some (map pair_data (take n room.new))) }
     ensures within { IfSome result (λ n. n ≤ length room.new) }
@@ -82,7 +79,7 @@ fn put_pairs<'a>(room: &mut [PairRef<'a>], nodes: Nodes<'_, 'a>) -> Option<usize
 }
 
 /// Sorts attributes by key.
-fn sort_pairs(pairs: &mut [PairRef<'_>])
+pub fn sort_pairs(pairs: &mut [PairRef<'_>])
     ensures { IsPermutation pairs.old pairs.new }
 {
     pairs.sort_unstable_by_key(|pair| pair.key);
@@ -170,7 +167,7 @@ fn is_in_scope(series: &SeriesId, scope: Scope<'_>) -> bool
 }
 
 /// Whether the attributes are those of a set, in its order.
-fn are_pairs(pairs: &[PairRef<'_>], its: &[Attribute]) -> bool
+pub fn are_pairs(pairs: &[PairRef<'_>], its: &[Attribute]) -> bool
     ensures only { IsTrue result → map pair_data pairs.now ≡ map pair_in its.now }
 {
     if pairs.len() != its.len() {

@@ -2,15 +2,16 @@
 //! what `serde_json` makes of it.
 
 ghost use Rattle.std.specs.Prelude.{◌≡◌, ◌∷◌, ◌<◌, [], List, length, option_map, is_some, is_none};
-ghost use Rattle.std.specs.Prelude.{IfSome, OnSome, MatchOption, Some, None, if◌then◌else◌};
-ghost use Rattle.serde_json.specs.Data.{Data, Num, number};
+ghost use Rattle.std.specs.Prelude.{IfSome, OnSome, MatchOption, Some, None, false, if◌then◌else◌};
+ghost use Rattle.serde_json.specs.Data.{Data, Members as Entries, Num, no_members, number, object};
+ghost use Rattle.serde_json.specs.Data.{put};
 ghost use Rattle.serde_json.specs.Read.{number_of};
 ghost use Rattle.serde_json.specs.Find.{get, as_str, as_bool, as_array, as_number};
 ghost use Rattle.otlp_read.specs.Containers.{is_object, elements};
 ghost use Rattle.otlp_read.specs.Fields.{present};
-ghost use Rattle.json_points.specs.inner.Nodes.{IsNode, AreItems, data_at};
+ghost use Rattle.json_points.specs.inner.Nodes.{IsNode, AreItems, AreMembers, data_at};
 
-use json::{Element, Items};
+use json::{Element, Items, Members};
 use std::marker::Model;
 
 /// A value of a text that `serde_json` reads.
@@ -107,6 +108,17 @@ impl<'t, 'a> Node<'t, 'a> {
             None => None,
         }
     }
+
+    /// The members, if the value is an object.
+    pub fn fields(&self) -> Option<Fields<'t, 'a>>
+        ensures found { IfSome result (λ fs. AreMembers fs no_members (data_at self.now)) }
+        ensures none { result ≡ None → is_object (data_at self.now) ≡ false }
+    {
+        match self.element.members() {
+            Some(members) => Some(Fields { members }),
+            None => None,
+        }
+    }
 }
 
 /// The items of an array that are still to come. Contracts see the tokens from there on.
@@ -138,5 +150,40 @@ impl<'t, 'a> Nodes<'t, 'a> {
     {
         let element = self.items.next()?;
         Some(Node { element })
+    }
+}
+
+/// The members of an object that are still to come. Contracts see the tokens from there on.
+#[derive(Drop)]
+pub struct Fields<'t, 'a> {
+    members: Members<'t, 'a>,
+}
+
+impl<'t, 'a> Model for Fields<'t, 'a> {
+    ghost use Rattle.std.specs.Prelude.{List};
+    ghost use Rattle.json.specs.Token.{Token, tokens_code};
+    ghost use Rattle.json_points.specs.inner.Nodes.{HasMembers};
+
+    ghost Value = { List Token };
+
+    ghost coded = { tokens_code };
+
+    ghost view = { λ f. f.members };
+
+    ghost invariant = { λ f. HasMembers f.members };
+}
+
+impl<'t, 'a> Fields<'t, 'a> {
+    /// The next member: its name and its value.
+    pub fn next(&mut self) -> Option<(&'a str, Node<'t, 'a>)>
+        ensures value { (before : Entries) → (d : Data) → AreMembers self.old before d
+            → MatchOption result (d ≡ object before)
+            (λ m. AreMembers self.new (put m.0.now (data_at m.1) before) d) }
+        ensures shorter { OnSome result (length self.new < length self.old) }
+    {
+        match self.members.next() {
+            Some((name, element)) => Some((name, Node { element })),
+            None => None,
+        }
     }
 }

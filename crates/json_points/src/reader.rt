@@ -10,15 +10,17 @@ ghost use Rattle.json_points.specs.inner.Slots.{IsList};
 
 use crate::identity_cache::IdentityCache;
 use crate::node::{Node, Nodes};
+use crate::set_cache::SetCache;
 use crate::unknown::Unknown;
 use otlp_read::Reading;
 use std::alloc::Global;
 
-/// A reader of a request: its memory, its cache, and what it has read so far.
+/// A reader of a request: its memory, its caches, and what it has read so far.
 #[derive(Drop)]
 pub struct Reader<'c> {
     pub alloc: Global,
     pub cache: &'c mut IdentityCache,
+    pub sets: &'c mut SetCache,
     pub out: Reading,
 }
 

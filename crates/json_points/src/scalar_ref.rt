@@ -22,6 +22,12 @@ pub enum ScalarRef<'v> {
     Text(&'v str),
 }
 
+/// What stands where no attribute was put yet.
+pub const NO_PAIR: PairRef<'static> = PairRef {
+    key: "",
+    value: ScalarRef::Empty,
+};
+
 impl<'v> ScalarRef<'v> {
     /// A reference to a scalar.
     pub fn of(scalar: &'v Scalar) -> ScalarRef<'v>

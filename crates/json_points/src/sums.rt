@@ -2,15 +2,16 @@
 //! `opentelemetry/proto/metrics/v1/metrics.proto`).
 
 ghost use Rattle.std.specs.Prelude.{◌≡◌, option_map, IfOk};
-ghost use Rattle.otlp_read.specs.Fields.{field};
-ghost use Rattle.otlp_read.specs.Sums.{number_in, is_whole_value, sum_fields, sum_point};
+ghost use Rattle.serde_json.specs.Data.{Data, Members, no_members, object, put};
+ghost use Rattle.otlp_read.specs.Sums.{number_in, sum_point};
 ghost use Rattle.otlp_read.specs.Sums.{sum_point_in};
 ghost use Rattle.json_points.specs.inner.Nodes.{data_at};
 ghost use Rattle.json_points.specs.inner.Slots.{slot_data};
 ghost use Rattle.json_points.specs.inner.RefViews.{sum_fields_data};
+ghost use Rattle.json_points.specs.inner.SumParts.{HasParts, is_whole, said_by};
 ghost use Rattle.json_points.specs.inner.StreamViews.{sum_stream_data};
 
-use crate::fields::{field, flags_fit, nanos_at};
+use crate::fields::{flags_fit, nanos_in};
 use crate::identity_cache::IdentityCache;
 use crate::integers::signed_64;
 use crate::node::Node;
@@ -38,30 +39,82 @@ fn number_in(found: &Option<Node<'_, '_>>) -> Option<i64>
     }
 }
 
-/// The value of the field of this name.
-fn number_at(node: &Node<'_, '_>, name: &str) -> Option<i64>
-    ensures { result ≡ number_in (field name.now (data_at node.now)) }
+/// The fields of a point, each if it is present.
+#[derive(Drop)]
+pub struct SumParts<'t, 'a> {
+    pub start: Option<Node<'t, 'a>>,
+    pub end: Option<Node<'t, 'a>>,
+    pub value: Option<Node<'t, 'a>>,
+    pub flags: Option<Node<'t, 'a>>,
+    pub double: Option<Node<'t, 'a>>,
+    pub attributes: Option<Node<'t, 'a>>,
+}
+
+/// The fields of an object with no member.
+fn no_parts<'t, 'a>() -> SumParts<'t, 'a>
+    ensures { HasParts result (object no_members) }
 {
-    number_in(&field(node, name))
+    SumParts {
+        start: None,
+        end: None,
+        value: None,
+        flags: None,
+        double: None,
+        attributes: None,
+    }
+}
+
+/// The fields of an object that has one member more, the last of its name.
+fn put_part<'t, 'a>(parts: &mut SumParts<'t, 'a>, name: &str, value: Node<'t, 'a>)
+    ensures { (before : Members) → HasParts parts.old (object before)
+        → HasParts parts.new (object (put name.now (data_at value.entry) before)) }
+{
+    let found = value.present();
+    if name == "attributes" {
+        parts.attributes = found;
+    } else if name == "startTimeUnixNano" {
+        parts.start = found;
+    } else if name == "timeUnixNano" {
+        parts.end = found;
+    } else if name == "asInt" {
+        parts.value = found;
+    } else if name == "asDouble" {
+        parts.double = found;
+    } else if name == "flags" {
+        parts.flags = found;
+    }
+}
+
+/// The fields of a value.
+fn parts_of<'t, 'a>(node: &Node<'t, 'a>) -> SumParts<'t, 'a>
+    ensures { HasParts result (data_at node.now) }
+{
+    let mut parts = no_parts();
+    let Some(mut fields) = node.fields() else {
+        return parts;
+    };
+    while let Some((name, value)) = fields.next() {
+        put_part(&mut parts, name, value);
+    }
+    parts
 }
 
 /// Whether the point has a recorded value that is no double.
-#[tactic(auto, unfolding(otlp_read::specs::Sums::is_whole_value))]
-fn is_whole_value(node: &Node<'_, '_>) -> bool
-    ensures { result ≡ is_whole_value (data_at node.now) }
+fn is_whole_value(parts: &SumParts<'_, '_>) -> bool
+    ensures { result ≡ is_whole parts.now }
 {
-    flags_fit(&field(node, "flags")) && field(node, "asDouble").is_none()
+    flags_fit(&parts.flags) && parts.double.is_none()
 }
 
-/// The fields of a point; `None` if the point is foreign for one of them.
-#[tactic(auto, unfolding(otlp_read::specs::Sums::sum_fields))]
-fn sum_fields(node: &Node<'_, '_>) -> Option<SumFields>
-    ensures { option_map sum_fields_data result ≡ sum_fields (data_at node.now) }
+/// What a point says; `None` if it is foreign for one of its fields.
+#[tactic(auto, unfolding(crate::specs::inner::SumParts::said_by))]
+fn sum_fields(parts: &SumParts<'_, '_>) -> Option<SumFields>
+    ensures { option_map sum_fields_data result ≡ said_by parts.now }
 {
-    let start = nanos_at(node, "startTimeUnixNano")?;
-    let end = nanos_at(node, "timeUnixNano")?;
-    let value = number_at(node, "asInt")?;
-    if is_whole_value(node) {
+    let start = nanos_in(&parts.start)?;
+    let end = nanos_in(&parts.end)?;
+    let value = number_in(&parts.value)?;
+    if is_whole_value(parts) {
         Some(SumFields { start, end, value })
     } else {
         None
@@ -95,13 +148,14 @@ fn sum_point(
 ) -> Result<Option<Point>, AllocError>
     ensures { IfOk result (λ o. o ≡ sum_point (sum_stream_data sum.entry) (data_at node.now)) }
 {
-    let Some(fields) = sum_fields(node) else {
+    let parts = parts_of(node);
+    let Some(fields) = sum_fields(&parts) else {
         return Ok(None);
     };
     let kind = Kind::Sum {
         monotonic: sum.monotonic,
     };
-    let Some(series) = series_of(alloc, cache, sum.stream, kind, &field(node, "attributes"))? else {
+    let Some(series) = series_of(alloc, cache, sum.stream, kind, &parts.attributes)? else {
         return Ok(None);
     };
     let point = Point::shared_sum(series, fields.start, fields.end, fields.value);

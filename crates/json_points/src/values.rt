@@ -2,7 +2,7 @@
 //! `opentelemetry/proto/common/v1/common.proto`).
 
 ghost use Rattle.std.specs.Prelude.{◌≡◌, ◌||◌, IfOk, IfSome, Some, codes, is_some, option_map};
-ghost use Rattle.otlp_read.specs.Fields.{field};
+ghost use Rattle.otlp_read.specs.Fields.{field, present};
 ghost use Rattle.series_id.specs.declared.values.AttrValue.TheVariants.{One};
 ghost use Rattle.otlp_read.specs.Values.{scalar_of, fields_of, value_in, only_of, has_other};
 ghost use Rattle.otlp_read.specs.Values.{many_of, scalar_in, scalars_of, value_of};
@@ -13,6 +13,7 @@ ghost use Rattle.json_points.specs.inner.RefViews.{scalar_data};
 use crate::fields::field;
 use crate::integers::signed_64;
 use crate::lists::{Element, list_in};
+use crate::members::{Member, only_member};
 use crate::node::Node;
 use crate::scalar_ref::ScalarRef;
 use series_id::{AttrValue, Scalar, Scalars};
@@ -180,19 +181,21 @@ fn scalar_ref_of<'a>(node: &Node<'_, 'a>) -> Option<ScalarRef<'a>>
     only_of(&text, &truth, &int)
 }
 
-/// The value of an attribute, if it is a single one.
-#[tactic(auto, unfolding(otlp_read::specs::Values::value_in, otlp_read::specs::Values::value_of, otlp_read::specs::Values::scalar_of))]
-pub fn scalar_ref_in<'a>(found: &Option<Node<'_, 'a>>) -> Option<ScalarRef<'a>>
-    ensures { IfSome result (λ g. value_in (slot_data found.now) ≡ Some (One (scalar_data g))) }
+/// The value of an attribute, if it is a single one and nothing else stands in its object.
+pub fn only_scalar<'a>(node: &Node<'_, 'a>) -> Option<ScalarRef<'a>>
+    ensures { IfSome result (λ g.
+        value_in (present (Some (data_at node.now))) ≡ Some (One (scalar_data g))) }
 {
-    match found {
-        None => Some(ScalarRef::Empty),
-        Some(node) => {
-            if node.is_object() {
-                scalar_ref_of(node)
-            } else {
-                None
-            }
-        }
+    let Some(Member { name, value }) = only_member(node) else {
+        return None;
+    };
+    if name == "stringValue" {
+        Some(ScalarRef::Text(value.as_str()?))
+    } else if name == "intValue" {
+        Some(ScalarRef::Int(signed_64(&value)?))
+    } else if name == "boolValue" {
+        Some(ScalarRef::Truth(value.as_bool()?))
+    } else {
+        None
     }
 }

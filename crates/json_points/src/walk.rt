@@ -15,6 +15,7 @@ use crate::kept::Kept;
 use crate::node::Node;
 use crate::plain::is_plain;
 use crate::reader::{Object, Reader, each};
+use crate::set_cache::SetCache;
 use crate::streams::{Resource, inner, resource_in, scope_in};
 use crate::unknown::Unknown;
 use json::{Scratch, Tape};
@@ -59,10 +60,16 @@ fn read_bytes(alloc: Global, bytes: &[u8], kept: &mut Kept) -> Result<Reading, U
         return Err(Unknown);
     };
     if bytes.len() <= MOST_KEPT {
-        read_text(alloc, text, &mut kept.cache, &mut kept.scratch)
+        read_text(
+            alloc,
+            text,
+            &mut kept.cache,
+            &mut kept.sets,
+            &mut kept.scratch,
+        )
     } else {
         let mut scratch = Scratch::new(alloc);
-        read_text(alloc, text, &mut kept.cache, &mut scratch)
+        read_text(alloc, text, &mut kept.cache, &mut kept.sets, &mut scratch)
     }
 }
 
@@ -71,6 +78,7 @@ fn read_text(
     alloc: Global,
     text: &str,
     cache: &mut IdentityCache,
+    sets: &mut SetCache,
     scratch: &mut Scratch,
 ) -> Result<Reading, Unknown>
     ensures { IfOk result (λ r. text_reading text.now ≡ Some (Ok (tally r))) }
@@ -82,7 +90,7 @@ fn read_text(
         return Err(Unknown);
     }
     let root = Node::of(tape.root());
-    read_root(alloc, cache, &root, tape.len())
+    read_root(alloc, cache, sets, &root, tape.len())
 }
 
 /// Reads a request of so many tokens.
@@ -90,6 +98,7 @@ fn read_text(
 fn read_root(
     alloc: Global,
     cache: &mut IdentityCache,
+    sets: &mut SetCache,
     root: &Node<'_, '_>,
     length: usize,
 ) -> Result<Reading, Unknown>
@@ -105,7 +114,12 @@ fn read_root(
         foreign: 0,
         metrics: 0,
     };
-    let mut reader = Reader { alloc, cache, out };
+    let mut reader = Reader {
+        alloc,
+        cache,
+        sets,
+        out,
+    };
     body(&mut reader, root)?;
     let Reader { mut out, .. } = reader;
     out.points.fit();
@@ -139,7 +153,9 @@ fn resource_metrics(reader: &mut Reader<'_>, node: &Node<'_, '_>) -> Result<(), 
 {
     let resource = object_in(field(node, "resource"))?;
     let list = objects(&field(node, "scopeMetrics"))?;
-    let attributes = attributes_in(reader.alloc, &inner(&resource, "attributes"))?;
+    let attributes = reader
+        .sets
+        .set_in(reader.alloc, &inner(&resource, "attributes"))?;
     each(reader, resource_in(attributes.as_ref()), list)
 }
 

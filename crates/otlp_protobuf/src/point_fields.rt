@@ -1,4 +1,4 @@
-//! Reads what the points of sums and histograms share, as `otlp_read` reads it of their JSON mapping.
+//! Reads what the points of sums and histograms share, as `otlp_read` reads it of their JSON.
 
 ghost use Rattle.std.specs.Prelude.{◌≡◌, option_map};
 ghost use Rattle.otlp_read.specs.Fields.{flags_fit, nanos_in};

@@ -1,167 +1,31 @@
-//! The loop of an instance: it beats, takes slots and hands them over as `owners` says, and tells who has which.
+//! The loop of an instance in a database of the store: it beats there, takes the slots of it and hands them over as `owners`
+//! says, and tells who has which. Of several databases each has its own loop, and what becomes of one moves no slot of another.
 
-use super::owners::{Owners, Step, Whose};
-use super::status::{Counts, Status, Unserved};
+use super::known::{Cluster, Database, STALL};
+use super::owners::Step;
 use super::terms::{Silence, Terms, Units, Unopened};
-use crate::log::{shown, Seldom};
+use crate::log::Seldom;
 use crate::switch::Switch;
-use std::collections::{BTreeMap, HashMap};
-use std::sync::{Arc, Mutex, MutexGuard, PoisonError};
+use std::collections::HashMap;
+use std::sync::Arc;
 use std::time::Duration;
-use tokio::sync::{mpsc, watch, Notify};
-use tokio::task::JoinHandle;
+use tokio::sync::{mpsc, watch};
+use tokio::task::{JoinHandle, JoinSet};
 use tokio::time::{sleep, Instant, MissedTickBehavior};
 
 /// One row is written so often, however many slots there are.
 pub const BEAT: Duration = Duration::from_millis(500);
-/// After so long without a committed beat of its own an instance takes no posts. It need not do so, it spares senders time.
-pub const STALL: Duration = Duration::from_secs(2);
-/// Why posts are 503 then.
-pub const NO_STORE: &str = "the store does not answer";
 /// Between two looks at the slots.
 const LOOKS: Duration = Duration::from_millis(50);
 /// Who leaves waits so long for its slots to be handed over.
 const LEAVES_WITHIN: Duration = Duration::from_secs(60);
-/// How much of a reason the others are told, in characters.
-const REASON_SHOWN: usize = 500;
 /// Steps that follow from what was done: one at a time, as one slot is handed over at a time.
 const FOLLOWING: usize = 16;
 
 static SILENT: Seldom = Seldom::every(Duration::from_secs(10));
 static NAMESAKE: Seldom = Seldom::every(Duration::from_secs(10));
 
-pub type Places = Arc<BTreeMap<u16, Whose>>;
-
-/// This instance among the others: what the rest of the process asks.
-pub struct Cluster {
-    owners: Mutex<Owners>,
-    places: watch::Sender<Places>,
-    look: Notify,
-    /// When the last own beat that is committed was sent; none before the first.
-    beaten: Mutex<Option<Instant>>,
-    unserved: Mutex<Unserved>,
-    counts: Counts,
-}
-
-impl Cluster {
-    /// Of an instance whose name no other has.
-    pub fn new(name: &str) -> Arc<Cluster> {
-        Arc::new(Cluster {
-            owners: Mutex::new(Owners::new(name)),
-            places: watch::channel(Places::default()).0,
-            look: Notify::new(),
-            beaten: Mutex::default(),
-            unserved: Mutex::default(),
-            counts: Counts::default(),
-        })
-    }
-
-    /// Who has which slot, as far as is known; it tells when that changes.
-    pub fn places(&self) -> watch::Receiver<Places> {
-        self.places.subscribe()
-    }
-
-    pub fn whose(&self, slot: u16) -> Whose {
-        self.places.borrow().get(&slot).cloned().unwrap_or(Whose::Nobody)
-    }
-
-    /// Has the slots looked at again.
-    pub fn look(&self) {
-        self.look.notify_one();
-    }
-
-    /// Whether the store has not taken a beat for so long that posts are turned away.
-    pub fn is_stalled(&self) -> bool {
-        self.beat_age().is_none_or(|age| age > STALL)
-    }
-
-    fn beat_age(&self) -> Option<Duration> {
-        let beaten = self.beaten.lock().unwrap_or_else(PoisonError::into_inner); // one value is sound at any time
-        beaten.map(|beaten| beaten.elapsed())
-    }
-
-    /// A slot could not be opened here, or has ended by a fault.
-    pub fn failed(&self, slot: u16, term: u64, reason: &str) {
-        let reason = shown(reason, REASON_SHOWN);
-        let then = match self.owners().failed(slot, term, &reason) {
-            true => "another instance takes it",
-            false => "no other instance is left that could, so it is tried again",
-        };
-        tracing::error!(
-            slot,
-            reason,
-            "slot {slot} can't be kept open here, {then}: {reason}"
-        );
-        self.publish();
-    }
-
-    /// What a slot's writer tells once it has found another's term.
-    pub fn lost(&self, slot: u16, term: u64) {
-        if self.owners().lost(slot, term) {
-            self.counts.lost();
-        }
-        self.look();
-    }
-
-    pub fn status(&self) -> Status {
-        let owners = self.owners();
-        let unserved = self.unserved.lock().unwrap_or_else(PoisonError::into_inner); // it is changed whole
-        Status {
-            name: owners.name().into(),
-            instances: owners.instances(),
-            others: owners.others(),
-            slots: owners.slots(),
-            has_namesake: owners.has_namesake(),
-            refused: owners.all_refused(),
-            without_owner: unserved.count(),
-            // Who has no answer of the store knows nothing of now.
-            longest_without_owner: match self.is_stalled() {
-                true => Duration::ZERO,
-                false => unserved.longest(Instant::now()),
-            },
-            terms: owners.terms(),
-            beat_age: self.beat_age(),
-            counted: self.counts.counted(),
-        }
-    }
-
-    /// What a beat would have found, and its answer counts for an hour: a test may be slow.
-    #[cfg(test)]
-    pub(crate) fn knows(&self, places: &[(u16, Whose)]) {
-        *self.beaten.lock().unwrap() = Some(Instant::now() + Duration::from_secs(3600));
-        self.places
-            .send_replace(Arc::new(places.iter().cloned().collect()));
-    }
-
-    /// A beat of a test's, by which nothing is done.
-    #[cfg(test)]
-    pub(crate) fn has_seen(&self, seen: super::terms::Seen) {
-        self.owners().beat(seen);
-    }
-
-    /// It is changed whole under the lock.
-    fn owners(&self) -> MutexGuard<'_, Owners> {
-        self.owners.lock().unwrap_or_else(PoisonError::into_inner)
-    }
-
-    /// Says who has which slot, where that is new. It is found under the lock of what is said, so the last word is the latest.
-    fn publish(&self) {
-        self.places.send_if_modified(|said| {
-            let (places, slots) = {
-                let owners = self.owners();
-                (Arc::new(owners.whose()), owners.slots())
-            };
-            let mut unserved = self.unserved.lock().unwrap_or_else(PoisonError::into_inner);
-            unserved.note(&slots, Instant::now());
-            drop(unserved);
-            let is_new = *said != places;
-            *said = places;
-            is_new
-        });
-    }
-}
-
-/// What beats.
+/// What beats in a database.
 pub struct Beats<T, U> {
     work: Arc<Work<T, U>>,
     /// Of each slot the last step: the next one begins behind it.
@@ -172,16 +36,20 @@ pub struct Beats<T, U> {
 
 struct Work<T, U> {
     cluster: Arc<Cluster>,
+    /// Of its database.
+    number: usize,
     terms: Arc<T>,
     units: Arc<U>,
     follow: mpsc::Sender<Step>,
 }
 
 impl<T: Terms + 'static, U: Units + 'static> Beats<T, U> {
-    pub fn new(cluster: Arc<Cluster>, terms: Arc<T>, units: Arc<U>) -> Beats<T, U> {
+    /// In the database of this number, of which `terms` are.
+    pub fn new(cluster: Arc<Cluster>, number: usize, terms: Arc<T>, units: Arc<U>) -> Beats<T, U> {
         let (follow, following) = mpsc::channel(FOLLOWING);
         let work = Work {
             cluster,
+            number,
             terms,
             units,
             follow,
@@ -218,44 +86,45 @@ impl<T: Terms + 'static, U: Units + 'static> Beats<T, U> {
         let mut ticks = tokio::time::interval(self.between);
         // Each beat is half a second behind the last one, whatever came between: others count their own by these.
         ticks.set_missed_tick_behavior(MissedTickBehavior::Delay);
-        let mut leaves = false;
+        let (work, mut leaves) = (self.work.clone(), false);
         while !(leaves && self.is_done()) {
             tokio::select! {
                 _ = stop.wait_true(), if !leaves => {
                     leaves = true;
-                    self.work.cluster.owners().leave();
+                    work.database().owners().leave();
                 }
                 _ = ticks.tick() => self.beat().await,
                 Some(step) = self.following.recv() => self.begin(step),
-                _ = self.work.cluster.look.notified() => self.look().await,
+                _ = work.database().look.notified() => self.look().await,
             }
         }
-        if let Err(silence) = self.work.terms.leave().await {
+        if let Err(silence) = work.terms.leave().await {
             tell(&silence);
         }
     }
 
     fn is_done(&self) -> bool {
-        let owners = self.work.cluster.owners();
+        let owners = self.work.database().owners();
         owners.is_rid_of_all() && self.last.values().all(JoinHandle::is_finished)
     }
 
     async fn beat(&mut self) {
         let (work, began) = (self.work.clone(), Instant::now());
-        let (stay, refused) = work.cluster.owners().told();
+        let database = work.database();
+        let (stay, refused) = database.owners().told();
         let seen = match work.terms.beat(stay, refused).await {
             Ok(seen) => seen,
             Err(silence) => {
-                work.cluster.owners().unanswered();
+                database.is_silent(&silence);
                 return tell(&silence);
             }
         };
         if began.elapsed() > STALL {
-            work.cluster.owners().late();
+            database.owners().late();
         }
-        let steps = work.cluster.owners().beat(seen);
-        *work.cluster.beaten.lock().unwrap_or_else(PoisonError::into_inner) = Some(began);
-        if work.cluster.owners().has_namesake() && NAMESAKE.is_due() {
+        let steps = database.owners().beat(seen);
+        database.has_beaten(began);
+        if database.owners().has_namesake() && NAMESAKE.is_due() {
             tracing::error!("another process beats under this instance's name: give each its own --instance");
         }
         steps.into_iter().for_each(|step| self.begin(step));
@@ -264,7 +133,7 @@ impl<T: Terms + 'static, U: Units + 'static> Beats<T, U> {
 
     async fn look(&mut self) {
         match self.work.terms.slots().await {
-            Ok(rows) => self.work.cluster.owners().look(rows),
+            Ok(rows) => self.work.database().owners().look(rows),
             Err(silence) => tell(&silence),
         }
         self.work.cluster.publish();
@@ -287,10 +156,33 @@ impl<T: Terms + 'static, U: Units + 'static> Beats<T, U> {
     }
 }
 
+/// Beats in each database at once.
+pub async fn run_all<T, U>(all: Vec<Beats<T, U>>, stop: watch::Receiver<bool>)
+where
+    T: Terms + 'static,
+    U: Units + 'static,
+{
+    let mut running = JoinSet::new();
+    for one in all {
+        running.spawn(one.run(stop.clone()));
+    }
+    while let Some(ended) = running.join_next().await {
+        if let Err(error) = ended {
+            std::panic::resume_unwind(error.into_panic()); // nobody has stopped it
+        }
+    }
+}
+
 fn tell(silence: &Silence) {
     if SILENT.is_due() {
         let reason = silence.to_string();
         tracing::warn!(reason, "{reason}");
+    }
+}
+
+impl<T, U> Work<T, U> {
+    fn database(&self) -> &Database {
+        self.cluster.database(self.number)
     }
 }
 
@@ -319,13 +211,13 @@ impl<T: Terms, U: Units> Work<T, U> {
             tell(&silence);
             None
         });
-        self.cluster.owners().taken(slot, taken);
+        self.database().owners().taken(slot, taken);
         let Some(term) = taken else { return };
         self.cluster.counts.taken();
         tracing::info!(slot, term, "slot {slot} is taken, under term {term}");
         match self.units.open(slot, term).await {
             Ok(()) => {
-                if !self.cluster.owners().opened(slot, term) {
+                if !self.database().owners().opened(slot, term) {
                     self.units.drop_lost(slot, term).await;
                 }
             }
@@ -341,7 +233,7 @@ impl<T: Terms, U: Units> Work<T, U> {
         self.release(slot, term).await;
         self.cluster.counts.handed_over();
         tracing::info!(slot, term, "slot {slot} is handed over, behind term {term}");
-        self.cluster.owners().released(slot, term)
+        self.database().owners().released(slot, term)
     }
 
     /// In doubt the row still has this instance's name, and a later beat sees that.

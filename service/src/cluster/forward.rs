@@ -18,7 +18,7 @@ pub use operators::{Answers, Asks};
 pub use peer::SILENT_FOR;
 pub use wire::Wire;
 
-use super::beats::{Cluster, Places, NO_STORE};
+use super::known::{Cluster, Places, NO_STORE};
 use super::owners::Whose;
 use super::terms::Doing;
 use crate::log::Seldom;
@@ -117,8 +117,12 @@ impl<H: Here> Forward<H> {
         let _ = self.here.set(here);
     }
 
-    /// Has its slot's owner take a part of a request: that owner's answer, or 503.
+    /// Has its slot's owner take a part of a request: that owner's answer, or 503. Nobody is asked, or looked for, while the
+    /// database that has the slot does not answer.
     pub async fn post(&self, slot: u16, sender: &str, part: Original) -> Outcome {
+        if self.cluster.is_stalled_for(slot) {
+            return unavailable(NO_STORE);
+        }
         let (began, mut asked, mut pause) = (Instant::now(), 0, SHORTEST);
         let mut places = self.cluster.places();
         loop {
@@ -227,6 +231,10 @@ impl<H: Here> Forward<H> {
 impl<H: Here> Elsewhere for Forward<H> {
     fn unavailable(&self) -> Option<&'static str> {
         self.cluster.is_stalled().then_some(NO_STORE)
+    }
+
+    fn is_silent(&self, slot: u16) -> bool {
+        self.cluster.is_stalled_for(slot)
     }
 
     fn post<'a>(&'a self, slot: u16, sender: &'a str, part: Original) -> Doing<'a, Outcome> {

@@ -119,11 +119,6 @@ impl Owners {
         owned.map(|(slot, mine)| (*slot, mine.term)).collect()
     }
 
-    /// Instances whose beats go on, this one among them.
-    pub fn instances(&self) -> usize {
-        1 + self.others.living()
-    }
-
     /// By slot, of all that the store has.
     pub fn whose(&self) -> BTreeMap<u16, Whose> {
         self.rows

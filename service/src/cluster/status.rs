@@ -6,12 +6,10 @@ use std::sync::atomic::{AtomicU64, Ordering::Relaxed};
 use std::time::Duration;
 use tokio::time::Instant;
 
-#[derive(Clone, Debug, PartialEq, Eq)]
+#[derive(Clone, Debug, Default, PartialEq, Eq)]
 pub struct Status {
     /// This instance's.
     pub name: String,
-    /// Those whose beats go on, this one among them.
-    pub instances: usize,
     /// All others that the store knows, by their names.
     pub others: Vec<OtherInstance>,
     /// All slots of the store, ascending.
@@ -22,8 +20,10 @@ pub struct Status {
     pub longest_without_owner: Duration,
     /// Of each slot of this instance.
     pub terms: BTreeMap<u16, u64>,
-    /// Since the last own beat that is committed was sent; none before the first.
-    pub beat_age: Option<Duration>,
+    /// By database, since the last own beat there that is committed was sent; none before the first.
+    pub beat_ages: Vec<Option<Duration>>,
+    /// And why it does not answer, where it does not.
+    pub silent: Vec<Option<String>>,
     /// Another process beats under this name.
     pub has_namesake: bool,
     /// Slots that instances could not open: another has them, or nobody.
@@ -31,8 +31,29 @@ pub struct Status {
     pub counted: Counted,
 }
 
+impl Status {
+    /// Instances whose beats go on, this one among them.
+    pub fn instances(&self) -> usize {
+        1 + self.others.iter().filter(|other| !other.is_gone).count()
+    }
+
+    /// Of the database where it is longest.
+    pub fn beat_age(&self) -> Option<Duration> {
+        self.beat_ages.iter().flatten().max().copied()
+    }
+
+    /// As it is in one more database. One that does not answer says nothing of those that are known.
+    pub(super) fn add_other(&mut self, other: OtherInstance, answers: bool) {
+        match self.others.binary_search_by(|one| one.name.cmp(&other.name)) {
+            Ok(place) if answers => self.others[place].add(other),
+            Ok(_) => {}
+            Err(place) => self.others.insert(place, other),
+        }
+    }
+}
+
 /// Another instance, as this one's beats have seen it.
-#[derive(Clone, Debug, PartialEq, Eq)]
+#[derive(Clone, Debug, Default, PartialEq, Eq)]
 pub struct OtherInstance {
     pub name: String,
     /// The last one that it had.
@@ -40,10 +61,21 @@ pub struct OtherInstance {
     pub version: String,
     /// So many own beats has its own stood still.
     pub still: u32,
-    /// That is so many that its slots are taken.
+    /// That is so many that its slots are taken, in each database that answers.
     pub is_gone: bool,
     /// It hands over what it has.
     pub leaves: bool,
+}
+
+impl OtherInstance {
+    fn add(&mut self, there: OtherInstance) {
+        self.still = self.still.max(there.still);
+        self.is_gone &= there.is_gone;
+        self.leaves |= there.leaves;
+        if self.address.is_empty() {
+            (self.address, self.version) = (there.address, there.version);
+        }
+    }
 }
 
 /// A slot, as the store has it.

@@ -345,7 +345,16 @@ impl Tried {
 
 // tcmalloc, which has all blocks of the process: it is linked before the C library, whose malloc nobody calls.
 #[link(name = "tcmalloc_minimal")]
-extern "C" {}
+extern "C" {
+    #[link_name = "MallocExtension_ReleaseFreeMemory"]
+    fn release_free_memory();
+}
+
+/// Gives the system back what nobody has of the process' memory.
+pub(super) fn give_back() {
+    // SAFETY: it may be called at any time, by any thread.
+    unsafe { release_free_memory() };
+}
 
 /// The length that the allocator gave a block, which counts.
 fn length_of(at: *mut libc::c_void) -> usize {

@@ -1,6 +1,6 @@
 //! The book: proved, linked in, and asked by calls. `book` is the wrapper over its library, the only file that calls what
 //! is not Rust, `refusal` what it says no by, `memory` what it may have, `names` has numbers for series, `rounds` when rounds are
-//! closed, `read` a post that was read, `stretch` which points are of one hour, `earlier` what is taken where a later one begins,
+//! closed, `read` a post that was read, `readers` what reads them, `stretch` which points are of one hour, `earlier` what is taken where a later one begins,
 //! `beyond` where the series of a refused post end.
 //!
 //! A post is read by a reader, which needs no lock. All else is asked of the one `Book` under the lock of `Core`: so
@@ -13,13 +13,15 @@ mod earlier;
 mod memory;
 mod names;
 mod read;
+mod readers;
 mod refusal;
 mod rounds;
 mod stretch;
 
 pub use memory::used as memory_used;
 pub use names::Names;
-pub use read::{free_spare_readers, Read};
+pub use read::Read;
+pub use readers::{free_idle_readers, free_spare_readers};
 pub use refusal::Refused;
 pub use stretch::Across;
 
@@ -73,6 +75,11 @@ pub fn bound_memory(most: u64) {
     memory::bound(most);
 }
 
+/// Gives the system back what nobody has of the process' memory.
+pub fn give_back_memory() {
+    book::give_back();
+}
+
 impl Core {
     /// A book with room for so many series, which keeps hours apart.
     pub fn new(series: usize) -> Result<Arc<Core>, Refused> {
@@ -105,19 +112,33 @@ impl Core {
     }
 
     /// Reads a post. JSON may nest to 127: the thread has 2 MiB of stack, as those of the runtimes have.
-    pub fn read(self: &Arc<Core>, sender: String, body: Bytes) -> Result<Read, Refused> {
-        Read::new(self, sender, Body::Text(body), None, 0)
+    pub fn read(&self, sender: String, body: Bytes) -> Result<Read, Refused> {
+        let mut read = self.unread(sender, body);
+        read.be_read()?;
+        Ok(read)
     }
 
     /// The same of points that have numbers by these names. So many others are outside the profile.
     pub fn read_points(
-        self: &Arc<Core>,
+        &self,
         sender: String,
         points: Points,
         names: Arc<Names>,
         left_out: u64,
     ) -> Result<Read, Refused> {
-        Read::new(self, sender, Body::Points(points), Some(names), left_out)
+        let mut read = self.unread_points(sender, points, names, left_out);
+        read.be_read()?;
+        Ok(read)
+    }
+
+    /// A post that is to be read, by whatever thread.
+    pub fn unread(&self, sender: String, body: Bytes) -> Read {
+        Read::unread(self, sender, Body::Text(body), None, 0)
+    }
+
+    /// The same of points.
+    pub fn unread_points(&self, sender: String, points: Points, names: Arc<Names>, left_out: u64) -> Read {
+        Read::unread(self, sender, Body::Points(points), Some(names), left_out)
     }
 
     /// Waits for the lock: nothing is waited for while it is held but a write of the journal's.
@@ -193,6 +214,25 @@ impl Book {
         while let Some(book) = self.rounds.being_closed() {
             self.close_round(book);
         }
+    }
+
+    /// Closes the round of a book where nobody posts: whether there is another. Each keeps what came since it began.
+    pub fn close_round_at_rest(&mut self) -> bool {
+        if self.earlier.in_flight > 0 || !self.rounds.have_entries() {
+            return false;
+        }
+        if self.rounds.being_closed().is_none() {
+            self.rounds.begin();
+        }
+        if let Some(book) = self.rounds.being_closed() {
+            self.close_round(book);
+        }
+        self.rounds.being_closed().is_some()
+    }
+
+    /// How much has come to it so far: posts, and ends of what was taken.
+    pub fn came(&self) -> u64 {
+        self.rounds.came()
     }
 
     fn close_round(&mut self, book: usize) {

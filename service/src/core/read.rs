@@ -1,29 +1,17 @@
 //! A post that was read.
 
 use super::book::Reader;
+use super::readers::{keep, reader};
 use super::refusal::{check, Refused};
 use super::{Across, Core, Names};
 use crate::files::{self, Body, NoNames, Points, Post};
-use std::cell::RefCell;
-use std::sync::{Arc, Mutex, MutexGuard, PoisonError};
+use std::sync::Arc;
 
-/// So many readers a thread keeps: a post has one no longer than its thread reads it and puts it in, unless it has to wait.
-const KEPT: usize = 2;
-/// As many as a start reads at once, and a little more.
-const MOST_SPARE: usize = 160;
-
-thread_local! {
-    /// Those that nobody has: no post waits for another thread's.
-    static READERS: RefCell<Vec<Reader>> = const { RefCell::new(Vec::new()) };
-}
-
-/// Those that a thread has no place for. A start reads posts on threads that come and go, and they know identities by now.
-static SPARE: Mutex<Vec<Reader>> = Mutex::new(Vec::new());
-
-/// A post that was read, and is in no book yet. Its reader is another's once this is dropped.
+/// A post that is to be read, or was, and is in no book yet. Its reader is another's once this is dropped.
 pub struct Read {
     books: usize,
     across: Across,
+    /// None until it is read.
     pub(super) reader: Option<Reader>,
     pub post: Post,
     /// By which its points have numbers, where they have.
@@ -38,20 +26,20 @@ pub struct Read {
 }
 
 impl Read {
-    pub(super) fn new(
+    pub(super) fn unread(
         core: &Core,
         sender: String,
         body: Body,
         names: Option<Arc<Names>>,
         left_out: u64,
-    ) -> Result<Read, Refused> {
+    ) -> Read {
         let post = Post {
             sender,
             foreign: left_out,
             body,
         };
-        let mut read = Read {
-            reader: Some(reader()?),
+        Read {
+            reader: None,
             books: core.books,
             across: core.across,
             post,
@@ -60,18 +48,25 @@ impl Read {
             left_out,
             ends: None,
             stretches: Vec::new(),
-        };
-        let ends = check(read.again()?.ends()).ok();
-        read.ends = ends.map(|ends| (ends.number, ends.at));
-        if let (Body::Points(points), true) = (&read.post.body, read.is_of_several()) {
-            read.stretches = core.across.split(points);
         }
-        Ok(read)
+    }
+
+    /// Reads it, or reads it again behind a book that was asked to take it.
+    pub fn be_read(&mut self) -> Result<(), Refused> {
+        let ends = check(self.again()?.ends()).ok();
+        self.ends = ends.map(|ends| (ends.number, ends.at));
+        if let (Body::Points(points), true) = (&self.post.body, self.is_of_several()) {
+            self.stretches = self.across.split(points);
+        }
+        Ok(())
     }
 
     /// A reader has a post until the book was asked to take it, whatever that says.
     pub(super) fn again(&mut self) -> Result<&mut Reader, Refused> {
-        let reader = self.reader.as_mut().ok_or(Refused::NoMemory)?;
+        let reader = match &mut self.reader {
+            Some(reader) => reader,
+            none => none.insert(reader().ok_or(Refused::NoMemory)?),
+        };
         let (sender, books) = (self.post.sender.as_bytes(), self.books);
         let answer = match (&self.post.body, &self.names) {
             (Body::Text(body), _) => reader.read(sender, body, books),
@@ -82,11 +77,6 @@ impl Read {
         self.points = read.number;
         self.post.foreign = self.left_out + read.at;
         Ok(reader)
-    }
-
-    /// Has the reader have it again, behind a book that was asked to take it.
-    pub fn be_read_again(&mut self) -> Result<(), Refused> {
-        self.again().map(drop)
     }
 
     /// Has the reader have a part of its points.
@@ -119,6 +109,11 @@ impl Read {
         self.stretches.len().max(1)
     }
 
+    /// By which its points have numbers, where they have.
+    pub fn named(&self) -> Option<&Names> {
+        self.names.as_deref()
+    }
+
     /// Says what its numbers stand for.
     pub fn names(&self) -> &dyn files::Names {
         match &self.names {
@@ -141,37 +136,8 @@ impl Read {
 
 impl Drop for Read {
     fn drop(&mut self) {
-        let Some(reader) = self.reader.take() else { return };
-        // A thread that ends keeps none.
-        let _ = READERS.try_with(|kept| {
-            let mut kept = kept.borrow_mut();
-            match kept.len() < KEPT {
-                true => kept.push(reader),
-                false => keep_spare(reader),
-            }
-        });
+        if let Some(reader) = self.reader.take() {
+            keep(reader);
+        }
     }
-}
-
-fn reader() -> Result<Reader, Refused> {
-    let kept = READERS.try_with(|kept| kept.borrow_mut().pop()).ok().flatten();
-    kept.or_else(|| spare().pop())
-        .or_else(Reader::new)
-        .ok_or(Refused::NoMemory)
-}
-
-fn keep_spare(reader: Reader) {
-    let mut spare = spare();
-    if spare.len() < MOST_SPARE {
-        spare.push(reader);
-    }
-}
-
-/// Gives back the memory of all readers that no thread keeps.
-pub fn free_spare_readers() {
-    spare().clear();
-}
-
-fn spare() -> MutexGuard<'static, Vec<Reader>> {
-    SPARE.lock().unwrap_or_else(PoisonError::into_inner) // a list is sound at any time
 }

@@ -29,6 +29,8 @@ pub(super) struct Rounds {
     next: Option<(usize, bool)>,
     /// How many were closed, and nobody was told.
     closed: usize,
+    /// All entries so far.
+    came: u64,
 }
 
 impl Rounds {
@@ -42,6 +44,7 @@ impl Rounds {
             most_points: LEAST_POINTS as u64,
             next: None,
             closed: 0,
+            came: 0,
         }
     }
 
@@ -56,6 +59,7 @@ impl Rounds {
     }
 
     pub fn count(&mut self, points: u64) {
+        self.came += 1;
         self.entries += 1;
         self.points += points;
     }
@@ -106,6 +110,11 @@ impl Rounds {
             true => (series / SERIES_FOR_A_POST).clamp(LEAST_POSTS, MOST_POSTS) as u64,
             false => POSTS_UNTIL_ANOTHER_TRY,
         };
+    }
+
+    /// How many entries came so far.
+    pub fn came(&self) -> u64 {
+        self.came
     }
 
     /// How many were closed since this was asked last.

@@ -122,6 +122,8 @@ pub struct Reader {
     pub at: u64,
     /// Whether a mark was passed: something of the file was durable, and so all that was written before the file.
     pub has_marks: bool,
+    /// All before it was durable once, by the marks that were passed.
+    pub durable: u64,
     /// So long was the file once, and durably, by its marks.
     pub made: u64,
     /// A mark says that the journal's segments before this one are in groups, and may be deleted.
@@ -161,6 +163,7 @@ impl Reader {
             path: path.into(),
             at,
             has_marks: false,
+            durable: 0,
             made: 0,
             forgotten: 0,
             end,
@@ -217,7 +220,8 @@ impl Reader {
     }
 
     fn pass_mark(&mut self, mut bytes: &[u8]) {
-        self.has_marks |= take_number(&mut bytes) > Some(0);
+        self.durable = self.durable.max(take_number(&mut bytes).unwrap_or(0));
+        self.has_marks |= self.durable > 0;
         self.made = self.made.max(take_number(&mut bytes).unwrap_or(0));
         self.forgotten = self.forgotten.max(take_number(&mut bytes).unwrap_or(0));
     }

@@ -45,9 +45,10 @@ pub fn path(folder: &Path, number: u64) -> PathBuf {
 
 /// Makes durable what an earlier process wrote, and may have been killed before it could. From the segment `first` on
 /// it may also have been told that it could not. Behind such a failure the system has in memory what the disk has not,
-/// and takes it for written: only what is written anew is brought to the disk. What a drive has was durable before it was
+/// and takes it for written: only what is written anew is brought to the disk. What was durable once, by a mark of the
+/// segment, is there still, but for what shares a block with a write that failed. What a drive has was durable before it was
 /// taken.
-pub fn settle(disk: &Disk, folder: &Path, first: u64) -> Result<(), Fault> {
+pub fn settle(disk: &Disk, folder: &Path, first: u64, durable: impl Fn(u64) -> u64) -> Result<(), Fault> {
     if disk.keeps_order() {
         return Ok(());
     }
@@ -59,8 +60,9 @@ pub fn settle(disk: &Disk, folder: &Path, first: u64) -> Result<(), Fault> {
             false => disk.open(&path)?,
         };
         if is_doubtful {
+            let from = durable(number) / PIECE as u64 * PIECE as u64;
             // The same bytes at the same places. Zeros are what was there before.
-            each_piece(&file, &path, 0, |at, piece| {
+            each_piece(&file, &path, from, |at, piece| {
                 disk.write_at(&file, &path, &[piece], at)
             })?;
         }

@@ -5,21 +5,23 @@
 //! thrown away. The book then knows every owner and frontier and has nothing to forward, so a late repeat is refused as
 //! before. Then it gets the posts in the journal's order, which was the order of the book that is gone, but for those of
 //! quarantined senders, which come last.
+//!
+//! What comes is read side by side, on threads that last as long as it does, and goes in one after the other.
 
-use super::ahead::{Ahead, Coming};
 use super::numbers::Numbers;
 use super::Trouble;
-use crate::core::{free_spare_readers, Book, Read, Refused};
+use crate::core::{free_spare_readers, Book, Core, Read, Refused};
 use crate::files::{Body, Outbox, Post};
 use crate::otlp::series::{zeros, NotForwarded, SeriesKey};
 use crate::runs::State;
 use crate::slot::Slot;
+use crate::work::{in_line, Line};
 use std::collections::{BTreeMap, BTreeSet};
 use std::sync::Arc;
 use std::time::{Duration, Instant};
 
-/// So that no post takes long.
-const SERIES_OF_A_POST: usize = 250;
+/// So that no post takes long. What its series share is in memory once.
+const SERIES_OF_A_POST: usize = 1000;
 /// How often it is said how far it is.
 const PROGRESS: Duration = Duration::from_secs(1);
 
@@ -42,14 +44,16 @@ pub(super) fn fill(
 ) -> Result<Option<Filled>, Trouble> {
     let mut filling = Filling {
         slot,
-        book,
         numbers: Numbers::new(slot.core.clone()),
-        ahead: Ahead::default(),
-        filled: Filled {
-            runs: State::of(&slot.outbox),
-            ..Filled::default()
+        fresh: Fresh {
+            slot,
+            book,
+            filled: Filled {
+                runs: State::of(&slot.outbox),
+                ..Filled::default()
+            },
+            shown: Instant::now(),
         },
-        shown: Instant::now(),
         stops,
     };
     filling.prime()?;
@@ -57,119 +61,211 @@ pub(super) fn fill(
     filling.replay(|post| !held.contains(&post.sender), Book::admit)?;
     if !held.is_empty() {
         // Behind the others: what is taken to make room for these must not be of a quarantined sender.
-        if !filling.filled.carried.is_empty() {
-            filling.make_room()?;
+        if !filling.fresh.filled.carried.is_empty() {
+            filling.fresh.make_room()?;
         }
         filling.replay(|post| held.contains(&post.sender), Book::admit_held)?;
     }
-    filling.quarantine(&held)?;
+    filling.fresh.quarantine(&held)?;
     free_spare_readers();
     let stopped = (filling.stops)();
-    Ok((!stopped).then_some(filling.filled))
+    Ok((!stopped).then_some(filling.fresh.filled))
 }
 
 /// How a post is put in again.
 type Admit = fn(&mut Book, &mut Read) -> Result<(), Refused>;
 
 struct Filling<'a, S> {
-    slot: &'a Arc<Slot>,
-    book: &'a mut Book,
+    slot: &'a Slot,
     numbers: Numbers,
-    ahead: Ahead,
-    filled: Filled,
-    shown: Instant,
+    fresh: Fresh<'a>,
     /// Whether it was told to stop.
     stops: S,
 }
 
+/// The book, and what came of it so far.
+struct Fresh<'a> {
+    slot: &'a Slot,
+    book: &'a mut Book,
+    filled: Filled,
+    shown: Instant,
+}
+
+/// Series of one owner, each with where it ends.
+struct Priming {
+    owner: String,
+    series: Vec<(SeriesKey, u64)>,
+    /// What primes them, once it is read.
+    posts: Result<Vec<Read>, Unprimed>,
+}
+
+/// Why series can't be primed.
+#[derive(Debug, thiserror::Error)]
+enum Unprimed {
+    #[error(transparent)]
+    Refused(#[from] Refused),
+    #[error(transparent)]
+    NotForwarded(#[from] NotForwarded),
+}
+
+/// What comes of the journal.
+enum Coming {
+    Post(Box<Again>),
+    /// Nothing that is read, but room that is made.
+    Room,
+}
+
+/// A post that a book had, and is to have again.
+struct Again {
+    sender: String,
+    /// So many of its points were foreign.
+    foreign: u64,
+    /// Why it can't be read by number.
+    read: Result<Read, Refused>,
+    /// What was said when it was read.
+    said: Result<(), Refused>,
+}
+
 impl<S: Fn() -> bool> Filling<'_, S> {
     fn prime(&mut self) -> Result<(), Trouble> {
-        let posts = priming_posts(&self.slot.outbox).map_err(|why| {
-            Trouble::NotFilled(format!("the outbox has a series that can't be primed: {why}"))
-        })?;
-        for post in &posts {
-            if (self.stops)() {
-                return Ok(());
-            }
-            let put = self
-                .numbers
-                .read(post)
-                .and_then(|mut read| self.book.admit(&mut read));
-            put.map_err(|refused| self.not_filled(&post.sender, refused))?;
-        }
-        let taken = self.book.take_all().map_err(not_taken)?;
-        self.book.settle(taken).map_err(not_taken)
+        let (slot, fresh, stops) = (self.slot, &mut self.fresh, &self.stops);
+        in_line(
+            |priming: &mut Priming| priming.be_read(&slot.core),
+            |priming| fresh.prime(priming),
+            |line| {
+                for (owner, series) in owned(&slot.outbox) {
+                    let mut parts = series.chunks(SERIES_OF_A_POST);
+                    if !parts.all(|part| !stops() && line.push(Priming::of(&owner, part))) {
+                        break;
+                    }
+                }
+                Ok(())
+            },
+        )?;
+        let taken = fresh.book.take_all().map_err(not_taken)?;
+        fresh.book.settle(taken).map_err(not_taken)
     }
 
     /// Puts the posts of the journal that are wanted, in its order.
     fn replay(&mut self, is_wanted: impl Fn(&Post) -> bool, admit: Admit) -> Result<(), Trouble> {
-        let journal = self.slot.journal.clone();
-        let mut ended = Ok(());
-        journal.posts(self.slot.outbox.journal(), u64::MAX, |read| {
-            // Also of a post that is not wanted: no later one says it again.
-            self.numbers.note(read.named);
-            if is_wanted(&read.post) {
-                ended = self.go_on(read.post, admit);
-            }
-            ended.is_ok() && !(self.stops)()
-        })?;
-        ended.and_then(|()| self.put_rest(admit))
+        let (slot, fresh) = (self.slot, &mut self.fresh);
+        let (numbers, stops) = (&mut self.numbers, &self.stops);
+        in_line(
+            Coming::be_read,
+            |coming| fresh.put_next(coming, admit),
+            |line| {
+                let first = slot.outbox.journal();
+                slot.journal.posts(first, u64::MAX, |read| {
+                    // Also of a post that is not wanted: no later one says it again.
+                    numbers.note(read.named);
+                    if is_wanted(&read.post) {
+                        let again = Again::of(numbers, read.post, line);
+                        return line.push(Coming::Post(Box::new(again))) && !stops();
+                    }
+                    !stops()
+                })?;
+                Ok(())
+            },
+        )
     }
+}
 
-    /// A post is read by what numbers stand for now, and a text with those that come next.
-    fn go_on(&mut self, post: Post, admit: Admit) -> Result<(), Trouble> {
-        let (sender, foreign) = (post.sender.clone(), post.foreign);
-        let coming = match &post.body {
-            Body::Text(body) => Coming::text(sender, foreign, body.clone()),
-            Body::Points(_) => {
-                let mut read = self.numbers.read(&post);
-                if read.as_ref().is_err_and(|refused| refused.status() == 503) {
-                    self.put_rest(admit)?;
-                    self.make_room()?;
-                    read = self.numbers.read(&post);
-                }
-                match read {
-                    Ok(read) => Coming::read(sender, foreign, read),
-                    Err(refused) => return self.count(&sender, foreign, Err(refused)),
-                }
-            }
-        };
-        match self.ahead.push(coming) {
-            true => self.put_ahead(admit),
-            false => Ok(()),
+impl Priming {
+    fn of(owner: &str, series: &[(SeriesKey, u64)]) -> Priming {
+        Priming {
+            owner: owner.into(),
+            series: series.to_vec(),
+            posts: Ok(Vec::new()),
         }
     }
 
-    /// Puts in what was read, while what waits is read.
-    fn put_ahead(&mut self, admit: Admit) -> Result<(), Trouble> {
-        let read = self.ahead.turn(&self.slot.core);
-        read.into_iter()
-            .try_for_each(|coming| self.replay_one(coming, admit))
+    fn be_read(&mut self, core: &Core) {
+        self.posts = self.read(core);
     }
 
-    /// Puts in all that waits.
-    fn put_rest(&mut self, admit: Admit) -> Result<(), Trouble> {
-        while !self.ahead.is_empty() {
-            self.put_ahead(admit)?;
+    fn read(&self, core: &Core) -> Result<Vec<Read>, Unprimed> {
+        let read = |body: Vec<u8>| Ok(core.read(self.owner.clone(), body.into())?);
+        zeros(&self.series)?.into_iter().map(read).collect()
+    }
+}
+
+impl Again {
+    /// Its numbers are those that stand for the same here. Where there is no memory for that, it is tried again behind all
+    /// before it, with room.
+    fn of(numbers: &mut Numbers, post: Post, line: &Line<Coming>) -> Again {
+        let mut read = numbers.unread(&post);
+        if read.as_ref().is_err_and(|refused| refused.status() == 503) {
+            line.push(Coming::Room);
+            line.wait_until_empty();
+            read = numbers.unread(&post);
         }
-        Ok(())
+        Again {
+            sender: post.sender,
+            foreign: post.foreign,
+            said: Ok(()),
+            read,
+        }
+    }
+
+    /// What was read of it.
+    fn as_read(&mut self) -> Result<&mut Read, Refused> {
+        self.said?;
+        self.read.as_mut().map_err(|refused| *refused)
+    }
+
+    fn be_read(&mut self) {
+        if let Ok(read) = &mut self.read {
+            self.said = read.be_read();
+        }
+    }
+}
+
+impl Coming {
+    fn be_read(&mut self) {
+        if let Coming::Post(again) = self {
+            again.be_read();
+        }
+    }
+}
+
+impl Fresh<'_> {
+    fn prime(&mut self, mut priming: Priming) -> Result<(), Trouble> {
+        if matches!(priming.posts, Err(Unprimed::Refused(_))) {
+            free_spare_readers();
+            priming.be_read(&self.slot.core);
+        }
+        let posts = std::mem::replace(&mut priming.posts, Ok(Vec::new()));
+        let admit = |mut read: Read| Ok(self.book.admit(&mut read)?);
+        let put = posts.and_then(|posts| posts.into_iter().try_for_each(admit));
+        put.map_err(|why| match why {
+            Unprimed::Refused(refused) => self.not_filled(&priming.owner, refused),
+            why => Trouble::NotFilled(format!("the outbox has a series that can't be primed: {why}")),
+        })
+    }
+
+    fn put_next(&mut self, coming: Coming, admit: Admit) -> Result<(), Trouble> {
+        match coming {
+            Coming::Post(again) => self.replay_one(*again, admit),
+            Coming::Room => self.make_room(),
+        }
     }
 
     /// A post that a limit refuses is put after a flush.
-    fn replay_one(&mut self, mut coming: Coming, admit: Admit) -> Result<(), Trouble> {
+    fn replay_one(&mut self, mut again: Again, admit: Admit) -> Result<(), Trouble> {
         self.say_progress();
-        let mut put = self.put(&mut coming, admit);
+        let mut put = self.put(&mut again, admit);
         if matches!(put, Err(refused) if refused.status() == 503 && refused != Refused::HalfTaken) {
             self.make_room()?;
-            coming.be_read_again(&self.slot.core);
-            put = self.put(&mut coming, admit);
+            again.be_read();
+            put = self.put(&mut again, admit);
         }
-        self.count(&coming.sender, coming.foreign, put)
+        self.count(&again, put)
     }
 
     /// A post that is refused for good now was in a group before: that is a fault, and nothing would be better for a
     /// service that stops there.
-    fn count(&mut self, sender: &str, foreign: u64, put: Result<u64, Refused>) -> Result<(), Trouble> {
+    fn count(&mut self, again: &Again, put: Result<u64, Refused>) -> Result<(), Trouble> {
+        let (sender, foreign) = (&again.sender, again.foreign);
         match put {
             Ok(now) if now == foreign => {}
             Err(refused) if refused.status() == 503 => return Err(self.not_filled(sender, refused)),
@@ -190,10 +286,10 @@ impl<S: Fn() -> bool> Filling<'_, S> {
     }
 
     /// How many points are foreign.
-    fn put(&mut self, coming: &mut Coming, admit: Admit) -> Result<u64, Refused> {
-        let read = coming.as_read()?;
+    fn put(&mut self, again: &mut Again, admit: Admit) -> Result<u64, Refused> {
+        let read = again.as_read()?;
         admit(self.book, read)?;
-        if let (Body::Points(points), Some(names)) = (&read.post.body, self.numbers.named()) {
+        if let (Body::Points(points), Some(names)) = (&read.post.body, read.named()) {
             self.filled.runs.replay(names, points);
         }
         Ok(read.post.foreign)
@@ -201,6 +297,7 @@ impl<S: Fn() -> bool> Filling<'_, S> {
 
     /// A fresh book has a point more of each series than the one before, so a limit may be met a little sooner.
     fn make_room(&mut self) -> Result<(), Trouble> {
+        free_spare_readers();
         self.book.write_all(&mut self.filled.carried).map_err(not_taken)
     }
 
@@ -244,23 +341,15 @@ fn not_taken(refused: Refused) -> Trouble {
     ))
 }
 
-/// The posts that prime, each as the owner of its series.
-fn priming_posts(outbox: &Outbox) -> Result<Vec<Post>, NotForwarded> {
+/// The series whose owners are known, by these, each with where it ends. In the order of their keys: so neighbours share most, and
+/// each goes behind those that a book has, or near their end.
+fn owned(outbox: &Outbox) -> BTreeMap<String, Vec<(SeriesKey, u64)>> {
     let mut owned: BTreeMap<String, Vec<(SeriesKey, u64)>> = BTreeMap::new();
     for (key, series) in outbox.series() {
         if let Some(owner) = series.owner {
             owned.entry(owner).or_default().push((key, series.frontier));
         }
     }
-    let mut posts = Vec::new();
-    for (sender, series) in owned {
-        for part in series.chunks(SERIES_OF_A_POST) {
-            posts.extend(zeros(part)?.into_iter().map(|body| Post {
-                sender: sender.clone(),
-                foreign: 0,
-                body: Body::Text(body.into()),
-            }));
-        }
-    }
-    Ok(posts)
+    owned.values_mut().for_each(|series| series.sort_unstable());
+    owned
 }

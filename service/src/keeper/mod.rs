@@ -1,12 +1,10 @@
 //! Keeps the book: checkpoints, quarantines, what is forgotten, and its start.
 //!
 //! One task does all of this, one after the other: `run` waits for what is to be done, `checkpoint` moves what the book
-//! has to the outbox, `forget` leaves out series or puts their ends back, `fill` gives a fresh book what the files say (`ahead`
-//! reads posts for it side by side), `owners` finds whose
-//! series these are, `series` says which ones a post has, `numbers` gives them numbers for the book, `drain` brings all to
-//! rest. What takes long is done on threads beside the runtime's.
+//! has to the outbox, `forget` leaves out series or puts their ends back, `fill` gives a fresh book what the files say, `owners`
+//! finds whose series these are, `series` says which ones a post has, `numbers` gives them numbers for the book, `drain` brings
+//! all into the outbox, `rest` gives back memory where nobody posts. What takes long is done on threads beside the runtime's.
 
-mod ahead;
 mod checkpoint;
 mod drain;
 mod fill;
@@ -14,6 +12,7 @@ mod forget;
 mod numbers;
 mod orders;
 mod owners;
+mod rest;
 mod run;
 mod series;
 
@@ -123,6 +122,7 @@ pub struct Keeper {
     /// How many checkpoints were put off, one after the other.
     put_off: u32,
     next_look_at_ages: Instant,
+    rest: rest::Rest,
 }
 
 impl Keeper {
@@ -136,6 +136,7 @@ impl Keeper {
             next_checkpoint: Instant::now() + settings.every,
             put_off: 0,
             next_look_at_ages: Instant::now(),
+            rest: rest::Rest::new(),
             settings,
         };
         (keeper, Orders(to))

@@ -41,11 +41,11 @@ impl Numbers {
         self.of_file.extend(said);
     }
 
-    /// Reads a post for the book. `NoSuch` where it has a number of which nothing was said.
-    pub fn read(&mut self, post: &Post) -> Result<Read, Refused> {
+    /// A post that is to be read for the book. `NoSuch` where it has a number of which nothing was said.
+    pub fn unread(&mut self, post: &Post) -> Result<Read, Refused> {
         let sender = post.sender.clone();
         let points = match &post.body {
-            Body::Text(body) => return self.core.read(sender, body.clone()),
+            Body::Text(body) => return Ok(self.core.unread(sender, body.clone())),
             Body::Points(points) => points,
         };
         let names = self.names()?;
@@ -59,12 +59,7 @@ impl Numbers {
             own.put_run(*place, of_run.clone());
         }
         // It has no points but those that the book took.
-        self.core.read_points(sender, own, names, post.foreign)
-    }
-
-    /// By which the posts that were read have numbers.
-    pub fn named(&self) -> Option<&Names> {
-        self.names.as_deref()
+        Ok(self.core.unread_points(sender, own, names, post.foreign))
     }
 
     fn names(&mut self) -> Result<Arc<Names>, Refused> {

@@ -132,6 +132,7 @@ impl Keeper {
         if ungrouped > MANY_POSTS || due && has_some {
             let _put_off = self.checkpoint().await?;
         }
+        self.rest().await;
         Ok(())
     }
 

@@ -146,8 +146,9 @@ impl OfCluster {
         self.without_owner.set(seen.without_owner as i64);
         self.longest_without_owner
             .set(seen.longest_without_owner.as_secs_f64());
-        self.instances.set(seen.instances as i64);
-        self.beat_age.set(seen.beat_age.unwrap_or_default().as_secs_f64());
+        self.instances.set(seen.instances() as i64);
+        self.beat_age
+            .set(seen.beat_age().unwrap_or_default().as_secs_f64());
         self.set_databases(databases);
         for (result, count) in [
             ("answered", forwarded.answered),
@@ -192,7 +193,7 @@ fn bring(counter: &IntCounter, to: u64) {
 #[cfg(test)]
 mod tests {
     use super::*;
-    use crate::cluster::status::Counted;
+    use crate::cluster::status::{Counted, OtherInstance};
     use crate::metrics::Metrics;
     use std::collections::BTreeMap;
     use std::time::Duration;
@@ -200,20 +201,25 @@ mod tests {
     fn seen(terms: &[(u16, u64)], takeovers: u64) -> Status {
         Status {
             name: "a".into(),
-            instances: 3,
-            others: Vec::new(),
-            slots: Vec::new(),
+            others: vec![other("b", false), other("c", true), other("d", false)],
             without_owner: 2,
             longest_without_owner: Duration::from_millis(31_500),
             terms: terms.iter().copied().collect::<BTreeMap<_, _>>(),
-            beat_age: Some(Duration::from_millis(250)),
-            has_namesake: false,
-            refused: Vec::new(),
+            beat_ages: vec![Some(Duration::from_millis(250))],
             counted: Counted {
                 takeovers,
                 hand_overs: 1,
                 lost: 0,
             },
+            ..Status::default()
+        }
+    }
+
+    fn other(name: &str, is_gone: bool) -> OtherInstance {
+        OtherInstance {
+            name: name.into(),
+            is_gone,
+            ..OtherInstance::default()
         }
     }
 

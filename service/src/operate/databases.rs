@@ -58,9 +58,17 @@ impl Databases {
         self.seen.lock().unwrap_or_else(PoisonError::into_inner) // a value is sound at any time
     }
 
-    /// In their order. `beat_age` is since the last own beat that is committed.
-    pub fn status(&self, units: &Units, beat_age: Option<Duration>) -> Vec<DatabaseStatus> {
-        let doubts = self.doubts(units, beat_age);
+    /// Each that does not answer, and why not, where it is known of each.
+    pub fn silent(&self, known: &[Option<String>]) -> Vec<String> {
+        let each = self.names.iter().zip(known);
+        let silent =
+            each.filter_map(|(name, why)| Some(format!("{name} does not answer: {}", why.as_ref()?)));
+        silent.collect()
+    }
+
+    /// In their order. `beat_ages` are since the last own beat in each that is committed.
+    pub fn status(&self, units: &Units, beat_ages: &[Option<Duration>]) -> Vec<DatabaseStatus> {
+        let doubts = self.doubts(units, beat_ages);
         let seen = self.seen().clone();
         let all = self.names.iter().zip(seen).zip(doubts);
         all.map(|((database, seen), doubt)| DatabaseStatus {
@@ -73,10 +81,11 @@ impl Databases {
         .collect()
     }
 
-    /// For how long the write that began first in each has been under way. Beats are in the first one.
-    fn doubts(&self, units: &Units, beat_age: Option<Duration>) -> Vec<Duration> {
-        let mut doubts = vec![Duration::ZERO; self.names.len()];
-        doubts[0] = beat_age.filter(|age| *age > BEAT).unwrap_or_default();
+    /// For how long the write that began first in each has been under way.
+    fn doubts(&self, units: &Units, beat_ages: &[Option<Duration>]) -> Vec<Duration> {
+        let late = |age: &Option<Duration>| age.filter(|age| *age > BEAT).unwrap_or_default();
+        let mut doubts: Vec<Duration> = beat_ages.iter().map(late).collect();
+        doubts.resize(self.names.len(), Duration::ZERO);
         for unit in units.all() {
             let of = &mut doubts[usize::from(unit.slot.number()) % self.names.len()];
             *of = (*of).max(unit.slot.disk_call());

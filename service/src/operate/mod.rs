@@ -42,7 +42,6 @@ use crate::metrics::Metrics;
 use crate::remarks::Heard;
 use crate::shares::Shares;
 use crate::sinks::Sink;
-use crate::store::postgres::PostgresStore;
 use hyper::header::{HeaderValue, ALLOW, CONTENT_TYPE};
 use hyper::{Body, Method, Request, Response, StatusCode};
 use pages::Page;
@@ -60,8 +59,6 @@ pub struct Desk {
     pub units: Arc<Units>,
     /// Where there are other instances.
     pub others: Option<Others>,
-    /// Where a store has the slots.
-    pub store: Option<Arc<PostgresStore>>,
     pub shares: Arc<Shares>,
     pub acts: Arc<Acts>,
     pub sink: Arc<dyn Sink>,

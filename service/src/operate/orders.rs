@@ -8,11 +8,14 @@ use serde_json::json;
 use std::sync::Arc;
 
 impl Desk {
-    /// Why posts are answered 503.
+    /// Why posts are answered 503. Of several databases one may be silent: what the others have goes on.
     pub(super) fn unavailable(&self) -> Option<&'static str> {
         let cluster = self.others.as_ref().map(|others| &others.cluster);
-        let stalled = cluster.filter(|cluster| cluster.is_stalled());
-        self.units.unavailable().or(stalled.map(|_| NO_STORE))
+        if cluster.is_some_and(|cluster| cluster.is_stalled()) {
+            return Some(NO_STORE);
+        }
+        let is_silent = |slot| cluster.is_some_and(|cluster| cluster.is_stalled_for(slot));
+        self.units.unavailable(is_silent)
     }
 
     /// Has each slot carry out an order, wherever it is.

@@ -181,11 +181,7 @@ impl Desk {
             dead: self.units.dead(),
             books: self.books_status(),
             slots,
-            silent: self
-                .store
-                .as_ref()
-                .map(|store| store.silent())
-                .unwrap_or_default(),
+            silent: self.silent_databases(),
             senders: self.shares.nearest(),
             rounded: self.rounded_status(),
             cumulative: CumulativeStatus {
@@ -193,6 +189,18 @@ impl Desk {
                 noted: self.metrics.noted_runs.get(),
             },
             cluster: self.own_cluster_status(),
+        }
+    }
+
+    /// Of several.
+    fn silent_databases(&self) -> Vec<String> {
+        let Some(others) = &self.others else {
+            return Vec::new();
+        };
+        let silent = others.cluster.status().silent;
+        match silent.len() {
+            1 => Vec::new(), // then all get 503, and it is said so
+            _ => others.databases.silent(&silent),
         }
     }
 

@@ -71,9 +71,11 @@ impl Units {
         here.get(&slot).cloned()
     }
 
-    /// Why posts of a slot that is here are answered 503.
-    pub fn unavailable(&self) -> Option<&'static str> {
-        self.all().iter().find_map(|unit| unit.slot.unavailable())
+    /// Why posts of a slot that is here, and none of these, are answered 503.
+    pub fn unavailable(&self, but: impl Fn(u16) -> bool) -> Option<&'static str> {
+        let units = self.all();
+        let mut others = units.iter().filter(|unit| !but(unit.slot.number()));
+        others.find_map(|unit| unit.slot.unavailable())
     }
 
     /// Whether each book has all posts that were accepted.

@@ -6,7 +6,7 @@ use super::unit::Files;
 use super::units::Units;
 use super::{Ended, Settings};
 use crate::cluster::terms::{self, Doing, Unopened};
-use crate::cluster::{Beats, Cluster, Forward, Internal, Secret};
+use crate::cluster::{beats, Beats, Cluster, Forward, Internal, Secret};
 use crate::files::drive::{self, Drive};
 use crate::files::Fault;
 use crate::intake::connections::{serve_over, Limits};
@@ -66,7 +66,7 @@ impl Joining {
     ) -> Result<Joining, Ended> {
         let secret =
             Secret::new(&store.cluster.secret).ok_or_else(|| anyhow!("the store's secret is no head"))?;
-        let cluster = Cluster::new(&of.instance);
+        let cluster = Cluster::new(&of.instance, of.databases.len());
         let forward = Arc::new(Forward::new(cluster.clone(), secret.clone(), peers.wire()));
         Ok(Joining {
             store: Arc::new(store),
@@ -112,17 +112,20 @@ impl Joining {
         };
         let Peers { listener, tls } = self.peers;
         let peer = tokio::spawn(serve_over(listener, tls, of_peers, internal, peer_stopped));
-        let member = Arc::new(Member::new(self.store.clone(), &of.instance, &of.peer));
         let instance = Arc::new(Instance {
             units,
-            store: self.store,
+            store: self.store.clone(),
             open: Mutex::default(),
         });
-        let beats = Beats::new(self.cluster.clone(), member, instance.clone());
+        let beats_in = |database| {
+            let member = Member::new(&self.store, database, &of.instance, &of.peer);
+            Beats::new(self.cluster.clone(), database, Arc::new(member), instance.clone())
+        };
+        let beats = (0..of.databases.len()).map(beats_in).collect();
         Joined {
             cluster: self.cluster,
             instance,
-            beats: tokio::spawn(beats.run(beats_stopped)),
+            beats: tokio::spawn(beats::run_all(beats, beats_stopped)),
             peer,
             stop_beats,
             stop_peer,

@@ -145,12 +145,10 @@ impl Parts {
             metrics.clone(),
         );
         let intake = Arc::new(intake);
-        let store = joining.as_ref().map(|joining| joining.store.clone());
         let others = joining.as_mut().zip(settings.store.as_ref());
         let desk = Desk {
             units,
             others: others.and_then(|(joining, of)| joining.others(of)),
-            store,
             shares: self.shared.shares.clone(),
             acts: self.acts,
             sink: self.sink,

@@ -38,6 +38,11 @@ pub trait Elsewhere: Send + Sync + 'static {
         None
     }
 
+    /// Whether what has the files of a slot does not answer: no post of it is taken here now.
+    fn is_silent(&self, _slot: u16) -> bool {
+        false
+    }
+
     /// Has its slot's owner take a part of a request: that owner's answer, or 503 where it can't be had. Then the part may
     /// have been taken.
     fn post<'a>(
@@ -110,11 +115,11 @@ impl<T> Slots<T> {
         }
     }
 
-    /// What takes the posts of a slot, if it is here.
+    /// What takes the posts of a slot, if it is here and may take some now.
     pub fn here(&self, slot: u16) -> Option<Arc<T>> {
         match self.place(slot) {
-            Place::Here(taker) => Some(taker),
-            Place::At(_) | Place::Nobody => None,
+            Place::Here(taker) if !self.others().is_some_and(|others| others.is_silent(slot)) => Some(taker),
+            Place::Here(_) | Place::At(_) | Place::Nobody => None,
         }
     }
 

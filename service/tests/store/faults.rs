@@ -251,7 +251,7 @@ fn a_slot_waits_for_a_database_that_is_gone_and_no_longer_than_it_is_wanted() {
         work
     });
     wait_until("it waits", || drive_waits(&drive));
-    assert!(wait(store.slots()).is_err() && wait(store.beat("a", "h", Refused::new())).is_err());
+    assert!(wait(store.slots(0)).is_err() && wait(store.beat(0, "a", "h", Refused::new())).is_err());
     server.run();
     let mut work = working.join().unwrap();
     assert_eq!(totxegun::files::drive::Drive::under_way(&*drive), Duration::ZERO);

@@ -92,7 +92,8 @@ fn a_store_that_was_made_in_part_is_made_whole() {
     let second = PostgresStore::make(&servers, 8).unwrap();
     assert!(first == second);
     let store = PostgresStore::open(&servers, Copies::One, "a").unwrap();
-    assert_eq!((store.cluster.slots, wait(store.slots()).unwrap().len()), (8, 8));
+    let slots = [0, 1].map(|database| wait(store.slots(database)).unwrap().len());
+    assert_eq!((store.cluster.slots, slots), (8, [4, 4]));
     for slot in [2, 3] {
         let mut work = Work::take(&store, slot, slot.into());
         (0..5).for_each(|_| assert!(work.round()));
@@ -112,10 +113,10 @@ fn the_first_says_where_all_deliver_to_and_beats_say_what_is_refused() {
     assert_eq!(store.set_sink("", "other").unwrap(), "one", "another was first");
     assert_eq!(store.set_sink("one", "other").unwrap(), "other");
     let refused: Refused = [(3, "no \"memory\"".to_string())].into();
-    wait(store.beat("a", "h:1", refused.clone())).unwrap();
-    assert_eq!(wait(store.instances()).unwrap()[0].refused, refused);
-    wait(store.beat("a", "h:1", Refused::new())).unwrap();
-    assert_eq!(wait(store.instances()).unwrap()[0].refused, Refused::new());
+    wait(store.beat(0, "a", "h:1", refused.clone())).unwrap();
+    assert_eq!(wait(store.instances(0)).unwrap()[0].refused, refused);
+    wait(store.beat(0, "a", "h:1", Refused::new())).unwrap();
+    assert_eq!(wait(store.instances(0)).unwrap()[0].refused, Refused::new());
     assert_eq!(store.beats().unwrap(), [("a".to_string(), 2)].into());
 }
 

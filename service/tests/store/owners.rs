@@ -120,7 +120,7 @@ fn one_of_those_that_take_a_slot_has_it() {
         let won: Vec<_> = taken.iter().filter(|(_, term)| term.is_some()).collect();
         assert_eq!(won.len(), 1, "{taken:?}");
         assert_eq!(won[0].1, Some(term + 1));
-        let slots = wait(store.slots()).unwrap();
+        let slots = wait(store.slots(0)).unwrap();
         assert_eq!((slots[5].term, &slots[5].owner[..]), (term + 1, won[0].0));
     }
 }
@@ -131,23 +131,23 @@ fn beats_go_up_and_a_slot_is_given_away() {
     make(&[&server.address()]);
     let store = open(&[&server.address()], Copies::One);
     for _ in 0..3 {
-        wait(store.beat("a", "h1:1", Refused::new())).unwrap();
+        wait(store.beat(0, "a", "h1:1", Refused::new())).unwrap();
     }
-    wait(store.beat("b", "h2:1", Refused::new())).unwrap();
-    let mut instances = wait(store.instances()).unwrap();
+    wait(store.beat(0, "b", "h2:1", Refused::new())).unwrap();
+    let mut instances = wait(store.instances(0)).unwrap();
     instances.sort_by(|one, other| one.name.cmp(&other.name));
     let seen: Vec<_> = instances
         .iter()
         .map(|one| (&one.name[..], &one.address[..], one.beat))
         .collect();
     assert_eq!(seen, [("a", "h1:1", 3), ("b", "h2:1", 1)]);
-    wait(store.leave("b")).unwrap();
-    assert_eq!(wait(store.instances()).unwrap().len(), 1);
+    wait(store.leave(0, "b")).unwrap();
+    assert_eq!(wait(store.instances(0)).unwrap().len(), 1);
     assert_eq!(wait(store.take(1, 0, "a")).unwrap(), Some(1));
     wait(store.release(1, 0)).unwrap();
-    assert_eq!(wait(store.slots()).unwrap()[1].owner, "a", "of another term");
+    assert_eq!(wait(store.slots(0)).unwrap()[1].owner, "a", "of another term");
     wait(store.release(1, 1)).unwrap();
-    let slot = wait(store.slots()).unwrap().swap_remove(1);
+    let slot = wait(store.slots(0)).unwrap().swap_remove(1);
     assert_eq!((slot.term, &slot.owner[..]), (1, ""));
     assert!(store.drive(1, 0).is_err(), "it has another term");
 }

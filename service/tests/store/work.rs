@@ -190,8 +190,9 @@ pub fn take(store: &PostgresStore, slot: u16) -> (Arc<PostgresDrive>, Contents) 
 }
 
 fn term_of(store: &PostgresStore, slot: u16) -> u64 {
+    let database = usize::from(slot) % store.names().len();
     loop {
-        if let Ok(slots) = wait(store.slots()) {
+        if let Ok(slots) = wait(store.slots(database)) {
             return slots.iter().find(|owned| owned.slot == slot).unwrap().term;
         }
         std::thread::sleep(std::time::Duration::from_millis(50));

@@ -1,11 +1,16 @@
+mod databases;
+
 use super::*;
+use crate::cluster::owners::Whose;
 use crate::cluster::terms::{Doing, Instance, Refused, Row, Seen, Stay};
+use std::collections::BTreeMap;
 use std::sync::atomic::{AtomicBool, Ordering::SeqCst};
+use std::sync::Mutex;
 use tokio::time::timeout;
 
 pub const SLOTS: u16 = 6;
 
-/// A store in memory. While it is silent its calls wait.
+/// A store in memory, or a database of one. While it is silent its calls wait.
 pub struct Store {
     pub rows: Mutex<(BTreeMap<String, Instance>, Vec<Row>)>,
     is_silent: AtomicBool,
@@ -13,13 +18,17 @@ pub struct Store {
 
 impl Store {
     pub fn new() -> Arc<Store> {
+        Store::of(0..SLOTS)
+    }
+
+    fn of(slots: impl Iterator<Item = u16>) -> Arc<Store> {
         let row = |slot| Row {
             slot,
             term: 0,
             owner: String::new(),
         };
         Arc::new(Store {
-            rows: Mutex::new((BTreeMap::new(), (0..SLOTS).map(row).collect())),
+            rows: Mutex::new((BTreeMap::new(), slots.map(row).collect())),
             is_silent: AtomicBool::new(false),
         })
     }
@@ -49,6 +58,10 @@ impl Store {
         let done = timeout(within, all).await;
         assert!(done.is_ok(), "{:?}", self.owners());
     }
+}
+
+fn row_of(rows: &mut [Row], slot: u16) -> &mut Row {
+    rows.iter_mut().find(|row| row.slot == slot).unwrap()
 }
 
 /// The store as one instance asks it, which has this address.
@@ -90,7 +103,8 @@ impl Terms for Of {
     fn take(&self, slot: u16, seen: u64) -> Doing<'_, Result<Option<u64>, Silence>> {
         Box::pin(async move {
             self.0.answers().await;
-            let row = &mut self.0.rows.lock().unwrap().1[usize::from(slot)];
+            let mut rows = self.0.rows.lock().unwrap();
+            let row = row_of(&mut rows.1, slot);
             if row.term != seen {
                 return Ok(None);
             }
@@ -102,7 +116,8 @@ impl Terms for Of {
     fn release(&self, slot: u16, term: u64) -> Doing<'_, Result<(), Silence>> {
         Box::pin(async move {
             self.0.answers().await;
-            let row = &mut self.0.rows.lock().unwrap().1[usize::from(slot)];
+            let mut rows = self.0.rows.lock().unwrap();
+            let row = row_of(&mut rows.1, slot);
             if row.term == term {
                 row.owner.clear();
             }
@@ -167,9 +182,10 @@ struct Node {
 }
 
 fn start(store: &Arc<Store>, name: &'static str) -> Node {
-    let (cluster, told) = (Cluster::new(name), Arc::new(Told::default()));
+    let (cluster, told) = (Cluster::new(name, 1), Arc::new(Told::default()));
     let beats = Beats::new(
         cluster.clone(),
+        0,
         Arc::new(Of(store.clone(), name, format!("{name}:1"))),
         told.clone(),
     );
@@ -199,7 +215,7 @@ async fn who_is_gone_is_followed_by_another_and_who_stops_hands_all_over() {
     let a = start(&store, "a");
     store.are_owners(|owner| owner == "a", SOON).await;
     let b = start(&store, "b");
-    until(|| b.cluster.status().instances == 2 && b.cluster.whose(2) != Whose::Nobody).await;
+    until(|| b.cluster.status().instances() == 2 && b.cluster.whose(2) != Whose::Nobody).await;
     assert!(matches!(b.cluster.whose(2), Whose::There { address, term: 1, .. } if address == "a:1"));
     a.runs.abort();
     store.are_owners(|owner| owner == "b", SOON).await;
@@ -238,7 +254,7 @@ async fn a_store_that_is_silent_is_seen_at_the_door_and_moves_nothing() {
     assert!(!a.cluster.is_stalled());
     store.is_silent.store(true, SeqCst);
     sleep(STALL + BEAT + Duration::from_millis(200)).await;
-    assert!(a.cluster.is_stalled() && a.cluster.status().beat_age > Some(STALL));
+    assert!(a.cluster.is_stalled() && a.cluster.status().beat_age() > Some(STALL));
     let terms = a.cluster.status().terms;
     store.is_silent.store(false, SeqCst);
     let answers = async {

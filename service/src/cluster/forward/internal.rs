@@ -3,7 +3,7 @@
 use super::head::{Head, Secret};
 use super::operators::{self, Answers};
 use super::{said, unavailable, Here, PATH};
-use crate::cluster::beats::{Cluster, NO_STORE};
+use crate::cluster::known::{Cluster, NO_STORE};
 use crate::cluster::owners::Whose;
 use crate::cluster::terms::Doing;
 use crate::intake::connections::Handler;
@@ -60,7 +60,7 @@ impl<H: Here> Internal<H> {
         if self.cluster.whose(head.slot) != (Whose::Here { term: head.term }) {
             return Err(said::not_mine());
         }
-        if self.cluster.is_stalled() {
+        if self.cluster.is_stalled_for(head.slot) {
             return Err(said::answer(&unavailable(NO_STORE)));
         }
         let _room = self.parts.acquire().await; // it is never closed

@@ -6,7 +6,7 @@ mod tls;
 use super::*;
 use crate::otlp::{Encoding, Resources};
 use bytes::Bytes;
-use peers::{ends_after_one, posted, receiver, secret, strange, there, Peer, Slots};
+use peers::{ends_after_one, half_deaf, posted, receiver, secret, strange, there, Peer, Slots};
 use std::sync::atomic::Ordering::SeqCst;
 use tokio::net::TcpListener;
 use tokio::time::sleep;
@@ -275,7 +275,7 @@ async fn not_mine_is_asked_again_a_bounded_number_of_times() {
 /// Else each post would look for an owner for three seconds.
 #[tokio::test]
 async fn without_beats_a_post_is_turned_away_at_the_door() {
-    let forward = Forward::<Slots>::new(Cluster::new("receiver"), secret("of all"), Wire::Plain);
+    let forward = Forward::<Slots>::new(Cluster::new("receiver", 1), secret("of all"), Wire::Plain);
     let slots = |forward: Arc<Forward<Slots>>| {
         let resources = Resources::new(8, Arc::default());
         crate::slot::Slots::<crate::slot::Slot>::several(resources, Some(forward))
@@ -302,6 +302,32 @@ async fn without_beats_a_post_is_turned_away_at_the_door() {
     assert!(began.elapsed() < LOOKED_FOR / 3);
     forward.cluster.knows(&[]);
     assert_eq!(post().await, unavailable(MOVED), "it is looked for");
+}
+
+/// Else it would look for an owner for three seconds, or wait for one that waits.
+#[tokio::test]
+async fn of_a_database_that_is_silent_a_post_is_turned_away_at_once_and_others_go_on() {
+    let peer = Peer::here().await;
+    peer.cluster.knows(&[(4, Whose::Here { term: 5 })]);
+    for whose in [Whose::Nobody, Whose::Here { term: 5 }, peer.whose()] {
+        let forward = half_deaf(&[(3, whose), (4, peer.whose())]);
+        let began = Instant::now();
+        assert_eq!(posted(&forward, "{}").await, unavailable(NO_STORE));
+        assert!(began.elapsed() < LOOKED_FOR / 3);
+        let part = Original {
+            encoding: Encoding::Json,
+            body: Bytes::new(),
+        };
+        assert_eq!(forward.post(4, "web-1", part).await, Outcome::taken(0));
+        // One that is here is taken for elsewhere, where it is turned away.
+        let resources = Resources::new(8, Arc::default());
+        let slots = crate::slot::Slots::several(resources, Some(forward.clone()));
+        for slot in [3, 4] {
+            slots.set(slot, crate::slot::Place::Here(Arc::new(())));
+        }
+        assert!(slots.unavailable().is_none() && slots.here(4).is_some() && slots.here(3).is_none());
+    }
+    assert_eq!(peer.slots.count(), 3);
 }
 
 struct Echoes;

@@ -110,11 +110,6 @@ impl Others {
         self.by_name.get(name).is_some_and(|other| other.still >= GONE)
     }
 
-    /// How many beat.
-    pub fn living(&self) -> usize {
-        self.by_name.values().filter(|other| other.still < GONE).count()
-    }
-
     /// Those that may have slots, and which of these they can't open.
     pub fn staying(&self) -> impl Iterator<Item = (&str, &Refused)> {
         let stays = |other: &Other| other.still < GONE && !other.leaves;

@@ -19,6 +19,8 @@ pub(super) struct Found {
     pub end: u64,
     pub closed: bool,
     pub has_marks: bool,
+    /// All before it was durable once.
+    pub durable: u64,
     has_header: bool,
     length: u64,
     made: u64,
@@ -62,6 +64,7 @@ pub(super) fn find(disk: &Disk, folder: &Path, number: u64) -> Result<Found, Fau
                     end: reader.at,
                     closed: next == Next::Closed,
                     has_marks: reader.has_marks,
+                    durable: reader.durable,
                     has_header,
                     length,
                     made: reader.made,

@@ -97,7 +97,10 @@ fn close(disk: &Disk, folder: &Path, expected: &Expected) -> Result<(Vec<Found>,
         found.push(found::find(disk, folder, number)?);
     }
     found::check(disk, folder, &found, expected)?;
-    segment::settle(disk, folder, expected.reach)?;
+    segment::settle(disk, folder, expected.reach, |number| {
+        let found = found.iter().find(|one| one.size.number == number);
+        found.map_or(0, |found| found.durable)
+    })?;
     let mut dropped = Vec::new();
     let is_torn = |one: &Found| !one.closed && one.size.number >= expected.reach;
     if let Some(torn) = found.iter().position(is_torn) {

@@ -37,7 +37,7 @@ impl Outbox {
         disk.make_folder(folder)?;
         let numbers = segment::numbers(disk, folder)?;
         // Each is begun once the one before it is durable.
-        segment::settle(disk, folder, numbers.last().copied().unwrap_or(0))?;
+        segment::settle(disk, folder, numbers.last().copied().unwrap_or(0), |_| 0)?;
         let Left {
             mut state,
             has_requests,

@@ -1,9 +1,11 @@
-//! What is there of a file ahead of its records.
+//! What is there of a file ahead of its records, and what of an earlier run's is written anew.
 
+use super::super::disk::Call;
 use super::*;
 use nix::fcntl::{fallocate, FallocateFlags};
 use std::os::fd::AsRawFd;
 use std::os::unix::fs::MetadataExt;
+use std::sync::atomic::{AtomicUsize, Ordering::SeqCst};
 
 #[test]
 fn blocks_that_are_taken_ahead_are_no_part_of_the_file() {
@@ -38,4 +40,36 @@ fn blocks_that_are_taken_ahead_are_no_part_of_the_file() {
         "{} blocks for {taken}",
         there.blocks()
     );
+}
+
+/// A write that failed may have changed what shares a block with it.
+#[test]
+fn what_was_durable_once_is_written_anew_where_it_is_near_what_was_not() {
+    let folder = tempfile::tempdir().unwrap();
+    std::fs::write(path(folder.path(), 1), vec![b'x'; 3 * PIECE]).unwrap();
+    let calls: Arc<[AtomicUsize; 2]> = Arc::default();
+    let seen = calls.clone();
+    let disk = Disk::failing(move |call, _| {
+        match call {
+            Call::Write => seen[0].fetch_add(1, SeqCst),
+            Call::Sync => seen[1].fetch_add(1, SeqCst),
+            _ => 0,
+        };
+        Ok(())
+    });
+    for (durable, written) in [
+        (0, 3),
+        (PIECE - 1, 3),
+        (PIECE, 2),
+        (2 * PIECE + 1, 1),
+        (3 * PIECE, 0),
+    ] {
+        settle(&disk, folder.path(), 1, |_| durable as u64).unwrap();
+        let [writes, syncs] = &*calls;
+        assert_eq!(
+            [writes, syncs].map(|calls| calls.swap(0, SeqCst)),
+            [written, 1],
+            "{durable}"
+        );
+    }
 }

@@ -51,21 +51,21 @@ impl Desk {
             name: others.instance.clone(),
             address: others.address.clone(),
             version: env!("CARGO_PKG_VERSION").into(),
-            beat_seconds: seen.beat_age.map(|age| age.as_secs()),
+            beat_seconds: seen.beat_age().map(|age| age.as_secs()),
             slots: self.units.all().len(),
             trouble: trouble.map(String::from),
         };
         Some(ClusterStatus {
             instance: others.instance.clone(),
             instances: vec![own],
-            databases: others.databases.status(&self.units, seen.beat_age),
+            databases: others.databases.status(&self.units, &seen.beat_ages),
         })
     }
 
     /// Sets the gauges of the cluster.
     pub(super) fn read_cluster(&self, others: &Others) {
         let seen = others.cluster.status();
-        let databases = others.databases.status(&self.units, seen.beat_age);
+        let databases = others.databases.status(&self.units, &seen.beat_ages);
         let own = self.units.all().len();
         others.metrics.set(
             own,

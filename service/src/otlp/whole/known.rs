@@ -6,12 +6,8 @@ use super::Whole;
 use crate::files::{Body, Fault, Journal, Outbox};
 use crate::otlp::json::{Document, Value};
 use crate::otlp::series::visit;
-use crate::work::side_by_side;
+use crate::work::in_line;
 use bytes::Bytes;
-
-/// So many bytes, or texts, are read at once, on several threads.
-const AT_ONCE: usize = 1 << 20;
-const MOST_AT_ONCE: usize = 1000;
 
 impl Whole {
     /// Notes the units of all series of a folder.
@@ -22,27 +18,22 @@ impl Whole {
         for key in outbox.series().keys() {
             self.know_series(&key.0);
         }
-        let (mut texts, mut bytes) = (Vec::new(), 0);
-        journal.posts(outbox.journal(), u64::MAX, |read| {
-            texts.extend(read.named.into_iter().map(|(_, text)| text));
-            if let Body::Text(text) = read.post.body {
-                bytes += text.len();
-                texts.push(text);
-            }
-            if bytes >= AT_ONCE || texts.len() >= MOST_AT_ONCE {
-                bytes = 0;
-                self.know_requests(&mut texts);
-            }
-            true
-        })?;
-        self.know_requests(&mut texts);
-        Ok(())
-    }
-
-    /// In whatever order: what is known of a metric is a set of units.
-    fn know_requests(&self, texts: &mut Vec<Bytes>) {
-        side_by_side(texts, |text| self.know_request(text));
-        texts.clear();
+        // Side by side: what is known of a metric is a set of units.
+        let know = |text: &mut Bytes| self.know_request(text);
+        in_line(
+            know,
+            |_| Ok(()),
+            |line| {
+                journal.posts(outbox.journal(), u64::MAX, |read| {
+                    let named = read.named.into_iter().map(|(_, text)| text);
+                    let text = match read.post.body {
+                        Body::Text(text) => Some(text),
+                        Body::Points(_) => None,
+                    };
+                    named.chain(text).all(|text| line.push(text))
+                })
+            },
+        )
     }
 
     pub(super) fn know_series(&self, key: &str) {
@@ -57,15 +48,40 @@ impl Whole {
 
     /// Of a request in the book's form the metrics with points that are taken.
     pub(super) fn know_request(&self, request: &[u8]) {
-        if let Ok(document) = Document::parse(request) {
-            let _ = visit(&document, |seen| {
-                if let (Ok(_), Some([Some(name), Some(unit)])) =
-                    (seen.found, seen.metric.named(["name", "unit"]))
-                {
-                    self.know_unit(name, unit);
-                }
-            });
+        let Ok(document) = Document::parse(request) else {
+            return;
+        };
+        // Most say what is known already, and a look at their points takes several times as long.
+        if self.is_known(&document) == Some(true) {
+            return;
         }
+        let _ = visit(&document, |seen| {
+            if let (Ok(_), Some([Some(name), Some(unit)])) = (seen.found, seen.metric.named(["name", "unit"]))
+            {
+                self.know_unit(name, unit);
+            }
+        });
+    }
+
+    /// Whether all metrics are, whatever points they have; none where the request is of another form.
+    fn is_known(&self, document: &Document<'_>) -> Option<bool> {
+        for resource in elements(document.root(), "resourceMetrics")? {
+            for scope in elements(resource, "scopeMetrics")? {
+                for metric in elements(scope, "metrics")? {
+                    if !self.is_unit_known(metric)? {
+                        return Some(false);
+                    }
+                }
+            }
+        }
+        Some(true)
+    }
+
+    fn is_unit_known(&self, metric: Value<'_>) -> Option<bool> {
+        let [name, unit] = metric.named(["name", "unit"])?;
+        let unit = unit.and_then(|unit| Unit::of(&unit.text()?));
+        let known = |unit| Some(self.units.as_ref()?.has(&name?.text()?, unit));
+        Some(unit.is_none_or(|unit| known(unit).unwrap_or(false)))
     }
 
     fn know_unit(&self, name: Value<'_>, unit: Value<'_>) {
@@ -74,4 +90,14 @@ impl Whole {
             units.note(&name, unit);
         }
     }
+}
+
+/// The elements of a list that an object has under this name, and none where it has none.
+fn elements<'d>(object: Value<'d>, name: &str) -> Option<impl Iterator<Item = Value<'d>>> {
+    let [list] = object.named([name])?;
+    let elements = match list {
+        None => None,
+        Some(list) => Some(list.elements()?),
+    };
+    Some(elements.into_iter().flatten())
 }

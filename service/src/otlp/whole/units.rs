@@ -134,6 +134,14 @@ impl Units {
         self.finer[unit.0] == bit(unit)
     }
 
+    /// Whether such a series was noted.
+    pub fn has(&self, metric: &str, unit: Unit) -> bool {
+        self.read()
+            .units
+            .get(metric)
+            .is_some_and(|known| known & bit(unit) != 0)
+    }
+
     /// Notes a series.
     pub fn note(&self, metric: &str, unit: Unit) {
         let known = self.read().units.get(metric).copied().unwrap_or(0);

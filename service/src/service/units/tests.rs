@@ -123,7 +123,6 @@ impl Service {
         );
         let desk = Arc::new(Desk {
             others,
-            store: None,
             units: of_desk,
             shares: shared.shares.clone(),
             acts: Arc::new(Acts::in_folder(&place)),

@@ -12,6 +12,7 @@ use crate::sinks::part::{shown, Left};
 use crate::sinks::periods::{Closed, Deed, Told};
 use crate::sinks::Forwarded;
 use rusqlite::{params, Connection, OpenFlags, Transaction, TransactionBehavior};
+use sha2::{Digest as _, Sha256};
 use std::collections::HashMap;
 use std::fs::OpenOptions;
 use std::os::unix::fs::{MetadataExt, OpenOptionsExt, PermissionsExt};
@@ -37,6 +38,9 @@ const STATEMENTS: usize = 64;
 /// How many series' row numbers are kept in memory; then they are read anew.
 const CACHED: usize = 100_000;
 
+/// Of a series' identity, which is longer by far.
+type Digest = [u8; 32];
+
 pub(super) struct Store {
     path: PathBuf,
     pub(super) connection: Connection,
@@ -45,7 +49,7 @@ pub(super) struct Store {
     /// and of those beside it that are there while it is open: its log, and what its readers share.
     beside: [Option<(u64, u64)>; 2],
     /// Row numbers of series. Only what is committed is in it.
-    series: HashMap<SeriesKey, Known>,
+    series: HashMap<Digest, Known>,
     /// It changes when another process has written.
     data_version: i64,
 }
@@ -254,15 +258,15 @@ struct Writing<'a> {
     path: &'a Path,
     horizon: Horizon,
     closed: Closed,
-    known: &'a HashMap<SeriesKey, Known>,
+    known: &'a HashMap<Digest, Known>,
     /// Of no use to others until it is committed.
-    new: HashMap<SeriesKey, Known>,
+    new: HashMap<Digest, Known>,
     /// Of the points that were added so far.
     hours: Hours,
 }
 
 impl Writing<'_> {
-    fn commit(self) -> rusqlite::Result<HashMap<SeriesKey, Known>> {
+    fn commit(self) -> rusqlite::Result<HashMap<Digest, Known>> {
         self.transaction.commit().map(|()| self.new)
     }
 
@@ -335,13 +339,14 @@ impl Writing<'_> {
 
     /// A series' row, and whether it was made by this call.
     fn series(&mut self, key: &SeriesKey) -> Result<(Known, bool), NotTaken> {
-        if let Some(known) = self.known.get(key).or_else(|| self.new.get(key)) {
+        let digest = Sha256::digest(key.0.as_bytes()).into();
+        if let Some(known) = self.known.get(&digest).or_else(|| self.new.get(&digest)) {
             return Ok((*known, false));
         }
         let parts = key.parts()?;
         let row = series_row::SeriesRow::of(&parts)?;
         let (known, is_new) = self.of(|transaction| row.known(transaction))?;
-        self.new.insert(key.clone(), known);
+        self.new.insert(digest, known);
         Ok((known, is_new))
     }
 

@@ -1,21 +1,24 @@
-//! An instance in a store: its beats, and what it takes and gives away.
+//! An instance, as the rows of a database of the store have it.
 
-use super::{Doubt, PostgresStore};
+use super::doubt::Doubt;
+use super::PostgresStore;
 use crate::cluster::terms::{Doing, Refused, Row, Seen, Silence, Stay, Terms};
 use std::sync::Arc;
 
 pub struct Member {
     store: Arc<PostgresStore>,
+    /// The number of its database.
+    database: usize,
     name: String,
     /// Where others forward posts to.
     address: String,
 }
 
 impl Member {
-    pub fn new(store: Arc<PostgresStore>, name: &str, address: &str) -> Member {
-        store.be_member(name);
+    pub fn new(store: &Arc<PostgresStore>, database: usize, name: &str, address: &str) -> Member {
         Member {
-            store,
+            store: store.clone(),
+            database,
             name: name.into(),
             address: address.into(),
         }
@@ -26,30 +29,13 @@ impl Member {
             Stay::Here => self.address.as_str(),
             Stay::Leaves => "",
         };
-        if let Some(several) = self.store.several() {
-            let seen = several.beat(&self.store, address, &refused).await;
-            return seen.ok_or_else(|| Silence(self.store.silent().join("; ")));
-        }
-        self.store.beat(&self.name, address, refused).await?;
+        self.store
+            .beat(self.database, &self.name, address, refused)
+            .await?;
         Ok(Seen {
-            instances: self.store.instances().await?,
-            slots: self.store.slots().await?,
+            instances: self.store.instances(self.database).await?,
+            slots: self.store.slots(self.database).await?,
         })
-    }
-
-    async fn look(&self) -> Result<Vec<Row>, Silence> {
-        match self.store.several() {
-            Some(several) => Ok(several.slots(&self.store).await),
-            None => Ok(self.store.slots().await?),
-        }
-    }
-
-    /// A database that is silent is not waited for: what is to be taken in others would wait behind it.
-    fn check_heard(&self, slot: u16) -> Result<(), Silence> {
-        match self.store.silence_of(slot) {
-            None => Ok(()),
-            Some(why) => Err(Silence(why)),
-        }
     }
 }
 
@@ -65,14 +51,11 @@ impl Terms for Member {
     }
 
     fn slots(&self) -> Doing<'_, Result<Vec<Row>, Silence>> {
-        Box::pin(self.look())
+        Box::pin(async move { Ok(self.store.slots(self.database).await?) })
     }
 
     fn take(&self, slot: u16, seen: u64) -> Doing<'_, Result<Option<u64>, Silence>> {
-        Box::pin(async move {
-            self.check_heard(slot)?;
-            Ok(self.store.take(slot, seen, &self.name).await?)
-        })
+        Box::pin(async move { Ok(self.store.take(slot, seen, &self.name).await?) })
     }
 
     fn release(&self, slot: u16, term: u64) -> Doing<'_, Result<(), Silence>> {
@@ -80,6 +63,6 @@ impl Terms for Member {
     }
 
     fn leave(&self) -> Doing<'_, Result<(), Silence>> {
-        Box::pin(async move { Ok(self.store.leave(&self.name).await?) })
+        Box::pin(async move { Ok(self.store.leave(self.database, &self.name).await?) })
     }
 }

@@ -13,7 +13,6 @@ mod fault;
 mod member;
 mod schema;
 mod session;
-mod several;
 mod shared;
 mod state;
 mod terms;
@@ -33,13 +32,11 @@ use crate::files::drive::Lost;
 use crate::postgres::identity;
 use drive::Writer;
 use session::{within, SILENT};
-use several::{Heard, Several};
 use shared::Shared;
 use std::collections::BTreeMap;
 use std::future::Future;
-use std::sync::{mpsc, Arc, OnceLock};
+use std::sync::{mpsc, Arc};
 use tokio::runtime::{Builder, Runtime};
-use tokio::task::JoinHandle;
 
 /// Connections live on these, so that a thread of the service that waits for the store never keeps the store waiting.
 const THREADS: usize = 2;
@@ -50,8 +47,6 @@ pub struct PostgresStore {
     /// Of each database, which one it is, by its own word.
     identities: Vec<Option<String>>,
     counts: Arc<Counts>,
-    /// What an instance hears of several databases.
-    several: OnceLock<Several>,
     runtime: Threads,
 }
 
@@ -180,7 +175,6 @@ impl PostgresStore {
             databases: servers.iter().map(database).collect(),
             identities,
             counts: Arc::default(),
-            several: OnceLock::new(),
             runtime,
         })
     }
@@ -194,21 +188,27 @@ impl PostgresStore {
 
     /// Where instances deliver to, as the first that started has said; empty before.
     pub fn sink(&self) -> Result<String, StoreFault> {
-        let server = self.first().server.clone();
+        let server = self.beater(0).server.clone();
         self.waited(async move { schema::sink(&server).await })
     }
 
     /// Writes it where it is as before: what it is then.
     pub fn set_sink(&self, before: &str, now: &str) -> Result<String, StoreFault> {
-        let (server, before, now) = (self.first().server.clone(), before.to_string(), now.to_string());
+        let (server, before, now) = (self.beater(0).server.clone(), before.to_string(), now.to_string());
         self.waited(async move { schema::set_sink(&server, &before, &now).await })
     }
 
-    /// How often each instance has beaten.
+    /// How often each instance has beaten, in all databases together.
     pub fn beats(&self) -> Result<BTreeMap<String, u64>, StoreFault> {
-        let beater = self.first();
-        let instances = self.waited(async move { Ok(beater.instances().await?) })?;
-        Ok(instances.into_iter().map(|one| (one.name, one.beat)).collect())
+        let mut beats: BTreeMap<String, u64> = BTreeMap::new();
+        for database in 0..self.databases.len() {
+            let beater = self.beater(database);
+            let instances = self.waited(async move { Ok(beater.instances().await?) })?;
+            for one in instances {
+                *beats.entry(one.name).or_default() += one.beat;
+            }
+        }
+        Ok(beats)
     }
 
     /// Of each database, which one it is, where it says so.
@@ -238,69 +238,19 @@ impl PostgresStore {
         Ok(Arc::new(PostgresDrive::new(writer, files, reader, runtime)))
     }
 
-    /// From now on it is heard for this instance.
-    pub(super) fn be_member(&self, name: &str) {
-        if self.databases.len() > 1 {
-            self.several
-                .get_or_init(|| Several::new(name, self.databases.len()));
-        }
+    fn beater(&self, database: usize) -> Arc<Shared> {
+        self.databases[database].beater.clone()
     }
 
-    fn several(&self) -> Option<&Several> {
-        self.several.get()
-    }
-
-    /// Databases that do not answer, of several, and why not.
-    pub fn silent(&self) -> Vec<String> {
-        let each = self.databases.iter().enumerate();
-        let silent = each.filter_map(|(place, one)| {
-            let why = self.several()?.silence(place)?;
-            Some(format!("{} does not answer: {why}", one.beater.server))
-        });
-        silent.collect()
-    }
-
-    fn silence_of(&self, slot: u16) -> Option<String> {
-        self.several()?.silence(usize::from(slot) % self.databases.len())
-    }
-
-    /// Beats in one of several databases, and reads what is there behind it.
-    fn beats_in(
+    /// Adds one to this instance's beat in a database, which is committed when this is `Ok`.
+    pub async fn beat(
         &self,
-        place: usize,
+        database: usize,
         name: &str,
         address: &str,
-        refused: &Refused,
-    ) -> JoinHandle<Result<Heard, Doubt>> {
-        let beater = self.databases[place].beater.clone();
-        let (name, address, refused) = (name.to_string(), address.to_string(), refused.clone());
-        self.runtime.handle().spawn(async move {
-            let version = env!("CARGO_PKG_VERSION");
-            beater.beat(&name, &address, version, &refused).await?;
-            Ok(Heard {
-                instances: beater.instances().await?,
-                slots: beater.slots().await?,
-            })
-        })
-    }
-
-    fn slots_in(&self, place: usize) -> JoinHandle<Result<Vec<Row>, Doubt>> {
-        let beater = self.databases[place].beater.clone();
-        self.runtime.handle().spawn(async move { beater.slots().await })
-    }
-
-    /// Of one database, or of the first.
-    fn first(&self) -> Arc<Shared> {
-        self.databases[0].beater.clone()
-    }
-
-    fn beaters(&self) -> Vec<Arc<Shared>> {
-        self.databases.iter().map(|one| one.beater.clone()).collect()
-    }
-
-    /// Adds one to this instance's beat, which is committed when this is `Ok`.
-    pub async fn beat(&self, name: &str, address: &str, refused: Refused) -> Result<(), Doubt> {
-        let (beater, name, address) = (self.first(), name.to_string(), address.to_string());
+        refused: Refused,
+    ) -> Result<(), Doubt> {
+        let (beater, name, address) = (self.beater(database), name.to_string(), address.to_string());
         let beating = async move {
             let version = env!("CARGO_PKG_VERSION");
             beater.beat(&name, &address, version, &refused).await
@@ -308,22 +258,15 @@ impl PostgresStore {
         self.runtime.run(beating).await
     }
 
-    pub async fn instances(&self) -> Result<Vec<Instance>, Doubt> {
-        let beater = self.first();
+    pub async fn instances(&self, database: usize) -> Result<Vec<Instance>, Doubt> {
+        let beater = self.beater(database);
         self.runtime.run(async move { beater.instances().await }).await
     }
 
-    pub async fn slots(&self) -> Result<Vec<Row>, Doubt> {
-        let beaters = self.beaters();
-        let reading = async move {
-            let mut slots = Vec::new();
-            for beater in beaters {
-                slots.extend(beater.slots().await?);
-            }
-            slots.sort_by_key(|row| row.slot);
-            Ok(slots)
-        };
-        self.runtime.run(reading).await
+    /// Those that are in a database.
+    pub async fn slots(&self, database: usize) -> Result<Vec<Row>, Doubt> {
+        let beater = self.beater(database);
+        self.runtime.run(async move { beater.slots().await }).await
     }
 
     /// Writes the term behind the one that was seen: the new one, or none where another was first.
@@ -342,17 +285,10 @@ impl PostgresStore {
             .await
     }
 
-    /// In each database: where one is silent, its row stays, and is that of one that is gone.
-    pub async fn leave(&self, name: &str) -> Result<(), Doubt> {
-        let (beaters, name) = (self.beaters(), name.to_string());
-        let leaving = async move {
-            let mut left = Ok(());
-            for beater in beaters {
-                left = left.and(beater.leave(&name).await);
-            }
-            left
-        };
-        self.runtime.run(leaving).await
+    /// Where the database is silent its row stays, and is that of one that is gone.
+    pub async fn leave(&self, database: usize, name: &str) -> Result<(), Doubt> {
+        let (beater, name) = (self.beater(database), name.to_string());
+        self.runtime.run(async move { beater.leave(&name).await }).await
     }
 
     /// On how many servers what is committed in a database is now; none where this role may not look. Its writes may wait

@@ -8,6 +8,7 @@ use super::shared::Shared;
 use super::terms::RELEASE;
 use super::PostgresStore;
 use crate::cluster::terms::Instance;
+use std::collections::BTreeSet;
 use std::future::Future;
 use std::sync::Arc;
 use std::time::Duration;
@@ -110,6 +111,15 @@ impl Shared {
     }
 }
 
+/// Those that each database has.
+async fn instances(databases: &[Arc<Shared>]) -> Result<Vec<Vec<Instance>>, Doubt> {
+    let mut all = Vec::new();
+    for database in databases {
+        all.push(database.instances().await?);
+    }
+    Ok(all)
+}
+
 impl PostgresStore {
     /// Tries until there is an answer, but not for ever.
     fn tried<T, F>(&self, step: impl Fn(Vec<Arc<Shared>>) -> F + Send + 'static) -> Result<T, StoreFault>
@@ -206,14 +216,17 @@ impl PostgresStore {
     /// Instances whose beats go on. It takes some seconds where there were any.
     pub fn running(&self) -> Result<Vec<String>, StoreFault> {
         self.tried(|databases| async move {
-            let before = databases[0].instances().await?;
-            if before.is_empty() {
+            let before = instances(&databases).await?;
+            if before.iter().all(Vec::is_empty) {
                 return Ok(Vec::new());
             }
             tokio::time::sleep(STILL).await;
-            let after = databases[0].instances().await?;
-            let goes_on = |one: &&Instance| !before.contains(one);
-            Ok(after.iter().filter(goes_on).map(|one| one.name.clone()).collect())
+            let after = instances(&databases).await?;
+            let changed = before.iter().zip(&after);
+            let goes_on =
+                changed.flat_map(|(before, after)| after.iter().filter(|one| !before.contains(one)));
+            let names: BTreeSet<String> = goes_on.map(|one| one.name.clone()).collect();
+            Ok(names.into_iter().collect())
         })
     }
 

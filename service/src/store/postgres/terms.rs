@@ -14,7 +14,7 @@ const BEAT: &str =
     on conflict (name) do update set beat = i.beat + 1, address = excluded.address, version = excluded.version,
     refused = excluded.refused";
 const INSTANCES: &str = "select name, address, version, beat, refused from totxegun_store.instance";
-const SLOTS: &str = "select slot, term, owner from totxegun_store.slot";
+const SLOTS: &str = "select slot, term, owner from totxegun_store.slot order by slot";
 /// Not while what is in the store is being moved, or where it is gone.
 const TAKE: &str =
     "update totxegun_store.slot set term = term + 1, link = 0, owner = $3 where slot = $1 and term = $2

@@ -78,7 +78,7 @@ fn there(name: &str) -> Whose {
 }
 
 fn instance(name: &str, place: &Path, net: &Arc<Net>) -> (Service, Arc<Cluster>) {
-    let cluster = Cluster::new(name);
+    let cluster = Cluster::new(name, 1);
     let others = Others {
         cluster: cluster.clone(),
         asks: Arc::new(Through(net.clone())),

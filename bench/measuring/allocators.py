@@ -1,0 +1,54 @@
+"""Allocators by their names, as an environment of a program."""
+import argparse
+import glob
+import os
+from collections.abc import Iterator
+
+# What of an environment an allocator reads.
+ALLOCATORS = ("MALLOC_", "GLIBC_TUNABLES", "LD_PRELOAD", "MIMALLOC_", "TCMALLOC_")
+# By name, the library that is preloaded and its Debian package.
+LIBRARIES = {"mimalloc": ("libmimalloc.so.2", "libmimalloc2.0"), "tcmalloc": ("libtcmalloc_minimal.so.4", "libtcmalloc-minimal4"),
+             "jemalloc": ("libjemalloc.so.2", "libjemalloc2")}
+TUNED = {"GLIBC_TUNABLES": "glibc.malloc.tcache_count=200", "MALLOC_TRIM_THRESHOLD_": str(64 << 20)}
+
+
+def add_options(parser: argparse.ArgumentParser, default: list[str]) -> None:
+    """The options that say which allocators."""
+    parser.add_argument("--allocators", type=lambda text: [name for name in text.split(",") if name], default=default)
+    parser.add_argument("--preload")
+    parser.add_argument("--environment", action="append", default=[])
+
+
+def library(name: str) -> str | None:
+    """The file of an allocator, or None where it is not installed."""
+    found = glob.glob(f"/usr/lib/*/{LIBRARIES[name][0]}")
+    return found[0] if found else None
+
+
+def names_there(arguments: argparse.Namespace) -> Iterator[str]:
+    """The allocators that were named, but for those that are not there; of these a line says so."""
+    names = [*arguments.allocators, *(["own"] if arguments.preload or arguments.environment else [])]
+    for name in names:
+        if name in LIBRARIES and not library(name):
+            print(f"left out: {name}; it needs the package {LIBRARIES[name][1]}")
+        elif name in ("libc", "tuned", "own", *LIBRARIES):
+            yield name
+        else:
+            raise SystemExit(f"{name} is no allocator: libc, tuned, {', '.join(LIBRARIES)}")
+
+
+def shown(its_environment: dict[str, str]) -> str:
+    """What of an environment an allocator reads."""
+    found = [f"{name}={value}" for name, value in sorted(its_environment.items()) if name.startswith(ALLOCATORS)]
+    return " ".join(found) or "nothing for the allocator"
+
+
+def environment(name: str, arguments: argparse.Namespace | None = None) -> dict[str, str]:
+    """The whole environment in which a program has this allocator."""
+    plain = {key: value for key, value in os.environ.items() if not key.startswith(ALLOCATORS)}
+    if name == "tuned":
+        return plain | TUNED
+    if name == "own":
+        preload = {"LD_PRELOAD": arguments.preload} if arguments.preload else {}
+        return plain | preload | dict(pair.split("=", 1) for pair in arguments.environment)
+    return plain | ({"LD_PRELOAD": library(name)} if name in LIBRARIES and library(name) else {})

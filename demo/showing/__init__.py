@@ -1,0 +1,8 @@
+"""What the commands of this folder share."""
+import os
+import sys
+
+DEMO = os.path.dirname(os.path.dirname(os.path.realpath(__file__)))
+ROOT = os.path.dirname(DEMO)
+# Modules of other folders, behind this one's.
+sys.path += [f"{ROOT}/tools", f"{ROOT}/tests"]

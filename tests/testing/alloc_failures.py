@@ -1,0 +1,154 @@
+"""Runs a program while growths of its memory are refused, by the preloaded library fail_alloc.c."""
+from __future__ import annotations
+
+import concurrent.futures
+import itertools
+import os
+import re
+import subprocess
+import sys
+import tempfile
+import threading
+from collections.abc import Callable, Sequence
+from typing import NamedTuple
+
+from testing import TESTS
+
+FORMS = ("alone", "from")
+SECONDS = 60
+
+
+class Run(NamedTuple):
+    """How a run ended, what it wrote, and how many growths it had and were refused."""
+
+    status: int | str
+    out: bytes
+    err: bytes
+    growths: int | None
+    refused: int | None
+
+
+class Refusing:
+    """The library, built into a folder, which also takes the counts of each thread's runs."""
+
+    def __init__(self, folder: str) -> None:
+        self.folder = folder
+        self.library = os.path.join(folder, "fail_alloc.so")
+        source = f"{TESTS}/fail_alloc.c"
+        command = ["gcc", "-O1", "-Wall", "-Wextra", "-Werror", "-shared", "-fPIC"]
+        subprocess.run(command + ["-o", self.library, source, "-ldl"], check=True)
+
+    def counts_path(self) -> str:
+        return os.path.join(self.folder, f"counts{threading.get_ident()}")
+
+    def environment(self, growth: int, form: str) -> dict[str, str]:
+        """With the growth 0 none is refused, and all are counted."""
+        return dict(os.environ, LD_PRELOAD=self.library, REFUSE_GROWTH=str(growth),
+                    REFUSE_FORM=form, REFUSE_COUNTS=self.counts_path())
+
+    def counts(self) -> tuple[int, int] | tuple[None, None]:
+        """The counts that the last run of this thread left; a run that was cut off leaves none."""
+        path = self.counts_path()
+        try:
+            with open(path) as file:
+                found = re.fullmatch(r"growths (\d+) refused (\d+)\n", file.read())
+            os.remove(path)
+        except FileNotFoundError:
+            found = None
+        return (int(found[1]), int(found[2])) if found else (None, None)
+
+    def counted(self, words: Sequence[str]) -> list[tuple[int, bytes]]:
+        """What a run without a refusal writes to standard output, piece by piece, each with how many growths
+        there were before it was written."""
+        path = os.path.join(self.folder, "writes")
+        environment = dict(self.environment(0, "alone"), REFUSE_WRITES=path)
+        out = subprocess.run(words, stdout=subprocess.PIPE, timeout=SECONDS, env=environment, check=True).stdout
+        pieces = []
+        with open(path) as file:
+            for growths, size in re.findall(r"growths (\d+) bytes (\d+)\n", file.read()):
+                pieces.append((int(growths), out[:int(size)]))
+                out = out[int(size):]
+        return pieces
+
+    def run(self, words: Sequence[str], given: bytes, growth: int, form: str = "alone") -> Run:
+        try:
+            done = subprocess.run(words, input=given, capture_output=True, timeout=SECONDS,
+                                  env=self.environment(growth, form))
+        except subprocess.TimeoutExpired:
+            return Run("no end", b"", b"", None, None)
+        return Run(done.returncode, done.stdout, done.stderr, *self.counts())
+
+
+def plain(words: Sequence[str], given: bytes) -> Run:
+    """A run without the library."""
+    done = subprocess.run(words, input=given, capture_output=True, timeout=SECONDS)
+    return Run(done.returncode, done.stdout, done.stderr, None, 0)
+
+
+def program_named(words: Sequence[str], more: str = "") -> str:
+    """The program that a script is called with, where these words begin with one."""
+    if not words or not os.access(words[0], os.X_OK) or (len(words) > 1 and not more):
+        sys.exit(f"usage: {sys.argv[0]} PROGRAM{more}")
+    return words[0]
+
+
+def refuse_each(what: str, run_once: Callable[[Refusing, int, str], tuple[Run, str | None, object]],
+                check: Callable[[Refusing, Counts], None] | None = None) -> int:
+    """Calls run_once(refusing, growth, form), which returns a run, its way and what is wrong with it, for each
+    growth of the full run and those behind it, and before them check(refusing, counts). Returns the script's
+    status."""
+    counts = Counts(what)
+
+    def count_once(growth: int, form: str) -> Run:
+        run, way, fault = run_once(refusing, growth, form)
+        counts.add(run, way, f"growth {growth} {form}: {fault}")
+        return run
+
+    with tempfile.TemporaryDirectory() as folder:
+        refusing = Refusing(folder)
+        if check:
+            check(refusing, counts)
+        in_turn(count_once(0, "alone").growths or 0, count_once)
+    return counts.end()
+
+
+def in_turn(growths: int, run_once: Callable[[int, str], Run]) -> None:
+    """Makes a run for each growth of the full run and each form, side by side, and then for later growths
+    until a run meets no refusal."""
+    for form in FORMS:
+        with concurrent.futures.ThreadPoolExecutor(os.cpu_count()) as pool:
+            list(pool.map(run_once, range(1, growths + 1), itertools.repeat(form)))
+        for growth in itertools.count(growths + 1):
+            run = run_once(growth, form)
+            if run.refused == 0 or run.status == "no end":
+                break
+
+
+class Counts:
+    """How many runs there were, and how they ended."""
+
+    def __init__(self, what: str) -> None:
+        self.what = what
+        self.lock = threading.Lock()
+        self.runs = self.refused = self.failed = 0
+        self.ways: dict[str, int] = {}
+
+    def add(self, run: Run, way: str | None, fault: object = None) -> None:
+        """Counts a run: by the way in which it ended, or, where that is none, as one of this fault."""
+        with self.lock:
+            self.runs += 1
+            if run.refused is None or run.refused:
+                self.refused += 1
+            if way is None:
+                self.failed += 1
+                print(f"failed: {fault}", flush=True)
+            else:
+                self.ways[way] = self.ways.get(way, 0) + 1
+
+    def end(self) -> int:
+        """The status of the script, and its last lines."""
+        ways = ", ".join(f"{count} {way}" for way, count in sorted(self.ways.items()))
+        print(f"{self.what}: {ways}")
+        passed = self.runs - self.failed
+        print(f"{passed} passed, {self.failed} failed, {self.refused} with a refusal", flush=True)
+        return 0 if self.failed == 0 and self.refused > 0 else 1

@@ -1,0 +1,44 @@
+"""Checks: a line for each, and a last one that counts those that passed and failed."""
+import threading
+
+# The status of a script that left something out for want of a program.
+LEFT_OUT = 77
+
+
+class Checks:
+    """How many checks passed and failed. Threads share it."""
+
+    def __init__(self) -> None:
+        self.lock = threading.Lock()
+        self.passed = self.failed = 0
+        self.left_out = False
+
+    def true(self, what: str, holds: object, found: object) -> None:
+        with self.lock:
+            if holds:
+                self.passed += 1
+                print(f"passed: {what}", flush=True)
+            else:
+                self.failed += 1
+                print(f"failed: {what}: {found}", flush=True)
+
+    def same(self, what: str, wanted: object, found: object) -> None:
+        self.true(what, wanted == found, f"wanted {wanted!r}, found {found!r}")
+
+    def between(self, what: str, least: float, most: float, seconds: float) -> None:
+        self.true(what, least <= seconds <= most, f"{seconds:.1f} seconds")
+
+    def has(self, what: str, *missing: str) -> bool:
+        """Whether nothing is missing; else says in one line what is left out."""
+        if missing:
+            self.left_out = True
+            print(f"left out: {what}, missing: {' '.join(missing)}", flush=True)
+        return not missing
+
+    def end(self) -> int:
+        """The status of the script, and its last line."""
+        if self.passed or self.failed or not self.left_out:
+            print(f"{self.passed} passed, {self.failed} failed", flush=True)
+        if self.failed:
+            return 1
+        return LEFT_OUT if self.left_out else 0

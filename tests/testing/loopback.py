@@ -1,0 +1,209 @@
+"""The built gateway over loopback: a client that reads whole answers, and a back end that is given its
+answers."""
+import itertools
+import json
+import os
+import socket
+import subprocess
+import threading
+import time
+from collections.abc import Iterable, Sequence
+
+SECONDS = 20
+NO_MEMORY = (b"HTTP/1.1 503 Service Unavailable\r\nContent-Type: application/json\r\n"
+             b"Content-Length: 23\r\nConnection: close\r\n\r\n{\"message\":\"no memory\"}")
+
+
+# Below the ports that the system gives to clients, so that none of them takes a gateway's.
+PORTS = itertools.count(20_000 + os.getpid() % 1000 * 10)
+PORTS_LOCK = threading.Lock()
+
+
+def free_port() -> int:
+    """A port that nobody listens on, and that no other call of this process gives."""
+    while True:
+        with PORTS_LOCK:
+            port = next(PORTS)
+        with socket.socket() as listener:
+            listener.setsockopt(socket.SOL_SOCKET, socket.SO_REUSEADDR, 1)
+            try:
+                listener.bind(("127.0.0.1", port))
+                return port
+            except OSError:
+                continue
+
+
+def posted(body: bytes, sender: str = "A") -> bytes:
+    """A request that posts a body."""
+    head = (f"POST /v1/metrics HTTP/1.1\r\nContent-Type: application/json\r\nx-sender: {sender}\r\n"
+            f"Content-Length: {len(body)}\r\n\r\n")
+    return head.encode() + body
+
+
+def point(start: int, end: int, value: int, name: str = "a") -> bytes:
+    """A body with one point of the monotonic sum of this name."""
+    one = {"asInt": str(value), "startTimeUnixNano": str(start), "timeUnixNano": str(end)}
+    total = {"aggregationTemporality": 1, "isMonotonic": True, "dataPoints": [one]}
+    scope = {"metrics": [{"name": name, "sum": total}]}
+    return json.dumps({"resourceMetrics": [{"scopeMetrics": [scope]}]}).encode()
+
+
+def ordered(line: str) -> bytes:
+    """A request without a body."""
+    return f"{line} HTTP/1.1\r\n\r\n".encode()
+
+
+def response(status: bytes, kind: bytes, body: bytes, allow: bytes = b"") -> bytes:
+    """The bytes of a response, by its status line."""
+    return (b"HTTP/1.1 " + status + b"\r\nContent-Type: " + kind + b"\r\nContent-Length: "
+            + str(len(body)).encode() + b"\r\n" + allow + b"Connection: close\r\n\r\n" + body)
+
+
+class Gateway:
+    """A gateway that serves so many connections, with these options more."""
+
+    def __init__(self, program: str, backend: int, connections: int, environment: dict[str, str] | None = None,
+                 options: Sequence[str] = ()) -> None:
+        self.port = free_port()
+        words = [program, "serve", "--backend", f"127.0.0.1:{backend}", "--connections",
+                 str(connections), "--listen", f"127.0.0.1:{self.port}", *options]
+        self.process = subprocess.Popen(words, stdout=subprocess.PIPE, stderr=subprocess.PIPE,
+                                        env=environment)
+
+    def connect(self) -> socket.socket | None:
+        """A connection, once the gateway listens, or None where it has ended."""
+        until = time.monotonic() + SECONDS
+        while time.monotonic() < until:
+            try:
+                return socket.create_connection(("127.0.0.1", self.port), SECONDS)
+            except ConnectionError:  # Nobody listens, or whoever did has ended.
+                if self.process.poll() is not None:
+                    return None
+                time.sleep(0.002)
+        return None
+
+    def ask(self, request: bytes) -> bytes | str:
+        """Sends the request, and gives what is read meanwhile up to the end, or what went wrong."""
+        connection = self.connect()
+        if connection is None:
+            return "no connection"
+        with connection:
+            sender = threading.Thread(target=send, args=(connection, request))
+            sender.start()
+            try:
+                return read_all(connection)
+            except OSError as error:
+                return f"{type(error).__name__} {error}"
+            finally:
+                sender.join(SECONDS)
+
+    def end(self) -> tuple[int | str, bytes, bytes]:
+        """The status, and what was printed."""
+        try:
+            out, err = self.process.communicate(timeout=SECONDS)
+            return self.process.returncode, out, err
+        except subprocess.TimeoutExpired:
+            self.process.kill()
+            out, err = self.process.communicate()
+            return "no end", out, err
+
+
+def send(connection: socket.socket, request: bytes) -> None:
+    try:
+        connection.sendall(request)
+    except OSError:
+        pass  # The gateway may be done with it; the answer is what counts.
+
+
+def read_all(connection: socket.socket) -> bytes:
+    text = b""
+    while piece := connection.recv(65536):
+        text += piece
+    return text
+
+
+class BackEnd:
+    """A back end that answers each request by the next of these answers, and 200 after them. An answer None
+    is a connection that is closed without one."""
+
+    def __init__(self, answers: Iterable[bytes | None] = ()) -> None:
+        self.answers = list(answers)
+        self.requests: list[bytes] = []
+        self.bodies: list[bytes] = []
+        self.listener = socket.create_server(("127.0.0.1", 0))
+        self.port = self.listener.getsockname()[1]
+        self.thread = threading.Thread(target=self.serve, daemon=True)
+        self.thread.start()
+
+    def serve(self) -> None:
+        serving = []
+        while True:
+            try:
+                connection = self.listener.accept()[0]
+            except OSError:
+                break
+            serving.append(threading.Thread(target=self.serve_one, args=(connection,), daemon=True))
+            serving[-1].start()
+        for thread in serving:
+            thread.join(SECONDS)
+
+    def serve_one(self, connection: socket.socket) -> None:
+        with connection:
+            self.answer(connection)
+
+    def answer(self, connection: socket.socket) -> None:
+        """Reads a whole request, keeps its body and answers it."""
+        connection.settimeout(SECONDS)
+        request = request_of(connection)
+        if is_whole(request):
+            self.requests.append(request)
+            answer = self.answer_to(request.partition(b"\r\n\r\n")[2])
+            if answer is not None:
+                connection.sendall(answered(answer))
+
+    def answer_to(self, body: bytes) -> bytes | None:
+        """Keeps the body, and gives the next answer."""
+        self.bodies.append(body)
+        return self.answers.pop(0) if self.answers else b"200 OK\r\n"
+
+    def close(self) -> None:
+        """Ends the thread before the listener is closed, whose number another could have by then."""
+        self.listener.shutdown(socket.SHUT_RDWR)
+        self.thread.join(SECONDS)
+        self.listener.close()
+
+
+def request_of(connection: socket.socket) -> bytes:
+    """The bytes of a request, whose head has its Content-Length, or of what came of it."""
+    text = b""
+    while not is_whole(text):
+        piece = connection.recv(65536)
+        if not piece:
+            break
+        text += piece
+    return text
+
+
+def answered(lines: bytes) -> bytes:
+    """The bytes of an answer without a body, by its status and what lines there are behind it."""
+    return b"HTTP/1.1 " + lines + b"Content-Length: 0\r\n\r\n"
+
+
+def is_whole(text: bytes) -> bool:
+    head, end, body = text.partition(b"\r\n\r\n")
+    if not end:
+        return False
+    length = next(line for line in head.split(b"\r\n") if line.lower().startswith(b"content-length:"))
+    return len(body) >= int(length.split(b":")[1])
+
+
+def sent_points(body: bytes) -> list[tuple[int, int, int]]:
+    """Each point of a forwarded body: its value, start and end."""
+    points = []
+    for resource in json.loads(body)["resourceMetrics"]:
+        for scope in resource["scopeMetrics"]:
+            for metric in scope["metrics"]:
+                for one in metric["sum"]["dataPoints"]:
+                    points.append((int(one["asInt"]), int(one["startTimeUnixNano"]),
+                                   int(one["timeUnixNano"])))
+    return points

@@ -1,0 +1,106 @@
+"""Machines of a test: network namespaces behind a router, which is the network of this process. What one sends to another may be
+lost, also one way only."""
+import contextlib
+import os
+import shutil
+import signal
+import subprocess
+from collections.abc import Iterator
+
+import own_network
+
+# Machine N has address N.2 of these networks, the router N.1; what is this process' own has an address that no link has.
+NETWORK = "10.77"
+OWN = f"{NETWORK}.0.1"
+# One that is led to a machine, now to this and now to that one.
+LED = f"{NETWORK}.250.1"
+# Of the router's rules: those that lose packets come before the one that finds its own addresses.
+CUT, LOCAL = 10, 1000
+# From an address to another one.
+Way = tuple[str, str]
+
+
+def ip(*words: object) -> None:
+    subprocess.run(["ip", *map(str, words)], check=True, capture_output=True, timeout=20)
+
+
+def on(name: str, *words: str) -> list[str]:
+    """The words that run a command in a namespace."""
+    return ["ip", "netns", "exec", name, *words]
+
+
+def may_have_machines() -> bool:
+    name = f"totxegun-{os.getpid()}-try"
+    made = shutil.which("ip") and subprocess.run(["ip", "netns", "add", name], capture_output=True, check=False).returncode == 0
+    return bool(made) and subprocess.run(["ip", "netns", "del", name], check=False).returncode == 0
+
+
+class Machine:
+    """What runs there has its address, and every port of its own."""
+
+    def __init__(self, stack: contextlib.ExitStack, name: str, number: int) -> None:
+        self.name, self.namespace = name, f"totxegun-{os.getpid()}-{name}"
+        self.address = f"{NETWORK}.{number}.2"
+        link, router = f"m{number}", f"{NETWORK}.{number}.1"
+        ip("netns", "add", self.namespace)
+        stack.callback(ip, "netns", "del", self.namespace)
+        stack.callback(self.kill)
+        ip("link", "add", link, "type", "veth", "peer", "name", "eth0", "netns", self.namespace)
+        ip("addr", "add", f"{router}/24", "dev", link)
+        ip("link", "set", link, "up")
+        ip("-n", self.namespace, "addr", "add", f"{self.address}/24", "dev", "eth0")
+        for it in ("lo", "eth0"):
+            ip("-n", self.namespace, "link", "set", it, "up")
+        ip("-n", self.namespace, "route", "add", "default", "via", router)
+
+    def on(self, *words: str) -> list[str]:
+        return on(self.namespace, *words)
+
+    def be_led_to(self) -> None:
+        """From now on what is sent to LED comes here."""
+        ip("-n", self.namespace, "addr", "replace", f"{LED}/32", "dev", "lo")
+        ip("route", "replace", f"{LED}/32", "via", self.address)
+
+    def processes(self) -> list[int]:
+        found = subprocess.run(["ip", "netns", "pids", self.namespace], capture_output=True, text=True, check=False, timeout=20)
+        return [int(pid) for pid in found.stdout.split()]
+
+    def kill(self) -> None:
+        """All of its processes, as `kill -9`."""
+        for pid in self.processes():
+            with contextlib.suppress(ProcessLookupError):
+                os.kill(pid, signal.SIGKILL)
+
+
+class Router:
+    """It forwards what machines send each other, and what they send to this process, unless that is cut."""
+
+    def __init__(self, stack: contextlib.ExitStack) -> None:
+        own_network.enter()
+        self.stack = stack
+        self.machines: list[Machine] = []
+        ip("addr", "add", f"{OWN}/32", "dev", "lo")
+        with open("/proc/sys/net/ipv4/ip_forward", "w", encoding="ascii") as file:
+            file.write("1")
+        ip("rule", "add", "pref", LOCAL, "lookup", "local")
+        ip("rule", "del", "pref", 0)
+
+    def machine(self, name: str) -> Machine:
+        self.machines.append(Machine(self.stack, name, len(self.machines) + 1))
+        return self.machines[-1]
+
+    @contextlib.contextmanager
+    def cut(self, *ways: Way) -> Iterator[None]:
+        """What goes one of these ways, from an address to another, is lost without a word."""
+        rules = [("pref", CUT, "from", source, "to", target) for source, target in ways]
+        for rule in rules:
+            ip("rule", "add", *rule, "blackhole")
+        try:
+            yield
+        finally:
+            for rule in rules:
+                ip("rule", "del", *rule)
+
+
+def both_ways(one: Machine, *others: Machine) -> list[Way]:
+    return [way for other in others for way in ((one.address, other.address), (other.address, one.address))]

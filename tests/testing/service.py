@@ -1,0 +1,530 @@
+"""What the tests of the service share: the program, senders that repeat until they are answered and note what they were
+told, and what a sink has at the end."""
+import contextlib
+import gzip
+import http.client
+import http.server
+import json
+import os
+import random
+import signal
+import socket
+import sqlite3
+import struct
+import subprocess
+import threading
+import time
+import zlib
+from collections.abc import Callable, Iterable, Iterator, Mapping, Sequence
+from typing import Any, Protocol
+
+from testing.loopback import free_port
+
+DELTA = 1
+SECONDS = 60
+BOUNDS = [1, 5, 25]
+JSON, PROTOBUF = "application/json", "application/x-protobuf"
+OUT_OF_ORDER = b"out of order"
+# Answers after which a post is repeated.
+AGAIN = (403, 429, 502, 503, 504)
+# Of a monotonic sum a whole number, of a histogram (buckets, sum); a point's name, start, end and value.
+Value = int | tuple[tuple[int, ...], float]
+Point = tuple[str, int, int, Value]
+# A body with its headers, and a status with the body, or with why there is none.
+Post = tuple[bytes, dict[str, str]]
+Answer = tuple[int | None, bytes]
+
+
+class AtSocket(http.client.HTTPConnection):
+    """A connection to a socket of this machine."""
+
+    def __init__(self, path: str, seconds: float = 20) -> None:
+        super().__init__("localhost", timeout=seconds)
+        self.path = path
+
+    def connect(self) -> None:
+        self.sock = socket.socket(socket.AF_UNIX)
+        self.sock.settimeout(self.timeout)
+        self.sock.connect(self.path)
+
+
+def ask(port: int | str, method: str, path: str, body: bytes | str = b"", headers: Mapping[str, str] | None = None,
+        seconds: float = 20, host: str = "127.0.0.1") -> Answer:
+    """The status and the body of an answer, or (None, why). In the place of a port there may be a socket's path."""
+    connection = AtSocket(port, seconds) if isinstance(port, str) else http.client.HTTPConnection(host, port, timeout=seconds)
+    try:
+        connection.request(method, path, body, headers or {})
+        answer = connection.getresponse()
+        return answer.status, answer.read()
+    except (OSError, http.client.HTTPException) as error:
+        return None, f"{type(error).__name__} {error}".encode()
+    finally:
+        connection.close()
+
+
+def wait_until(what: Callable[[], object], seconds: float = SECONDS) -> bool:
+    """Whether it came true within so many seconds."""
+    until = time.monotonic() + seconds
+    while not what():
+        if time.monotonic() > until:
+            return False
+        time.sleep(0.01)
+    return True
+
+
+def is_stopped(pid: int) -> bool:
+    """Whether all threads of a process are stopped, or it is gone."""
+    with contextlib.suppress(OSError):
+        for thread in os.listdir(f"/proc/{pid}/task"):
+            with open(f"/proc/{pid}/task/{thread}/stat", encoding="utf-8") as file:
+                if file.read().rpartition(")")[2].split()[0] not in "TXZ":
+                    return False
+    return True
+
+
+# --------------------------------------------------------------------------------------------------------------------
+# The program
+
+
+class Service:
+    """The service on a folder, which may be killed and started again; `before` are words that run it elsewhere, where `host`
+    is its address."""
+
+    def __init__(self, program: str, data: str, sink: str, *options: str, host: str = "127.0.0.1",
+                 ports: tuple[int, int] | None = None, before: Sequence[str] = ()) -> None:
+        self.host = host
+        self.listen, self.operate = ports or (free_port(), free_port())
+        places = ["--listen", f"{host}:{self.listen}", "--operate", f"{host}:{self.operate}"]
+        places += [] if host.startswith("127.") else ["--behind-proxy"]
+        self.words = [*before, program, "serve", "--data", data, "--sink", sink, *places, *options]
+        # Points of these tests end in 1970. An earlier version knows no such setting.
+        self.settings = {} if sink.startswith("http") else {"TOTXEGUN_KEEP_SPANS": "forever"}
+        self.log = f"{data}.log"
+        elsewhere = [word.removeprefix("unix:") for word in options if word.startswith("unix:")]
+        self.data, self.socket = data, [*elsewhere, f"{data}/operate"][0]
+        self.process: subprocess.Popen[bytes] = None
+
+    def start(self, environment: Mapping[str, str] | None = None) -> None:
+        with open(self.log, "ab") as log:
+            self.process = subprocess.Popen(self.words, stdin=subprocess.DEVNULL, stdout=log, stderr=log,
+                                            env=dict(os.environ, **self.settings, **environment or {}))
+
+    def is_running(self) -> bool:
+        return self.process is not None and self.process.poll() is None
+
+    def asked(self, method: str, path: str, seconds: float = 20) -> Answer:
+        """What the operators' addresses answer, of which the socket takes orders. 0.5.0 has none."""
+        is_order = method == "POST" or path.startswith("/dead")
+        at: int | str = self.socket if is_order and os.path.exists(self.socket) else self.operate
+        return ask(at, method, path, seconds=seconds, host=self.host)
+
+    def is_ready(self) -> bool:
+        return self.asked("GET", "/ready", 2)[0] == 200
+
+    def wait_ready(self, seconds: float = SECONDS) -> bool:
+        """Whether it took posts within so many seconds; not where it ended."""
+        return wait_until(lambda: not self.is_running() or self.is_ready(), seconds) and self.is_running()
+
+    def signal(self, number: int) -> None:
+        """SIGSTOP is waited for: until one of its threads has it, the others go on."""
+        if self.is_running():
+            self.process.send_signal(number)
+            if number == signal.SIGSTOP:
+                wait_until(lambda: is_stopped(self.process.pid), 5)
+
+    def kill(self) -> None:
+        """As `kill -9`."""
+        if self.process is not None:
+            self.signal(signal.SIGKILL)
+            self.process.wait()
+
+    def end(self, seconds: float = SECONDS) -> tuple[int | None, float]:
+        """By SIGTERM: the status and how many seconds it took, or None where it did not end in time."""
+        begun = time.monotonic()
+        self.signal(signal.SIGTERM)
+        try:
+            return self.process.wait(seconds), time.monotonic() - begun
+        except subprocess.TimeoutExpired:
+            self.kill()
+            return None, time.monotonic() - begun
+
+    def order(self, path: str, seconds: float = SECONDS) -> int | None:
+        """An operator's order; its status."""
+        return self.asked("POST", path, seconds)[0]
+
+    def status(self) -> Any:
+        status, body = self.asked("GET", "/status")
+        return json.loads(body) if status == 200 else None
+
+    def is_drained(self) -> bool:
+        """Whether the sink has all that was flushed."""
+        status = self.status()
+        return status is not None and status["ready"] and all(slot["waiting"] == 0 for slot in status["slots"])
+
+    def faults(self) -> list[str]:
+        """What must never be, as the service counts it: the lines of its metrics that are not 0."""
+        status, page = self.asked("GET", "/metrics")
+        lines = page.decode().splitlines() if status == 200 else ["no metrics"]
+        return [line for line in lines if line.startswith("totxegun_faults_total") and not line.endswith(" 0")] or (
+            lines if status != 200 else [])
+
+    def last_lines(self, count: int = 12) -> str:
+        """The end of what it wrote, for a check that failed."""
+        with open(self.log, encoding="utf-8", errors="replace") as file:
+            return "".join(file.readlines()[-count:])
+
+
+# --------------------------------------------------------------------------------------------------------------------
+# Points and their sums
+
+
+def added(total: Value | None, value: Value) -> Value:
+    """A total, None at the beginning, with a value more."""
+    if total is None:
+        return value
+    if isinstance(total, int) and isinstance(value, int):
+        return total + value
+    assert isinstance(total, tuple) and isinstance(value, tuple), f"{total} and {value}"
+    return tuple(a + b for a, b in zip(total[0], value[0])), total[1] + value[1]
+
+
+def add_points(totals: dict[str, Value], points: Iterable[Point]) -> None:
+    for name, _, _, value in points:
+        totals[name] = added(totals.get(name), value)
+
+
+def metrics_in_json(points: Sequence[Point]) -> list[Any]:
+    metrics = []
+    for name, start, end, value in points:
+        point: dict[str, Any] = {"startTimeUnixNano": str(start), "timeUnixNano": str(end)}
+        if isinstance(value, int):
+            kind, more = "sum", {"isMonotonic": True}
+            point["asInt"] = str(value)
+        else:
+            kind, more = "histogram", {}
+            point |= {"bucketCounts": [str(count) for count in value[0]], "count": str(sum(value[0])), "sum": value[1],
+                      "explicitBounds": BOUNDS}
+        metrics.append({"name": name, kind: {"aggregationTemporality": DELTA, "dataPoints": [point], **more}})
+    return metrics
+
+
+def in_json(points: Sequence[Point]) -> bytes:
+    """A request with these points."""
+    return json.dumps({"resourceMetrics": [{"scopeMetrics": [{"metrics": metrics_in_json(points)}]}]}).encode()
+
+
+def varint(number: int) -> bytes:
+    out = b""
+    while number > 127:
+        out += bytes([number & 127 | 128])
+        number >>= 7
+    return out + bytes([number])
+
+
+def field(number: int, value: int | bytes) -> bytes:
+    """A field of protobuf: bytes, or a small number."""
+    if isinstance(value, int):
+        return varint(number << 3) + varint(value)
+    return varint(number << 3 | 2) + varint(len(value)) + value
+
+
+def fixed(number: int, form: str, value: float) -> bytes:
+    """A field of eight bytes."""
+    return varint(number << 3 | 1) + struct.pack(form, value)
+
+
+def metrics_in_protobuf(points: Sequence[Point]) -> bytes:
+    metrics = b""
+    for name, start, end, value in points:
+        point = fixed(2, "<Q", start) + fixed(3, "<Q", end)
+        if isinstance(value, int):
+            data = field(7, field(1, point + fixed(6, "<q", value)) + field(2, DELTA) + field(3, 1))
+        else:
+            point += fixed(4, "<Q", sum(value[0])) + fixed(5, "<d", value[1])
+            point += field(6, struct.pack(f"<{len(value[0])}Q", *value[0])) + field(7, struct.pack(f"<{len(BOUNDS)}d", *BOUNDS))
+            data = field(9, field(1, point) + field(2, DELTA))
+        metrics += field(2, field(1, name.encode()) + data)
+    return metrics
+
+
+def in_protobuf(points: Sequence[Point]) -> bytes:
+    """The same request in protobuf."""
+    return field(1, field(2, metrics_in_protobuf(points)))
+
+
+def by_resource(kind: str, groups: Mapping[str, Sequence[Point]]) -> bytes:
+    """A request in JSON or protobuf of several resources: the points of each by its `service.instance.id`."""
+    if kind == JSON:
+        key = "service.instance.id"
+        resources = [{"resource": {"attributes": [{"key": key, "value": {"stringValue": name}}]},
+                      "scopeMetrics": [{"metrics": metrics_in_json(points)}]} for name, points in groups.items()]
+        return json.dumps({"resourceMetrics": resources}).encode()
+    body = b""
+    for name, points in groups.items():
+        attribute = field(1, b"service.instance.id") + field(2, field(1, name.encode()))
+        body += field(1, field(1, field(1, attribute)) + field(2, metrics_in_protobuf(points)))
+    return body
+
+
+def forwarded_points(body: bytes) -> Iterator[Point]:
+    """The points of a request that was forwarded, in JSON."""
+    for resource in json.loads(body)["resourceMetrics"]:
+        for scope in resource["scopeMetrics"]:
+            for metric in scope["metrics"]:
+                for kind in ("sum", "histogram"):
+                    for one in metric.get(kind, {}).get("dataPoints", ()):
+                        yield metric["name"], int(one["startTimeUnixNano"]), int(one["timeUnixNano"]), forwarded_value(one)
+
+
+def forwarded_value(one: Any) -> Value:
+    if "asInt" in one:
+        return int(one["asInt"])
+    return tuple(int(count) for count in one["bucketCounts"]), one["sum"]
+
+
+def overlaps(points: Iterable[Point]) -> list[str]:
+    """The names of the series of which two spans overlap: something was taken twice."""
+    last: dict[str, int] = {}
+    found: set[str] = set()
+    for name, start, end, _ in sorted(points):
+        if start < last.get(name, 0):
+            found.add(name)
+        last[name] = end
+    return sorted(found)
+
+
+def differences(wanted: Mapping[str, object], found: Mapping[str, object]) -> list[str]:
+    """A few of the series that differ, or an empty list."""
+    names = [name for name in sorted(wanted.keys() | found.keys()) if wanted.get(name) != found.get(name)]
+    return [f"{name}: senders were told {wanted.get(name)}, the sink has {found.get(name)}" for name in names[:5]]
+
+
+# --------------------------------------------------------------------------------------------------------------------
+# Senders
+
+
+class Listening(Protocol):
+    """What a sender has to know of a service."""
+
+    listen: int
+
+
+class Sender:
+    """Posts points of its own series, each post until it is answered, on a connection that is kept. `told` is what it was
+    told is taken, added up by series."""
+
+    def __init__(self, service: Listening, number: int | str, seed: object = 0, seconds: float = 3) -> None:
+        self.service, self.host = service, "127.0.0.1"
+        self.name = f"sender-{number}"
+        self.chance = random.Random(f"{seed} {number}")
+        self.seconds = seconds
+        self.connection: http.client.HTTPConnection = None
+        self.time = 1_000_000_000
+        self.told: dict[str, Value] = {}
+        self.surprises: list[Answer] = []
+        self.posts = self.repeats = 0
+        # The last post that was answered, for a late repeat.
+        self.last: Post = None
+
+    def next_points(self) -> list[Point]:
+        """One to four points: a sum and a histogram at least, spans that begin where the ones before end or later."""
+        points: list[Point] = []
+        for which in range(self.chance.randrange(1, 3)):
+            start = self.time + self.chance.choice([0, 0, 5])
+            value = self.chance.randrange(1, 1000)
+            buckets = tuple(self.chance.randrange(5) for _ in range(len(BOUNDS) + 1))
+            points.append((f"{self.name}.sum.{which}", start, start + 10, value))
+            points.append((f"{self.name}.histogram.{which}", start, start + 10, (buckets, value)))
+        self.time += 20
+        return points
+
+    def encoded(self, points: Sequence[Point]) -> Post:
+        """A body and its headers: JSON or protobuf, packed or not."""
+        kind, write = self.chance.choice([(JSON, in_json), (PROTOBUF, in_protobuf)])
+        body, headers = write(points), {"Content-Type": kind, "x-sender": self.name}
+        if self.chance.random() < 0.3:
+            body, headers["Content-Encoding"] = gzip.compress(body, 1), "gzip"
+        return body, headers
+
+    def try_once(self, body: bytes, headers: dict[str, str]) -> Answer:
+        """The answer to one attempt, on the kept connection, or (None, why)."""
+        try:
+            if self.connection is None:
+                self.connection = http.client.HTTPConnection(self.host, self.service.listen, timeout=self.seconds)
+            self.connection.request("POST", "/v1/metrics", body, headers)
+            answer = self.connection.getresponse()
+            return answer.status, answer.read()
+        except (OSError, http.client.HTTPException) as error:
+            self.connection.close()
+            self.connection = None
+            return None, type(error).__name__.encode()
+
+    def post(self, points: Sequence[Point], between: Callable[[], object] = lambda: None) -> bool:
+        """Repeats a post until it is answered; whether it was taken. `between` is called before each repeat."""
+        body, headers = self.encoded(points)
+        for attempt in range(1_000_000):
+            status, text = self.try_once(body, headers)
+            is_taken = status == 200 or (status == 400 and OUT_OF_ORDER in text and attempt > 0)
+            if is_taken:
+                if b"points outside the profile" in text:
+                    self.surprises.append((status, text))
+                self.note(points, (body, headers))
+                return True
+            if status is not None and status not in AGAIN:
+                self.surprises.append((status, text))
+                return False
+            self.repeats += 1
+            time.sleep(min(0.01 * (attempt + 1), 0.2))
+            between()
+        return False
+
+    def note(self, points: Sequence[Point], last: Post) -> None:
+        self.posts += 1
+        add_points(self.told, points)
+        self.last = last
+
+    def late_repeat(self) -> Answer:
+        """The answer to a repeat of the last post that was taken. Where none comes in time, TimeoutError."""
+        until = time.monotonic() + SECONDS
+        while self.last:
+            answer = self.try_once(*self.last)
+            if answer[0] not in (None, *AGAIN):
+                return answer
+            if time.monotonic() > until:
+                raise TimeoutError(f"a repeat of the last post of {self.name} is not answered within {SECONDS} s: {answer}")
+            time.sleep(0.1)
+        return 400, OUT_OF_ORDER
+
+    def close(self) -> None:
+        if self.connection is not None:
+            self.connection.close()
+
+
+def told_to_all(senders: Iterable[Sender]) -> dict[str, Value]:
+    """What all senders were told is taken."""
+    return {name: total for sender in senders for name, total in sender.told.items()}
+
+
+# --------------------------------------------------------------------------------------------------------------------
+# Sinks
+
+
+class Told(Protocol):
+    """What can be asked of a sink."""
+
+    def points(self) -> list[Point]: ...
+
+    def wrong(self) -> list[str]: ...
+
+
+class Sink(Told, Protocol):
+    """What the two below have, and sinks of other scripts."""
+
+    address: str
+
+    def mood(self, moods: Sequence[str]) -> None: ...
+
+    def close(self) -> None: ...
+
+
+class SqliteSink:
+    """The file that the service writes."""
+
+    def __init__(self, path: str) -> None:
+        self.path = path
+        self.address = f"sqlite:{path}"
+
+    def points(self) -> list[Point]:
+        if not os.path.exists(self.path):
+            return []
+        database = sqlite3.connect(f"file:{self.path}?mode=ro", uri=True)
+        rows = database.execute("select name, start_ns, end_ns, value, sum, buckets from span"
+                                " join series on series.id = span.series").fetchall()
+        database.close()
+        return [(name, int(start), int(end), value if buckets is None else (tuple(map(int, json.loads(buckets))), total))
+                for name, start, end, value, total, buckets in rows]
+
+    def mood(self, moods: Sequence[str]) -> None:
+        """It has none."""
+
+    def wrong(self) -> list[str]:
+        return []
+
+    def close(self) -> None:
+        pass
+
+
+class OtlpSink:
+    """A sink of OTLP over HTTP that takes each key once. How it answers goes by its moods, one drawn for each request:
+    `well`, `late`, `busy` (503), `refuse` (400), `deny` (401), `silent` (no answer), `lose` (takes, and its answer is lost)."""
+
+    def __init__(self, seed: object = 0, host: str = "127.0.0.1") -> None:
+        self.chance = random.Random(f"sink {seed}")
+        self.moods: Sequence[str] = ["well"]
+        self.lock = threading.Lock()
+        self.taken: dict[str, bytes] = {}
+        self.read: dict[str, list[Point]] = {}
+        self.seen: dict[str, int] = {}
+        self.broken: list[str] = []
+        sink = self
+
+        class Handler(http.server.BaseHTTPRequestHandler):
+            protocol_version = "HTTP/1.1"
+
+            def handle(self) -> None:
+                with contextlib.suppress(ConnectionError):  # The service may be killed meanwhile.
+                    super().handle()
+
+            def do_POST(self) -> None:
+                sink.serve(self)
+
+            def log_message(self, *_: object) -> None:
+                pass
+
+        self.server = http.server.ThreadingHTTPServer((host, 0), Handler)
+        self.server.daemon_threads = True
+        threading.Thread(target=self.server.serve_forever, daemon=True).start()
+        self.address = f"http://{host}:{self.server.server_port}/v1/metrics"
+
+    def mood(self, moods: Sequence[str]) -> None:
+        self.moods = moods
+
+    def serve(self, request: http.server.BaseHTTPRequestHandler) -> None:
+        body = request.rfile.read(int(request.headers["Content-Length"]))
+        key = request.headers["Idempotency-Key"]
+        with self.lock:
+            mood = self.chance.choice(self.moods)
+            self.look_at(key, body)
+            if mood in ("well", "late", "lose"):
+                self.taken.setdefault(key, body)
+        if mood == "late":
+            time.sleep(0.3)
+        if mood in ("silent", "lose"):
+            request.close_connection = True
+            return
+        request.send_response({"busy": 503, "refuse": 400, "deny": 401}.get(mood, 200))
+        if mood == "busy":
+            request.send_header("Retry-After", "0")
+        request.send_header("Content-Length", "2")
+        request.end_headers()
+        request.wfile.write(b"{}")
+
+    def look_at(self, key: str | None, body: bytes) -> None:
+        """A key comes with the same bytes each time."""
+        if not key:
+            self.broken.append("a request without a key")
+        elif self.seen.setdefault(key, zlib.crc32(body)) != zlib.crc32(body):
+            self.broken.append(f"other bytes under the key {key}")
+
+    def points(self) -> list[Point]:
+        with self.lock:
+            for key in self.taken.keys() - self.read.keys():
+                self.read[key] = list(forwarded_points(self.taken[key]))
+            return [point for key in self.taken for point in self.read[key]]
+
+    def wrong(self) -> list[str]:
+        return self.broken
+
+    def close(self) -> None:
+        self.server.shutdown()
+        self.server.server_close()

@@ -1,0 +1,340 @@
+"""Runs steps side by side, as many as processors and memory carry, and shows how each ended.
+
+A line for each step when it ends. On a terminal a last line moves with what runs. Of a step that fails
+the end of its log is shown, and the command that repeats it.
+"""
+from __future__ import annotations
+
+import contextlib
+import fcntl
+import os
+import queue
+import re
+import shutil
+import signal
+import subprocess
+import sys
+import threading
+import time
+from collections.abc import Callable, Iterable, Iterator, Sequence
+
+from tooling.crates import OUT, ROOT
+
+LOGS = f"{OUT}/logs"
+GIGABYTE = 1_000_000_000
+# What each further job of a check may take.
+JOB_MEMORY = 3 * GIGABYTE // 2
+# A step whose chain is nearly the longest gets several jobs; one whose chain is short yields to all others.
+NEARLY = 0.9
+SHORT = 0.5
+END_OF_LOG = 30
+MOST_ERRORS = 10
+# For what an interrupted step puts back, in seconds.
+TIME_TO_END = 60
+# Control groups of version 2 and 1: what they hold, and what they may.
+GROUPS = (
+    ("/sys/fs/cgroup/memory.max", "/sys/fs/cgroup/memory.current"),
+    ("/sys/fs/cgroup/memory/memory.limit_in_bytes", "/sys/fs/cgroup/memory/memory.usage_in_bytes"),
+)
+
+
+class Failed(Exception):
+    """Why a step failed, in a few words."""
+
+
+class Step:
+    """A piece of work with a name of its own.
+
+    `work` is a function of this step; it returns what its line says at the end, or raises Failed.
+    `after` names the steps that end well before it begins; `weight` is how long it takes beside others.
+    No two steps of one `lane` run at the same time, and a step that is `alone` has none beside it.
+    What a step runs that `yields` has a lower priority.
+    """
+
+    def __init__(self, name: str, work: Callable[[Step], str], again: str, after: Sequence[str] = (),
+                 weight: int = 1, memory: int = 0, most_jobs: int = 1, lane: str | None = None,
+                 alone: bool = False, log: str | None = None) -> None:
+        self.name = name
+        self.work = work
+        self.again = again
+        self.after = after
+        self.weight = weight
+        self.memory = memory
+        self.most_jobs = most_jobs
+        self.lane = lane
+        self.alone = alone
+        self.jobs = 1
+        self.yields = False
+        self.count = ""
+        self.begun = time.monotonic()
+        self.say: Callable[[str], object] = print
+        self.log = f"{LOGS}/{log or name}.log"
+
+    def needs(self, jobs: int) -> int:
+        return self.memory + JOB_MEMORY * (jobs - 1) if self.memory else 0
+
+    def run(self, command: Sequence[str], folder: str = ROOT, read_line: Callable[[str], object] | None = None,
+            limit: float | None = None) -> int:
+        """Runs a command with its output in the log, each line read as it comes, and returns its status. It is
+        ended after so many seconds, if there is a limit."""
+        with open(self.log, "a", encoding="utf-8") as log:
+            child = CHILDREN.start(["nice", *command] if self.yields else command, folder)
+            clock = threading.Timer(limit or threading.TIMEOUT_MAX, CHILDREN.stop, [child])
+            clock.daemon = True
+            clock.start()
+            for line in child.stdout:
+                log.write(line)
+                if read_line:
+                    read_line(line)
+            status = CHILDREN.end(child)
+            is_late = limit and not clock.is_alive()
+            clock.cancel()
+        if is_late:
+            raise Failed(f"it had not ended after {limit} s")
+        return status
+
+
+class Children:
+    """The processes that run for the steps. Each leads a group, so that an interrupt ends what it has started too.
+    All are in one session: Linux shares the processors among sessions first, and within one by priority.
+    """
+
+    def __init__(self) -> None:
+        self.lock = threading.Lock()
+        self.running: set[subprocess.Popen[str]] = set()
+        self.is_ending = False
+
+    def start(self, command: Sequence[str], folder: str) -> subprocess.Popen[str]:
+        with self.lock:
+            if self.is_ending:
+                raise Failed("interrupted")
+            child = subprocess.Popen(command, cwd=folder, text=True, errors="replace", process_group=0,
+                                     stdin=subprocess.DEVNULL, stdout=subprocess.PIPE, stderr=subprocess.STDOUT)
+            self.running.add(child)
+        return child
+
+    def end(self, child: subprocess.Popen[str]) -> int:
+        status = child.wait()
+        with self.lock:
+            self.running.discard(child)
+        return status
+
+    def stop(self, child: subprocess.Popen[str]) -> None:
+        """Ends a process and what it has started, as far as that is in its group."""
+        with self.lock:
+            if child in self.running and child.poll() is None:
+                os.killpg(child.pid, signal.SIGTERM)
+
+    def end_all(self) -> None:
+        with self.lock:
+            self.is_ending = True
+            running = [*self.running]
+        for child in running:
+            self.stop(child)
+
+
+CHILDREN = Children()
+
+
+class Board:
+    """What is printed: lines that stay, and on a terminal a last one that moves."""
+
+    def __init__(self, whole: int) -> None:
+        self.whole = whole
+        self.ended = 0
+        self.begun = time.monotonic()
+        self.moves = sys.stdout.isatty()
+
+    def say(self, text: str) -> None:
+        print(f"\r\033[K{text}" if self.moves else text, flush=True)
+
+    def show(self, running: Iterable[Step]) -> None:
+        """The line that moves."""
+        if self.moves:
+            now = time.monotonic()
+            words = ", ".join(f"{step.name} {step.count or shown(now - step.begun)}" for step in running)
+            line = f"{self.ended} of {self.whole} in {shown(time.monotonic() - self.begun)}: {words}"
+            width = shutil.get_terminal_size().columns - 1
+            print(f"\r\033[K{line[:width]}", end="", flush=True)
+
+    def clear(self) -> None:
+        print("\r\033[K" if self.moves else "", end="", flush=True)
+
+    def show_end(self, step: Step, seconds: float, note: str, passed: bool) -> None:
+        self.ended += 1
+        place = f"{self.ended:>{len(str(self.whole))}} of {self.whole}"
+        self.say(f"{place}  {step.name:<24} {shown(seconds):>6}  {note if passed else 'FAILED: ' + note}")
+        if not passed and not CHILDREN.is_ending:
+            for line in end_of(step.log):
+                self.say(f"    | {line}")
+            self.say(f"    The whole log is {os.path.relpath(step.log)}. Again: {step.again}")
+
+
+def shown(seconds: float) -> str:
+    """Seconds as they are read."""
+    seconds = round(seconds)
+    return f"{seconds} s" if seconds < 100 else f"{seconds // 60}:{seconds % 60:02}"
+
+
+def end_of(log: str) -> list[str]:
+    """The end of a log, and the errors before it."""
+    try:
+        with open(log, encoding="utf-8") as file:
+            return end_of_lines([line.rstrip("\n") for line in file])
+    except FileNotFoundError:
+        return []
+
+
+def end_of_lines(lines: list[str]) -> list[str]:
+    errors = [line for line in lines[:-END_OF_LOG] if ": error" in line]
+    return errors[:MOST_ERRORS] + lines[-END_OF_LOG:]
+
+
+def number_in(file: str) -> int | None:
+    """The number in a file of the system, or none."""
+    try:
+        with open(file, encoding="utf-8") as it:
+            return int(it.read())
+    except (OSError, ValueError):
+        return None
+
+
+def free_memory() -> int:
+    """The memory in bytes that may be taken: what the machine has, and what a control group leaves."""
+    with open("/proc/meminfo", encoding="utf-8") as file:
+        free = 1024 * int(re.search(r"MemAvailable:\s+(\d+)", file.read())[1])
+    for limit, used in GROUPS:
+        most, taken = number_in(limit), number_in(used)
+        if most and taken is not None:
+            free = min(free, most - taken)
+    return free
+
+
+class Steps:
+    """Steps that run as soon as those before them have ended, the longest chain first."""
+
+    def __init__(self, steps: list[Step]) -> None:
+        self.waiting = list(steps)
+        self.running: dict[Step, threading.Thread] = {}
+        self.passed: set[str] = set()
+        self.failed: list[Step] = []
+        self.ended: queue.Queue[tuple[Step, float, bool, str]] = queue.Queue()
+        self.processors = len(os.sched_getaffinity(0))
+        self.memory = free_memory()
+        self.board = Board(len(self.waiting))
+        self.chain = chains(self.waiting)
+        self.waiting.sort(key=lambda step: -self.chain[step.name])
+
+    def run(self) -> bool:
+        """Runs them all, but for those behind one that fails. Returns whether all passed."""
+        os.makedirs(LOGS, exist_ok=True)
+        for it in (signal.SIGINT, signal.SIGTERM, signal.SIGHUP):
+            # Under nohup a hang-up stays ignored.
+            if it != signal.SIGHUP or signal.getsignal(it) != signal.SIG_IGN:
+                signal.signal(it, interrupt)
+        try:
+            while self.begin_some() or self.running:
+                self.board.show(self.running)
+                try:
+                    self.hear(*self.ended.get(timeout=0.5))
+                except queue.Empty:
+                    pass
+        except KeyboardInterrupt:
+            signal.signal(signal.SIGINT, signal.SIG_IGN)
+            CHILDREN.end_all()
+            for thread in self.running.values():
+                thread.join(TIME_TO_END)
+            self.board.say("interrupted")
+            sys.exit(130)
+        self.board.clear()
+        if self.waiting:
+            self.board.say(f"not begun: {' '.join(step.name for step in self.waiting)}")
+        return not self.failed and not self.waiting
+
+    def begin_some(self) -> bool:
+        """Begins what can begin now, and returns whether anything did."""
+        begun = False
+        for step in [it for it in self.waiting if self.passed.issuperset(it.after)]:
+            jobs = self.jobs_for(step)
+            if jobs:
+                begun = True
+                step.jobs = jobs
+                step.yields = step.most_jobs > 1 and self.part(step) < SHORT
+                step.say = self.board.say
+                self.waiting.remove(step)
+                self.running[step] = threading.Thread(target=self.work, args=(step,), daemon=True)
+                self.running[step].start()
+        return begun
+
+    def jobs_for(self, step: Step) -> int:
+        """How many jobs a step gets: none where it has to wait, all that it may have where its chain is nearly
+        the longest, and else what is left of the processors, and at least one; as far as memory carries them."""
+        if self.running and self.has_to_wait(step):
+            return 0
+        left = self.processors - sum(it.jobs for it in self.running)
+        jobs = step.most_jobs if self.part(step) >= NEARLY else max(1, min(left, step.most_jobs))
+        room = self.memory - sum(it.needs(it.jobs) for it in self.running)
+        while jobs > 1 and step.needs(jobs) > room:
+            jobs -= 1
+        return jobs if not self.running or step.needs(jobs) <= room else 0
+
+    def has_to_wait(self, step: Step) -> bool:
+        """Whether a step can't begin beside those that run, whatever memory there is."""
+        is_apart = step.alone or any(it.alone for it in self.running)
+        is_in_lane = any(it.lane and it.lane == step.lane for it in self.running)
+        return is_apart or is_in_lane or len(self.running) >= self.processors
+
+    def part(self, step: Step) -> float:
+        """What part of the longest chain that is left its own is."""
+        return self.chain[step.name] / max(self.chain[it.name] for it in [*self.running, *self.waiting])
+
+    def work(self, step: Step) -> None:
+        step.begun = time.monotonic()
+        try:
+            with open(step.log, "w", encoding="utf-8"):
+                pass
+            end = (True, step.work(step))
+        except Failed as why:
+            end = (False, str(why))
+        except BaseException as fault:
+            end = (False, f"{type(fault).__name__}: {fault}")
+        self.ended.put((step, time.monotonic() - step.begun, *end))
+
+    def hear(self, step: Step, seconds: float, passed: bool, note: str) -> None:
+        del self.running[step]
+        if passed:
+            self.passed.add(step.name)
+        else:
+            self.failed.append(step)
+        self.board.show_end(step, seconds, note, passed)
+
+
+def chains(steps: Sequence[Step]) -> dict[str, int]:
+    """The weight of each step and of the longest chain of others behind it."""
+    behind = {step.name: 0 for step in steps}
+    weight = {step.name: step.weight for step in steps}
+    # A step comes behind those that it waits for.
+    for step in reversed(steps):
+        for name in step.after:
+            behind[name] = max(behind[name], weight[step.name] + behind[step.name])
+    return {name: weight[name] + behind[name] for name in behind}
+
+
+@contextlib.contextmanager
+def locked(folder: str) -> Iterator[None]:
+    """Waits until nothing else works in a folder, and keeps others out for as long as a `with` lasts, as `rt` does."""
+    os.makedirs(folder, exist_ok=True)
+    held = os.open(folder, os.O_RDONLY)
+    try:
+        try:
+            fcntl.flock(held, fcntl.LOCK_EX | fcntl.LOCK_NB)
+        except BlockingIOError:
+            print(f"waiting for another run in {os.path.relpath(folder)}", flush=True)
+            fcntl.flock(held, fcntl.LOCK_EX)
+        yield
+    finally:
+        os.close(held)
+
+
+def interrupt(*_: object) -> None:
+    raise KeyboardInterrupt
