@@ -7,3 +7,4 @@ pub mod MetricLemmas
 pub mod TextLemmas
 pub mod MemberLemmas
 pub mod PartLemmas
+pub mod DigitLemmas

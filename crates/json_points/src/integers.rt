@@ -1,20 +1,49 @@
 //! Reads whole numbers: JSON numbers, or decimal texts (proto3 JSON mapping).
 
-ghost use Rattle.std.specs.Prelude.{◌≡◌, ◌<◌, ◌≤◌, ◌^◌};
+ghost use Rattle.std.specs.Prelude.{◌≡◌, ◌<◌, ◌≤◌, ◌^◌, length};
 ghost use Rattle.otlp_read.specs.Integers.{magnitude, text_whole, whole, unsigned_in, unsigned_64};
 ghost use Rattle.otlp_read.specs.Integers.{signed_in, signed_64};
 ghost use Rattle.json_points.specs.inner.Nodes.{data_at};
+ghost use Rattle.json_points.specs.declared.integers.TheConstants.{FEW};
 
 use crate::node::Node;
 use crate::numbers::number;
 use decimals::number_up_to;
+
+/// The most digits of which each number is below 2^64.
+const FEW: usize = 19;
+
+/// The number of so few digits, which is always below 2^64: nothing is checked but that they are
+/// digits.
+#[tactic(auto, unfolding(otlp_read::specs::Integers::magnitude))]
+fn few_digits(digits: &[u8]) -> Option<u64>
+    requires { length digits.now ≤ FEW }
+    ensures { result ≡ magnitude digits.now }
+{
+    if digits.is_empty() {
+        return None;
+    }
+    let mut value = 0u64;
+    for digit in digits {
+        if !digit.is_ascii_digit() {
+            return None;
+        }
+        value = value * 10 + u64::from(*digit - b'0');
+    }
+    Some(value)
+}
 
 /// The number of the digits, if it is below 2^64.
 #[tactic(auto, unfolding(otlp_read::specs::Integers::magnitude))]
 fn digits_below(text: &str) -> Option<u64>
     ensures { result ≡ magnitude text.now }
 {
-    number_up_to(text.as_bytes(), u64::MAX)
+    let digits = text.as_bytes();
+    if digits.len() <= FEW {
+        few_digits(digits)
+    } else {
+        number_up_to(digits, u64::MAX)
+    }
 }
 
 /// The number of a text: an optional minus, then digits.
