@@ -141,6 +141,15 @@ def kill(arguments: argparse.Namespace) -> None:
                       f" {spread([it[1] * 1e3 for it in found], '.0f')} ms after the start", flush=True)
 
 
+def replayed(one: Measured) -> int:
+    """How many posts the second start has put in: its log says so a moment after."""
+    said: list[str] = []
+    while len(said) < 2:
+        time.sleep(0.01)
+        said = re.findall(r"posts of the journal: (\d+)", one.last_lines(1000))
+    return int(said[-1])
+
+
 def replay(arguments: argparse.Namespace) -> None:
     series = arguments.among
     for posts in arguments.posts:
@@ -152,8 +161,7 @@ def replay(arguments: argparse.Namespace) -> None:
                     order(one, "/flush")
                     posted_all(senders, posts)
                     counted, answered = killed(one, 0)
-                    replayed = re.findall(r"posts of the journal: (\d+)", one.last_lines())[-1]
-                    print(f"{name}{posts:,} posts of {points} points, {series:,} series: {int(replayed):,} replayed in {counted:.2f} s; a"
+                    print(f"{name}{posts:,} posts of {points} points, {series:,} series: {replayed(one):,} replayed in {counted:.2f} s; a"
                           f" post is answered {answered:.2f} s after the start", flush=True)
 
 
