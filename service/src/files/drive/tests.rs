@@ -184,7 +184,8 @@ async fn a_drive_that_fails_ends_its_slot_alone_and_nothing_reaches_it_any_more(
     let ticket = append(&journal, "A", "one");
     fails.store(false, SeqCst);
     assert_eq!(journal.durable(ticket).await, Err(Lost));
-    (journal.lost().await, outbox.lost().await);
+    journal.lost().await;
+    outbox.lost().await;
     let why = journal.failure().unwrap();
     assert!(why.contains("no room"), "{why}");
     assert!(matches!(outbox.quarantine("B"), Err(Fault::Lost(_))));
