@@ -5,7 +5,7 @@
 //! in the ranges that the contracts have; declarations as `crates/book_c/src/lib.rt` and `answers.rt` have them; and
 //! memory that nobody else writes to, which it gets by the three functions at the end.
 
-use super::memory;
+use super::memory::{self, Tried};
 use std::ptr::null_mut;
 
 /// The most series of each book that one flush takes.
@@ -316,30 +316,6 @@ impl Drop for Flushes {
     fn drop(&mut self) {
         // SAFETY: the handle is live, and nobody has it after this.
         unsafe { flushes_free(&mut self.0) };
-    }
-}
-
-/// Whether there is a block, and where. Where there is none the address is that of a byte which is always there.
-#[repr(C)]
-struct Tried {
-    ok: bool,
-    at: *mut u8,
-}
-
-static NO_BLOCK: u8 = 0;
-
-impl Tried {
-    fn of(at: *mut libc::c_void) -> Tried {
-        let at = at.cast();
-        Tried { ok: true, at }
-    }
-
-    fn not() -> Tried {
-        memory::note_refusal();
-        Tried {
-            ok: false,
-            at: (&raw const NO_BLOCK).cast_mut(),
-        }
     }
 }
 

@@ -183,3 +183,27 @@ pub(crate) fn fail_after(blocks: Option<u64>) {
 pub(crate) fn is_to_fail() -> bool {
     OWN.with(|own| own.left.get().is_some())
 }
+
+/// Whether there is a block, and where. Where there is none the address is that of a byte which is always there.
+#[repr(C)]
+pub(super) struct Tried {
+    ok: bool,
+    at: *mut u8,
+}
+
+static NO_BLOCK: u8 = 0;
+
+impl Tried {
+    pub(super) fn of(at: *mut libc::c_void) -> Tried {
+        let at = at.cast();
+        Tried { ok: true, at }
+    }
+
+    pub(super) fn not() -> Tried {
+        note_refusal();
+        Tried {
+            ok: false,
+            at: (&raw const NO_BLOCK).cast_mut(),
+        }
+    }
+}

@@ -1,7 +1,7 @@
 //! The book: proved, linked in, and asked by calls. `book` is the wrapper over its library, the only file that calls what
 //! is not Rust, `refusal` what it says no by, `memory` what it may have, `names` has numbers for series, `rounds` when rounds are
-//! closed, `read` a post that was read, `readers` what reads them, `stretch` which points are of one hour, `earlier` what is taken where a later one begins,
-//! `beyond` where the series of a refused post end.
+//! closed, `read` a post that was read, `readers` what reads them, `stretch` which points are of one hour, `earlier` what is taken
+//! where a later one begins, `flushed` what was taken, `beyond` where the series of a refused post end.
 //!
 //! A post is read by a reader, which needs no lock. All else is asked of the one `Book` under the lock of `Core`: so
 //! there is one order of all that changes it, and what is put into the journal under that lock has the same.
@@ -10,6 +10,7 @@ mod beyond;
 #[allow(unsafe_code)]
 mod book;
 mod earlier;
+mod flushed;
 mod memory;
 mod names;
 mod read;
@@ -18,6 +19,7 @@ mod refusal;
 mod rounds;
 mod stretch;
 
+pub use flushed::Flushed;
 pub use memory::used as memory_used;
 pub use names::Names;
 pub use read::Read;
@@ -29,6 +31,7 @@ use crate::files::{Body, Points};
 use book::{Answer, Desk, Flushes, MOST_TAKEN};
 use bytes::Bytes;
 use earlier::Earlier;
+use flushed::copied;
 use refusal::check;
 use rounds::Rounds;
 use std::ops::{Deref, DerefMut};
@@ -55,16 +58,6 @@ pub struct Book {
     rounds: Rounds,
     across: Across,
     earlier: Earlier,
-}
-
-/// What was taken of the book: a request for each of these numbers, from 0. It is to be settled: once the lock is another's,
-/// points of a later hour may come, which it would be one with if it were given back.
-#[must_use = "what was taken has to be settled"]
-pub struct Flushed {
-    /// Requests that go ahead of the others, and are written already.
-    earlier: Vec<Vec<u8>>,
-    /// Each with how many requests it has.
-    parts: Vec<(Flushes, usize)>,
 }
 
 /// The book, for who has its lock.
@@ -354,51 +347,6 @@ impl Book {
 
 /// The last line of a report.
 const END: &[u8] = b"end\n";
-
-impl Flushed {
-    fn of(flushes: Flushes, count: usize) -> Flushed {
-        Flushed {
-            earlier: Vec::new(),
-            parts: vec![(flushes, count)],
-        }
-    }
-
-    /// How many requests there are to be written.
-    pub fn count(&self) -> usize {
-        self.parts.iter().map(|(_, count)| count).sum()
-    }
-
-    /// Writes one of them, which takes no lock.
-    pub fn text(&mut self, number: usize) -> Result<Vec<u8>, Refused> {
-        let mut before = number;
-        for (flushes, count) in &mut self.parts {
-            if before < *count {
-                let text = check(flushes.text(before))?;
-                memory::note_text(text.number);
-                return copied(flushes, text.number);
-            }
-            before -= *count;
-        }
-        Err(Refused::NoSuch)
-    }
-
-    /// Writes all of them, behind those that are written already.
-    pub fn texts(&mut self) -> Result<Vec<Vec<u8>>, Refused> {
-        let written: Result<Vec<_>, _> = (0..self.count()).map(|number| self.text(number)).collect();
-        let written = written?;
-        let mut all = std::mem::take(&mut self.earlier);
-        all.extend(written);
-        Ok(all)
-    }
-}
-
-fn copied(flushes: &mut Flushes, length: u64) -> Result<Vec<u8>, Refused> {
-    let mut out = vec![0; usize::try_from(length).map_err(|_| Refused::NoMemory)?];
-    match flushes.copy(&mut out) {
-        true => Ok(out),
-        false => Err(Refused::Unknown(u32::MAX)),
-    }
-}
 
 impl Deref for Locked<'_> {
     type Target = Book;

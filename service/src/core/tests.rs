@@ -150,6 +150,25 @@ fn more_posts_than_a_journal_has_entries_are_taken() {
     assert_eq!(taken(&core), [("a0".into(), (40_000, 400_010))].into());
 }
 
+/// Nothing is heard of that either: what is pending stays, and so do owners and ends.
+#[test]
+fn rounds_that_are_closed_at_rest_keep_what_is_pending() {
+    let core = Core::new(1).unwrap();
+    let a = names("a", 1);
+    let rest = || while core.lock().close_round_at_rest() {};
+    rest();
+    assert_eq!(core.lock().rounds_closed(), 0, "nothing came");
+    for number in 1..=10 {
+        assert_eq!(post(&core, "A", &points(&a, number * 10, 1)), Ok(0));
+    }
+    rest();
+    assert_eq!(core.lock().rounds_closed(), 1);
+    assert!(post(&core, "A", &points(&a, 100, 1)).is_err(), "it ends at 110");
+    assert!(post(&core, "B", &points(&a, 110, 1)).is_err(), "it is A's");
+    assert_eq!(post(&core, "A", &points(&a, 110, 1)), Ok(0));
+    assert_eq!(taken(&core), [("a0".into(), (11, 120))].into());
+}
+
 /// The deepest that is read, and what is refused, on a thread as the runtimes have.
 #[test]
 fn a_thread_has_the_stack_for_what_nests_to_127() {
