@@ -2,9 +2,10 @@
 //!
 //! Senders post to `intake`, or call `grpc`, which read their request by `otlp` and give it to the `slot`: the book (`core`)
 //! with its journal and outbox (`files`). A `keeper` fills the book at the start, and flushes it. What was flushed
-//! is delivered to one of the `sinks`. `shares` is what each sender may have, `remarks` tells in the log what an operator may want to know of posts.
+//! is delivered to one of the `sinks`. `shares` is what each sender may have, `post_reports` tells senders
+//! and operators of posts that were not taken.
 //! `operate` is the operator's address, `command` the command line, `service` all of it as one process, `log` what it says;
-//! `switch` tells a part of it to stop, `work` is done beside the runtime, `postgres` connects.
+//! `latch` tells a part of it to stop, `work` is done beside the runtime, `postgres` connects.
 //! A `store` has the files of slots that several machines share.
 
 // What may be missing is handled; in a test these two are the check. `print!` and `eprint!` panic where nobody reads: see
@@ -29,13 +30,14 @@ pub mod grpc;
 pub mod identity;
 pub mod intake;
 pub mod keeper;
+pub mod latch;
 mod log;
 pub mod metrics;
 pub mod operate;
 pub mod otlp;
 pub mod pass;
+pub mod post_reports;
 pub mod postgres;
-pub mod remarks;
 pub mod renewed;
 pub mod runs;
 pub mod service;
@@ -43,7 +45,6 @@ pub mod shares;
 pub mod sinks;
 pub mod slot;
 pub mod store;
-pub mod switch;
 pub mod tls;
 mod work;
 

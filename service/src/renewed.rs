@@ -86,16 +86,16 @@ impl<T: Send + Sync + 'static> Renewed<T> {
 
 /// Of each file, or why it can't be read.
 type Contents = Vec<Result<Vec<u8>, String>>;
-type Found = Vec<Result<[u8; 32], String>>;
+type Digests = Vec<Result<[u8; 32], String>>;
 
 /// Files that are used together, each with its option.
 struct Files<T> {
     files: Vec<(&'static str, PathBuf)>,
     reader: Reader<T>,
     /// What was last used, or refused.
-    judged: Found,
+    judged: Digests,
     /// What the last look found.
-    seen: Found,
+    seen: Digests,
     stale: IntGauge,
     into: Weak<Renewed<T>>,
 }
@@ -175,7 +175,7 @@ fn contents(path: &Path) -> Result<Vec<u8>, String> {
     }
 }
 
-fn digests(contents: &Contents) -> Found {
+fn digests(contents: &Contents) -> Digests {
     let digest = |bytes: &Vec<u8>| Sha256::digest(bytes).into();
     let one = |read: &Result<Vec<u8>, String>| read.as_ref().map(digest).map_err(String::clone);
     contents.iter().map(one).collect()

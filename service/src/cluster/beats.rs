@@ -1,11 +1,11 @@
 //! The loop of an instance in a database of the store: it beats there, takes the slots of it and hands them over as `owners`
 //! says, and tells who has which. Of several databases each has its own loop, and what becomes of one moves no slot of another.
 
-use super::known::{Cluster, Database, STALL};
+use super::local_view::{Cluster, Database, STALL};
 use super::owners::Step;
 use super::terms::{Silence, Terms, Units, Unopened};
 use crate::log::Seldom;
-use crate::switch::Switch;
+use crate::latch::Latch;
 use std::collections::HashMap;
 use std::sync::Arc;
 use std::time::Duration;

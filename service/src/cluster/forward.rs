@@ -18,7 +18,7 @@ pub use operators::{Answers, Asks};
 pub use peer::SILENT_FOR;
 pub use wire::Wire;
 
-use super::known::{Cluster, Places, NO_STORE};
+use super::local_view::{Cluster, Places, NO_STORE};
 use super::owners::Whose;
 use super::terms::Doing;
 use crate::log::Seldom;

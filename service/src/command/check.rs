@@ -43,7 +43,7 @@ pub struct Options {
 
 /// What a start would find.
 #[derive(Debug, Default, PartialEq, Eq, Serialize)]
-struct Found {
+struct CheckReport {
     slots: u16,
     /// Whether it counts, and no store does in its place; none where the store that decides can't be asked.
     counts: Option<bool>,
@@ -95,7 +95,7 @@ impl Options {
 }
 
 /// What is printed. Where a request was changed, that is, and the first fault ends the command.
-fn show_found(mut found: Found, copy: &Path, data: &Path, form: Form) -> Result<Vec<u8>, Failure> {
+fn show_found(mut found: CheckReport, copy: &Path, data: &Path, form: Form) -> Result<Vec<u8>, Failure> {
     found.new_epoch = Folder::is_moved(data);
     if let Some(mark) = &found.mark {
         (found.counts, found.moved) = (said_by_store(mark), Some(mark.refusal(data)));
@@ -186,15 +186,15 @@ fn opened(copy: &Path) -> Result<Folder, Failure> {
     })
 }
 
-fn found(copy: &Path) -> Result<Found, Failure> {
+fn found(copy: &Path) -> Result<CheckReport, Failure> {
     let folder = opened(copy)?;
-    let mut found = Found {
+    let mut found = CheckReport {
         slots: folder.slots(),
         counts: Some(true),
         mark: folder.mark(),
         sink: folder.sink().map(|sink| sink.to_string()),
         dead: folder.dead()?.count(),
-        ..Found::default()
+        ..CheckReport::default()
     };
     let mut senders = HashSet::new();
     for number in 0..found.slots {
@@ -218,7 +218,7 @@ fn found(copy: &Path) -> Result<Found, Failure> {
     Ok(found)
 }
 
-impl Found {
+impl CheckReport {
     /// What an outbox has, as a start finds it.
     fn add(&mut self, number: u16, outbox: &Outbox) -> Result<(), Fault> {
         outbox.leave(|owner| slot_of(owner, self.slots) != number)?;
@@ -241,7 +241,7 @@ impl Found {
 fn count_posts(
     journal: &Journal,
     outbox: &Outbox,
-    found: &mut Found,
+    found: &mut CheckReport,
     senders: &mut HashSet<String>,
 ) -> Result<(), Fault> {
     let (end, _) = journal.turn();
@@ -280,7 +280,7 @@ fn in_the_original(failure: Failure, copy: &Path, data: &Path) -> Failure {
     }
 }
 
-fn text(found: &Found, data: &Path) -> String {
+fn text(found: &CheckReport, data: &Path) -> String {
     let mut table = Table::new(&["folder".to_string(), data.display().to_string()]);
     let mut row = |name: &str, text: String| table.row(&[name, text.as_str()]);
     let (bytes, counted) = (values::bytes_shown, values::counted);

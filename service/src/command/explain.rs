@@ -31,7 +31,7 @@ pub struct Options {
 
 /// What was found.
 #[derive(Debug, Serialize)]
-struct Found {
+struct Explanation {
     encoding: &'static str,
     packed: bool,
     /// Who posts it, where no header says so.
@@ -76,7 +76,7 @@ fn read(file: &Path) -> std::io::Result<Vec<u8>> {
     Ok(body)
 }
 
-fn found(body: Vec<u8>, reading: &Reading, clock: &Clock) -> anyhow::Result<Found> {
+fn found(body: Vec<u8>, reading: &Reading, clock: &Clock) -> anyhow::Result<Explanation> {
     let (framed, body) = unframed(body);
     let (packed, body) = unpacked(not_too_long(body)?)?;
     let body = not_too_long(body)?;
@@ -99,7 +99,7 @@ fn found(body: Vec<u8>, reading: &Reading, clock: &Clock) -> anyhow::Result<Foun
         .context("refused with 400: wrong shape")?;
     let foreign = points.iter().filter(|point| point.foreign.is_some()).count();
     let rounded = prepared.rounded.by_rule.into_iter();
-    Ok(Found {
+    Ok(Explanation {
         encoding: match encoding {
             Encoding::Json => "JSON",
             Encoding::Protobuf => "protobuf",
@@ -154,7 +154,7 @@ fn unpacked(body: Vec<u8>) -> anyhow::Result<(bool, Vec<u8>)> {
     Ok((true, plain))
 }
 
-fn text(found: &Found) -> String {
+fn text(found: &Explanation) -> String {
     let packing = if found.packed { ", gzip" } else { "" };
     let mut text = format!(
         "{}{packing}, {} bytes: {} taken, {} foreign\n",

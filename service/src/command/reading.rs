@@ -3,7 +3,7 @@
 use super::of_store::likeness;
 use super::values::{time_or_off, MayBeOff};
 use crate::core::Across;
-use crate::otlp::{Bounds, Choice, Clock, Cumulative, Reading, Whole, INSTANCE};
+use crate::otlp::{Bounds, Choice, Clock, Cumulative, Reading, FinerUnits, INSTANCE};
 use anyhow::{anyhow, bail};
 use clap::builder::NonEmptyStringValueParser;
 use clap::Args;
@@ -80,10 +80,10 @@ impl OfReading {
         if self.instance_from_sender && self.drop_attributes.iter().any(|name| name == INSTANCE) {
             bail!("--instance-from-sender gives what --drop-attribute {INSTANCE} takes away: leave one of them out");
         }
-        let whole = Whole::of(self.whole).map_err(|why| anyhow!(why))?;
+        let finer_units = FinerUnits::of(self.whole).map_err(|why| anyhow!(why))?;
         let reading = Reading {
             dropped: self.drop_attributes,
-            whole,
+            finer_units,
             sender_from: self.sender_from,
             cumulative: self.cumulative,
             instance_from_sender: self.instance_from_sender,
@@ -91,7 +91,7 @@ impl OfReading {
         };
         let profile = reading.profile();
         Ok(Reading {
-            whole: reading.whole.with_profile(profile),
+            finer_units: reading.finer_units.with_profile(profile),
             ..reading
         })
     }

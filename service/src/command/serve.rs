@@ -17,7 +17,7 @@ use crate::log;
 use crate::metrics::Metrics;
 use crate::otlp::Cause;
 use crate::pass::Pass;
-use crate::remarks::Telling;
+use crate::post_reports::ReportOptions;
 use crate::service::{self, init, Operate, Settings};
 use crate::sinks::{header_of, Address};
 use anyhow::{anyhow, bail, Context};
@@ -318,7 +318,7 @@ impl Options {
             clock,
             across: self.never_across,
             runs: self.of_runs.options(),
-            telling: Telling {
+            report_options: ReportOptions {
                 log_foreign: self.log_foreign as usize,
                 expected: self.expect_foreign,
                 profile: reading.profile(),

@@ -19,7 +19,7 @@ mod version;
 
 use super::disk::{io_fault, Disk};
 use super::journal::Expected;
-use super::room::Room;
+use super::free_space::FreeSpace;
 use super::{lock, segment, Dead, Durability, Fault, Journal, Outbox};
 use nix::errno::Errno;
 use nix::fcntl::{flock, FlockArg};
@@ -59,7 +59,7 @@ pub struct Folder {
     disk: Disk,
     path: PathBuf,
     durability: Durability,
-    room: Arc<Room>,
+    free_space: Arc<FreeSpace>,
     version: Mutex<Version>,
     /// It was made by this start.
     is_new: bool,
@@ -87,7 +87,7 @@ impl Folder {
                 .map_err(|fault| usable::named(fault, path))?;
         }
         let locks = Arc::new(locked(path)?);
-        let room = Arc::new(Room::new(path)?);
+        let free_space = Arc::new(FreeSpace::new(path)?);
         let known = Version::read(path)?;
         if known.is_none() {
             check_new(path)?;
@@ -96,7 +96,7 @@ impl Folder {
             disk: disk.locked(&locks),
             path: path.into(),
             durability,
-            room,
+            free_space,
             version: Mutex::new(known.clone().unwrap_or_default()),
             is_new: known.is_none(),
             locks,
@@ -182,8 +182,8 @@ impl Folder {
     /// A disk as a test wants it.
     #[cfg(test)]
     pub(crate) fn in_room(mut self, look: impl Fn() -> u64 + Send + Sync + 'static) -> Folder {
-        let room = Room::with(move || Ok((look(), 1 << 40, 1000)));
-        self.room = Arc::new(room.unwrap());
+        let free_space = FreeSpace::with(move || Ok((look(), 1 << 40, 1000)));
+        self.free_space = Arc::new(free_space.unwrap());
         self
     }
 
@@ -195,7 +195,7 @@ impl Folder {
             &self.disk,
             &self.of_slot(number).join("journal"),
             self.durability,
-            self.room.clone(),
+            self.free_space.clone(),
             &Expected {
                 reach: outbox.journal(),
                 begun,
@@ -231,7 +231,7 @@ impl Folder {
             // It counts from 1 again, and an outbox that was there and is gone has used these keys.
             false => self.renew_epoch()?,
         };
-        Outbox::open(&self.disk, &outbox, &epoch, self.room.clone())
+        Outbox::open(&self.disk, &outbox, &epoch, self.free_space.clone())
     }
 
     /// Whether an outbox was made there.

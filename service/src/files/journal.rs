@@ -13,7 +13,7 @@
 //! A record is written in place, under one short lock, so that the order in the file is the order of the calls. One
 //! thread syncs, once for all that wait; nobody who must wait for the disk holds the lock of those who write.
 
-mod found;
+mod earlier_segment;
 mod held;
 mod open;
 mod packed;
@@ -26,7 +26,7 @@ mod sync;
 use super::disk::{Disk, File};
 use super::drive::Lost;
 use super::records::{self, Which};
-use super::room::Room;
+use super::free_space::FreeSpace;
 use super::segment::{self, Ahead, Dropped, Segment};
 use super::{lock, seconds, Durability, Fault};
 pub use held::Held;
@@ -75,7 +75,7 @@ struct Shared {
     disk: Disk,
     folder: PathBuf,
     durability: Durability,
-    room: Arc<Room>,
+    free_space: Arc<FreeSpace>,
     place: Mutex<Place>,
     /// Never locked over a call of the disk: who shows it must not wait for one.
     sizes: Mutex<Vec<Size>>,
@@ -208,8 +208,8 @@ impl Journal {
     }
 
     /// Whether there is room for what is written.
-    pub(crate) fn room(&self) -> &Arc<Room> {
-        &self.shared.room
+    pub(crate) fn free_space(&self) -> &Arc<FreeSpace> {
+        &self.shared.free_space
     }
 
     /// Makes sure that the next segment's number is at least this: the outbox may know of a later segment than is left.
@@ -272,7 +272,7 @@ impl Journal {
 impl Shared {
     fn put<const N: usize>(&self, place: &mut Place, post: &Post, now: u64, parts: &[&[u8]; N]) -> Ticket {
         let length = parts.iter().map(|part| part.len() as u64).sum();
-        self.room.use_up(length);
+        self.free_space.use_up(length);
         if let Err(fault) = place.segment.put(parts) {
             let Lost = self.disk.fail(fault);
         }

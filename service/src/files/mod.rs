@@ -4,16 +4,16 @@ pub mod dead;
 mod disk;
 pub mod drive;
 pub mod folder;
+mod free_space;
 pub mod journal;
-mod judge;
 #[cfg(test)]
 pub(crate) mod numbers;
 pub mod outbox;
 #[cfg(test)]
 mod power;
 mod records;
-mod room;
 mod segment;
+mod torn_tail;
 
 pub use dead::Dead;
 pub(crate) use disk::FAILED;
@@ -23,7 +23,7 @@ pub use drive::{Drive, Lost};
 pub use folder::{Folder, FolderFault, KnownSink, Mark, Way, MOST_SLOTS};
 pub use journal::{Body, Held, Journal, Names, NoNames, OfRun, Points, Post, Replayed, Ticket};
 pub use outbox::{Beginning, Outbox, Runs, Series, Waits};
-pub(crate) use room::Room;
+pub(crate) use free_space::FreeSpace;
 pub use segment::Dropped;
 
 use std::sync::{Mutex, MutexGuard, PoisonError};
@@ -81,13 +81,13 @@ pub(crate) fn held_journal(
     folder: &std::path::Path,
     open: std::sync::Arc<std::sync::atomic::AtomicBool>,
 ) -> Journal {
-    let room = std::sync::Arc::new(room::Room::new(folder).unwrap());
+    let free_space = std::sync::Arc::new(free_space::FreeSpace::new(folder).unwrap());
     let disk = disk::Disk::held(open);
     Journal::open(
         &disk,
         folder,
         Durability::Disk,
-        room,
+        free_space,
         &journal::Expected::of_none(),
     )
     .unwrap()

@@ -17,7 +17,7 @@ mod written;
 
 use super::disk::Disk;
 use super::drive::Lost;
-use super::room::Room;
+use super::free_space::FreeSpace;
 use super::segment::{self, Dropped};
 use super::{lock, Fault};
 use crate::otlp::series::{self, NotForwarded, SeriesKey};
@@ -75,7 +75,7 @@ type ReadEnds = fn(&[u8]) -> Result<Vec<(SeriesKey, u64)>, NotForwarded>;
 pub struct Outbox {
     disk: Disk,
     folder: PathBuf,
-    room: Arc<Room>,
+    free_space: Arc<FreeSpace>,
     read_ends: ReadEnds,
     longest: u64,
     /// Locked before the state, by all that write.

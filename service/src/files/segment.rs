@@ -1,7 +1,7 @@
 //! Segments: numbered files of a folder, of which the last is written.
 
 use super::disk::{io_fault, Disk, File};
-use super::judge::CHANGED;
+use super::torn_tail::CHANGED;
 use super::records::{self, Which, END, MARK, MARK_LENGTHS};
 use super::Fault;
 use std::io::ErrorKind;

@@ -5,7 +5,7 @@ use super::guard::Guarded;
 use crate::identity::Who;
 use crate::intake::connections::{Protocol, Shared, Transport};
 use crate::intake::Taker;
-use crate::switch::Switch;
+use crate::latch::Latch;
 use crate::tls;
 use hyper::server::conn::Http;
 use hyper::service::service_fn;
@@ -96,7 +96,7 @@ impl Protocol for Grpc {
 
 /// Serves its calls until it ends.
 async fn connection<S: Transport, T: Taker>(stream: S, shared: Arc<Shared<T>>, who: Who) {
-    let Shared { limits, room, .. } = &*shared;
+    let Shared { limits, permits, .. } = &*shared;
     let (intake, mut stop, who) = (shared.intake.clone(), shared.stop.clone(), Arc::new(who));
     let calls = Calls::new();
     let of_calls = calls.clone();
@@ -122,7 +122,7 @@ async fn connection<S: Transport, T: Taker>(stream: S, shared: Arc<Shared<T>>, w
             _ = tokio::time::sleep(look) => match ending {
                 Some(since) if since.elapsed() >= TO_END && calls.idle() >= TO_END => return,
                 // Sooner while others wait for its place.
-                None if calls.idle() >= limits.idle || room.is_full() && calls.idle() >= look => {
+                None if calls.idle() >= limits.idle || permits.is_full() && calls.idle() >= look => {
                     ending = Some(Instant::now());
                     std::pin::Pin::new(&mut served).graceful_shutdown();
                 }

@@ -6,7 +6,7 @@ use super::user::User;
 use super::{Intake, Listener, Taker, Threads};
 use crate::identity::{Door, Who};
 use crate::log::Seldom;
-use crate::switch::Switch;
+use crate::latch::Latch;
 use crate::tls::{self, Tls};
 use hyper::server::conn::Http;
 use hyper::service::service_fn;
@@ -55,7 +55,7 @@ pub struct Limits {
 }
 
 /// The places of an address's connections.
-pub(crate) struct Room {
+pub(crate) struct ConnectionPermits {
     places: Arc<Semaphore>,
     most: usize,
     is_full: AtomicBool,
@@ -65,9 +65,9 @@ pub(crate) struct Room {
 /// A connection's place, until it is dropped.
 type Held = Option<OwnedSemaphorePermit>;
 
-impl Room {
-    pub fn new(most: usize) -> Arc<Room> {
-        Arc::new(Room {
+impl ConnectionPermits {
+    pub fn new(most: usize) -> Arc<ConnectionPermits> {
+        Arc::new(ConnectionPermits {
             places: Arc::new(Semaphore::new(most)),
             most,
             is_full: AtomicBool::new(false),
@@ -119,7 +119,7 @@ impl Room {
 /// Accepts until `stop` is true or its sender is gone, and returns after the end of the last connection.
 async fn accept<L: Listener>(
     listener: L,
-    room: Arc<Room>,
+    permits: Arc<ConnectionPermits>,
     mut stop: watch::Receiver<bool>,
     begin: impl Fn(&mut JoinSet<()>, L::Stream, Held),
 ) {
@@ -128,7 +128,7 @@ async fn accept<L: Listener>(
         tokio::select! {
             _ = stop.wait_true() => break,
             Some(_) = open.join_next(), if !open.is_empty() => {}
-            (stream, held) = room.accepted(&listener) => begin(&mut open, stream, held),
+            (stream, held) = permits.accepted(&listener) => begin(&mut open, stream, held),
         }
     }
     drop(listener);
@@ -156,7 +156,7 @@ pub trait Protocol: 'static {
 pub struct Shared<T> {
     pub(crate) limits: Limits,
     pub(crate) door: Door,
-    pub(crate) room: Arc<Room>,
+    pub(crate) permits: Arc<ConnectionPermits>,
     pub(crate) intake: Arc<Intake<T>>,
     pub(crate) stop: watch::Receiver<bool>,
 }
@@ -169,7 +169,7 @@ impl<T: Taker> Shared<T> {
         stop: watch::Receiver<bool>,
     ) -> Arc<Shared<T>> {
         Arc::new(Shared {
-            room: Room::new(limits.connections),
+            permits: ConnectionPermits::new(limits.connections),
             limits,
             door,
             intake,
@@ -185,7 +185,7 @@ pub async fn spread<P: Protocol, T: Taker>(
     shared: Arc<Shared<T>>,
     threads: Arc<Threads>,
 ) {
-    let (room, stop) = (shared.room.clone(), shared.stop.clone());
+    let (permits, stop) = (shared.permits.clone(), shared.stop.clone());
     let begin = |open: &mut JoinSet<()>, stream: TcpStream, held: Held| {
         // Its thread's runtime takes it over from this one.
         let peer = stream.peer_addr().ok().map(|peer| peer.ip());
@@ -212,7 +212,7 @@ pub async fn spread<P: Protocol, T: Taker>(
             }
         }
     };
-    accept(listener, room, stop, begin).await;
+    accept(listener, permits, stop, begin).await;
 }
 
 /// A connection that begins with a handshake: this has its place too, and none of the threads that serve posts.
@@ -226,7 +226,7 @@ async fn over_tls<P: Protocol, T: Taker>(
 ) {
     let mut stop = shared.stop.clone();
     let shaken = tokio::select! {
-        shaken = tls.handshake(stream, P::OVER_TLS, || shared.room.is_full()) => shaken,
+        shaken = tls.handshake(stream, P::OVER_TLS, || shared.permits.is_full()) => shaken,
         _ = stop.wait_true() => None, // nothing is owed to it
     };
     let Some(shaken) = shaken else { return };
@@ -248,14 +248,14 @@ pub async fn serve<L: Listener, H: Handler>(
     handler: Arc<H>,
     stop: watch::Receiver<bool>,
 ) {
-    let room = Room::new(limits.connections);
-    let (stopped, of_room) = (stop.clone(), room.clone());
+    let permits = ConnectionPermits::new(limits.connections);
+    let (stopped, of_address) = (stop.clone(), permits.clone());
     let begin = |open: &mut JoinSet<()>, stream: L::Stream, held: Held| {
         let user = L::user(&stream);
         let serving = connection(
             stream,
             user,
-            of_room.clone(),
+            of_address.clone(),
             limits.clone(),
             handler.clone(),
             stopped.clone(),
@@ -265,7 +265,7 @@ pub async fn serve<L: Listener, H: Handler>(
             drop(held);
         });
     };
-    accept(listener, room, stop, begin).await;
+    accept(listener, permits, stop, begin).await;
 }
 
 /// The same over TLS, where there is some: each connection begins with a handshake, which has its place too.
@@ -279,14 +279,14 @@ pub async fn serve_over<H: Handler>(
     let Some(tls) = tls else {
         return serve(listener, limits, handler, stop).await;
     };
-    let room = Room::new(limits.connections);
-    let of_room = room.clone();
+    let permits = ConnectionPermits::new(limits.connections);
+    let of_address = permits.clone();
     let begin = |open: &mut JoinSet<()>, stream: TcpStream, held: Held| {
         let Ok(stream) = stream.into_std() else { return };
-        let (tls, room, limits) = (tls.clone(), of_room.clone(), limits.clone());
+        let (tls, permits, limits) = (tls.clone(), of_address.clone(), limits.clone());
         let (handler, mut stop) = (handler.clone(), stop.clone());
         open.spawn(async move {
-            let (shaking, full) = (tls.clone(), room.clone());
+            let (shaking, full) = (tls.clone(), permits.clone());
             let shaking = async move {
                 let is_full = || full.is_full();
                 shaking.handshake(stream, tls::Protocol::Http, is_full).await
@@ -309,14 +309,14 @@ pub async fn serve_over<H: Handler>(
                 if let Ok(stream) = shaken.arrive() {
                     tokio::select! {
                         () = ends => {}
-                        () = connection(stream, None, room, limits, handler, ended) => {}
+                        () = connection(stream, None, permits, limits, handler, ended) => {}
                     }
                 }
             }
             drop(held);
         });
     };
-    accept(listener, room, stop.clone(), begin).await;
+    accept(listener, permits, stop.clone(), begin).await;
 }
 
 /// Waits until certificates are believed by other files: then who was let in by the former ones comes anew.
@@ -329,7 +329,7 @@ async fn has_changed(tls: &Tls, believed_by: &Arc<tls::Contexts>) {
 async fn connection<S: Transport, H: Handler>(
     stream: S,
     user: Option<User>,
-    room: Arc<Room>,
+    permits: Arc<ConnectionPermits>,
     limits: Limits,
     handler: Arc<H>,
     mut stop: watch::Receiver<bool>,
@@ -367,7 +367,7 @@ async fn connection<S: Transport, H: Handler>(
                 closing = true;
                 std::pin::Pin::new(&mut served).graceful_shutdown();
             }
-            _ = tokio::time::sleep(LOOK.min(limits.head / 4)) => match pace.overdue(&limits, room.is_full()) {
+            _ = tokio::time::sleep(LOOK.min(limits.head / 4)) => match pace.overdue(&limits, permits.is_full()) {
                 None => {}
                 Some(Overdue::Idle) => break,
                 Some(Overdue::Head) => {

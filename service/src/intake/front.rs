@@ -1,13 +1,13 @@
 //! A connection of a sender over HTTP: it serves many requests one after another, and is closed where it is slow or idle.
 
-use super::connections::{Protocol, Room, Shared, Transport};
+use super::connections::{Protocol, ConnectionPermits, Shared, Transport};
 use super::head::{self, Connection};
 use super::refusal::Refusal;
 use super::wire::Wire;
 use super::{answer, Intake, Taker};
 use crate::identity::Who;
 use crate::otlp::{Encoding, Outcome};
-use crate::switch::Switch;
+use crate::latch::Latch;
 use crate::tls;
 use crate::work::within;
 use bytes::Buf;
@@ -145,28 +145,28 @@ struct Waiting {
     is_waited_for: bool,
     stopped: watch::Receiver<bool>,
     ending: bool,
-    room: Arc<Room>,
+    permits: Arc<ConnectionPermits>,
 }
 
 impl Waiting {
     fn new<T>(shared: &Shared<T>) -> Waiting {
         let limits = &shared.limits;
-        Waiting::of(limits.head, limits.idle, shared.stop.clone(), shared.room.clone())
+        Waiting::of(limits.head, limits.idle, shared.stop.clone(), shared.permits.clone())
     }
 
-    fn of(head: Duration, idle: Duration, stop: watch::Receiver<bool>, room: Arc<Room>) -> Waiting {
+    fn of(head: Duration, idle: Duration, stop: watch::Receiver<bool>, permits: Arc<ConnectionPermits>) -> Waiting {
         let period = (head / LOOKS).max(Duration::from_millis(1));
-        let mut switch = stop.clone();
+        let mut stopped = stop.clone();
         Waiting {
             period,
             looks: 0,
             most_idle: (idle.as_millis() / period.as_millis()) as u32,
             look: Box::pin(tokio::time::sleep(period)),
-            stop: Box::pin(async move { switch.wait_true().await }),
+            stop: Box::pin(async move { stopped.wait_true().await }),
             is_waited_for: false,
             stopped: stop,
             ending: false,
-            room,
+            permits,
         }
     }
 
@@ -177,7 +177,7 @@ impl Waiting {
 
     /// Whether a next request may come after an answer.
     fn may_go_on(&self) -> bool {
-        !self.has_stopped() && !self.room.is_full()
+        !self.has_stopped() && !self.permits.is_full()
     }
 
     /// Nobody has seen a change by this receiver, and the first one is the end; so is it where the sender has gone.
@@ -196,7 +196,7 @@ impl Waiting {
 
     /// How often it looks for a next request: only once while others wait for its place.
     fn most_idle(&self) -> u32 {
-        match self.room.is_full() {
+        match self.permits.is_full() {
             true => 1,
             false => self.most_idle,
         }
@@ -282,7 +282,7 @@ mod tests {
             let _ = stream.try_write(&[0; 64 << 10]); // until all buffers are full
         }
         let (_going, stop) = watch::channel(false);
-        let mut waiting = Waiting::of(short, short, stop, Room::new(1));
+        let mut waiting = Waiting::of(short, short, stop, ConnectionPermits::new(1));
         let mut wire = Wire::new(stream);
         let refused = refused(&mut wire, &Refusal::Malformed, &mut waiting);
         assert!(tokio::time::timeout(400 * short, refused).await.is_ok());

@@ -6,7 +6,7 @@ use super::series::SeriesOfPosts;
 use crate::files::{Fault, Replayed};
 use crate::log::shown;
 use crate::otlp::series::SeriesKey;
-use crate::remarks::SERIES_SHOWN;
+use crate::post_reports::SERIES_SHOWN;
 use crate::slot::Slot;
 use std::collections::{HashMap, HashSet};
 

@@ -153,7 +153,7 @@ impl Table {
 #[cfg(test)]
 mod tests {
     use super::*;
-    use crate::otlp::{prepare, Encoding, Reading, Whole};
+    use crate::otlp::{prepare, Encoding, Reading, FinerUnits};
 
     /// A post of one point of each of these series: its name, and a value in seconds that whole milliseconds are made of.
     fn post(points: &[(String, &str)]) -> Rounded {
@@ -172,7 +172,7 @@ mod tests {
             metrics.join(",")
         );
         let reading = Reading {
-            whole: Whole::new(["s=ms".parse().unwrap()]).unwrap(),
+            finer_units: FinerUnits::new(["s=ms".parse().unwrap()]).unwrap(),
             ..Reading::default()
         };
         prepare(Encoding::Json, body.into(), &reading).unwrap().rounded

@@ -33,13 +33,13 @@ pub use status::{
 };
 pub use tcp::AtTcp;
 pub use totals::Totals;
-pub use units::{Left, Unit, Units};
+pub use units::{Undelivered, Unit, Units};
 
 use crate::intake::connections::Handler;
 use crate::intake::user::User;
 use crate::intake::Budget;
 use crate::metrics::Metrics;
-use crate::remarks::Heard;
+use crate::post_reports::SenderActivity;
 use crate::shares::Shares;
 use crate::sinks::Sink;
 use hyper::header::{HeaderValue, ALLOW, CONTENT_TYPE};
@@ -67,7 +67,7 @@ pub struct Desk {
     pub metrics: Arc<Metrics>,
     pub budget: Arc<Budget>,
     /// Who has posted.
-    pub heard: Arc<Heard>,
+    pub activity: Arc<SenderActivity>,
     /// What was posted and delivered a second.
     pub pulse: Arc<Pulse>,
     /// Where senders post.

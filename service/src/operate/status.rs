@@ -5,7 +5,7 @@ mod merged;
 
 pub use cluster::{ClusterStatus, DatabaseStatus, InstanceStatus};
 
-use super::{Desk, Left, Unit};
+use super::{Desk, Undelivered, Unit};
 use crate::files::Held;
 use crate::metrics::RoundedSeries;
 use crate::shares::Used;
@@ -311,21 +311,21 @@ impl SlotStatus {
             journal: Stock::new(journal, since),
             posts: unit.slot.ungrouped(),
             held: unit.slot.held(),
-            ..SlotStatus::of(&unit.left)
+            ..SlotStatus::of(&unit.undelivered)
         }
     }
 
     /// Without a journal.
-    fn of(left: &Left) -> SlotStatus {
-        let outbox = &left.outbox;
+    fn of(undelivered: &Undelivered) -> SlotStatus {
+        let outbox = &undelivered.outbox;
         let (waiting, bytes, first) = outbox.waiting();
-        let delivery = left
+        let delivery = undelivered
             .delivery
             .lock()
             .unwrap_or_else(PoisonError::into_inner)
             .clone(); // a copy is sound
         SlotStatus {
-            slot: left.number,
+            slot: undelivered.number,
             series: outbox.series_count(),
             quarantined: outbox.quarantined().into_iter().collect(),
             waiting,

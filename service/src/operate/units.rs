@@ -16,14 +16,14 @@ use std::time::Duration;
 pub struct Unit {
     pub slot: Arc<Slot>,
     pub orders: Orders,
-    pub left: Left,
+    pub undelivered: Undelivered,
     /// Of slots that an earlier totxegun had: what the sink has not taken.
-    pub former: Vec<Left>,
+    pub former: Vec<Undelivered>,
     pub dead: Arc<Dead>,
 }
 
 /// What a slot has for the sink.
-pub struct Left {
+pub struct Undelivered {
     pub number: u16,
     pub outbox: Arc<Outbox>,
     pub delivery: Arc<Mutex<Delivery>>,

@@ -8,7 +8,7 @@ use super::json::{Document, Value};
 use super::number::{book_whole, is_plain, mapped_double, mapped_whole, whole_double, MAX_WHOLE_DOUBLE};
 use super::output::{Output, Written, CUMULATIVE, SHORT_LIST};
 use super::schema::{exponential_histogram, Kind, Message, KEY_VALUE, METRIC, REQUEST};
-use super::whole::changes;
+use super::finer_units::changes;
 use super::{Reading, Refused};
 
 /// Why a walk ended before the end.
@@ -26,7 +26,7 @@ pub struct AsItIs {
 
 /// What a body is that the book reads as it is meant; none of another.
 pub fn read_as_it_is(document: &Document<'_>, reading: &Reading) -> Result<Option<AsItIs>, Refused> {
-    if document.is_near_range() || reading.whole.has_no_unit() {
+    if document.is_near_range() || reading.finer_units.has_no_unit() {
         return Ok(None);
     }
     let mut walk = Walk {
@@ -97,7 +97,7 @@ impl Walk<'_, '_> {
 
     /// A message that is an object.
     fn message(&mut self, of: &'static Message, value: Value<'_>) -> Result<(), Stop> {
-        if self.out.is_none() && std::ptr::eq(of, &METRIC) && changes(&self.reading.whole, value) {
+        if self.out.is_none() && std::ptr::eq(of, &METRIC) && changes(&self.reading.finer_units, value) {
             self.changed()?;
         }
         self.push("{");

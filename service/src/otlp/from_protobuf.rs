@@ -1,11 +1,11 @@
 //! A request in protobuf, written as the book reads it.
 //!
 //! It is never held as a tree of messages: each is looked through once, and then its fields are written in the order of
-//! its table. So the memory is that of the JSON, however many small messages the bytes are. `plain` writes at once what
+//! its table. So the memory is that of the JSON, however many small messages the bytes are. `fast_path` writes at once what
 //! has the form that nearly all points and attributes have.
 
 mod lists;
-mod plain;
+mod fast_path;
 mod time;
 
 use super::json::is_text;
@@ -60,7 +60,7 @@ pub(super) fn part<'a>(of: &Message, bytes: &'a [u8]) -> Result<&'a [u8], Refuse
 struct Writer<'a, 'r> {
     out: Output<'r>,
     /// Of the messages that are under way, each behind the one around it.
-    found: Vec<Found<'a>>,
+    found: Vec<FoundField<'a>>,
     /// Of the last plain point its times,
     start: Time,
     end: Time,
@@ -74,7 +74,7 @@ struct Writer<'a, 'r> {
 
 /// What a message has of one field.
 #[derive(Clone, Copy)]
-struct Found<'a> {
+struct FoundField<'a> {
     /// In the message's table.
     place: usize,
     times: usize,
@@ -84,7 +84,7 @@ struct Found<'a> {
     last: Payload<'a>,
 }
 
-impl<'a> Found<'a> {
+impl<'a> FoundField<'a> {
     /// Each time, in order.
     fn all(self, number: u8) -> impl Iterator<Item = Payload<'a>> {
         let own = move |field: Result<(u32, Payload<'a>), Malformed>| {
@@ -225,7 +225,7 @@ impl<'a, 'r> Writer<'a, 'r> {
                 }
                 _ => self.found.insert(
                     index,
-                    Found {
+                    FoundField {
                         place,
                         times,
                         fields: here,
@@ -239,7 +239,7 @@ impl<'a, 'r> Writer<'a, 'r> {
     /// Of the fields of which a message has one, the last that is there counts (a oneof of protobuf).
     fn forget_others(&mut self, of: &'static Message, first: usize, place: usize) {
         let is_other =
-            |found: &Found<'_>| found.place != place && of.one_of.contains(&of.fields[found.place].number);
+            |found: &FoundField<'_>| found.place != place && of.one_of.contains(&of.fields[found.place].number);
         while let Some(other) = self.found[first..].iter().position(is_other) {
             self.found.remove(first + other);
         }
@@ -249,7 +249,7 @@ impl<'a, 'r> Writer<'a, 'r> {
         &mut self,
         of: &'static Message,
         field: &Field,
-        found: Found<'a>,
+        found: FoundField<'a>,
         depth: usize,
     ) -> Result<(), Refused> {
         let number = field.number;
@@ -298,7 +298,7 @@ impl<'a, 'r> Writer<'a, 'r> {
         &mut self,
         of: &'static Message,
         number: u8,
-        found: Found<'a>,
+        found: FoundField<'a>,
         depth: usize,
     ) -> Result<(), Refused> {
         match found.times {
@@ -332,7 +332,7 @@ impl<'a, 'r> Writer<'a, 'r> {
         &mut self,
         of: &'static Message,
         field: &Field,
-        found: Found<'a>,
+        found: FoundField<'a>,
         depth: usize,
     ) -> Result<(), Refused> {
         let list = self.out.text.len();
@@ -342,7 +342,7 @@ impl<'a, 'r> Writer<'a, 'r> {
         for bytes in found.all_bytes(field.number) {
             let from = self.out.text.len();
             self.out.separate(inside);
-            if !(may_be_plain && self.plain(of, bytes)) {
+            if !(may_be_plain && self.write_plain(of, bytes)) {
                 self.message(of, bytes, depth + 1)?;
             }
             if let Kind::ResourceAttributes = field.kind {

@@ -1,9 +1,9 @@
 //! Requests and answers of OTLP, in protobuf and in JSON, and the series that a body has.
 //!
 //! `prepare` writes a request of either encoding as the book reads it: `from_protobuf` and `from_json` go
-//! by the tables of `schema`, over the readers `wire` and `json`; `usual` sees at once most JSON that goes on as it came;
-//! `numbered` reads nearly all protobuf without that, by the numbers of series that are known;
-//! `whole` takes fractions as whole numbers of a finer unit, `exponential` exponential histograms in given buckets. `series`
+//! by the tables of `schema`, over the readers `wire` and `json`; `json_fast_path` sees at once most JSON that goes on as
+//! it came; `numbered` reads nearly all protobuf without that, by the numbers of series that are known;
+//! `finer_units` takes fractions as whole numbers of a finer unit, `exponential` exponential histograms in given buckets. `series`
 //! reads bodies as the book does, and what it forwards. `sender` finds a request's sender in it, `instance` puts a sender's name
 //! into its resources.
 //! `outside` is what of a request is handed on to another receiver, `answers` what senders are answered, `clock` which points
@@ -15,10 +15,12 @@ mod causes;
 mod clock;
 mod explain;
 mod exponential;
+mod finer_units;
 mod from_json;
 mod from_protobuf;
 mod instance;
 mod json;
+mod json_fast_path;
 mod messages;
 mod number;
 mod numbered;
@@ -29,8 +31,6 @@ mod schema;
 mod sender;
 pub mod series;
 mod together;
-mod usual;
-mod whole;
 mod wire;
 
 pub(crate) use answers::partial_success;
@@ -46,7 +46,7 @@ pub use resources::{slot_of, slot_of_series, Part, Resources, Split};
 pub use sender::{legal, sender, NO_NAME};
 pub use series::Profile;
 pub use together::{together, OfPart};
-pub use whole::{Choice, Rounded, Rounding, Rule, Whole};
+pub use finer_units::{Choice, FinerUnits, Rounded, Rounding, Rule};
 
 use bytes::Bytes;
 
@@ -88,7 +88,7 @@ pub struct Reading {
     /// Names of resource attributes that are left out.
     pub dropped: Vec<String>,
     /// What is measured in one unit is taken in a finer one.
-    pub whole: Whole,
+    pub finer_units: FinerUnits,
     /// The resource attribute that names a sender who does not name itself.
     pub sender_from: Option<String>,
     /// What becomes of cumulative points.
@@ -113,7 +113,7 @@ impl Reading {
     /// The same for a slot of several.
     pub fn of_slot(&self) -> Reading {
         Reading {
-            whole: self.whole.of_slot(),
+            finer_units: self.finer_units.of_slot(),
             ..self.clone()
         }
     }
@@ -177,7 +177,7 @@ pub fn prepare_with<E: From<Refused>>(
     let (text, mut rounded) = match written.is_measured {
         true => {
             room(written.text.len())?;
-            let rewritten = whole::rewritten(&written.text, &reading.whole).map_err(Refused::from)?;
+            let rewritten = finer_units::rewritten(&written.text, &reading.finer_units).map_err(Refused::from)?;
             (rewritten.0.into_bytes(), rewritten.1)
         }
         false => (written.text, Rounded::default()),
@@ -201,7 +201,7 @@ fn form(encoding: Encoding, body: &Bytes, reading: &Reading) -> Result<Form, Ref
         return from_protobuf::written(body, reading).map(Form::Written);
     }
     let may_go_on = reading.dropped.is_empty();
-    if may_go_on && usual::is_usual(body, reading) {
+    if may_go_on && json_fast_path::may_go_as_it_came(body, reading) {
         return Ok(Form::AsItCame { is_cumulative: false });
     }
     let document = json::Document::parse(body)?;

@@ -18,7 +18,7 @@ use super::{Reading, Rounded};
 use crate::files::Points;
 use bytes::Bytes;
 use identity::{Learn, Learner};
-use levels::{Known, Levels};
+use levels::{LookupOnly, Levels};
 use std::sync::atomic::{AtomicBool, Ordering::Relaxed};
 use std::sync::{Arc, PoisonError, RwLock};
 use walk::{Find, Stop, Walk};
@@ -81,12 +81,12 @@ impl Series {
         reading: &Reading,
         learn: impl Fn(Bytes) -> Option<Learnt>,
     ) -> Option<Numbered> {
-        if reading.whole.has_no_unit() {
+        if reading.finer_units.has_no_unit() {
             return None; // all metrics have a unit of `--whole`
         }
         let known = {
             let levels = self.levels.read().unwrap_or_else(PoisonError::into_inner); // each change of it is whole
-            walk(Known(&levels), reading, body)
+            walk(LookupOnly(&levels), reading, body)
         };
         let read = match known {
             Err(Stop::Unknown) if !self.is_full() => walk(self.learner(reading, &learn), reading, body),

@@ -40,7 +40,7 @@ impl<'r> Output<'r> {
         Output {
             text: Vec::with_capacity(capacity),
             reading,
-            is_measured: reading.whole.has_no_unit(),
+            is_measured: reading.finer_units.has_no_unit(),
             is_cumulative: false,
             is_exponential: false,
         }
@@ -127,7 +127,7 @@ impl<'r> Output<'r> {
     }
 
     pub fn unit(&mut self, unit: &str) {
-        self.is_measured |= self.reading.whole.is_about(unit);
+        self.is_measured |= self.reading.finer_units.is_about(unit);
         self.quoted(unit.as_bytes());
     }
 

@@ -65,12 +65,12 @@ pub struct Resources {
     slots: u16,
     reading: Arc<Reading>,
     /// Of each encoding.
-    known: [Known; 2],
+    known: [SlotCache; 2],
 }
 
 /// Slots of resources by their bytes as they came.
 #[derive(Default)]
-struct Known(RwLock<Slots>);
+struct SlotCache(RwLock<Slots>);
 
 #[derive(Default)]
 struct Slots {
@@ -80,7 +80,7 @@ struct Slots {
 }
 
 /// A resource of a request: its slot, and where it is.
-type Found = (u16, Range<usize>);
+type PlacedResource = (u16, Range<usize>);
 
 impl Resources {
     pub fn new(slots: u16, reading: Arc<Reading>) -> Resources {
@@ -113,7 +113,7 @@ impl Resources {
     }
 
     /// None of what is refused whole.
-    fn in_protobuf(&self, body: &[u8]) -> Option<Vec<Found>> {
+    fn in_protobuf(&self, body: &[u8]) -> Option<Vec<PlacedResource>> {
         let mut fields = Fields::of(body);
         let mut found = Vec::new();
         loop {
@@ -153,7 +153,7 @@ impl Resources {
         }
     }
 
-    fn in_json(&self, body: &[u8]) -> Option<Vec<Found>> {
+    fn in_json(&self, body: &[u8]) -> Option<Vec<PlacedResource>> {
         let document = Document::parse(body).ok()?;
         let mut list = None;
         for (name, value) in document.root().members()? {
@@ -210,7 +210,7 @@ fn put_field(out: &mut Vec<u8>, bytes: &[u8]) {
     out.extend_from_slice(bytes);
 }
 
-fn parts(encoding: Encoding, body: &Bytes, found: &[Found]) -> Vec<Part> {
+fn parts(encoding: Encoding, body: &Bytes, found: &[PlacedResource]) -> Vec<Part> {
     let mut parts: Vec<(u16, Vec<u32>)> = Vec::new();
     for (place, (slot, _)) in (0..).zip(found) {
         match parts.iter_mut().find(|(of, _)| of == slot) {
@@ -238,7 +238,7 @@ fn parts(encoding: Encoding, body: &Bytes, found: &[Found]) -> Vec<Part> {
     made.collect()
 }
 
-impl Known {
+impl SlotCache {
     /// The slot of what has these bytes.
     fn of(&self, resource: &[u8], slot: impl FnOnce() -> u16) -> u16 {
         let known = self.0.read().unwrap_or_else(PoisonError::into_inner); // each change of it is whole

@@ -18,7 +18,7 @@ const DIGITS: usize = 40;
 
 /// What a resource has of the attribute.
 #[derive(Debug, PartialEq, Eq)]
-enum Found<'d> {
+enum ResourceName<'d> {
     Name(Cow<'d, str>),
     Nothing,
     /// It is no text, or an empty one.
@@ -42,15 +42,15 @@ pub fn sender(header: String, encoding: Encoding, body: &[u8], reading: &Reading
 }
 
 fn one_name<'d>(
-    all: impl Iterator<Item = Result<Found<'d>, Refused>>,
+    all: impl Iterator<Item = Result<ResourceName<'d>, Refused>>,
     attribute: &str,
 ) -> Result<Option<String>, Refused> {
     let refused = |why: String| Err(Refused::Unreadable(format!("no sender: {why}")));
-    let mut first: Option<Found<'d>> = None;
+    let mut first: Option<ResourceName<'d>> = None;
     for found in all {
         let found = found?;
         match &first {
-            _ if found == Found::NoText => return refused(format!("the resource's {attribute} is no text")),
+            _ if found == ResourceName::NoText => return refused(format!("the resource's {attribute} is no text")),
             Some(other) if *other != found => {
                 return refused(format!(
                     "the request has resources of more than one {attribute}: name the sender by the header x-sender"
@@ -61,7 +61,7 @@ fn one_name<'d>(
         }
     }
     Ok(match first {
-        Some(Found::Name(name)) => Some(legal(&name)),
+        Some(ResourceName::Name(name)) => Some(legal(&name)),
         _ => None,
     })
 }
@@ -93,7 +93,7 @@ fn member<'d>(object: Value<'d>, names: [&str; 2]) -> Option<Value<'d>> {
     one.or(other)
 }
 
-fn in_json<'d>(root: Value<'d>, attribute: &'d str) -> impl Iterator<Item = Found<'d>> {
+fn in_json<'d>(root: Value<'d>, attribute: &'d str) -> impl Iterator<Item = ResourceName<'d>> {
     let resources = member(root, ["resourceMetrics", "resource_metrics"]).and_then(Value::elements);
     resources.into_iter().flatten().map(move |resource| {
         let attributes = resource
@@ -106,20 +106,20 @@ fn in_json<'d>(root: Value<'d>, attribute: &'d str) -> impl Iterator<Item = Foun
             (key?.text()? == attribute).then_some(value)
         });
         match value {
-            None => Found::Nothing,
+            None => ResourceName::Nothing,
             Some(value) => value
                 .and_then(|value| member(value, ["stringValue", "string_value"]))
                 .and_then(Value::text)
-                .map_or(Found::NoText, name),
+                .map_or(ResourceName::NoText, name),
         }
     })
 }
 
-fn name(text: Cow<'_, str>) -> Found<'_> {
+fn name(text: Cow<'_, str>) -> ResourceName<'_> {
     if text.is_empty() {
-        Found::NoText
+        ResourceName::NoText
     } else {
-        Found::Name(text)
+        ResourceName::Name(text)
     }
 }
 
@@ -136,14 +136,14 @@ fn parts<'m>(of: &Message, message: &'m [u8], number: u32) -> Result<Vec<&'m [u8
     bytes_of(message, number).map(|bytes| part(of, bytes)).collect()
 }
 
-fn in_protobuf<'d>(body: &'d [u8], attribute: &'d str) -> impl Iterator<Item = Result<Found<'d>, Refused>> {
+fn in_protobuf<'d>(body: &'d [u8], attribute: &'d str) -> impl Iterator<Item = Result<ResourceName<'d>, Refused>> {
     bytes_of(body, 1).map(move |resource| {
         let parts = parts(&RESOURCE, resource, 1)?.into_iter();
         let mut pairs = parts.flat_map(|resource| bytes_of(resource, 1));
         let pair = pairs.find(|pair| bytes_of(pair, 1).last() == Some(attribute.as_bytes()));
         match pair {
-            None => Ok(Found::Nothing),
-            Some(pair) => Ok(text_of(pair)?.map_or(Found::NoText, |text| name(Cow::Borrowed(text)))),
+            None => Ok(ResourceName::Nothing),
+            Some(pair) => Ok(text_of(pair)?.map_or(ResourceName::NoText, |text| name(Cow::Borrowed(text)))),
         }
     })
 }

@@ -1,6 +1,6 @@
 //! The points that the book is asked to take of a post.
 
-use super::{Added, Entry, Found, Kind, Locked, Names, Options, Points, Refused, Run, Runs, SeriesKey};
+use super::{Added, Entry, SeriesPlace, Kind, Locked, Names, Options, Points, Refused, Run, Runs, SeriesKey};
 use crate::core;
 use crate::files::OfRun;
 use std::collections::BTreeMap;
@@ -115,8 +115,8 @@ impl Draft<'_> {
             return;
         };
         let series = match &found {
-            Found::At(place) => &self.runs.series[*place as usize],
-            Found::New(series) => series,
+            SeriesPlace::At(place) => &self.runs.series[*place as usize],
+            SeriesPlace::New(series) => series,
         };
         if !run.is_sound(series.kind) {
             self.unsound.push(place);
@@ -129,7 +129,7 @@ impl Draft<'_> {
         }
     }
 
-    fn take(&mut self, found: Found, number: u64, entry: Entry, run: &Run) {
+    fn take(&mut self, found: SeriesPlace, number: u64, entry: Entry, run: &Run) {
         let place = self.runs.place(found, number);
         let series = &self.runs.series[place as usize];
         if let Entry::Noted(run) = &entry {

@@ -159,7 +159,7 @@ impl State {
     }
 
     /// The series of a number; none where its name is that of none. `frontier` is asked of one that is new here.
-    fn find(&mut self, names: &Names, number: u64, frontier: impl Fn(&SeriesKey) -> u64) -> Option<Found> {
+    fn find(&mut self, names: &Names, number: u64, frontier: impl Fn(&SeriesKey) -> u64) -> Option<SeriesPlace> {
         let generation = files::Names::generation(names);
         if self.generation != generation {
             self.generation = generation;
@@ -167,22 +167,22 @@ impl State {
         }
         let known = self.by_number.get(number as usize);
         if let Some(place) = known.filter(|place| **place != UNKNOWN) {
-            return Some(Found::At(*place));
+            return Some(SeriesPlace::At(*place));
         }
         let key = series::only(&files::Names::text(names, number))?;
         if let Some(place) = self.places.get(&key).copied() {
             self.number(number, place);
-            return Some(Found::At(place));
+            return Some(SeriesPlace::At(place));
         }
         let frontier = frontier(&key);
-        Series::new(key, frontier).map(Found::New)
+        Series::new(key, frontier).map(SeriesPlace::New)
     }
 
     /// The place of what was found, from now on.
-    fn place(&mut self, found: Found, number: u64) -> u32 {
+    fn place(&mut self, found: SeriesPlace, number: u64) -> u32 {
         let series = match found {
-            Found::At(place) => return place,
-            Found::New(series) => series,
+            SeriesPlace::At(place) => return place,
+            SeriesPlace::New(series) => series,
         };
         let place = self.put(series);
         self.number(number, place);
@@ -223,7 +223,7 @@ impl State {
 }
 
 /// What a number stands for.
-enum Found {
+enum SeriesPlace {
     At(u32),
     /// One that is not here yet.
     New(Series),

@@ -13,7 +13,7 @@ use crate::intake::connections::{serve_over, Limits};
 use crate::intake::Intake;
 use crate::metrics::{Metrics, OfCluster};
 use crate::operate::{Databases, Desk, Others};
-use crate::remarks::Remarks;
+use crate::post_reports::Reported;
 use crate::slot::{Slot, Slots};
 use crate::store::postgres::{Copies, Member, PostgresDrive, PostgresStore, Server};
 use crate::tls;
@@ -44,7 +44,7 @@ pub struct OfStore {
 }
 
 /// What takes the posts of slots that are here.
-type Here = Intake<Remarks<Slot>>;
+type Here = Intake<Reported<Slot>>;
 
 /// The store, and what is known of the others.
 pub(super) struct Joining {
@@ -257,7 +257,7 @@ impl terms::Units for Instance {
 }
 
 /// Where posts go, by the store's slots.
-pub(super) fn slots(joining: &Joining, settings: &Settings) -> Arc<Slots<Remarks<Slot>>> {
+pub(super) fn slots(joining: &Joining, settings: &Settings) -> Arc<Slots<Reported<Slot>>> {
     let reading = Arc::new(settings.reading.clone());
     let resources = crate::otlp::Resources::new(joining.store.cluster.slots, reading);
     Slots::several(resources, Some(joining.forward.clone()))

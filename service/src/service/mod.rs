@@ -28,7 +28,7 @@ use crate::metrics::Metrics;
 use crate::operate::Units;
 use crate::otlp::{Clock, Reading};
 use crate::pass::Pass;
-use crate::remarks::Telling;
+use crate::post_reports::ReportOptions;
 use crate::runs;
 use crate::shares::Share;
 use crate::sinks::{Address, Keep};
@@ -73,7 +73,7 @@ pub struct Settings {
     /// What a forwarded point never covers two of.
     pub across: Across,
     pub runs: runs::Options,
-    pub telling: Telling,
+    pub report_options: ReportOptions,
     /// Who gets points that are outside the profile.
     pub pass: Option<Arc<Pass>>,
     pub most_bytes: usize,

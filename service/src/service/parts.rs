@@ -12,7 +12,7 @@ use crate::files::{Folder, Outbox};
 use crate::intake::connections::Limits;
 use crate::intake::{Budget, Intake, Threads};
 use crate::operate::{self, Acts, Desk, Pulse, Totals};
-use crate::remarks::{Heard, Remarks, Teller};
+use crate::post_reports::{SenderActivity, Reported, Reporter};
 use crate::shares::Rules;
 use crate::sinks::Sink;
 use crate::slot::{Shared, Slot, Slots};
@@ -112,14 +112,14 @@ impl Parts {
         let (stop_operate, operate_stopped) = watch::channel(false);
         let units = operate::Units::of(self.of.slots());
         let (at_work, ends) = AtWork::new(units.clone());
-        let (metrics, heard) = (settings.metrics.clone(), Arc::<Heard>::default());
-        let teller = Teller::new(
-            settings.telling.clone(),
+        let (metrics, activity) = (settings.metrics.clone(), Arc::<SenderActivity>::default());
+        let reporter = Reporter::new(
+            settings.report_options.clone(),
             metrics.clone(),
-            heard.clone(),
+            activity.clone(),
             settings.pass.clone(),
         );
-        let (slots, mut joining) = self.of.begin(settings, &at_work, &teller, &self.sink);
+        let (slots, mut joining) = self.of.begin(settings, &at_work, &reporter, &self.sink);
         // Of series that are there already.
         self.shared.shares.begin(Rules {
             most_series: settings.most_series as u64,
@@ -139,7 +139,7 @@ impl Parts {
         let reading = Arc::new(settings.reading.clone());
         let intake = Intake::of(
             slots.clone(),
-            teller.clone(),
+            reporter.clone(),
             reading,
             self.budget.clone(),
             metrics.clone(),
@@ -156,7 +156,7 @@ impl Parts {
             pulse: Pulse::begin(metrics.clone()),
             metrics,
             budget: self.budget,
-            heard,
+            activity,
             listen: senders.shown(),
             operate: settings.operate.tcp.clone().unwrap_or_default(),
             is_local: operators.is_local(),
@@ -170,7 +170,7 @@ impl Parts {
                 settings: settings.clone(),
                 shared: self.shared.clone(),
                 sink: desk.sink.clone(),
-                teller,
+                reporter,
                 slots,
                 at_work: at_work.clone(),
             };
@@ -203,12 +203,12 @@ impl Of {
         self,
         settings: &Settings,
         at_work: &AtWork,
-        teller: &Arc<Teller>,
+        reporter: &Arc<Reporter>,
         sink: &Arc<dyn Sink>,
-    ) -> (Arc<Slots<Remarks<Slot>>>, Option<Joining>) {
+    ) -> (Arc<Slots<Reported<Slot>>>, Option<Joining>) {
         match self {
             Of::Folder(opened) => {
-                let slots = Slots::one(taker(&opened.slot, teller));
+                let slots = Slots::one(taker(&opened.slot, reporter));
                 at_work.start(opened.start(sink));
                 (slots, None)
             }

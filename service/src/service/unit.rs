@@ -5,7 +5,7 @@ use super::{Ended, Settings};
 use crate::core::Core;
 use crate::files::{Dead, Fault, Journal, Outbox};
 use crate::keeper::{Keeper, Orders, Trouble};
-use crate::operate::{self, Left};
+use crate::operate::{self, Undelivered};
 use crate::sinks::{self, Delivery, Sink};
 use crate::slot::{Shared, Slot};
 use anyhow::{anyhow, Context};
@@ -76,8 +76,8 @@ impl Opened {
             .store
             .is_some()
             .then(|| Arc::new(settings.reading.of_slot()));
-        let whole = &reading.as_deref().unwrap_or(&settings.reading).whole;
-        whole.know(&files.outbox, &files.journal)?;
+        let finer_units = &reading.as_deref().unwrap_or(&settings.reading).finer_units;
+        finer_units.know(&files.outbox, &files.journal)?;
         let room = room(settings.most_series, slots, files.outbox.series_count());
         let core = Core::apart(room, settings.across).with_context(|| {
             format!(
@@ -119,13 +119,13 @@ impl Opened {
                 delivery.clone(),
                 deliveries_stopped.clone(),
             ));
-            Left {
+            Undelivered {
                 number,
                 outbox,
                 delivery,
             }
         };
-        let left = deliver(slot.number(), slot.outbox.clone());
+        let undelivered = deliver(slot.number(), slot.outbox.clone());
         let former = self.former.into_iter();
         let former = former.map(|(number, outbox)| deliver(number, outbox)).collect();
         let mut keeper = JoinSet::new();
@@ -135,7 +135,7 @@ impl Opened {
             of_desk: Arc::new(operate::Unit {
                 slot,
                 orders,
-                left,
+                undelivered,
                 former,
                 dead,
             }),

@@ -3,10 +3,10 @@
 use super::unit::{cause, End, Files, Opened, Unit};
 use super::{Ended, Settings};
 use crate::operate;
-use crate::remarks::{Remarks, Teller};
+use crate::post_reports::{Reported, Reporter};
 use crate::sinks::Sink;
 use crate::slot::{Place, Shared, Slot, Slots};
-use crate::switch::Switch;
+use crate::latch::Latch;
 use crate::work::blocking;
 use std::collections::BTreeMap;
 use std::sync::{Arc, Mutex, MutexGuard, PoisonError};
@@ -128,9 +128,9 @@ pub(super) struct Units {
     pub settings: Arc<Settings>,
     pub shared: Arc<Shared>,
     pub sink: Arc<dyn Sink>,
-    pub teller: Arc<Teller>,
+    pub reporter: Arc<Reporter>,
     /// Where posts go.
-    pub slots: Arc<Slots<Remarks<Slot>>>,
+    pub slots: Arc<Slots<Reported<Slot>>>,
     pub at_work: Arc<AtWork>,
 }
 
@@ -140,7 +140,7 @@ impl Units {
         let (settings, shared) = (self.settings.clone(), self.shared.clone());
         let slots = self.slots.count();
         let opened = blocking(move || Opened::new(files, slots, &settings, &shared)).await?;
-        let (number, taker) = (opened.slot.number(), taker(&opened.slot, &self.teller));
+        let (number, taker) = (opened.slot.number(), taker(&opened.slot, &self.reporter));
         self.at_work.start(opened.start(&self.sink));
         self.slots.set(number, Place::Here(taker));
         Ok(())
@@ -161,8 +161,8 @@ impl Units {
 }
 
 /// What takes the posts of a slot.
-pub(super) fn taker(slot: &Arc<Slot>, teller: &Arc<Teller>) -> Arc<Remarks<Slot>> {
-    Remarks::new(slot.clone(), slot.outbox.clone(), teller.clone())
+pub(super) fn taker(slot: &Arc<Slot>, reporter: &Arc<Reporter>) -> Arc<Reported<Slot>> {
+    Reported::new(slot.clone(), slot.outbox.clone(), reporter.clone())
 }
 
 #[cfg(test)]

@@ -4,7 +4,7 @@ use super::{backoff, Fate, Forwarded, Sink};
 use crate::files::outbox::Waiting;
 use crate::files::{Dead, Fault, Lost, Outbox};
 use crate::metrics::Metrics;
-use crate::switch::Switch;
+use crate::latch::Latch;
 use crate::work::blocking;
 use std::future::Future;
 use std::sync::{Arc, Mutex, PoisonError};

@@ -23,7 +23,7 @@ pub(super) fn shown(point: &ForwardedPoint) -> String {
 
 /// What of a request was not added although the rest was.
 #[derive(Debug, Default, PartialEq, Eq)]
-pub(super) struct Left {
+pub(super) struct LeftOut {
     /// Places of points, in the order in which the request has them.
     pub(super) places: BTreeSet<usize>,
     /// Of the first of them.
@@ -32,7 +32,7 @@ pub(super) struct Left {
     pub(super) unnamed: usize,
 }
 
-impl Left {
+impl LeftOut {
     pub(super) fn add(&mut self, place: usize, reason: String) {
         if self.places.is_empty() {
             self.reason = reason;
@@ -40,7 +40,7 @@ impl Left {
         self.places.insert(place);
     }
 
-    pub(super) fn and_unnamed(mut self, unnamed: usize) -> Left {
+    pub(super) fn and_unnamed(mut self, unnamed: usize) -> LeftOut {
         if self.places.is_empty() {
             self.reason =
                 "they overlapped when it was taken, and it can't be told any more which they are".into();

@@ -8,7 +8,7 @@ use crate::core::{Read, Refused};
 use crate::log::shown;
 use crate::otlp::series::SeriesKey;
 use crate::otlp::Window;
-use crate::remarks::SERIES_SHOWN;
+use crate::post_reports::SERIES_SHOWN;
 use crate::runs::{self, Draft, Noted};
 use crate::shares::Claim;
 use crate::work::blocking;

@@ -17,7 +17,7 @@ pub(crate) use phase::Phase;
 pub use slots::{Elsewhere, Place, Slots, Way, NO_OWNER};
 
 use crate::core::{Core, Refused};
-use crate::files::{Held, Journal, Outbox, Room};
+use crate::files::{FreeSpace, Held, Journal, Outbox};
 use crate::metrics::Metrics;
 use crate::otlp::{Clock, Outcome, Reading};
 use crate::runs::Runs;
@@ -43,7 +43,7 @@ const READERS: usize = 2;
 /// Shared by the intake, which posts, and the keeper.
 pub struct Slot {
     number: u16,
-    room: Arc<Room>,
+    free_space: Arc<FreeSpace>,
     pub(crate) journal: Arc<Journal>,
     pub(crate) outbox: Arc<Outbox>,
     pub(crate) metrics: Arc<Metrics>,
@@ -136,7 +136,7 @@ impl Slot {
         Arc::new(Slot {
             reading,
             number,
-            room: journal.room().clone(),
+            free_space: journal.free_space().clone(),
             journal: Arc::new(journal),
             outbox,
             metrics: shared.metrics.clone(),
@@ -181,7 +181,7 @@ impl Slot {
                 true => NO_STORE,
                 false => NO_ANSWER,
             }),
-            Phase::Serving if self.room.is_left() => None,
+            Phase::Serving if self.free_space.is_left() => None,
             Phase::Serving => Some(NO_ROOM),
         }
     }

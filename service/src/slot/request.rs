@@ -102,7 +102,7 @@ impl Slot {
     /// The same, and why the book refused it: also since what is in flight has to land first.
     pub(super) fn put(&self, posted: &mut Posted) -> Result<Result<Put, Refused>, &'static str> {
         // Others may have come through the door at once.
-        let Some(_room) = self.room.promise(posted.read.bytes()) else {
+        let Some(_reserved) = self.free_space.reserve(posted.read.bytes()) else {
             return Err(NO_ROOM);
         };
         let mut book = self.core.lock();

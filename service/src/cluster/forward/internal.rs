@@ -3,7 +3,7 @@
 use super::head::{Head, Secret};
 use super::operators::{self, Answers};
 use super::{said, unavailable, Here, PATH};
-use crate::cluster::known::{Cluster, NO_STORE};
+use crate::cluster::local_view::{Cluster, NO_STORE};
 use crate::cluster::owners::Whose;
 use crate::cluster::terms::Doing;
 use crate::intake::connections::Handler;

@@ -2,7 +2,7 @@
 
 use crate::files::drive::{is_lost, lost, Drive, Lost};
 use crate::files::lock;
-use crate::switch::Switch;
+use crate::latch::Latch;
 use std::io;
 use std::sync::atomic::{AtomicU64, Ordering::SeqCst};
 use std::sync::{Arc, Mutex, OnceLock};

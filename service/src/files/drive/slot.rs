@@ -3,7 +3,7 @@
 use super::Drive;
 use crate::files::disk::Disk;
 use crate::files::journal::Expected;
-use crate::files::room::Room;
+use crate::files::free_space::FreeSpace;
 use crate::files::{segment, Dead, Durability, Fault, Journal, Outbox};
 use std::path::Path;
 use std::sync::Arc;
@@ -24,8 +24,8 @@ pub fn open(drive: Arc<dyn Drive>, epoch: &str) -> Result<(Journal, Outbox, Dead
             what: LOST_OUTBOX.into(),
         });
     }
-    let room = Arc::new(Room::endless());
-    let outbox = Outbox::open(&disk, outbox, epoch, room.clone())?;
+    let free_space = Arc::new(FreeSpace::endless());
+    let outbox = Outbox::open(&disk, outbox, epoch, free_space.clone())?;
     outbox.is_delivered_to(delivered)?;
     let reach = outbox.journal();
     let expected = Expected {
@@ -34,7 +34,7 @@ pub fn open(drive: Arc<dyn Drive>, epoch: &str) -> Result<(Journal, Outbox, Dead
         begun: (!is_new).then_some(reach),
         by: outbox.ended(),
     };
-    let journal = Journal::open(&disk, journal, Durability::Disk, room, &expected)?;
+    let journal = Journal::open(&disk, journal, Durability::Disk, free_space, &expected)?;
     let dead = Dead::open(&disk, Path::new("dead"))?;
     Ok((journal, outbox, dead))
 }

@@ -88,7 +88,7 @@ fn all_of_it_is_its_owners_alone() {
         }
     }
     assert_eq!(files, 5);
-    assert!(folder.room.is_left());
+    assert!(folder.free_space.is_left());
 }
 
 #[test]

@@ -192,7 +192,7 @@ fn posts_of(
     }
     match (left, reader.at == part.end) {
         (0, true) => Ok(true),
-        _ => Err(reader.damaged(reader.at, crate::files::judge::CHANGED)),
+        _ => Err(reader.damaged(reader.at, crate::files::torn_tail::CHANGED)),
     }
 }
 
@@ -261,7 +261,7 @@ impl<'a> Moving<'a> {
         let part = self.list.entry(post.sender.clone()).or_default();
         part.end = part.end.max(writer.at + before) + writer.waiting.len() as u64 - before;
         part.posts += 1;
-        self.shared.room.use_up(writer.waiting.len() as u64 - before);
+        self.shared.free_space.use_up(writer.waiting.len() as u64 - before);
         if writer.waiting.len() >= PIECE {
             writer.write(self.shared)?;
         }

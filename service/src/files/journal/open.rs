@@ -1,10 +1,10 @@
 //! What an earlier run left in the journal.
 
-use super::found::{self, Found};
+use super::earlier_segment::{self, EarlierSegment};
 use super::{name, prepare, Expected, Journal, Place, Said, Shared, Size, Waiters};
 use crate::files::disk::{io_fault, Disk};
-use crate::files::judge::CHANGED;
-use crate::files::room::Room;
+use crate::files::torn_tail::CHANGED;
+use crate::files::free_space::FreeSpace;
 use crate::files::segment::{self, Dropped};
 use crate::files::{Durability, Fault};
 use std::collections::BTreeSet;
@@ -18,7 +18,7 @@ impl Journal {
         disk: &Disk,
         folder: &Path,
         durability: Durability,
-        room: Arc<Room>,
+        free_space: Arc<FreeSpace>,
         expected: &Expected,
     ) -> Result<Journal, Fault> {
         let disk = &disk.of_its_own();
@@ -51,7 +51,7 @@ impl Journal {
             disk: disk.clone(),
             folder: folder.into(),
             durability,
-            room,
+            free_space,
             place: Mutex::new(place),
             sizes: Mutex::new(sizes),
             held: Mutex::new(held),
@@ -91,18 +91,18 @@ fn remove_drafts(disk: &Disk, folder: &Path) -> Result<(), Fault> {
 ///
 /// A segment is begun before the one before it is synced. So a power loss can tear a segment that is not the last;
 /// then nothing of the later ones was durable, nobody was told of it, and it goes with what was torn.
-fn close(disk: &Disk, folder: &Path, expected: &Expected) -> Result<(Vec<Found>, Vec<Dropped>), Fault> {
+fn close(disk: &Disk, folder: &Path, expected: &Expected) -> Result<(Vec<EarlierSegment>, Vec<Dropped>), Fault> {
     let mut found = Vec::new();
     for number in segment::numbers(disk, folder)? {
-        found.push(found::find(disk, folder, number)?);
+        found.push(earlier_segment::read(disk, folder, number)?);
     }
-    found::check(disk, folder, &found, expected)?;
+    earlier_segment::check(disk, folder, &found, expected)?;
     segment::settle(disk, folder, expected.reach, |number| {
         let found = found.iter().find(|one| one.size.number == number);
         found.map_or(0, |found| found.durable)
     })?;
     let mut dropped = Vec::new();
-    let is_torn = |one: &Found| !one.closed && one.size.number >= expected.reach;
+    let is_torn = |one: &EarlierSegment| !one.closed && one.size.number >= expected.reach;
     if let Some(torn) = found.iter().position(is_torn) {
         cut(disk, folder, &mut found, torn, &mut dropped)?;
     }
@@ -113,7 +113,7 @@ fn close(disk: &Disk, folder: &Path, expected: &Expected) -> Result<(Vec<Found>,
 fn cut(
     disk: &Disk,
     folder: &Path,
-    found: &mut Vec<Found>,
+    found: &mut Vec<EarlierSegment>,
     torn: usize,
     dropped: &mut Vec<Dropped>,
 ) -> Result<(), Fault> {
@@ -153,9 +153,9 @@ fn cut(
 
 /// Which segment is begun: another one takes the place of a last one that has no post, and those that have none behind
 /// it are deleted. Starts that end at once would leave one each.
-fn drop_empty(disk: &Disk, folder: &Path, found: &mut Vec<Found>, expected: &Expected) -> Result<u64, Fault> {
+fn drop_empty(disk: &Disk, folder: &Path, found: &mut Vec<EarlierSegment>, expected: &Expected) -> Result<u64, Fault> {
     let known = expected.begun.unwrap_or(0).max(expected.reach);
-    let is_empty = |last: &mut Found| last.size.bytes == 0 && last.size.number > known;
+    let is_empty = |last: &mut EarlierSegment| last.size.bytes == 0 && last.size.number > known;
     while let Some(last) = found.pop_if(is_empty) {
         remove(disk, folder, last.size.number)?;
     }

@@ -85,7 +85,7 @@ impl Shared {
                 }
                 Next::Closed => return Ok(true),
                 Next::Stop if Some(reader.at) == segment.written => return Ok(true),
-                Next::Stop => return Err(reader.damaged(reader.at, crate::files::judge::CHANGED)),
+                Next::Stop => return Err(reader.damaged(reader.at, crate::files::torn_tail::CHANGED)),
             }
             next = reader.next()?;
         }

@@ -2,7 +2,7 @@
 
 use super::post::{Body, Points, Post, Replayed};
 use super::{packed, COPY, NAME, POINTS, POST, RUNS};
-use crate::files::{judge, records};
+use crate::files::{records, torn_tail};
 use bytes::Bytes;
 use std::collections::HashSet;
 
@@ -68,7 +68,7 @@ impl Posts {
             POST | COPY => text(bytes).ok_or(NO_POST)?,
             POINTS => self.points(bytes, packed::read)?,
             RUNS => self.points(bytes, packed::read_with_runs)?,
-            _ => return Err(judge::CHANGED),
+            _ => return Err(torn_tail::CHANGED),
         };
         let named = std::mem::take(&mut self.named);
         Ok(Some((since, Replayed { post, named })))

@@ -29,9 +29,9 @@ fn open_begun(
     reach: u64,
     begun: Option<u64>,
 ) -> Result<Journal, Fault> {
-    let room = Arc::new(Room::new(Path::new("/"))?);
+    let free_space = Arc::new(FreeSpace::new(Path::new("/"))?);
     let by = (PathBuf::from("outbox/1.seg"), 7);
-    Journal::open(disk, path, durability, room, &Expected { reach, begun, by })
+    Journal::open(disk, path, durability, free_space, &Expected { reach, begun, by })
 }
 
 fn open_on(disk: &Disk, path: &Path, durability: Durability) -> Result<Journal, Fault> {

@@ -1,7 +1,7 @@
 //! Series that leave an outbox, those that another slot had, and those whose ends are put back.
 
 use super::changes::Change;
-use super::state::{Known, State};
+use super::state::{KnownSeries, State};
 use super::{Outbox, Series};
 use crate::files::{lock, Fault};
 use crate::otlp::series::SeriesKey;
@@ -56,7 +56,7 @@ impl Outbox {
 
     pub(super) fn leave_out(
         &self,
-        is_left: impl Fn(&SeriesKey, &Known) -> bool,
+        is_left: impl Fn(&SeriesKey, &KnownSeries) -> bool,
     ) -> Result<Vec<SeriesKey>, Fault> {
         let mut left = Vec::new();
         self.change(true, |state| {

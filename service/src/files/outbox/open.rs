@@ -7,7 +7,7 @@ use super::written::begin;
 use super::{ends, Outbox, ReadEnds, Waiting, Writer, SEGMENT};
 use crate::files::disk::Disk;
 use crate::files::records::Reader;
-use crate::files::room::Room;
+use crate::files::free_space::FreeSpace;
 use crate::files::{nanoseconds, segment, Dropped, Fault};
 use crate::runs::Since;
 use std::path::{Path, PathBuf};
@@ -20,16 +20,16 @@ impl Outbox {
         disk: &Disk,
         folder: &Path,
         epoch: &str,
-        room: Arc<Room>,
+        free_space: Arc<FreeSpace>,
     ) -> Result<Outbox, Fault> {
-        Outbox::open_with(disk, folder, epoch, room, ends, SEGMENT)
+        Outbox::open_with(disk, folder, epoch, free_space, ends, SEGMENT)
     }
 
     pub(super) fn open_with(
         disk: &Disk,
         folder: &Path,
         epoch: &str,
-        room: Arc<Room>,
+        free_space: Arc<FreeSpace>,
         read_ends: ReadEnds,
         longest: u64,
     ) -> Result<Outbox, Fault> {
@@ -38,7 +38,7 @@ impl Outbox {
         let numbers = segment::numbers(disk, folder)?;
         // Each is begun once the one before it is durable.
         segment::settle(disk, folder, numbers.last().copied().unwrap_or(0), |_| 0)?;
-        let Left {
+        let EarlierRun {
             mut state,
             has_requests,
             ended,
@@ -57,7 +57,7 @@ impl Outbox {
         let outbox = Outbox {
             disk: disk.clone(),
             folder: folder.into(),
-            room,
+            free_space,
             read_ends,
             longest,
             writer: Mutex::new(Writer::new(segment)),
@@ -74,7 +74,7 @@ impl Outbox {
 }
 
 /// What was left.
-struct Left {
+struct EarlierRun {
     state: State,
     /// Whether the last segment has requests, taken or not.
     has_requests: bool,
@@ -83,9 +83,9 @@ struct Left {
 }
 
 /// Reads the segments, and closes the last of them.
-fn read_all(disk: &Disk, folder: &Path, numbers: &[u64], epoch: &str) -> Result<Left, Fault> {
+fn read_all(disk: &Disk, folder: &Path, numbers: &[u64], epoch: &str) -> Result<EarlierRun, Fault> {
     let Some((last, earlier)) = numbers.split_last() else {
-        return Ok(Left {
+        return Ok(EarlierRun {
             state: State::new(epoch),
             has_requests: false,
             ended: (folder.into(), 0),
@@ -122,7 +122,7 @@ fn read_all(disk: &Disk, folder: &Path, numbers: &[u64], epoch: &str) -> Result<
         state.wait(batch);
     }
     match next == state.next {
-        true => Ok(Left {
+        true => Ok(EarlierRun {
             state,
             has_requests,
             ended,

@@ -7,7 +7,7 @@ use super::changes::{Change, Group};
 use super::rows::{self, GroupHead};
 use super::state::{Batch, State};
 use crate::files::disk::Disk;
-use crate::files::judge::{is_torn, CHANGED};
+use crate::files::torn_tail::{check_torn, CHANGED};
 use crate::files::records::{Next, Reader, Which, HEADER};
 use crate::files::{segment, Fault};
 use crate::otlp::series::SeriesKey;
@@ -153,7 +153,7 @@ impl Reading {
             Items::Torn(torn) => torn,
             whole => return Ok(whole),
         };
-        let Err(changed) = is_torn(&self.disk, &self.reader.path, torn) else {
+        let Err(changed) = check_torn(&self.disk, &self.reader.path, torn) else {
             return Ok(Items::Torn(torn));
         };
         self.reader.seek(from)?;
@@ -180,7 +180,7 @@ impl Reading {
             match std::mem::replace(&mut self.next, Next::Stop) {
                 Next::Closed => return Ok((state, None)),
                 Next::Stop => {
-                    is_torn(&self.disk, &self.reader.path, self.reader.at)?;
+                    check_torn(&self.disk, &self.reader.path, self.reader.at)?;
                     return Ok((state, Some(self.reader.at)));
                 }
                 Next::Record {

@@ -15,7 +15,7 @@
 //! commit that first has it.
 
 use super::changes::{Change, Group};
-use super::state::{Front, Known, State};
+use super::state::{Front, KnownSeries, State};
 use super::{Runs, Series};
 use crate::files::disk::{io_fault, Disk};
 use crate::files::records::{self, put, take_number, HEAD, OWN};
@@ -137,7 +137,7 @@ impl Snapshot {
         let runs = snapshot.runs.into_iter().map(|row| (row.0, row));
         let mut runs: HashMap<u32, RunRow> = runs.collect();
         for (key, frontier, seen, owner) in snapshot.series {
-            let known = Known {
+            let known = KnownSeries {
                 id: state.next_id,
                 series: Series {
                     frontier,

@@ -9,7 +9,7 @@ use std::collections::{BTreeSet, HashMap, VecDeque};
 use std::sync::Arc;
 use std::time::{Duration, Instant, SystemTime, UNIX_EPOCH};
 
-pub struct Known {
+pub struct KnownSeries {
     /// How the records of the segment name it.
     pub id: u32,
     pub series: Series,
@@ -34,7 +34,7 @@ impl Age {
     }
 }
 
-impl Known {
+impl KnownSeries {
     /// One whose owner is unknown stays: the journal may still have its owner's posts. So does one that ends ahead of the clock:
     /// else no run that begins before that would count.
     pub fn may_be_forgotten(&self, age: Age) -> bool {
@@ -76,7 +76,7 @@ pub struct State {
     pub quarantined: BTreeSet<String>,
     /// None until the outbox is opened.
     pub since: Option<Since>,
-    pub series: HashMap<SeriesKey, Known>,
+    pub series: HashMap<SeriesKey, KnownSeries>,
     /// The id of the next new series.
     pub next_id: u32,
     pub batches: VecDeque<Batch>,
@@ -207,7 +207,7 @@ impl State {
     /// A snapshot has to follow: no record says this. What a run has come to stays, so its next point adds what is more.
     pub fn put_back(&mut self, series: &[SeriesKey], to: u64) {
         for key in series {
-            let Some(Known { series, .. }) = self.series.get_mut(key) else {
+            let Some(KnownSeries { series, .. }) = self.series.get_mut(key) else {
                 continue;
             };
             series.frontier = series.frontier.min(to);
@@ -224,7 +224,7 @@ impl State {
             let id = self.next_id;
             self.next_id += 1;
             let heard = None;
-            self.series.insert(key, Known { id, series, heard });
+            self.series.insert(key, KnownSeries { id, series, heard });
         }
     }
 
@@ -236,7 +236,7 @@ impl State {
             let id = self.next_id;
             let known = self.series.entry(key).or_insert_with(|| {
                 self.next_id += 1;
-                Known {
+                KnownSeries {
                     id,
                     series: Series {
                         frontier: 0,

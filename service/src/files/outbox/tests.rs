@@ -35,8 +35,8 @@ fn key_of(key: &str) -> SeriesKey {
 }
 
 fn open_on(disk: &Disk, path: &Path, epoch: &str, longest: u64) -> Result<Outbox, Fault> {
-    let room = Arc::new(Room::new(Path::new("/"))?);
-    Outbox::open_with(disk, path, epoch, room, read_ends, longest)
+    let free_space = Arc::new(FreeSpace::new(Path::new("/"))?);
+    Outbox::open_with(disk, path, epoch, free_space, read_ends, longest)
 }
 
 fn open(path: &Path) -> Outbox {

@@ -123,7 +123,7 @@ impl Outbox {
         change: impl FnOnce(u64) -> Change,
     ) -> Result<(), Fault> {
         writer.begin(&self.disk)?;
-        self.room.use_up(bytes.len() as u64);
+        self.free_space.use_up(bytes.len() as u64);
         let begin = writer.segment.put(&[bytes])?;
         if sync {
             writer.segment.order()?;

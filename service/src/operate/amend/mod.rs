@@ -15,7 +15,7 @@ use crate::sinks::sqlite::by_hour::Hour;
 use crate::sinks::sqlite::totals::SeriesTotal;
 use hyper::{Body, Response, StatusCode};
 use serde_json::json;
-use sought::{Found, Meant};
+use sought::{InAllSlots, Meant};
 use std::sync::Arc;
 use std::time::{SystemTime, UNIX_EPOCH};
 
@@ -62,7 +62,7 @@ impl Desk {
             .in_all_slots(&who, &Command::Find(sought.clone()))
             .await
             .all();
-        let found = match found.map(|answers| Found::read(&answers)) {
+        let found = match found.map(|answers| InAllSlots::read(&answers)) {
             Ok(Ok(found)) => found,
             Ok(Err(refused)) => return refused.into(),
             Err(not_all) => return not_all.into(),

@@ -43,7 +43,7 @@ struct InSlot {
 
 /// The same of all slots.
 #[derive(Debug, Default, PartialEq, Eq)]
-pub struct Found {
+pub struct InAllSlots {
     in_slot: Vec<(u16, InSlot)>,
 }
 
@@ -154,10 +154,10 @@ async fn ordered(unit: &Unit, amend: Amend) -> Option<Result<(), Answer>> {
     })
 }
 
-impl Found {
+impl InAllSlots {
     /// The error is what a slot has refused.
-    pub fn read(answers: &[(u16, Answer)]) -> Result<Found, Answer> {
-        let mut found = Found::default();
+    pub fn read(answers: &[(u16, Answer)]) -> Result<InAllSlots, Answer> {
+        let mut found = InAllSlots::default();
         for (slot, answer) in answers {
             let read = serde_json::from_str(&answer.body).ok();
             let in_slot = read
@@ -270,7 +270,7 @@ mod tests {
             let found = sought.counted(&sought.named(all));
             (slot, Answer::new(200, serde_json::json!(found).to_string()))
         });
-        Found::read(&answers).unwrap().meant(sought)
+        InAllSlots::read(&answers).unwrap().meant(sought)
     }
 
     fn sought(written: &str, to: Option<u64>, all: bool) -> Sought {
@@ -327,6 +327,6 @@ mod tests {
     #[test]
     fn what_a_slot_refuses_is_said() {
         let refused = Answer::told(400, "no");
-        assert_eq!(Found::read(&[(1, refused.clone())]), Err(refused));
+        assert_eq!(InAllSlots::read(&[(1, refused.clone())]), Err(refused));
     }
 }

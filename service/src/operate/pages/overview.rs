@@ -9,7 +9,7 @@ use crate::files::dead::Letter;
 use crate::metrics::to_do;
 use crate::operate::status::{SlotStatus, Status, Stock};
 use crate::otlp::{Cause, NO_NAME};
-use crate::remarks::{OfReason, OfSender};
+use crate::post_reports::{OfReason, OfSender};
 use std::collections::BTreeSet;
 use std::sync::Arc;
 use std::time::{SystemTime, UNIX_EPOCH};
@@ -34,7 +34,7 @@ impl Desk {
         let seen = Seen {
             desk: self,
             status,
-            senders: self.heard.last(usize::MAX),
+            senders: self.activity.last(usize::MAX),
             letters,
             now: SystemTime::now()
                 .duration_since(UNIX_EPOCH)

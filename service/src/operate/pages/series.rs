@@ -58,7 +58,7 @@ impl Desk {
 }
 
 /// What was found: the first rows, and how many there are.
-struct Found {
+struct FoundRows {
     rows: Vec<SeriesTotal>,
     count: usize,
     of: usize,
@@ -82,12 +82,12 @@ impl Wanted {
         wanted
     }
 
-    fn found(self, series: Vec<SeriesTotal>) -> Found {
+    fn found(self, series: Vec<SeriesTotal>) -> FoundRows {
         let of = series.len();
         let mut rows: Vec<SeriesTotal> = series.into_iter().filter(|one| self.takes(one)).collect();
         let count = rows.len();
         rows.truncate(ROWS);
-        Found {
+        FoundRows {
             rows,
             count,
             of,
@@ -132,7 +132,7 @@ fn form(html: &mut Html, wanted: &Wanted) {
         .markup("\"></label><button>Search</button></form>\n");
 }
 
-impl Found {
+impl FoundRows {
     /// The only one, where one was asked for.
     fn one(&self) -> Option<&SeriesTotal> {
         self.rows.first().filter(|_| self.is_one)

@@ -5,13 +5,13 @@ use std::collections::BTreeMap;
 
 /// Why a slot has not done it.
 #[derive(Clone, Debug, PartialEq, Eq)]
-pub struct Left {
+pub struct NotDone {
     why: String,
 }
 
-impl Left {
-    pub fn because(why: impl Into<String>) -> Left {
-        Left { why: why.into() }
+impl NotDone {
+    pub fn because(why: impl Into<String>) -> NotDone {
+        NotDone { why: why.into() }
     }
 }
 
@@ -20,7 +20,7 @@ pub struct Ended {
     is_act: bool,
     /// Of how many slots.
     of: usize,
-    in_slot: BTreeMap<u16, Result<Answer, Left>>,
+    in_slot: BTreeMap<u16, Result<Answer, NotDone>>,
 }
 
 impl Ended {
@@ -32,7 +32,7 @@ impl Ended {
         }
     }
 
-    pub fn note(&mut self, slot: u16, done: Result<Answer, Left>) {
+    pub fn note(&mut self, slot: u16, done: Result<Answer, NotDone>) {
         self.in_slot.insert(slot, done);
     }
 

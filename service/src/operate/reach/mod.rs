@@ -15,7 +15,7 @@ pub(super) use ended::{slots_shown, Ended};
 pub use places::Others;
 
 use super::{reply, Desk};
-use ended::Left;
+use ended::NotDone;
 use hyper::{Body, Response};
 use places::Place;
 use std::collections::BTreeSet;
@@ -39,7 +39,7 @@ const NOBODY: &str = "no instance has it";
 const ENDING: &str = "stopping";
 
 /// What came of it in a slot, or why nothing did.
-type InSlot = (u16, Result<Answer, Left>);
+type InSlot = (u16, Result<Answer, NotDone>);
 
 impl Desk {
     /// Has each slot do it, wherever it is.
@@ -97,7 +97,7 @@ impl Desk {
             Place::Here => {
                 let why = self.others.as_ref().map_or(ENDING, |_| MOVED);
                 let done = self.here(&command, &slots).await.into_iter();
-                done.map(|(slot, answer)| (slot, answer.ok_or_else(|| Left::because(why))))
+                done.map(|(slot, answer)| (slot, answer.ok_or_else(|| NotDone::because(why))))
                     .collect()
             }
             Place::At { name, address } => self.there(&name, &address, who, command, slots).await,
@@ -159,7 +159,7 @@ impl Desk {
 }
 
 fn all_left(slots: &[u16], why: &str) -> Vec<InSlot> {
-    let left = |slot: &u16| (*slot, Err(Left::because(why)));
+    let left = |slot: &u16| (*slot, Err(NotDone::because(why)));
     slots.iter().map(left).collect()
 }
 

@@ -2,11 +2,11 @@
 
 use super::super::output::Output;
 use super::super::wire::{numbers, Payload};
-use super::{bits_of, bytes_of, Found, Writer};
+use super::{bits_of, bytes_of, FoundField, Writer};
 
 impl<'a> Writer<'a, '_> {
     /// A list of 8 bytes each, packed or not.
-    pub(super) fn list(&mut self, found: Found<'a>, number: u8, each: impl Fn(&mut Output<'_>, u64)) {
+    pub(super) fn list(&mut self, found: FoundField<'a>, number: u8, each: impl Fn(&mut Output<'_>, u64)) {
         self.out.text.push(b'[');
         let inside = self.out.text.len();
         for payload in found.all(number) {
@@ -27,7 +27,7 @@ impl<'a> Writer<'a, '_> {
     }
 
     /// A list of numbers of any length, packed or not.
-    pub(super) fn numbers(&mut self, found: Found<'a>, number: u8) {
+    pub(super) fn numbers(&mut self, found: FoundField<'a>, number: u8) {
         self.out.text.push(b'[');
         let inside = self.out.text.len();
         for payload in found.all(number) {

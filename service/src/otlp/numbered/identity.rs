@@ -1,11 +1,11 @@
 //! What is not known yet is read once by the reader for all requests: a request that has this alone.
 
-use super::levels::{Full, Known, Level, Levels, CUMULATIVE, FOREIGN};
+use super::levels::{Full, LookupOnly, Level, Levels, CUMULATIVE, FOREIGN};
 use super::walk::{Find, Head, Own, Path, Stop};
 use super::Learnt;
 use crate::otlp::from_protobuf;
 use crate::otlp::output::Written;
-use crate::otlp::whole::{rewritten, scale_of, shown_of, Scale, Scaled, ShownSeries};
+use crate::otlp::finer_units::{rewritten, scale_of, shown_of, Scale, Scaled, ShownSeries};
 use crate::otlp::wire::{Fields, Payload};
 use crate::otlp::{Cumulative, Reading};
 use bytes::Bytes;
@@ -29,7 +29,7 @@ impl Find for Learner<'_> {
     }
 
     fn level(&mut self, path: &Path<'_>, within: Level, bytes: &[u8]) -> Result<Level, Stop> {
-        match Known(&self.known()).level(path, within, bytes) {
+        match LookupOnly(&self.known()).level(path, within, bytes) {
             Err(Stop::Unknown) => {}
             known => return known,
         }
@@ -38,7 +38,7 @@ impl Find for Learner<'_> {
             false => request(path, &[]),
         })?;
         let scaled = match written.is_measured {
-            true => scale_of(&written.text, &self.reading.whole).ok_or(Stop::Slow)?,
+            true => scale_of(&written.text, &self.reading.finer_units).ok_or(Stop::Slow)?,
             false => Scaled::Plain,
         };
         match scaled {
@@ -126,7 +126,7 @@ impl Learner<'_> {
 
     /// A request in the finer unit. What can't be had in it is named by who reads the whole request.
     fn in_finer(&self, text: &[u8]) -> Result<Vec<u8>, Stop> {
-        match rewritten(text, &self.reading.whole) {
+        match rewritten(text, &self.reading.finer_units) {
             Ok((text, rounded)) if rounded.unfit.is_none() => Ok(text.into_bytes()),
             _ => Err(Stop::Slow),
         }

@@ -2,7 +2,7 @@
 //! points' attributes, which have the number of their series. Beside them the keys of series, which have numbers too.
 
 use super::walk::{Find, Own, Path, Stop};
-use crate::otlp::whole::{Scale, ShownSeries};
+use crate::otlp::finer_units::{Scale, ShownSeries};
 use ahash::RandomState;
 use std::collections::HashMap;
 use std::sync::Arc;
@@ -140,9 +140,9 @@ impl Levels {
 }
 
 /// Who learns nothing.
-pub struct Known<'l>(pub &'l Levels);
+pub struct LookupOnly<'l>(pub &'l Levels);
 
-impl Find for Known<'_> {
+impl Find for LookupOnly<'_> {
     #[inline]
     fn top(&mut self, decides: u64) -> Result<Level, Stop> {
         self.0.top(decides).ok_or(Stop::Unknown)

@@ -7,7 +7,7 @@ use super::Numbered;
 use crate::files::Points;
 use crate::otlp::from_protobuf::is_exemplar;
 use crate::otlp::schema::{Message, METRIC, REQUEST, RESOURCE_METRICS, SCOPE_METRICS};
-use crate::otlp::whole::{InFiner, RoundedPoint, Scale, ShownSeries};
+use crate::otlp::finer_units::{InFiner, RoundedPoint, Scale, ShownSeries};
 use crate::otlp::wire::{Fields, Payload};
 use crate::otlp::{Reading, Rounded};
 use std::sync::Arc;
@@ -169,7 +169,7 @@ impl<'b, F: Find> Walk<'b, F> {
             resource,
             ..Path::default()
         };
-        let top = self.find.top(self.reading.whole.decides())?;
+        let top = self.find.top(self.reading.finer_units.decides())?;
         let level = self.find.level(&self.path, top, resource)?;
         each(&RESOURCE_METRICS, 2, fields, |scope| self.scope(level, scope))
     }

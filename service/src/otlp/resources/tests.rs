@@ -234,7 +234,7 @@ fn what_can_t_be_read_is_slot_0_s() {
 
 #[test]
 fn resources_that_come_and_go_take_no_memory_for_ever() {
-    let known = Known::default();
+    let known = SlotCache::default();
     for number in 0..10_000u32 {
         let resource = [&number.to_le_bytes()[..], &[0; 8 << 10]].concat();
         assert_eq!(known.of(&resource, || 3), 3);

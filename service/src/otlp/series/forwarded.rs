@@ -14,10 +14,10 @@ use std::sync::Arc;
 
 const DELTA: i32 = 1;
 
-type Found<T> = Result<T, NotForwarded>;
+type ReadResult<T> = Result<T, NotForwarded>;
 
 /// The points of a forwarded request, in its order.
-pub fn forwarded(body: &[u8]) -> Found<Vec<ForwardedPoint>> {
+pub fn forwarded(body: &[u8]) -> ReadResult<Vec<ForwardedPoint>> {
     let document = parsed(body)?;
     let mut points = Vec::new();
     each(document.root(), "resourceMetrics", |of_resource| {
@@ -38,7 +38,7 @@ pub fn forwarded(body: &[u8]) -> Found<Vec<ForwardedPoint>> {
 }
 
 /// A forwarded request in protobuf.
-pub fn protobuf_of_forwarded(body: &[u8]) -> Found<Vec<u8>> {
+pub fn protobuf_of_forwarded(body: &[u8]) -> ReadResult<Vec<u8>> {
     let document = parsed(body)?;
     let mut request = ExportMetricsServiceRequest::default();
     each(document.root(), "resourceMetrics", |of_resource| {
@@ -61,49 +61,49 @@ fn missing(what: &str) -> NotForwarded {
     NotForwarded(format!("{what} is missing or of another form"))
 }
 
-fn parsed(body: &[u8]) -> Found<Document<'_>> {
+fn parsed(body: &[u8]) -> ReadResult<Document<'_>> {
     Document::parse(body).map_err(|error| NotForwarded(error.to_string()))
 }
 
-fn member<'d>(object: Json<'d>, name: &str) -> Found<Json<'d>> {
+fn member<'d>(object: Json<'d>, name: &str) -> ReadResult<Json<'d>> {
     optional(object, name)?.ok_or_else(|| missing(name))
 }
 
-fn optional<'d>(object: Json<'d>, name: &str) -> Found<Option<Json<'d>>> {
+fn optional<'d>(object: Json<'d>, name: &str) -> ReadResult<Option<Json<'d>>> {
     object
         .named([name])
         .map(|found| found[0])
         .ok_or_else(|| missing(name))
 }
 
-fn list<'d>(object: Json<'d>, name: &str) -> Found<Json<'d>> {
+fn list<'d>(object: Json<'d>, name: &str) -> ReadResult<Json<'d>> {
     member(object, name)?.elements().ok_or_else(|| missing(name))?;
     member(object, name)
 }
 
-fn each<'d>(object: Json<'d>, name: &str, mut one: impl FnMut(Json<'d>) -> Found<()>) -> Found<()> {
+fn each<'d>(object: Json<'d>, name: &str, mut one: impl FnMut(Json<'d>) -> ReadResult<()>) -> ReadResult<()> {
     member(object, name)?
         .elements()
         .ok_or_else(|| missing(name))?
         .try_for_each(&mut one)
 }
 
-fn whole<T: TryFrom<i128>>(value: Json<'_>, name: &str) -> Found<T> {
+fn whole<T: TryFrom<i128>>(value: Json<'_>, name: &str) -> ReadResult<T> {
     book_whole(value)
         .and_then(|whole| T::try_from(whole).ok())
         .ok_or_else(|| missing(name))
 }
 
-fn number<T: TryFrom<i128>>(object: Json<'_>, name: &str) -> Found<T> {
+fn number<T: TryFrom<i128>>(object: Json<'_>, name: &str) -> ReadResult<T> {
     whole(member(object, name)?, name)
 }
 
-fn numbers<T: TryFrom<i128>>(object: Json<'_>, name: &str) -> Found<Vec<T>> {
+fn numbers<T: TryFrom<i128>>(object: Json<'_>, name: &str) -> ReadResult<Vec<T>> {
     let elements = member(object, name)?.elements().ok_or_else(|| missing(name))?;
     elements.map(|element| whole(element, name)).collect()
 }
 
-fn text(object: Json<'_>, name: &str) -> Found<String> {
+fn text(object: Json<'_>, name: &str) -> ReadResult<String> {
     member(object, name)?
         .text()
         .map(String::from)
@@ -111,13 +111,13 @@ fn text(object: Json<'_>, name: &str) -> Found<String> {
 }
 
 /// Whether a sum is monotonic.
-fn is_monotonic(sum: Json<'_>) -> Found<bool> {
+fn is_monotonic(sum: Json<'_>) -> ReadResult<bool> {
     member(sum, "isMonotonic")?
         .truth()
         .ok_or_else(|| missing("isMonotonic"))
 }
 
-fn add_points<'d>(points: &mut Vec<ForwardedPoint>, above: &str, metric: Json<'d>) -> Found<()> {
+fn add_points<'d>(points: &mut Vec<ForwardedPoint>, above: &str, metric: Json<'d>) -> ReadResult<()> {
     let above = format!(
         "{above},{},{}",
         member(metric, "name")?.raw(),
@@ -156,7 +156,7 @@ fn add_points<'d>(points: &mut Vec<ForwardedPoint>, above: &str, metric: Json<'d
     })
 }
 
-fn scope_message(of_scope: Json<'_>) -> Found<ScopeMetrics> {
+fn scope_message(of_scope: Json<'_>) -> ReadResult<ScopeMetrics> {
     let scope = member(of_scope, "scope")?;
     let mut metrics = Vec::new();
     each(of_scope, "metrics", |metric| {
@@ -174,7 +174,7 @@ fn scope_message(of_scope: Json<'_>) -> Found<ScopeMetrics> {
     })
 }
 
-fn metric_message(metric: Json<'_>) -> Found<Metric> {
+fn metric_message(metric: Json<'_>) -> ReadResult<Metric> {
     let data = match optional(metric, "sum")? {
         Some(sum) => Data::Sum(Sum {
             data_points: all(sum, "dataPoints", sum_message)?,
@@ -193,7 +193,7 @@ fn metric_message(metric: Json<'_>) -> Found<Metric> {
     })
 }
 
-fn all<T>(object: Json<'_>, name: &str, one: impl Fn(Json<'_>) -> Found<T>) -> Found<Vec<T>> {
+fn all<T>(object: Json<'_>, name: &str, one: impl Fn(Json<'_>) -> ReadResult<T>) -> ReadResult<Vec<T>> {
     member(object, name)?
         .elements()
         .ok_or_else(|| missing(name))?
@@ -201,7 +201,7 @@ fn all<T>(object: Json<'_>, name: &str, one: impl Fn(Json<'_>) -> Found<T>) -> F
         .collect()
 }
 
-fn sum_message(point: Json<'_>) -> Found<NumberDataPoint> {
+fn sum_message(point: Json<'_>) -> ReadResult<NumberDataPoint> {
     Ok(NumberDataPoint {
         start_time_unix_nano: number(point, "startTimeUnixNano")?,
         time_unix_nano: number(point, "timeUnixNano")?,
@@ -211,7 +211,7 @@ fn sum_message(point: Json<'_>) -> Found<NumberDataPoint> {
     })
 }
 
-fn histogram_message(point: Json<'_>) -> Found<HistogramDataPoint> {
+fn histogram_message(point: Json<'_>) -> ReadResult<HistogramDataPoint> {
     // Bounds and sums are at most 2^53 in size, so each is a double as it is.
     let double = |whole: i64| whole as f64;
     let sum = optional(point, "sum")?.map(|sum| whole(sum, "sum")).transpose()?;
@@ -230,7 +230,7 @@ fn histogram_message(point: Json<'_>) -> Found<HistogramDataPoint> {
     })
 }
 
-fn attributes(object: Json<'_>) -> Found<Vec<KeyValue>> {
+fn attributes(object: Json<'_>) -> ReadResult<Vec<KeyValue>> {
     all(object, "attributes", |pair| {
         Ok(KeyValue {
             key: text(pair, "key")?,
@@ -239,7 +239,7 @@ fn attributes(object: Json<'_>) -> Found<Vec<KeyValue>> {
     })
 }
 
-fn any(value: Json<'_>) -> Found<AnyValue> {
+fn any(value: Json<'_>) -> ReadResult<AnyValue> {
     let [text, truth, int, array] = value
         .named(["stringValue", "boolValue", "intValue", "arrayValue"])
         .ok_or_else(|| missing("a value"))?;

@@ -147,7 +147,7 @@ struct Part<'d> {
 }
 
 /// What is known of the points below: nothing that makes them foreign, or the first that does.
-type Known<'d> = Result<(), Why<'d>>;
+type ForeignCheck<'d> = Result<(), Why<'d>>;
 
 struct Walk<F> {
     each: F,
@@ -171,7 +171,7 @@ impl<'d, F: FnMut(Seen<'_, 'd>)> Walk<F> {
         Some(())
     }
 
-    fn scope(&mut self, value: Value<'d>, known: Known<'d>) -> Option<()> {
+    fn scope(&mut self, value: Value<'d>, known: ForeignCheck<'d>) -> Option<()> {
         let [scope, metrics] = value.named(["scope", "metrics"])?;
         let [name, version, attributes] = members(scope, ["name", "version", "attributes"])?;
         let known = known.and_then(|()| {
@@ -188,7 +188,7 @@ impl<'d, F: FnMut(Seen<'_, 'd>)> Walk<F> {
         Some(())
     }
 
-    fn metric(&mut self, value: Value<'d>, known: Known<'d>) -> Option<()> {
+    fn metric(&mut self, value: Value<'d>, known: ForeignCheck<'d>) -> Option<()> {
         let [name, unit, gauge, sum, histogram, exponential, summary] = value.named([
             "name",
             "unit",
@@ -236,9 +236,9 @@ impl<'d, F: FnMut(Seen<'_, 'd>)> Walk<F> {
         &mut self,
         metric: Value<'d>,
         part: Part<'d>,
-        known: Known<'d>,
-        kind: fn(&mut Put, Value<'d>) -> Known<'d>,
-        point: fn(&mut Put, Value<'d>, Temporality) -> Known<'d>,
+        known: ForeignCheck<'d>,
+        kind: fn(&mut Put, Value<'d>) -> ForeignCheck<'d>,
+        point: fn(&mut Put, Value<'d>, Temporality) -> ForeignCheck<'d>,
     ) -> Option<()> {
         let known = known
             .and_then(|()| temporality(part.whole, self.profile))

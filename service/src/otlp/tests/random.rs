@@ -200,9 +200,9 @@ fn both_encodings_of_a_request_mean_the_same() {
 #[test]
 fn both_encodings_mean_the_same_in_finer_units() {
     let rules = ["s=us", "By", "a\"b=3:c"].map(|rule| rule.parse().unwrap());
-    let whole = Whole::new(rules).unwrap();
+    let finer_units = FinerUnits::new(rules).unwrap();
     let rounded = both_mean_the_same(&Reading {
-        whole,
+        finer_units,
         ..Reading::default()
     });
     assert!(
@@ -215,7 +215,7 @@ fn both_encodings_mean_the_same_in_finer_units() {
 #[test]
 fn both_encodings_mean_the_same_in_units_that_are_decided() {
     let rounded = both_mean_the_same(&Reading {
-        whole: Whole::of([Choice::Auto]).unwrap(),
+        finer_units: FinerUnits::of([Choice::Auto]).unwrap(),
         ..Reading::default()
     });
     assert!(rounded.values().any(|one| one.values > 10), "{rounded:?}");

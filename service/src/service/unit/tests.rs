@@ -3,7 +3,7 @@ use crate::files::drive::{self, memory::Store};
 use crate::files::{Durability, Folder, Lost};
 use crate::metrics::Metrics;
 use crate::otlp::Clock;
-use crate::switch::Switch;
+use crate::latch::Latch;
 use std::future::Future;
 use std::path::Path;
 
@@ -39,7 +39,7 @@ fn over(
     };
     let orders = Keeper::new(slot.clone(), settings).1;
     let delivery = Arc::default();
-    let left = Left {
+    let undelivered = Undelivered {
         number,
         outbox,
         delivery,
@@ -48,7 +48,7 @@ fn over(
         of_desk: Arc::new(operate::Unit {
             slot,
             orders,
-            left,
+            undelivered,
             former: Vec::new(),
             dead,
         }),

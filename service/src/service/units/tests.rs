@@ -1,7 +1,7 @@
 //! Slots with their files in folders of their own, which come and go while posts go on.
 
 mod reach;
-mod whole;
+mod finer_units;
 
 use super::super::operators::Operate;
 use super::super::unit::tests::{no_disk, unit};
@@ -77,7 +77,7 @@ fn settings(place: &Path) -> Settings {
         clock: Clock::default(),
         across: Across::None,
         runs: crate::runs::Options::default(),
-        telling: crate::remarks::Telling::default(),
+        report_options: crate::post_reports::ReportOptions::default(),
         pass: None,
         most_bytes: 64 << 20,
         most_connections: 8,
@@ -92,7 +92,7 @@ struct Service {
     sink: Arc<Taken>,
     units: Units,
     ends: Ends,
-    intake: Intake<Remarks<Slot>>,
+    intake: Intake<Reported<Slot>>,
     budget: Arc<Budget>,
     desk: Arc<Desk>,
 }
@@ -109,14 +109,14 @@ impl Service {
         let place = settings.data.clone();
         let shared = Arc::new(Shared::new(metrics.clone(), settings.clock));
         let sink = Arc::<Taken>::default();
-        let teller = Teller::new(settings.telling.clone(), metrics.clone(), Arc::default(), None);
+        let reporter = Reporter::new(settings.report_options.clone(), metrics.clone(), Arc::default(), None);
         let slots = Slots::several(Resources::new(SLOTS, reading.clone()), None);
         let of_desk = operate::Units::of(SLOTS);
         let (at_work, ends) = AtWork::new(of_desk.clone());
         let budget = Budget::new(settings.most_bytes);
         let intake = Intake::of(
             slots.clone(),
-            teller.clone(),
+            reporter.clone(),
             reading,
             budget.clone(),
             metrics.clone(),
@@ -131,7 +131,7 @@ impl Service {
             pulse: Pulse::begin(metrics.clone()),
             metrics,
             budget: budget.clone(),
-            heard: Arc::default(),
+            activity: Arc::default(),
             listen: String::new(),
             operate: String::new(),
             is_local: true,
@@ -143,7 +143,7 @@ impl Service {
             settings,
             shared,
             sink: sink.clone(),
-            teller,
+            reporter,
             slots,
             at_work,
         };
@@ -198,7 +198,7 @@ impl Service {
 
     /// The slots whose requests came to the sink, and the sum of all points.
     async fn taken(&self) -> (Vec<u16>, i64) {
-        while self.desk.units.sum(|unit| unit.left.outbox.waiting().0) > 0 {
+        while self.desk.units.sum(|unit| unit.undelivered.outbox.waiting().0) > 0 {
             tokio::time::sleep(Duration::from_millis(1)).await;
         }
         let came = self.sink.came.lock().unwrap();

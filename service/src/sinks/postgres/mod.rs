@@ -26,7 +26,7 @@ mod values;
 pub use crate::postgres::Server;
 pub use fault::PostgresFault;
 
-use super::part::Left;
+use super::part::LeftOut;
 use super::periods::{Deed, Told};
 use super::{Answer, Fate, Forwarded, Keep, Keys, Memory, Sink};
 use fault::NotTaken;
@@ -97,7 +97,7 @@ impl PostgresSink {
         request: &Forwarded,
         term: Option<u64>,
         content: Content,
-    ) -> Result<Option<Left>, NotTaken> {
+    ) -> Result<Option<LeftOut>, NotTaken> {
         let mut session = match place.take() {
             Some(session) if !session.client.is_closed() => session,
             _ => {
@@ -117,7 +117,7 @@ impl PostgresSink {
         taken
     }
 
-    async fn tried(&self, request: &Forwarded, term: Option<u64>) -> Result<Option<Left>, NotTaken> {
+    async fn tried(&self, request: &Forwarded, term: Option<u64>) -> Result<Option<LeftOut>, NotTaken> {
         let content = self.read(request).await?;
         // It is not the server that is late where other slots' requests go first.
         let mut place = self.session.lock().await;

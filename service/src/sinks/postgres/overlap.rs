@@ -7,7 +7,7 @@
 use super::fault::NotTaken;
 use super::repeat::Refused;
 use super::rows::{overlaps, OfSeries};
-use super::series::Known;
+use super::series::StoredSeries;
 use super::store::{each, Writing};
 use super::values::Numeric;
 use crate::otlp::series::ForwardedPoint;
@@ -32,8 +32,8 @@ struct Before<'a> {
 impl Writing<'_> {
     /// A span that overlaps one that is there was counted before, at least in part; so it may have been where what was
     /// there is deleted.
-    pub(super) async fn overlapping(&self, all: &[OfSeries], known: &[Known]) -> Result<Refused, NotTaken> {
-        let is_before = |(point, known): &(&ForwardedPoint, &Known)| {
+    pub(super) async fn overlapping(&self, all: &[OfSeries], known: &[StoredSeries]) -> Result<Refused, NotTaken> {
+        let is_before = |(point, known): &(&ForwardedPoint, &StoredSeries)| {
             known.last_end.is_some_and(|last_end| point.start < last_end)
         };
         let before: Vec<Before> = each(all, known)

@@ -12,7 +12,7 @@ use crate::sinks::periods::{
 use crate::sinks::Memory;
 use std::time::Duration;
 use tokio::time::timeout;
-use tokio_postgres::{Error, Row as Found, Transaction};
+use tokio_postgres::{Error, Row as DatabaseRow, Transaction};
 
 /// `totxegun` and two more, as the number of an advisory lock.
 pub(super) const LOCK: i64 = schema::LOCK + 2;
@@ -52,8 +52,8 @@ const TO_METRIC: &str =
     on conflict (metric, hour) do update set corrections = coalesce(h.corrections, 0) + excluded.corrections";
 
 /// Of rows of `statements::CLOSED`, of which there is at least one.
-pub(super) fn closed_of(rows: &[Found]) -> Closed {
-    let row = |row: &Found| {
+pub(super) fn closed_of(rows: &[DatabaseRow]) -> Closed {
+    let row = |row: &DatabaseRow| {
         Some(Row {
             period: row.get::<_, Option<String>>(1)?,
             from: row.get::<_, i32>(2).into(),

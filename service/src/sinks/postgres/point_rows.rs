@@ -1,7 +1,7 @@
 //! The rows of spans, and of what they come to.
 
 use super::rows::{InHour, OfSeries, Total};
-use super::series::Known;
+use super::series::StoredSeries;
 use super::values::{has_rows, row, Numeric, Written};
 use crate::otlp::series::{ForwardedPoint, Value};
 use crate::sinks::periods::Closed;
@@ -66,13 +66,13 @@ fn packed(buckets: &[u64]) -> Vec<u8> {
 #[derive(Debug)]
 pub(super) struct Adding<'a> {
     pub(super) of: &'a OfSeries,
-    pub(super) known: &'a Known,
+    pub(super) known: &'a StoredSeries,
     /// Its points by the hours in which they count, in order.
     pub(super) hours: Vec<InHour<'a>>,
 }
 
 impl<'a> Adding<'a> {
-    pub(super) fn of(of: &'a OfSeries, known: &'a Known, closed: &Closed) -> Adding<'a> {
+    pub(super) fn of(of: &'a OfSeries, known: &'a StoredSeries, closed: &Closed) -> Adding<'a> {
         let hours = of.by_hours(closed);
         Adding { of, known, hours }
     }

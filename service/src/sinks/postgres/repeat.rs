@@ -2,13 +2,13 @@
 
 use super::fault::NotTaken;
 use super::rows::{Content, OfSeries};
-use super::series::Known;
+use super::series::StoredSeries;
 use super::session::Before;
 use super::store::Writing;
 use super::values::Numeric;
 use crate::otlp::series::{self, ForwardedPoint, SeriesKey};
 use crate::sinks::part::shown;
-use crate::sinks::part::{Left, OTHER_REQUEST};
+use crate::sinks::part::{LeftOut, OTHER_REQUEST};
 use crate::sinks::Forwarded;
 use std::collections::{BTreeSet, HashSet};
 use tokio_postgres::Row;
@@ -38,16 +38,16 @@ impl Refused {
     }
 
     /// Where they stand in the request.
-    pub(super) fn left(self, request: &Forwarded) -> Result<Option<Left>, NotTaken> {
+    pub(super) fn left(self, request: &Forwarded) -> Result<Option<LeftOut>, NotTaken> {
         if self.is_empty() {
             return Ok(None);
         }
         let points = series::forwarded(&request.body)?;
         let places = points.iter().enumerate().filter(|(_, point)| self.has(point));
-        Ok(Some(Left {
+        Ok(Some(LeftOut {
             places: places.map(|(place, _)| place).collect(),
             reason: self.reason,
-            ..Left::default()
+            ..LeftOut::default()
         }))
     }
 }
@@ -59,13 +59,13 @@ pub(super) fn points(all: &[OfSeries]) -> i64 {
 /// The series that have points beside these.
 pub(super) fn without(
     all: Vec<OfSeries>,
-    known: Vec<Known>,
+    known: Vec<StoredSeries>,
     refused: &Refused,
-) -> (Vec<OfSeries>, Vec<Known>) {
+) -> (Vec<OfSeries>, Vec<StoredSeries>) {
     if refused.is_empty() {
         return (all, known);
     }
-    let mut both: Vec<(OfSeries, Known)> = all.into_iter().zip(known).collect();
+    let mut both: Vec<(OfSeries, StoredSeries)> = all.into_iter().zip(known).collect();
     both.iter_mut()
         .for_each(|(series, _)| series.points.retain(|point| !refused.has(point)));
     both.retain(|(series, _)| !series.points.is_empty());
@@ -102,7 +102,7 @@ impl Writing<'_> {
         taken: &Taken,
         request: &Forwarded,
         content: &Content,
-    ) -> Result<Option<Left>, NotTaken> {
+    ) -> Result<Option<LeftOut>, NotTaken> {
         match (&taken.digest, &self.statements.before) {
             (Some(digest), _) if *digest == content.digest => left_out(taken, request),
             (None, Some(before)) => self.left_before(taken, before, request, &content.all).await,
@@ -120,7 +120,7 @@ impl Writing<'_> {
         before: &Before,
         request: &Forwarded,
         all: &[OfSeries],
-    ) -> Result<Option<Left>, NotTaken> {
+    ) -> Result<Option<LeftOut>, NotTaken> {
         let each = || {
             all.iter()
                 .flat_map(|series| series.points.iter().map(move |point| (&series.digest[..], point)))
@@ -145,7 +145,7 @@ impl Writing<'_> {
     }
 }
 
-fn left_out(taken: &Taken, request: &Forwarded) -> Result<Option<Left>, NotTaken> {
+fn left_out(taken: &Taken, request: &Forwarded) -> Result<Option<LeftOut>, NotTaken> {
     let Some(places) = &taken.left_out else {
         return Ok(None);
     };
@@ -153,10 +153,10 @@ fn left_out(taken: &Taken, request: &Forwarded) -> Result<Option<Left>, NotTaken
     let points = series::forwarded(&request.body)?;
     let first = places.first().and_then(|place| points.get(*place));
     let reason = first.map_or(String::new(), was_there);
-    Ok(Some(Left {
+    Ok(Some(LeftOut {
         places,
         reason,
-        ..Left::default()
+        ..LeftOut::default()
     }))
 }
 

@@ -32,7 +32,7 @@ pub(super) const KNOWN: i32 = STEPS.len() as i32;
 pub(super) const LOCK: i64 = 0x746f_7478_6567_756e;
 
 /// What the database has under our name.
-struct Found {
+struct FoundSchema {
     is_there: bool,
     version: i32,
 }
@@ -157,7 +157,7 @@ pub(super) async fn version(client: &impl GenericClient, server: &str) -> Result
     Ok(check(client, server).await?.version)
 }
 
-async fn check(client: &impl GenericClient, server: &str) -> Result<Found, PostgresFault> {
+async fn check(client: &impl GenericClient, server: &str) -> Result<FoundSchema, PostgresFault> {
     let fault = |error| PostgresFault::of(server, &error);
     let query = "select exists (select from pg_namespace where nspname = 'totxegun'),
         exists (select from pg_class join pg_namespace on pg_namespace.oid = relnamespace where nspname = 'totxegun'),
@@ -175,7 +175,7 @@ async fn check(client: &impl GenericClient, server: &str) -> Result<Found, Postg
     }
     let (is_there, is_used, is_marked): (bool, bool, bool) = (row.get(0), row.get(1), row.get(2));
     if !is_used {
-        return Ok(Found { is_there, version: 0 });
+        return Ok(FoundSchema { is_there, version: 0 });
     }
     let foreign = || PostgresFault::Foreign {
         server: server.into(),
@@ -193,7 +193,7 @@ async fn check(client: &impl GenericClient, server: &str) -> Result<Found, Postg
             found,
             known: KNOWN,
         }),
-        Some(version) if version > 0 => Ok(Found { is_there, version }),
+        Some(version) if version > 0 => Ok(FoundSchema { is_there, version }),
         _ => Err(foreign()),
     }
 }

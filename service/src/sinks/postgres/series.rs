@@ -37,7 +37,7 @@ fn first_bytes(series: &OfSeries) -> u64 {
 
 /// What the server has of a series.
 #[derive(Clone, Debug)]
-pub(super) struct Known {
+pub(super) struct StoredSeries {
     pub(super) id: i64,
     /// Made by this transaction: nobody else sees it, and it has no total yet.
     pub(super) is_new: bool,
@@ -49,10 +49,10 @@ pub(super) struct Known {
     pub(super) last_hour: Option<i32>,
 }
 
-impl Known {
+impl StoredSeries {
     /// As it is found, before it is locked.
-    fn of(row: &Row, is_new: bool) -> Known {
-        Known {
+    fn of(row: &Row, is_new: bool) -> StoredSeries {
+        StoredSeries {
             id: row.get(1),
             is_new,
             metric: row.get(2),
@@ -63,21 +63,21 @@ impl Known {
 }
 
 /// By the places of the series in a request.
-type Found = Vec<Option<Known>>;
+type FoundSeries = Vec<Option<StoredSeries>>;
 
 impl Writing<'_> {
     /// What is known of each series, made where it is new. Nobody else adds to them until the transaction ends.
-    pub(super) async fn series(&self, all: &[OfSeries], seen: &Seen) -> Result<Vec<Known>, NotTaken> {
+    pub(super) async fn series(&self, all: &[OfSeries], seen: &Seen) -> Result<Vec<StoredSeries>, NotTaken> {
         let mut found = vec![None; all.len()];
         self.make(all, seen, &mut found).await?;
         self.find(all, &mut found).await?;
-        let known: Option<Vec<Known>> = found.into_iter().collect();
+        let known: Option<Vec<StoredSeries>> = found.into_iter().collect();
         let known = known.ok_or_else(|| self.fault("a series that was there is gone: it is made anew"))?;
         self.lock(all, known).await
     }
 
     /// Makes those that were not seen, unless they are there.
-    async fn make(&self, all: &[OfSeries], seen: &Seen, found: &mut Found) -> Result<(), NotTaken> {
+    async fn make(&self, all: &[OfSeries], seen: &Seen, found: &mut FoundSeries) -> Result<(), NotTaken> {
         let new: Vec<&OfSeries> = all.iter().filter(|series| !seen.has(series)).collect();
         // While the server has one piece, the next one is written down here.
         let mut pieces = new.chunks(new.len().div_ceil(4).max(PIECE));
@@ -87,7 +87,7 @@ impl Writing<'_> {
         // They came back in the order in which they went.
         for (series, found) in all.iter().zip(&mut *found) {
             let is_of = |row: &Row| row.get::<_, &[u8]>(0) == series.digest;
-            *found = made.next_if(is_of).map(|row| Known::of(&row, true));
+            *found = made.next_if(is_of).map(|row| StoredSeries::of(&row, true));
         }
         if made.next().is_some() {
             return Err(self.fault("new series came back in another order").into());
@@ -96,7 +96,7 @@ impl Writing<'_> {
     }
 
     /// Makes the metrics of the series that were made.
-    async fn metrics(&self, found: &Found) -> Result<(), NotTaken> {
+    async fn metrics(&self, found: &FoundSeries) -> Result<(), NotTaken> {
         let made: Vec<i64> = found.iter().flatten().map(|known| known.id).collect();
         if !made.is_empty() {
             self.rows(&self.statements.metrics, &[&made]).await?;
@@ -114,20 +114,20 @@ impl Writing<'_> {
     }
 
     /// Finds those that were not made.
-    async fn find(&self, all: &[OfSeries], found: &mut Found) -> Result<(), NotTaken> {
+    async fn find(&self, all: &[OfSeries], found: &mut FoundSeries) -> Result<(), NotTaken> {
         let places: Vec<usize> = (0..all.len()).filter(|place| found[*place].is_none()).collect();
         if places.is_empty() {
             return Ok(());
         }
         let digests: Vec<&[u8]> = places.iter().map(|place| &all[*place].digest[..]).collect();
         for row in self.rows(&self.statements.find, &[&digests]).await? {
-            found[places[row.get::<_, i64>(0) as usize - 1]] = Some(Known::of(&row, false));
+            found[places[row.get::<_, i64>(0) as usize - 1]] = Some(StoredSeries::of(&row, false));
         }
         Ok(())
     }
 
     /// Locks the totals of those that were there, and reads where their spans end.
-    async fn lock(&self, all: &[OfSeries], mut known: Vec<Known>) -> Result<Vec<Known>, NotTaken> {
+    async fn lock(&self, all: &[OfSeries], mut known: Vec<StoredSeries>) -> Result<Vec<StoredSeries>, NotTaken> {
         let places: Vec<usize> = (0..all.len()).filter(|place| !known[*place].is_new).collect();
         if places.is_empty() {
             return Ok(known);

@@ -7,11 +7,11 @@ use super::point_rows::{Adding, HourRow, LateRow, SpanRow, TotalRow};
 use super::repeat::{self, Taken};
 use super::rows::{Content, OfSeries};
 use super::schema::KNOWN;
-use super::series::Known;
+use super::series::StoredSeries;
 use super::session::{Session, Statements};
 use super::values::Numeric;
 use crate::otlp::series::ForwardedPoint;
-use crate::sinks::part::Left;
+use crate::sinks::part::LeftOut;
 use crate::sinks::periods::Closed;
 use crate::sinks::Forwarded;
 use tokio_postgres::types::ToSql;
@@ -31,7 +31,7 @@ pub(super) async fn take(
     request: &Forwarded,
     term: Option<u64>,
     content: Content,
-) -> Result<Option<Left>, NotTaken> {
+) -> Result<Option<LeftOut>, NotTaken> {
     let transaction = session.client.transaction().await;
     let transaction = transaction.map_err(|error| NotTaken::of(server, &error))?;
     let writing = Writing {
@@ -131,14 +131,14 @@ impl Writing<'_> {
     }
 
     /// Writes down what of the request is not added, so a repeat is told the same.
-    async fn leave_out(&self, row: i64, added: i64, left: &Left) -> Result<(), NotTaken> {
+    async fn leave_out(&self, row: i64, added: i64, left: &LeftOut) -> Result<(), NotTaken> {
         let places: Vec<i32> = left.places.iter().map(|place| *place as i32).collect();
         self.write(&self.statements.set_left_out, &[&row, &added, &places], 1)
             .await
     }
 
-    async fn spans(&self, all: &[OfSeries], known: &[Known]) -> Result<(), NotTaken> {
-        let row = |(point, known): (_, &Known)| SpanRow {
+    async fn spans(&self, all: &[OfSeries], known: &[StoredSeries]) -> Result<(), NotTaken> {
+        let row = |(point, known): (_, &StoredSeries)| SpanRow {
             series: known.id,
             point,
         };
@@ -217,8 +217,8 @@ impl Writing<'_> {
 /// Each point, with what is known of its series.
 pub(super) fn each<'a>(
     all: &'a [OfSeries],
-    known: &'a [Known],
-) -> impl Iterator<Item = (&'a ForwardedPoint, &'a Known)> {
+    known: &'a [StoredSeries],
+) -> impl Iterator<Item = (&'a ForwardedPoint, &'a StoredSeries)> {
     all.iter()
         .zip(known)
         .flat_map(|(series, known)| series.points.iter().map(move |point| (point, known)))

@@ -2,7 +2,7 @@
 
 use super::fault::SqliteFault;
 use super::totals::{open, row, SeriesTotal, READ};
-use super::whole::Exact;
+use super::wide_integers::Exact;
 use rusqlite::types::{FromSqlError, ValueRef};
 use rusqlite::{Connection, OptionalExtension, Row};
 use std::path::Path;

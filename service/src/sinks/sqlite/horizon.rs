@@ -1,12 +1,12 @@
 //! How far back the file goes.
 
-use super::whole::Whole;
+use super::wide_integers::Unsigned;
 use rusqlite::{params, Transaction};
 
 #[derive(Clone, Copy, Debug, PartialEq, Eq)]
 pub(super) struct Horizon {
     /// Spans that ended by then may be deleted.
-    pub(super) spans_from: Whole,
+    pub(super) spans_from: Unsigned,
     /// Hours, days and months that ended by this hour are deleted.
     pub(super) hours_from: i64,
     /// Requests of an older file that are filled in, by their ids,

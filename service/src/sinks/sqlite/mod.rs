@@ -13,13 +13,13 @@ mod store;
 pub mod totals;
 mod upkeep;
 mod views;
-mod whole;
+mod wide_integers;
 
 #[cfg(test)]
 mod tests;
 
 pub use fault::SqliteFault;
-pub use whole::Exact;
+pub use wide_integers::Exact;
 
 use super::periods::{Deed, Told};
 use super::{Answer, Fate, Forwarded, Keep, Keys, Memory, Sink};
@@ -29,7 +29,7 @@ use std::sync::mpsc::{self, RecvTimeoutError};
 use std::sync::Arc;
 use std::thread::JoinHandle;
 use std::time::{Duration, SystemTime, UNIX_EPOCH};
-use store::{Found, Store};
+use store::{FileState, Store};
 use tokio::sync::oneshot;
 use upkeep::Upkeep;
 
@@ -177,15 +177,15 @@ impl Writer {
     /// into the file first, and stays open until it can be.
     fn sound(&mut self, store: Store) -> Result<Option<Store>, SqliteFault> {
         let path = self.path.display();
-        match store.found() {
-            Found::Whole => return Ok(Some(store)),
-            Found::Gone => {
+        match store.file_state() {
+            FileState::Intact => return Ok(Some(store)),
+            FileState::Gone => {
                 tracing::error!(
                     "{path} was deleted or replaced: the file of this name lacks what was delivered so far"
                 );
                 self.was_replaced = true;
             }
-            Found::WithoutLog => match store.settle() {
+            FileState::WithoutLog => match store.settle() {
                 Ok(()) => tracing::error!(
                     "{path}-wal or -shm was deleted or replaced: what it had was copied into the file"
                 ),
@@ -201,14 +201,14 @@ impl Writer {
     /// Saves what a log has that was deleted. A file that is gone itself is made again only where there is something to
     /// put into it: somebody may be moving it.
     fn look(&mut self) {
-        if !self.is(Found::WithoutLog) {
+        if !self.is(FileState::WithoutLog) {
             return;
         }
         let fault = self.store().err();
         if let Some(reason) = fault.filter(|_| !self.is_told).map(|fault| fault.to_string()) {
             tracing::error!(reason, "its -wal was deleted, and can't be saved: {reason}");
         }
-        self.is_told = self.is(Found::WithoutLog);
+        self.is_told = self.is(FileState::WithoutLog);
     }
 
     /// Until there is nobody any more who sends. Nobody waits where the service ends: the key says the next time that it
@@ -228,7 +228,7 @@ impl Writer {
 
     /// A step of what is to be done beside deliveries, in a file that is open. Whether there is another.
     fn keep_up(&mut self) -> bool {
-        if !self.upkeep.is_due() || !self.is(Found::Whole) {
+        if !self.upkeep.is_due() || !self.is(FileState::Intact) {
             return false;
         }
         let now = SystemTime::now().duration_since(UNIX_EPOCH).unwrap_or_default();
@@ -257,13 +257,13 @@ impl Writer {
     }
 
     fn close_after(&mut self, fault: &SqliteFault) {
-        if !fault.leaves_the_file_whole() && !self.is(Found::WithoutLog) {
+        if !fault.leaves_the_file_whole() && !self.is(FileState::WithoutLog) {
             self.store = None;
         }
     }
 
-    fn is(&self, found: Found) -> bool {
-        self.store.as_ref().is_some_and(|store| store.found() == found)
+    fn is(&self, state: FileState) -> bool {
+        self.store.as_ref().is_some_and(|store| store.file_state() == state)
     }
 
     fn take(&mut self, request: &Forwarded) -> Fate {
@@ -273,7 +273,7 @@ impl Writer {
             .and_then(|store| store.take(request))
         {
             // It is written where nobody will read it: the key says what there is to be done.
-            Ok(_) if !self.is(Found::Whole) => Fate::again(format!(
+            Ok(_) if !self.is(FileState::Intact) => Fate::again(format!(
                 "{} or its -wal was deleted meanwhile: it is opened again",
                 self.path.display()
             )),
@@ -290,7 +290,7 @@ impl Writer {
     /// Where the file is opened anew meanwhile nothing is known of what was asked for: it may be asked for again.
     fn settle(&mut self, who: &str, deed: &Deed) -> Told {
         match self.store().and_then(|store| store.settle_period(who, deed)) {
-            Ok(_) if !self.is(Found::Whole) => Told::Later(format!(
+            Ok(_) if !self.is(FileState::Intact) => Told::Later(format!(
                 "{} or its -wal was deleted meanwhile",
                 self.path.display()
             )),

@@ -6,9 +6,9 @@ use super::periods;
 use super::schema::{self, STEPS};
 use super::upkeep::Upkeep;
 use super::views::VIEWS;
-use super::whole::Whole;
+use super::wide_integers::Unsigned;
 use crate::otlp::series::{self, ForwardedPoint, SeriesKey};
-use crate::sinks::part::{shown, Left};
+use crate::sinks::part::{shown, LeftOut};
 use crate::sinks::periods::{Closed, Deed, Told};
 use crate::sinks::Forwarded;
 use rusqlite::{params, Connection, OpenFlags, Transaction, TransactionBehavior};
@@ -28,7 +28,7 @@ mod total;
 pub(super) mod utc;
 
 pub(super) use hours::Hours;
-pub(super) use series_row::Known;
+pub(super) use series_row::SeriesIds;
 use total::Total;
 
 /// How long another process may keep the lock before a delivery is given up for this time.
@@ -49,7 +49,7 @@ pub(super) struct Store {
     /// and of those beside it that are there while it is open: its log, and what its readers share.
     beside: [Option<(u64, u64)>; 2],
     /// Row numbers of series. Only what is committed is in it.
-    series: HashMap<Digest, Known>,
+    series: HashMap<Digest, SeriesIds>,
     /// It changes when another process has written.
     data_version: i64,
 }
@@ -106,11 +106,11 @@ impl Store {
     }
 
     /// Whether the files of these names still are those that are open.
-    pub(super) fn found(&self) -> Found {
+    pub(super) fn file_state(&self) -> FileState {
         match place(&self.path) == Some(self.place) {
-            true if beside(&self.path) == self.beside => Found::Whole,
-            true => Found::WithoutLog,
-            false => Found::Gone,
+            true if beside(&self.path) == self.beside => FileState::Intact,
+            true => FileState::WithoutLog,
+            false => FileState::Gone,
         }
     }
 
@@ -132,7 +132,7 @@ impl Store {
     }
 
     /// Takes a request that is not taken yet, but for spans that overlap: these are left.
-    pub(super) fn take(&mut self, request: &Forwarded) -> Result<Option<Left>, NotTaken> {
+    pub(super) fn take(&mut self, request: &Forwarded) -> Result<Option<LeftOut>, NotTaken> {
         let points = series::forwarded(&request.body)?;
         let fault = |error: rusqlite::Error| -> NotTaken { not_taken(&self.path, error) };
         let transaction = self
@@ -205,8 +205,8 @@ fn settle(connection: &Connection, path: &Path) -> Result<(), SqliteFault> {
 
 /// What is found where the open files were.
 #[derive(Clone, Copy, Debug, PartialEq, Eq)]
-pub(super) enum Found {
-    Whole,
+pub(super) enum FileState {
+    Intact,
     /// What is beside the file was deleted or replaced. Rows would go into a log that nobody reads.
     WithoutLog,
     /// The file itself was: rows would go into a file that has no name.
@@ -236,7 +236,7 @@ fn not_taken(path: &Path, error: rusqlite::Error) -> NotTaken {
 }
 
 /// Why a point is left of which nobody can say whether it was counted.
-fn untold(point: &ForwardedPoint, until: Whole) -> String {
+fn untold(point: &ForwardedPoint, until: Unsigned) -> String {
     format!(
         "the span {} begins before {}, until when spans were deleted (--keep-spans, --keep-series): whether it was \
          counted can't be told",
@@ -258,20 +258,20 @@ struct Writing<'a> {
     path: &'a Path,
     horizon: Horizon,
     closed: Closed,
-    known: &'a HashMap<Digest, Known>,
+    known: &'a HashMap<Digest, SeriesIds>,
     /// Of no use to others until it is committed.
-    new: HashMap<Digest, Known>,
+    new: HashMap<Digest, SeriesIds>,
     /// Of the points that were added so far.
     hours: Hours,
 }
 
 impl Writing<'_> {
-    fn commit(self) -> rusqlite::Result<HashMap<Digest, Known>> {
+    fn commit(self) -> rusqlite::Result<HashMap<Digest, SeriesIds>> {
         self.transaction.commit().map(|()| self.new)
     }
 
     /// What is left, where it is not all: a request of which nothing can be added is refused as it is.
-    fn request(&mut self, request: &Forwarded, points: &[ForwardedPoint]) -> Result<Option<Left>, NotTaken> {
+    fn request(&mut self, request: &Forwarded, points: &[ForwardedPoint]) -> Result<Option<LeftOut>, NotTaken> {
         let (first_start, last) = time_of(points);
         let row = self.of(|transaction| {
             transaction
@@ -282,13 +282,13 @@ impl Writing<'_> {
                 .insert(params![
                     request.slot,
                     request.epoch,
-                    Whole(request.number),
+                    Unsigned(request.number),
                     points.len() as i64,
-                    Whole(first_start),
-                    Whole(last)
+                    Unsigned(first_start),
+                    Unsigned(last)
                 ])
         })?;
-        let mut left = Left::default();
+        let mut left = LeftOut::default();
         for (place, point) in points.iter().enumerate() {
             if let Some(reason) = self.point(spans::Request { row, first_start }, point)? {
                 left.add(place, reason);
@@ -338,7 +338,7 @@ impl Writing<'_> {
     }
 
     /// A series' row, and whether it was made by this call.
-    fn series(&mut self, key: &SeriesKey) -> Result<(Known, bool), NotTaken> {
+    fn series(&mut self, key: &SeriesKey) -> Result<(SeriesIds, bool), NotTaken> {
         let digest = Sha256::digest(key.0.as_bytes()).into();
         if let Some(known) = self.known.get(&digest).or_else(|| self.new.get(&digest)) {
             return Ok((*known, false));

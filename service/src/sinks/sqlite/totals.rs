@@ -2,7 +2,7 @@
 
 use super::fault::SqliteFault;
 use super::schema::{self, STEPS};
-use super::whole::{Exact, Whole};
+use super::wide_integers::{Exact, Unsigned};
 use crate::otlp::series::{Kind as Identified, NotForwarded, SeriesKey};
 use crate::sinks::attributes::object;
 use rusqlite::{Connection, ErrorCode, OpenFlags, Row};
@@ -247,7 +247,7 @@ fn histogram(row: &Row) -> rusqlite::Result<Histogram> {
 }
 
 fn whole(row: &Row, column: usize) -> rusqlite::Result<u64> {
-    row.get(column).map(|whole: Whole| whole.0)
+    row.get(column).map(|whole: Unsigned| whole.0)
 }
 
 fn json<T: serde::de::DeserializeOwned>(row: &Row, column: usize) -> rusqlite::Result<T> {

@@ -7,7 +7,7 @@ mod fill;
 
 use super::horizon::Horizon;
 use super::store::utc::{day_of, month_of, HOUR_NS};
-use super::whole::Whole;
+use super::wide_integers::Unsigned;
 use crate::sinks::keep::tell_of_spans;
 use crate::sinks::Keep;
 use ended::Ended;
@@ -106,11 +106,11 @@ fn spans(
     let mut note = transaction.prepare_cached("update request set has_spans = 0 where id = ?1")?;
     let mut done = 0;
     while done < step {
-        let found: Option<(i64, Whole)> = next
-            .query_row([Whole(until)], |row| Ok((row.get(0)?, row.get(1)?)))
+        let found: Option<(i64, Unsigned)> = next
+            .query_row([Unsigned(until)], |row| Ok((row.get(0)?, row.get(1)?)))
             .optional()?;
         let Some((id, end)) = found else { break };
-        if horizon.spans_from == Whole(0) {
+        if horizon.spans_from == Unsigned(0) {
             tell_of_spans(kept);
         }
         done += delete.execute([id])? + note.execute([id])?;

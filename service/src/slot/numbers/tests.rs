@@ -3,7 +3,7 @@
 use super::*;
 use crate::core::{Across, Read};
 use crate::files::{self, Body, Durability, Folder};
-use crate::otlp::{posts_of_test, requests_of_test, Choice, Clock, Rule, Whole};
+use crate::otlp::{posts_of_test, requests_of_test, Choice, Clock, Rule, FinerUnits};
 use crate::slot::posted::{self, Posted};
 use std::collections::HashSet;
 
@@ -89,9 +89,9 @@ fn by_number(read: &Read) -> Option<&Points> {
     }
 }
 
-fn rules(rules: &[&str]) -> Whole {
+fn rules(rules: &[&str]) -> FinerUnits {
     let rules = rules.iter().map(|rule| rule.parse::<Rule>().unwrap());
-    Whole::new(rules).unwrap()
+    FinerUnits::new(rules).unwrap()
 }
 
 /// The same of texts, of both encodings.
@@ -248,15 +248,15 @@ fn what_goes_by_number_is_what_its_json_says() {
         ..Reading::default()
     };
     let finer = Reading {
-        whole: rules(&["s=us", "a\"b=3:c"]),
+        finer_units: rules(&["s=us", "a\"b=3:c"]),
         ..Reading::default()
     };
     let all_finer = Reading {
-        whole: rules(&["=", "s"]),
+        finer_units: rules(&["=", "s"]),
         ..Reading::default()
     };
     let decided = Reading {
-        whole: Whole::of([Choice::Auto]).unwrap(),
+        finer_units: FinerUnits::of([Choice::Auto]).unwrap(),
         ..Reading::default()
     };
     for (reading, seed, least) in [

@@ -47,7 +47,7 @@ fn random(bytes: usize) -> io::Result<String> {
 }
 
 /// The row of a database.
-struct Found {
+struct ClusterRow {
     cluster: Cluster,
     version: i32,
     place: i32,
@@ -58,7 +58,7 @@ const IS_THERE: &str = "select count(*) from information_schema.tables
 const FIND: &str =
     "select id, version, slots, databases, place, epoch, reading, secret from totxegun_store.cluster";
 
-async fn find(client: &Client) -> Result<Option<Found>, Doubt> {
+async fn find(client: &Client) -> Result<Option<ClusterRow>, Doubt> {
     let finding = async {
         if client.query_one(IS_THERE, &[]).await?.get::<_, i64>(0) == 0 {
             return Ok(None);
@@ -66,7 +66,7 @@ async fn find(client: &Client) -> Result<Option<Found>, Doubt> {
         client.query_opt(FIND, &[]).await
     };
     let row = within(SILENT, finding).await?;
-    Ok(row.map(|row| Found {
+    Ok(row.map(|row| ClusterRow {
         version: row.get(1),
         place: row.get(4),
         cluster: Cluster {
@@ -171,7 +171,7 @@ pub(super) async fn check(servers: &[Server]) -> Result<Cluster, StoreFault> {
     all.ok_or(StoreFault::Nowhere)
 }
 
-fn check_one(found: &Found, server: &Server, servers: &[Server], place: usize) -> Result<(), StoreFault> {
+fn check_one(found: &ClusterRow, server: &Server, servers: &[Server], place: usize) -> Result<(), StoreFault> {
     if found.version != KNOWN {
         return Err(StoreFault::Version {
             server: server.to_string(),

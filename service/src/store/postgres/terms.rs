@@ -7,7 +7,7 @@ use super::shared::Shared;
 use crate::cluster::terms::{Instance, Refused, Row};
 use std::sync::Arc;
 use tokio_postgres::types::ToSql;
-use tokio_postgres::Row as Found;
+use tokio_postgres::Row as DatabaseRow;
 
 const BEAT: &str =
     "insert into totxegun_store.instance as i (name, address, version, beat, refused) values ($1, $2, $3, 1, $4)
@@ -30,10 +30,10 @@ impl Shared {
         self.heard(&session, written).await
     }
 
-    async fn read<T>(&self, text: &str, each: impl Fn(&Found) -> T) -> Result<Vec<T>, Doubt> {
+    async fn read<T>(&self, text: &str, each: impl Fn(&DatabaseRow) -> T) -> Result<Vec<T>, Doubt> {
         let session = self.session().await?;
         let rows = within(SILENT, session.client.query(text, &[])).await;
-        let rows: Result<Vec<Found>, Doubt> = self.heard(&session, rows).await;
+        let rows: Result<Vec<DatabaseRow>, Doubt> = self.heard(&session, rows).await;
         Ok(rows?.iter().map(each).collect())
     }
 
@@ -67,7 +67,7 @@ impl Shared {
     }
 
     pub(super) async fn instances(&self) -> Result<Vec<Instance>, Doubt> {
-        let instance = |row: &Found| Instance {
+        let instance = |row: &DatabaseRow| Instance {
             name: row.get(0),
             address: row.get(1),
             version: row.get(2),
@@ -78,7 +78,7 @@ impl Shared {
     }
 
     pub(super) async fn slots(&self) -> Result<Vec<Row>, Doubt> {
-        let owned = |row: &Found| Row {
+        let owned = |row: &DatabaseRow| Row {
             slot: row.get::<_, i32>(0) as u16,
             term: row.get::<_, i64>(1) as u64,
             owner: row.get(2),

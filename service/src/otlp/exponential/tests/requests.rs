@@ -1,9 +1,9 @@
-//! Whole requests with exponential histograms, in both encodings.
+//! FinerUnits requests with exponential histograms, in both encodings.
 
 use super::bounds;
 use crate::otlp::series::posted_with;
 use crate::otlp::{
-    explained, prepare, Cause, Causes, Clock, Encoding, Original, Prepared, Profile, Reading, Whole,
+    explained, prepare, Cause, Causes, Clock, Encoding, Original, Prepared, Profile, Reading, FinerUnits,
 };
 
 fn reading(bounds: &str) -> Reading {
@@ -105,7 +105,7 @@ fn both_encodings_come_to_the_view() {
         }
         let whole = Reading {
             exponential: Some(bounds("-2,0.5,1,2")),
-            whole: Whole::new(["By=10:dBy".parse().unwrap()])
+            finer_units: FinerUnits::new(["By=10:dBy".parse().unwrap()])
                 .unwrap()
                 .with_profile(profile),
             ..Reading::default()

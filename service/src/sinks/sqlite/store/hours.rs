@@ -1,6 +1,6 @@
 //! The rows of hours, days and months: what the points of a request add to them.
 
-use super::series_row::Known;
+use super::series_row::SeriesIds;
 use super::sums::{self, list, Sums};
 use super::utc::{day_of, hour_of, month_of};
 use crate::otlp::series::Value;
@@ -115,7 +115,7 @@ pub(in super::super) struct Hours {
 
 impl Hours {
     /// To the hour in which its span ends, or in which that counts.
-    pub(in super::super) fn add(&mut self, of: Known, end_ns: u64, value: &Value, closed: &Closed) {
+    pub(in super::super) fn add(&mut self, of: SeriesIds, end_ns: u64, value: &Value, closed: &Closed) {
         let of_hour = hour_of(end_ns);
         let hour = closed.counted_in(of_hour);
         let one = Sums::of(value);

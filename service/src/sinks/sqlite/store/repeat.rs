@@ -1,8 +1,8 @@
 //! A request whose key is taken: what was left of it then is left again.
 
-use super::{spans, time_of, Total, Whole, Writing};
+use super::{spans, time_of, Total, Unsigned, Writing};
 use crate::otlp::series::ForwardedPoint;
-use crate::sinks::part::{Left, OTHER_REQUEST};
+use crate::sinks::part::{LeftOut, OTHER_REQUEST};
 use crate::sinks::sqlite::fault::NotTaken;
 use crate::sinks::Forwarded;
 use rusqlite::{params, OptionalExtension, Transaction};
@@ -23,12 +23,12 @@ pub(super) fn find(transaction: &Transaction, request: &Forwarded) -> rusqlite::
              where slot = ?1 and epoch = ?2 and number = ?3",
         )?
         .query_row(
-            params![request.slot, request.epoch, Whole(request.number)],
+            params![request.slot, request.epoch, Unsigned(request.number)],
             |row| {
                 Ok(Taken {
                     row: row.get(0)?,
                     points: row.get::<_, i64>(1)? as usize,
-                    time: (row.get::<_, Whole>(2)?.0, row.get::<_, Whole>(3)?.0),
+                    time: (row.get::<_, Unsigned>(2)?.0, row.get::<_, Unsigned>(3)?.0),
                 })
             },
         )
@@ -50,9 +50,9 @@ impl Writing<'_> {
         mut self,
         taken: &Taken,
         points: &[ForwardedPoint],
-    ) -> Result<Option<Left>, NotTaken> {
+    ) -> Result<Option<LeftOut>, NotTaken> {
         let other = || NotTaken::Refused(OTHER_REQUEST.into());
-        let mut left = Left::default();
+        let mut left = LeftOut::default();
         let mut deleted = Vec::new();
         for (place, point) in points.iter().enumerate() {
             let (known, _) = self.series(&point.series)?;

@@ -8,7 +8,7 @@ use serde_json::Value;
 
 /// The numbers of a series' row and of its metric's.
 #[derive(Clone, Copy, Debug, PartialEq, Eq)]
-pub(in super::super) struct Known {
+pub(in super::super) struct SeriesIds {
     pub(in super::super) series: i64,
     pub(in super::super) metric: i64,
 }
@@ -41,10 +41,10 @@ impl<'a> SeriesRow<'a> {
     }
 
     /// Its row, which is made where there is none, and whether it was.
-    pub(super) fn known(&self, transaction: &Transaction) -> rusqlite::Result<(Known, bool)> {
+    pub(super) fn known(&self, transaction: &Transaction) -> rusqlite::Result<(SeriesIds, bool)> {
         let (series, is_new) = self.id(transaction)?;
         let metric = self.metric(transaction, is_new)?;
-        Ok((Known { series, metric }, is_new))
+        Ok((SeriesIds { series, metric }, is_new))
     }
 
     fn metric(&self, transaction: &Transaction, is_new: bool) -> rusqlite::Result<i64> {

@@ -1,7 +1,7 @@
 //! The rows of spans. Their times are told from the first start of their request, so that they are short.
 
 use super::super::horizon::Horizon;
-use super::super::whole::Whole;
+use super::super::wide_integers::Unsigned;
 use super::sums::list;
 use crate::otlp::series::{ForwardedPoint, Value};
 use rusqlite::types::Value as Cell;
@@ -15,7 +15,7 @@ pub(super) struct Request {
 }
 
 /// A span that the file has.
-pub(super) struct Found {
+pub(super) struct StoredSpan {
     pub(super) request: i64,
     pub(super) start: u64,
     pub(super) end: u64,
@@ -30,7 +30,7 @@ pub(super) fn insert(
     let (value, count, sum, buckets) = match &point.value {
         Value::Sum(value) => (Some(*value), None, None, None),
         Value::Histogram { count, sum, buckets } => {
-            (None, Some(Whole(*count)), sum.map(Whole), Some(list(buckets)))
+            (None, Some(Unsigned(*count)), sum.map(Unsigned), Some(list(buckets)))
         }
     };
     transaction
@@ -41,8 +41,8 @@ pub(super) fn insert(
         .execute(params![
             request.row,
             series,
-            Whole(point.start - request.first_start),
-            Whole(point.end - point.start),
+            Unsigned(point.start - request.first_start),
+            Unsigned(point.end - point.start),
             value,
             count,
             sum,
@@ -62,13 +62,13 @@ pub(super) fn has(
         return Ok(false);
     };
     let length = point.end.saturating_sub(point.start);
-    let row = params![request.row, series, Whole(after), Whole(length)];
+    let row = params![request.row, series, Unsigned(after), Unsigned(length)];
     let is_there = transaction
         .prepare_cached(
             "select 1 from span_row where request = ?1 and series = ?2 and after_ns = ?3 and length_ns = ?4",
         )?
         .exists(row)?;
-    let before = params![request.row, series, Whole(point.start), Whole(point.end)];
+    let before = params![request.row, series, Unsigned(point.start), Unsigned(point.end)];
     Ok(is_there
         || transaction
             .prepare_cached(
@@ -84,14 +84,14 @@ pub(super) fn overlapping(
     horizon: &Horizon,
     series: i64,
     point: &ForwardedPoint,
-) -> rusqlite::Result<Option<Found>> {
+) -> rusqlite::Result<Option<StoredSpan>> {
     let mut requests = transaction.prepare_cached(
         "select id, first_start_ns from request
          where has_spans and last_end_ns > ?1 and first_start_ns < ?2 order by last_end_ns",
     )?;
-    let mut rows = requests.query(params![Whole(point.start), Whole(point.end)])?;
+    let mut rows = requests.query(params![Unsigned(point.start), Unsigned(point.end)])?;
     while let Some(row) = rows.next()? {
-        let (request, first_start): (i64, Whole) = (row.get(0)?, row.get(1)?);
+        let (request, first_start): (i64, Unsigned) = (row.get(0)?, row.get(1)?);
         let request = Request {
             row: request,
             first_start: first_start.0,
@@ -111,25 +111,25 @@ fn within(
     request: Request,
     series: i64,
     point: &ForwardedPoint,
-) -> rusqlite::Result<Option<Found>> {
+) -> rusqlite::Result<Option<StoredSpan>> {
     let mut spans = transaction.prepare_cached(
         "select after_ns, length_ns from span_row where request = ?1 and series = ?2 and after_ns < ?3",
     )?;
-    let end = Whole(point.end.saturating_sub(request.first_start));
+    let end = Unsigned(point.end.saturating_sub(request.first_start));
     let mut rows = spans.query(params![request.row, series, end])?;
     while let Some(row) = rows.next()? {
-        let start = request.first_start + row.get::<_, Whole>(0)?.0;
-        let end = start + row.get::<_, Whole>(1)?.0;
+        let start = request.first_start + row.get::<_, Unsigned>(0)?.0;
+        let end = start + row.get::<_, Unsigned>(1)?.0;
         if end > point.start {
             let request = request.row;
-            return Ok(Some(Found { request, start, end }));
+            return Ok(Some(StoredSpan { request, start, end }));
         }
     }
     Ok(None)
 }
 
 /// One of an older file, that was not moved yet.
-fn before(transaction: &Transaction, series: i64, point: &ForwardedPoint) -> rusqlite::Result<Option<Found>> {
+fn before(transaction: &Transaction, series: i64, point: &ForwardedPoint) -> rusqlite::Result<Option<StoredSpan>> {
     transaction
         .prepare_cached(
             "select span.request, span.start_ns, span.end_ns from request
@@ -137,11 +137,11 @@ fn before(transaction: &Transaction, series: i64, point: &ForwardedPoint) -> rus
              where request.has_spans and request.last_end_ns > ?2 and request.first_start_ns < ?3
              and span.series = ?1 and span.start_ns < ?3 and span.end_ns > ?2 limit 1",
         )?
-        .query_row(params![series, Whole(point.start), Whole(point.end)], |row| {
-            Ok(Found {
+        .query_row(params![series, Unsigned(point.start), Unsigned(point.end)], |row| {
+            Ok(StoredSpan {
                 request: row.get(0)?,
-                start: row.get::<_, Whole>(1)?.0,
-                end: row.get::<_, Whole>(2)?.0,
+                start: row.get::<_, Unsigned>(1)?.0,
+                end: row.get::<_, Unsigned>(2)?.0,
             })
         })
         .optional()
@@ -160,12 +160,12 @@ pub(in super::super) fn move_one(
         transaction.prepare_cached("insert into span_row values (?1, ?2, ?3, ?4, ?5, ?6, ?7, ?8)")?;
     let mut rows = read.query([request])?;
     while let Some(row) = rows.next()? {
-        let (start, end): (Whole, Whole) = (row.get(1)?, row.get(2)?);
+        let (start, end): (Unsigned, Unsigned) = (row.get(1)?, row.get(2)?);
         write.execute(params![
             request,
             row.get::<_, i64>(0)?,
-            Whole(start.0 - first_start),
-            Whole(end.0 - start.0),
+            Unsigned(start.0 - first_start),
+            Unsigned(end.0 - start.0),
             row.get::<_, Cell>(3)?,
             row.get::<_, Cell>(4)?,
             row.get::<_, Cell>(5)?,

@@ -1,6 +1,6 @@
 //! What points add up to.
 
-use super::super::whole::Exact;
+use super::super::wide_integers::Exact;
 use crate::otlp::series::Value;
 
 #[derive(Clone, Debug, PartialEq, Eq)]

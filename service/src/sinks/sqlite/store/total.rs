@@ -1,16 +1,16 @@
 //! The row of what a series' spans come to.
 
-use super::super::whole::{Exact, Whole};
+use super::super::wide_integers::{Exact, Unsigned};
 use super::sums::{self, list, Sums};
 use crate::otlp::series::ForwardedPoint;
 use rusqlite::{params, OptionalExtension, Row, Transaction};
 
 /// What a series' spans come to.
 pub(super) struct Total {
-    first_start: Whole,
-    pub(super) last_end: Whole,
+    first_start: Unsigned,
+    pub(super) last_end: Unsigned,
     /// Its spans that ended by then may be deleted, since it was out of use.
-    spans_from: Whole,
+    spans_from: Unsigned,
     sums: Sums,
 }
 
@@ -43,9 +43,9 @@ impl Total {
     /// The total of a first point.
     pub(super) fn of(point: &ForwardedPoint) -> Total {
         Total {
-            first_start: Whole(point.start),
-            last_end: Whole(point.end),
-            spans_from: Whole(0),
+            first_start: Unsigned(point.start),
+            last_end: Unsigned(point.end),
+            spans_from: Unsigned(0),
             sums: Sums::of(&point.value),
         }
     }
@@ -53,8 +53,8 @@ impl Total {
     /// The total with one point more.
     pub(super) fn and(self, point: &ForwardedPoint) -> Result<Total, &'static str> {
         Ok(Total {
-            first_start: self.first_start.min(Whole(point.start)),
-            last_end: self.last_end.max(Whole(point.end)),
+            first_start: self.first_start.min(Unsigned(point.start)),
+            last_end: self.last_end.max(Unsigned(point.end)),
             spans_from: self.spans_from,
             sums: self.sums.and(&point.value)?,
         })
@@ -66,7 +66,7 @@ impl Total {
     }
 
     /// Until when spans of the series may be deleted, in a file of which all those until `spans_from` may be.
-    pub(super) fn deleted_until(&self, spans_from: Whole) -> Whole {
+    pub(super) fn deleted_until(&self, spans_from: Unsigned) -> Unsigned {
         self.spans_from.max(spans_from)
     }
 

@@ -1,6 +1,6 @@
 //! Hours, days and months are the sums of spans: in the file, and as its views say them.
 
-use super::super::whole::Whole;
+use super::super::wide_integers::Unsigned;
 use super::*;
 use rusqlite::Connection;
 use std::collections::BTreeMap;
@@ -56,7 +56,7 @@ fn spans(trial: &Trial) -> Vec<Span> {
     let number = |text: Option<String>| text.map(|text| text.parse().expect("a number"));
     query
         .query_map([], |row| {
-            let times: [Whole; 3] = [row.get(5)?, row.get(6)?, row.get(7)?];
+            let times: [Unsigned; 3] = [row.get(5)?, row.get(6)?, row.get(7)?];
             Ok(Span {
                 series: row.get(0)?,
                 at: at(times.iter().map(|time| time.0).sum()),

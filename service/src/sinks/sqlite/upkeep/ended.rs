@@ -4,7 +4,7 @@
 //! their spans may be gone; only then the spans are deleted, request by request.
 
 use super::super::horizon::Horizon;
-use super::super::whole::Whole;
+use super::super::wide_integers::Unsigned;
 use rusqlite::{params, Transaction};
 use std::time::{Duration, Instant};
 
@@ -24,21 +24,21 @@ pub(super) struct Ended {
 
 /// Through the requests that have spans, by their ends.
 struct Walk {
-    at: (Whole, i64),
+    at: (Unsigned, i64),
     series: Vec<Series>,
 }
 
 struct Series {
     id: i64,
-    first_start: Whole,
+    first_start: Unsigned,
     /// Its spans that ended by then are deleted.
-    until: Whole,
+    until: Unsigned,
 }
 
 struct Request {
     id: i64,
-    first_start: Whole,
-    last_end: Whole,
+    first_start: Unsigned,
+    last_end: Unsigned,
 }
 
 impl Ended {
@@ -87,7 +87,7 @@ fn note(
     transaction.execute(
         "insert into ending select series from series_total where series > ?1 and series <= ?2
          and last_end_ns <= ?3 and last_end_ns > spans_from_ns and last_end_ns > ?4",
-        params![looked, last, Whole(until), horizon.spans_from],
+        params![looked, last, Unsigned(until), horizon.spans_from],
     )?;
     transaction.execute(
         "update series_total set spans_from_ns = last_end_ns where series in (select series from ending)",
@@ -111,7 +111,7 @@ impl Walk {
                 })
             })?
             .collect::<rusqlite::Result<_>>()?;
-        let at = (Whole(0), 0);
+        let at = (Unsigned(0), 0);
         Ok((!series.is_empty()).then_some(Walk { at, series }))
     }
 
@@ -128,7 +128,7 @@ impl Walk {
                 series.first_start < request.last_end && series.until > request.first_start
             };
             for series in self.series.iter().filter(within) {
-                let until = Whole(series.until.0 - request.first_start.0);
+                let until = Unsigned(series.until.0 - request.first_start.0);
                 delete.execute(params![request.id, series.id, until])?;
                 done += 1;
             }

@@ -1,8 +1,8 @@
 //! Hours of a file that a version without them wrote; its spans are moved to their new form.
 
 use super::super::horizon::Horizon;
-use super::super::store::{spans, sums, Hours, Known};
-use super::super::whole::Whole;
+use super::super::store::{spans, sums, Hours, SeriesIds};
+use super::super::wide_integers::Unsigned;
 use crate::otlp::series::Value;
 use crate::sinks::periods::Closed;
 use rusqlite::{OptionalExtension, Row, Transaction};
@@ -16,7 +16,7 @@ pub(super) fn step(transaction: &Transaction, mut horizon: Horizon, step: usize)
     let mut done = 0;
     while done < step {
         let ids = [horizon.filled, horizon.fill_to];
-        let found: Option<(i64, Whole)> = next
+        let found: Option<(i64, Unsigned)> = next
             .query_row(ids, |row| Ok((row.get(0)?, row.get(1)?)))
             .optional()?;
         let Some((request, first_start)) = found else {
@@ -45,11 +45,11 @@ fn add(transaction: &Transaction, request: i64, hours: &mut Hours) -> rusqlite::
     let mut rows = query.query([request])?;
     let mut count = 0;
     while let Some(row) = rows.next()? {
-        let known = Known {
+        let known = SeriesIds {
             series: row.get(0)?,
             metric: row.get(1)?,
         };
-        let end: Whole = row.get(2)?;
+        let end: Unsigned = row.get(2)?;
         hours.add(known, end.0, &value(row)?, &Closed::default());
         count += 1;
     }
@@ -61,8 +61,8 @@ fn value(row: &Row) -> rusqlite::Result<Value> {
         return Ok(Value::Sum(value));
     }
     Ok(Value::Histogram {
-        count: row.get::<_, Whole>(4)?.0,
-        sum: row.get::<_, Option<Whole>>(5)?.map(|sum| sum.0),
+        count: row.get::<_, Unsigned>(4)?.0,
+        sum: row.get::<_, Option<Unsigned>>(5)?.map(|sum| sum.0),
         buckets: sums::buckets(row, 6)?.unwrap_or_default(),
     })
 }

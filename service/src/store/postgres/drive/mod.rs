@@ -18,7 +18,7 @@ pub(super) use writer::Writer;
 
 use super::shared::{Shared, Stored};
 use crate::files::drive::{lost, Drive, Lost};
-use crate::switch::Switch;
+use crate::latch::Latch;
 use cache::Cache;
 use files::{Bytes, Read};
 use packed::Packed;

@@ -1,6 +1,6 @@
 //! The files in memory against a map, over rows that are written twice now and then, and found by a next owner.
 
-use super::files::{Batch, Bytes, Files, Known, Read};
+use super::files::{Batch, Bytes, Files, StoredPiece, Read};
 use super::packed::{unpacked, Packed};
 use crate::files::numbers::Numbers;
 use std::collections::BTreeMap;
@@ -40,13 +40,13 @@ impl Rows {
 
     fn found(&self, term: u64) -> Files {
         let names = self.files.iter().map(|(file, name)| (*file as u64, name.clone()));
-        let mut pieces: Vec<Known> = Vec::new();
+        let mut pieces: Vec<StoredPiece> = Vec::new();
         for ((file, number), (at, length, _)) in &self.pieces {
             assert!(
                 self.files.contains_key(file),
                 "file {file} has pieces and no name"
             );
-            pieces.push(Known {
+            pieces.push(StoredPiece {
                 number: *number as u64,
                 file: *file as u64,
                 at: *at as u64,

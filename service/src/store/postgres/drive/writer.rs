@@ -1,6 +1,6 @@
 //! Brings batches to the store, one behind the other, until each is known to be there.
 
-use super::files::{Batch, Files, Known};
+use super::files::{Batch, Files, StoredPiece};
 use super::packed::{Columns, Packed};
 use crate::files::drive::Lost;
 use crate::log::Seldom;
@@ -127,7 +127,7 @@ impl Writer {
         let names = within(SILENT, session.client.query(NAMES, &[&self.slot])).await?;
         let name = |row: &Row| (row.get::<_, i64>(0) as u64, row.get(1));
         let pieces = within(SILENT, session.client.query(PIECES, &[&self.slot])).await?;
-        let piece = |row: &Row| Known {
+        let piece = |row: &Row| StoredPiece {
             number: row.get::<_, i64>(0) as u64,
             file: row.get::<_, i64>(1) as u64,
             at: row.get::<_, i64>(2) as u64,

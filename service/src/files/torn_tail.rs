@@ -19,7 +19,7 @@ pub const CHANGED: &str =
     put a copy of this file in its place, or move the folder away and start with a new one";
 
 /// Passes where what begins at `at` in the last file of its kind was torn.
-pub fn is_torn(disk: &Disk, path: &Path, at: u64) -> Result<(), Fault> {
+pub fn check_torn(disk: &Disk, path: &Path, at: u64) -> Result<(), Fault> {
     let rest = disk.open(path)?.read_from(at).map_err(io_fault(path))?;
     if was_changed(at, &rest) {
         return Err(Fault::Damaged {

@@ -24,10 +24,10 @@ impl Owners for Owned {
     }
 }
 
-fn remarks(outcome: Outcome, owner: Option<&'static str>, telling: Telling) -> Arc<Remarks<Answering>> {
+fn reported(outcome: Outcome, owner: Option<&'static str>, options: ReportOptions) -> Arc<Reported<Answering>> {
     let metrics = Arc::new(Metrics::new().unwrap());
-    let teller = Teller::new(telling, metrics, Arc::default(), None);
-    Remarks::new(Arc::new(Answering(outcome)), Owned(owner), teller)
+    let reporter = Reporter::new(options, metrics, Arc::default(), None);
+    Reported::new(Arc::new(Answering(outcome)), Owned(owner), reporter)
 }
 
 fn body(metrics: &str) -> Bytes {
@@ -41,21 +41,21 @@ async fn told(
     log_foreign: usize,
     posts: &[Bytes],
 ) -> (Vec<String>, usize, usize) {
-    let telling = Telling {
+    let options = ReportOptions {
         log_foreign,
-        ..Telling::default()
+        ..ReportOptions::default()
     };
-    let remarks = remarks(outcome.clone(), owner, telling);
+    let reported = reported(outcome.clone(), owner, options);
     for body in posts {
         assert_eq!(
-            remarks.post("a".into(), body.clone().into()).await.status(),
+            reported.post("a".into(), body.clone().into()).await.status(),
             outcome.status()
         );
-        while remarks.teller.is_reading.load(Relaxed) {
+        while reported.reporter.is_reading.load(Relaxed) {
             tokio::time::sleep(Duration::from_millis(1)).await;
         }
     }
-    let told = remarks.teller.told();
+    let told = reported.reporter.logged();
     let of = told.foreign.get("a");
     let mut reasons: Vec<String> = of.into_iter().flat_map(|of| of.reasons.clone()).collect();
     reasons.sort();
@@ -141,8 +141,8 @@ async fn a_series_of_another_is_told_once_it_is_known() {
 const SPAN: &str = r#""startTimeUnixNano":"1","timeUnixNano":"2""#;
 
 /// What a post is answered whose points are not taken.
-async fn answered(remarks: &Arc<Remarks<Answering>>, metrics: &str) -> String {
-    match remarks.post("a".into(), body(metrics).into()).await {
+async fn answered(reported: &Arc<Reported<Answering>>, metrics: &str) -> String {
+    match reported.post("a".into(), body(metrics).into()).await {
         Outcome::Taken { message, .. } => message.unwrap_or_default(),
         Outcome::Refused { message, .. } | Outcome::Later { message, .. } => message,
     }
@@ -166,16 +166,16 @@ async fn a_sender_is_told_what_is_not_taken() {
         &taken,
     ]
     .join(",");
-    let telling = Telling {
+    let options = ReportOptions {
         expected: vec![Cause::Gauge],
-        ..Telling::default()
+        ..ReportOptions::default()
     };
-    let all = remarks(Outcome::taken(6), None, telling);
+    let all = reported(Outcome::taken(6), None, options);
     assert_eq!(
         answered(&all, &metrics).await,
         "points outside the profile: 3 gauges, 2 UpDownCounters, 1 cumulative sum: see docs/OPERATING.md, \"Senders\""
     );
-    let page = String::from_utf8(all.teller.metrics.page()).unwrap();
+    let page = String::from_utf8(all.reporter.metrics.page()).unwrap();
     for line in [
         "totxegun_foreign_points_total{cause=\"up-down-counter\",sender=\"a\"} 2",
         "totxegun_foreign_points_total{cause=\"cumulative-sum\",sender=\"a\"} 1",
@@ -194,10 +194,10 @@ async fn a_sender_is_told_what_is_not_taken() {
         answer.contains(": 3 gauges, 2 UpDownCounters, 1 cumulative sum: "),
         "{answer}"
     );
-    let more = remarks(Outcome::taken(9), None, Telling::default());
+    let more = reported(Outcome::taken(9), None, ReportOptions::default());
     let answer = answered(&more, &metrics).await;
     assert!(answer.contains("3 points of another form"), "{answer}");
-    let all_taken = remarks(Outcome::taken(0), None, Telling::default());
+    let all_taken = reported(Outcome::taken(0), None, ReportOptions::default());
     assert_eq!(
         all_taken.post("a".into(), body(&metrics).into()).await,
         Outcome::taken(0)
@@ -213,16 +213,16 @@ async fn a_sender_whose_clock_is_off_is_told_by_how_much() {
     };
     let (mut off, window) = (OffClock::default(), clock.window());
     off.count(window.off(u64::MAX).unwrap());
-    let remarks = remarks(Outcome::taken_but(3, off), None, Telling::default());
-    let answer = answered(&remarks, GAUGES).await;
+    let reported = reported(Outcome::taken_but(3, off), None, ReportOptions::default());
+    let answer = answered(&reported, GAUGES).await;
     let wanted = "points outside the profile: 3 gauges, 1 point ahead of time: its clock is ";
     assert!(
         answer.starts_with(wanted) && answer.contains("d ahead: see"),
         "{answer}"
     );
-    answered(&remarks, GAUGES).await;
-    assert_eq!(remarks.teller.told().clocks.len(), 1, "it is in the log once");
-    let page = String::from_utf8(remarks.teller.metrics.page()).unwrap();
+    answered(&reported, GAUGES).await;
+    assert_eq!(reported.reporter.logged().clocks.len(), 1, "it is in the log once");
+    let page = String::from_utf8(reported.reporter.metrics.page()).unwrap();
     let line = "totxegun_foreign_points_total{cause=\"clock-ahead\",sender=\"a\"} 2";
     assert!(page.lines().any(|found| found == line), "{page}");
 }
@@ -240,12 +240,12 @@ async fn who_posts_to_another_s_series_is_told_which_it_is() {
         status: 400,
         message: message.into(),
     };
-    let second = remarks(refused("other writer: point 1"), None, Telling::default());
+    let second = reported(refused("other writer: point 1"), None, ReportOptions::default());
     assert_eq!(
         answered(&second, &metric).await,
         "other writer: point 1: `m` {route=/} is another sender's: give each process its own service.instance.id"
     );
-    let none = remarks(refused("other writer: point 2"), None, Telling::default());
+    let none = reported(refused("other writer: point 2"), None, ReportOptions::default());
     assert_eq!(answered(&none, &metric).await, "other writer: point 2");
     let hostile = metric.replace(r#""m""#, &format!(r#""\u001b[2J{}""#, "x".repeat(9000)));
     let answer = answered(&second, &hostile).await;
@@ -260,10 +260,10 @@ async fn who_posts_to_another_s_series_is_told_which_it_is() {
 async fn a_late_sender_is_told_the_time() {
     let refused = |message: &str| {
         let message = message.into();
-        remarks(
+        reported(
             Outcome::Refused { status: 400, message },
             None,
-            Telling::default(),
+            ReportOptions::default(),
         )
     };
     let late = "out of order: point 2, frontier 1795808400500000000";
@@ -279,17 +279,17 @@ async fn a_late_sender_is_told_the_time() {
 /// What is expected is not told; and what is refused is noted, once for the log.
 #[tokio::test]
 async fn refusals_are_noted() {
-    let telling = Telling {
+    let options = ReportOptions {
         log_foreign: 9,
         expected: vec![Cause::Gauge],
-        ..Telling::default()
+        ..ReportOptions::default()
     };
-    let expected = remarks(Outcome::taken(3), None, telling);
+    let expected = reported(Outcome::taken(3), None, options);
     answered(&expected, GAUGES).await;
-    while expected.teller.is_reading.load(Relaxed) {
+    while expected.reporter.is_reading.load(Relaxed) {
         tokio::time::sleep(Duration::from_millis(1)).await;
     }
-    assert!(expected.teller.told().foreign["a"].reasons.is_empty());
+    assert!(expected.reporter.logged().foreign["a"].reasons.is_empty());
     let late = Outcome::Refused {
         status: 400,
         message: "out of order: point 0, frontier 5".into(),
@@ -298,13 +298,13 @@ async fn refusals_are_noted() {
         status: 503,
         message: "too many bytes in flight".into(),
     };
-    let refused = remarks(late.clone(), None, Telling::default()).teller.clone();
+    let refused = reported(late.clone(), None, ReportOptions::default()).reporter.clone();
     refused.answered("a", &late);
     refused.part_refused("a", &late);
     refused.answered("b", &busy);
-    assert_eq!(refused.told().refusals, 1, "503 is not the sender's");
+    assert_eq!(refused.logged().refusals, 1, "503 is not the sender's");
     let of_a = &refused
-        .heard
+        .activity
         .last(9)
         .into_iter()
         .find(|(name, _)| name == "a")
@@ -316,21 +316,21 @@ async fn refusals_are_noted() {
 /// Else they would fill the log, and hide the refusals of senders.
 #[tokio::test]
 async fn so_many_strangers_are_told_of() {
-    let remarks = remarks(Outcome::taken(0), None, Telling::default());
+    let reported = reported(Outcome::taken(0), None, ReportOptions::default());
     let unknown = Outcome::Refused {
         status: 401,
         message: "the token is not known".into(),
     };
     for number in 0..5 * STRANGERS {
-        remarks.teller.answered(
+        reported.reporter.answered(
             &format!("address 10.0.{}.{}", number / 256, number % 256),
             &unknown,
         );
     }
-    remarks.teller.answered("shop-1", &unknown);
-    assert_eq!(remarks.teller.told().refusals, STRANGERS + 2);
-    let heard = remarks.teller.heard.last(1000);
-    let of = |name: &str| heard.iter().find(|(heard, _)| heard == name).unwrap().1.clone();
+    reported.reporter.answered("shop-1", &unknown);
+    assert_eq!(reported.reporter.logged().refusals, STRANGERS + 2);
+    let activity = reported.reporter.activity.last(1000);
+    let of = |name: &str| activity.iter().find(|(activity, _)| activity == name).unwrap().1.clone();
     let posts = |name: &str| of(name).refused["the token is not known"].posts;
     assert_eq!((posts("address 10.0.0.7"), posts("shop-1")), (1, 1));
     assert_eq!(posts(NO_NAME), 4 * STRANGERS as u64);
@@ -350,8 +350,8 @@ async fn what_is_refused_of_runs_is_counted() {
             known: Causes::of_runs(&turned),
             message: None,
         };
-        let remarks = remarks(outcome, None, Telling::default());
-        let said = remarks.post("a".into(), body(metrics).into()).await;
+        let reported = reported(outcome, None, ReportOptions::default());
+        let said = reported.post("a".into(), body(metrics).into()).await;
         let Outcome::Taken {
             rejected,
             message: Some(message),

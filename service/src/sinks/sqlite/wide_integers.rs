@@ -5,9 +5,9 @@ use rusqlite::types::{FromSql, FromSqlError, FromSqlResult, ToSql, ToSqlOutput, 
 /// A number of 64 bits without sign. From 2^63 on it is a text of 20 digits: SQLite sorts texts behind integers, so
 /// the order of such a column is that of the numbers.
 #[derive(Clone, Copy, Debug, PartialEq, Eq, PartialOrd, Ord)]
-pub(super) struct Whole(pub u64);
+pub(super) struct Unsigned(pub u64);
 
-impl ToSql for Whole {
+impl ToSql for Unsigned {
     fn to_sql(&self) -> rusqlite::Result<ToSqlOutput<'_>> {
         Ok(match i64::try_from(self.0) {
             Ok(number) => number.into(),
@@ -16,16 +16,16 @@ impl ToSql for Whole {
     }
 }
 
-impl FromSql for Whole {
-    fn column_result(value: ValueRef<'_>) -> FromSqlResult<Whole> {
+impl FromSql for Unsigned {
+    fn column_result(value: ValueRef<'_>) -> FromSqlResult<Unsigned> {
         match value {
             ValueRef::Integer(number) => u64::try_from(number)
-                .map(Whole)
+                .map(Unsigned)
                 .map_err(|_| FromSqlError::OutOfRange(number)),
             ValueRef::Text(_) => value
                 .as_str()?
                 .parse()
-                .map(Whole)
+                .map(Unsigned)
                 .map_err(|_| FromSqlError::InvalidType),
             _ => Err(FromSqlError::InvalidType),
         }
@@ -86,18 +86,18 @@ mod tests {
         ];
         for number in numbers.iter().rev() {
             connection
-                .execute("insert into t values (?1)", [Whole(*number)])
+                .execute("insert into t values (?1)", [Unsigned(*number)])
                 .expect("a row");
         }
         let mut query = connection.prepare("select n from t order by n").expect("a query");
-        let read: Vec<Whole> = query
+        let read: Vec<Unsigned> = query
             .query_map([], |row| row.get(0))
             .expect("rows")
             .collect::<Result<_, _>>()
             .expect("numbers");
-        assert_eq!(read, numbers.map(Whole));
+        assert_eq!(read, numbers.map(Unsigned));
         let less: i64 = connection
-            .query_row("select count(*) from t where n < ?1", [Whole(u64::MAX)], |row| {
+            .query_row("select count(*) from t where n < ?1", [Unsigned(u64::MAX)], |row| {
                 row.get(0)
             })
             .expect("a count");

@@ -5,8 +5,8 @@ use std::collections::{HashMap, HashSet};
 
 /// What is in the log already.
 #[derive(Default)]
-pub struct Told {
-    pub foreign: HashMap<String, ToldOf>,
+pub struct Logged {
+    pub foreign: HashMap<String, LoggedOf>,
     /// Senders whose clock is off.
     pub clocks: HashSet<String>,
     pub series: HashSet<SeriesKey>,
@@ -16,7 +16,7 @@ pub struct Told {
 }
 
 #[derive(Default)]
-pub struct ToldOf {
+pub struct LoggedOf {
     pub read: usize,
     pub reasons: HashSet<String>,
 }

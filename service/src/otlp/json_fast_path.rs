@@ -21,7 +21,7 @@ const DIGITS: usize = 19;
 const DIGITS_OF_DOUBLE: usize = 15;
 
 /// Whether the book reads the body as it is meant, as far as that is seen at once. False says nothing.
-pub fn is_usual(body: &[u8], reading: &Reading) -> bool {
+pub fn may_go_as_it_came(body: &[u8], reading: &Reading) -> bool {
     let mut look = Look {
         rest: body,
         reading,
@@ -31,7 +31,7 @@ pub fn is_usual(body: &[u8], reading: &Reading) -> bool {
         is_measured: false,
         has_doubles: false,
     };
-    let is_known = !reading.whole.has_no_unit() && look.message(&REQUEST, 0).is_some();
+    let is_known = !reading.finer_units.has_no_unit() && look.message(&REQUEST, 0).is_some();
     is_known && look.peek().is_none() && look.rest.is_empty() && is_text(body)
 }
 
@@ -274,14 +274,14 @@ impl Look<'_> {
     /// A metric that is taken in another unit is written anew. Where its unit says that it may be, its name has to be plain.
     fn unit(&mut self) -> Option<()> {
         let unit = std::str::from_utf8(self.text()?).ok()?;
-        let whole = &self.reading.whole;
-        if !whole.is_about(unit) {
+        let finer_units = &self.reading.finer_units;
+        if !finer_units.is_about(unit) {
             return Some(());
         }
         self.is_measured = true;
         let name = self.metric.strip_prefix(b"{\"name\":\"")?;
         let (name, behind) = name.split_at(plain_length(name));
-        let is_left = behind.starts_with(b"\"") && whole.leaves(std::str::from_utf8(name).ok()?, unit);
+        let is_left = behind.starts_with(b"\"") && finer_units.leaves(std::str::from_utf8(name).ok()?, unit);
         is_left.then_some(())
     }
 }
@@ -327,7 +327,7 @@ mod tests {
     #[test]
     fn what_senders_write_is_usual() {
         for body in [BODY, POINTS, " {} ", r#"{"resourceMetrics":[]}"#] {
-            assert!(is_usual(body.as_bytes(), &Reading::default()), "{body}");
+            assert!(may_go_as_it_came(body.as_bytes(), &Reading::default()), "{body}");
         }
     }
 
@@ -349,7 +349,7 @@ mod tests {
         let (mut tried, mut usual) = (0, 0);
         let mut is_sound = |changed: Vec<u8>| {
             tried += 1;
-            if is_usual(&changed, &Reading::default()) {
+            if may_go_as_it_came(&changed, &Reading::default()) {
                 usual += 1;
                 assert_eq!(otherwise(&changed), None, "{}", String::from_utf8_lossy(&changed));
             }

@@ -2,14 +2,14 @@
 //! in the journal that are in no group.
 
 use super::units::Unit;
-use super::Whole;
+use super::FinerUnits;
 use crate::files::{Body, Fault, Journal, Outbox};
 use crate::otlp::json::{Document, Value};
 use crate::otlp::series::visit;
 use crate::work::in_line;
 use bytes::Bytes;
 
-impl Whole {
+impl FinerUnits {
     /// Notes the units of all series of a folder.
     pub fn know(&self, outbox: &Outbox, journal: &Journal) -> Result<(), Fault> {
         if self.units.is_none() {

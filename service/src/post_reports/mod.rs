@@ -1,15 +1,15 @@
-//! What is told of posts that were not taken, or not wholly: in their answers, in the log, and to operators.
+//! What is reported of posts that were not taken, or not wholly: in their answers, in the log, and to operators.
 //!
 //! It stands before what takes a slot's posts, and changes nothing of them but the text of their answers. Of a post with
-//! points that were not taken it reads the body once more, for the answer (`texts`). What was told is of all slots: `heard` is who has
-//! posted. For the log one post is read at a time and beside the runtime's threads; one that comes meanwhile is passed over,
-//! since its sender comes again.
+//! points that were not taken it reads the body once more, for the answer (`texts`). What was told is of all slots: `activity` is
+//! who has posted, `logged` what the log has already. For the log one post is read at a time and beside the runtime's threads;
+//! one that comes meanwhile is passed over, since its sender comes again.
 
-mod heard;
+mod activity;
+mod logged;
 mod texts;
-mod told;
 
-pub use heard::{Heard, OfReason, OfSender};
+pub use activity::{SenderActivity, OfReason, OfSender};
 pub(crate) use texts::SERIES_SHOWN;
 
 use crate::core;
@@ -27,7 +27,7 @@ use std::sync::atomic::{AtomicBool, Ordering::Relaxed};
 use std::sync::{Arc, Mutex, PoisonError};
 use texts::{of_late, of_other_writer, other_writer, place_of, reason};
 use tokio::sync::Semaphore;
-use told::Told;
+use logged::Logged;
 
 /// How many senders, series and refusals are remembered as told.
 const REMEMBERED: usize = 1000;
@@ -45,27 +45,27 @@ const ANSWER_SHOWN: usize = 600;
 /// How many posts of a sender are read for reasons that are new.
 const MOST_READ: usize = 100;
 
-/// Of one slot's posts.
-pub struct Remarks<T> {
+/// Of one slot's posts, which it hands on to what takes them.
+pub struct Reported<T> {
     taker: Arc<T>,
     owners: Box<dyn Owners>,
-    teller: Arc<Teller>,
+    reporter: Arc<Reporter>,
 }
 
-/// What tells of all slots' posts.
-pub struct Teller {
-    telling: Telling,
+/// What reports all slots' posts.
+pub struct Reporter {
+    options: ReportOptions,
     metrics: Arc<Metrics>,
-    heard: Arc<Heard>,
+    activity: Arc<SenderActivity>,
     pass: Option<Arc<Pass>>,
     readers: Semaphore,
     is_reading: AtomicBool,
-    told: Mutex<Told>,
+    logged: Mutex<Logged>,
 }
 
 /// What is told of foreign points.
 #[derive(Clone, Debug, Default)]
-pub struct Telling {
+pub struct ReportOptions {
     /// How many reasons of each sender are in the log.
     pub log_foreign: usize,
     /// What is meant to be left out: it is counted by itself, and not told.
@@ -86,60 +86,60 @@ impl Owners for Arc<Outbox> {
     }
 }
 
-/// A post that is worth a remark.
-enum Remark {
+/// What the log may be told of a post.
+enum Report {
     Foreign,
     /// The place of the point among those of the profile.
     OtherWriter(u64),
 }
 
-impl<T: Taker> Remarks<T> {
-    pub fn new(taker: Arc<T>, owners: impl Owners, teller: Arc<Teller>) -> Arc<Remarks<T>> {
-        Arc::new(Remarks {
+impl<T: Taker> Reported<T> {
+    pub fn new(taker: Arc<T>, owners: impl Owners, reporter: Arc<Reporter>) -> Arc<Reported<T>> {
+        Arc::new(Reported {
             taker,
             owners: Box::new(owners),
-            teller,
+            reporter,
         })
     }
 
-    fn tell(&self, remark: Remark, sender: &str, source: Source) {
+    fn tell(&self, report: Report, sender: &str, source: Source) {
         let Some(body) = source.text() else { return };
-        match remark {
-            Remark::Foreign => self.teller.tell_reasons(sender, &body),
-            Remark::OtherWriter(place) => {
-                if let Some((_, series)) = point_at(&body, self.teller.telling.profile, place) {
-                    self.teller.tell_owner(sender, series, &*self.owners);
+        match report {
+            Report::Foreign => self.reporter.tell_reasons(sender, &body),
+            Report::OtherWriter(place) => {
+                if let Some((_, series)) = point_at(&body, self.reporter.options.profile, place) {
+                    self.reporter.tell_owner(sender, series, &*self.owners);
                 }
             }
         }
     }
 }
 
-impl Teller {
-    /// `heard` is noted of each post. To `pass` points are handed on that are outside the profile.
+impl Reporter {
+    /// `activity` is noted of each post. To `pass` points are handed on that are outside the profile.
     pub fn new(
-        telling: Telling,
+        options: ReportOptions,
         metrics: Arc<Metrics>,
-        heard: Arc<Heard>,
+        activity: Arc<SenderActivity>,
         pass: Option<Arc<Pass>>,
-    ) -> Arc<Teller> {
-        Arc::new(Teller {
-            telling,
+    ) -> Arc<Reporter> {
+        Arc::new(Reporter {
+            options,
             metrics,
-            heard,
+            activity,
             pass,
             readers: Semaphore::new(READERS),
             is_reading: AtomicBool::new(false),
-            told: Mutex::new(Told::default()),
+            logged: Mutex::new(Logged::default()),
         })
     }
 
-    fn remark(&self, sender: &str, outcome: &Outcome) -> Option<Remark> {
+    fn report(&self, sender: &str, outcome: &Outcome) -> Option<Report> {
         match outcome {
             Outcome::Taken { rejected: 0, .. } => None,
             Outcome::Taken { rejected, off, .. } if *rejected == off.points() => None,
-            Outcome::Taken { .. } => self.may_tell_more(sender).then_some(Remark::Foreign),
-            _ => outcome.refusal().and_then(place_of).map(Remark::OtherWriter),
+            Outcome::Taken { .. } => self.may_tell_more(sender).then_some(Report::Foreign),
+            _ => outcome.refusal().and_then(place_of).map(Report::OtherWriter),
         }
     }
 
@@ -167,7 +167,7 @@ impl Teller {
                 let causes = causes.and(known);
                 let rejected = causes.count();
                 let causes = causes.and(&Causes::of_clocks(off));
-                self.metrics.foreign(sender, &causes, &self.telling.expected);
+                self.metrics.foreign(sender, &causes, &self.options.expected);
                 Outcome::taken_but(rejected, off).with_causes(&causes)
             }
             Outcome::Refused { status, message } => {
@@ -175,7 +175,7 @@ impl Teller {
                     let message = of_late(&message).map_or(message.clone(), |more| message + &more);
                     return Outcome::Refused { status, message };
                 };
-                let profile = self.telling.profile;
+                let profile = self.options.profile;
                 let said = self
                     .read(source, move |body| of_other_writer(body, profile, place))
                     .await;
@@ -188,7 +188,7 @@ impl Teller {
 
     /// Why so many points were not taken, without those that are handed on.
     async fn causes(&self, source: &Source, original: Option<Original>, foreign: u64) -> Causes {
-        let profile = self.telling.profile;
+        let profile = self.options.profile;
         let (Some(pass), Some(original)) = (&self.pass, original) else {
             let find = move |body: &[u8]| Causes::of(body, profile, foreign);
             let causes = self.read(source, find).await;
@@ -226,13 +226,13 @@ impl Teller {
     /// Notes an answer. The first refusal of a sender for each reason is in the log; those that the service itself is
     /// the reason of have a line of their own.
     fn note(&self, sender: &str, outcome: &Outcome) {
-        let (Some(reason), Some(message)) = (self.heard.note(sender, outcome), outcome.refusal()) else {
+        let (Some(reason), Some(message)) = (self.activity.note(sender, outcome), outcome.refusal()) else {
             return;
         };
-        let (mut told, status) = (self.told(), outcome.status());
-        if status < 500 && told.refusals < REMEMBERED {
-            told.refusals += 1;
-            drop(told);
+        let (mut logged, status) = (self.logged(), outcome.status());
+        if status < 500 && logged.refusals < REMEMBERED {
+            logged.refusals += 1;
+            drop(logged);
             let answer = shown(message, ANSWER_SHOWN);
             tracing::warn!(
                 sender,
@@ -251,9 +251,9 @@ impl Teller {
         if off.points() == 0 {
             return;
         }
-        let mut told = self.told();
-        if told.clocks.len() < REMEMBERED && told.clocks.insert(sender.to_string()) {
-            drop(told);
+        let mut logged = self.logged();
+        if logged.clocks.len() < REMEMBERED && logged.clocks.insert(sender.to_string()) {
+            drop(logged);
             let (points, reason) = (off.points(), off.to_string());
             tracing::warn!(
                 sender,
@@ -264,36 +264,36 @@ impl Teller {
         }
     }
 
-    fn told(&self) -> std::sync::MutexGuard<'_, Told> {
-        self.told.lock().unwrap_or_else(PoisonError::into_inner) // sets are sound at any time
+    fn logged(&self) -> std::sync::MutexGuard<'_, Logged> {
+        self.logged.lock().unwrap_or_else(PoisonError::into_inner) // sets are sound at any time
     }
 
     /// Whether the address of who has no name is one of those that are remembered.
     fn is_known_stranger(&self, address: &str) -> bool {
-        let mut told = self.told();
-        if told.strangers.len() < STRANGERS {
-            told.strangers.insert(address.to_string());
+        let mut logged = self.logged();
+        if logged.strangers.len() < STRANGERS {
+            logged.strangers.insert(address.to_string());
         }
-        told.strangers.contains(address)
+        logged.strangers.contains(address)
     }
 
     fn may_tell_more(&self, sender: &str) -> bool {
-        if self.telling.log_foreign == 0 {
+        if self.options.log_foreign == 0 {
             return false;
         }
-        let told = self.told();
-        match told.foreign.get(sender) {
-            None => told.foreign.len() < REMEMBERED,
-            Some(of) => of.reasons.len() < self.telling.log_foreign && of.read < MOST_READ,
+        let logged = self.logged();
+        match logged.foreign.get(sender) {
+            None => logged.foreign.len() < REMEMBERED,
+            Some(of) => of.reasons.len() < self.options.log_foreign && of.read < MOST_READ,
         }
     }
 
     /// Nobody who posts waits while a body is read: one at a time is.
     fn tell_reasons(&self, sender: &str, body: &Bytes) {
-        let known = |told: &Told| told.foreign.get(sender).map(|of| of.reasons.clone());
-        let mut reasons = known(&self.told()).unwrap_or_default();
-        foreign_points(body, self.telling.profile, |point| {
-            let is_expected = |cause| self.telling.expected.contains(&cause);
+        let known = |logged: &Logged| logged.foreign.get(sender).map(|of| of.reasons.clone());
+        let mut reasons = known(&self.logged()).unwrap_or_default();
+        foreign_points(body, self.options.profile, |point| {
+            let is_expected = |cause| self.options.expected.contains(&cause);
             if point.cause.is_some_and(is_expected) || (self.pass.is_some() && point.is_passed()) {
                 return false;
             }
@@ -301,18 +301,18 @@ impl Teller {
             if reasons.insert(reason.clone()) {
                 tracing::warn!(sender, reason, "points of {sender} are not taken: {reason}");
             }
-            reasons.len() >= self.telling.log_foreign
+            reasons.len() >= self.options.log_foreign
         });
-        let mut told = self.told();
-        let of = told.foreign.entry(sender.to_string()).or_default();
+        let mut logged = self.logged();
+        let of = logged.foreign.entry(sender.to_string()).or_default();
         of.read += 1;
         of.reasons = reasons;
     }
 
     fn tell_owner(&self, sender: &str, series: SeriesKey, owners: &dyn Owners) {
         {
-            let told = self.told();
-            if told.series.contains(&series) || told.series.len() >= REMEMBERED {
+            let logged = self.logged();
+            if logged.series.contains(&series) || logged.series.len() >= REMEMBERED {
                 return;
             }
         }
@@ -321,11 +321,11 @@ impl Teller {
         };
         let line = other_writer(sender, &owner, &series);
         tracing::warn!(sender, owner, series = shown(&series.0, SERIES_SHOWN), "{line}");
-        self.told().series.insert(series);
+        self.logged().series.insert(series);
     }
 }
 
-impl<T: Taker> Taker for Remarks<T> {
+impl<T: Taker> Taker for Reported<T> {
     fn reading<'r>(&'r self, of_all: &'r Arc<Reading>) -> &'r Arc<Reading> {
         self.taker.reading(of_all)
     }
@@ -343,7 +343,7 @@ impl<T: Taker> Taker for Remarks<T> {
     }
 
     fn wants_originals(&self) -> bool {
-        self.teller.pass.is_some()
+        self.reporter.pass.is_some()
     }
 
     async fn post_with(
@@ -352,22 +352,22 @@ impl<T: Taker> Taker for Remarks<T> {
         request: Request,
         original: Option<Original>,
     ) -> Outcome {
-        let teller = &self.teller;
+        let reporter = &self.reporter;
         let source = request.source();
         let outcome = self.taker.post(sender.into(), request).await;
         if let Outcome::Taken { rejected: 0, .. } = outcome {
             return outcome; // as nearly all are: nothing is to be said
         }
-        teller.note_clock(sender, &outcome);
-        let remark = teller.remark(sender, &outcome);
-        let outcome = teller.in_words(sender, &source, original, outcome).await;
-        let remark = remark.filter(|_| outcome != Outcome::taken(0));
-        if let Some(remark) = remark {
-            if !teller.is_reading.swap(true, Relaxed) {
-                let (remarks, sender) = (self.clone(), sender.to_string());
+        reporter.note_clock(sender, &outcome);
+        let report = reporter.report(sender, &outcome);
+        let outcome = reporter.in_words(sender, &source, original, outcome).await;
+        let report = report.filter(|_| outcome != Outcome::taken(0));
+        if let Some(report) = report {
+            if !reporter.is_reading.swap(true, Relaxed) {
+                let (reported, sender) = (self.clone(), sender.to_string());
                 tokio::task::spawn_blocking(move || {
-                    remarks.tell(remark, &sender, source);
-                    remarks.teller.is_reading.store(false, Relaxed);
+                    reported.tell(report, &sender, source);
+                    reported.reporter.is_reading.store(false, Relaxed);
                 });
             }
         }
@@ -375,7 +375,7 @@ impl<T: Taker> Taker for Remarks<T> {
     }
 }
 
-impl Hears for Teller {
+impl Hears for Reporter {
     fn answered(&self, sender: &str, outcome: &Outcome) {
         match is_sender(sender) || self.is_known_stranger(sender) {
             true => self.note(sender, outcome),

@@ -16,7 +16,7 @@ const TEXT: usize = 300;
 
 /// All senders, by name.
 #[derive(Default)]
-pub struct Heard(Mutex<HashMap<String, OfSender>>);
+pub struct SenderActivity(Mutex<HashMap<String, OfSender>>);
 
 /// Of one sender.
 #[derive(Clone, Debug, Default, PartialEq, Eq)]
@@ -40,7 +40,7 @@ pub struct OfReason {
     pub text: String,
 }
 
-impl Heard {
+impl SenderActivity {
     /// Notes an answer. The reason of a refusal that is the first of its sender and reason.
     pub fn note(&self, sender: &str, outcome: &Outcome) -> Option<&'static str> {
         self.note_at(sender, outcome, now())
@@ -126,19 +126,19 @@ mod tests {
 
     #[test]
     fn a_sender_s_posts_and_refusals_are_noted() {
-        let heard = Heard::default();
-        assert_eq!(heard.note_at("A", &Outcome::taken(2), 5), None);
-        let first = heard.note_at("A", &refused("out of order: point 0, frontier 5"), 6);
+        let activity = SenderActivity::default();
+        assert_eq!(activity.note_at("A", &Outcome::taken(2), 5), None);
+        let first = activity.note_at("A", &refused("out of order: point 0, frontier 5"), 6);
         assert_eq!(first, Some("out of order"));
         assert_eq!(
-            heard.note_at("A", &refused("out of order: point 9, frontier 7"), 7),
+            activity.note_at("A", &refused("out of order: point 9, frontier 7"), 7),
             None
         );
         assert_eq!(
-            heard.note_at("B", &refused("out of order: point 9, frontier 7"), 6),
+            activity.note_at("B", &refused("out of order: point 9, frontier 7"), 6),
             Some("out of order")
         );
-        let last = heard.last(9);
+        let last = activity.last(9);
         assert_eq!(
             last.iter().map(|(name, _)| &**name).collect::<Vec<_>>(),
             ["A", "B"]
@@ -162,18 +162,18 @@ mod tests {
     /// Else names that somebody makes up would fill the memory, or push out who posts.
     #[test]
     fn who_posted_last_is_kept() {
-        let heard = Heard::default();
+        let activity = SenderActivity::default();
         for number in 0..5000u64 {
-            heard.note_at("A", &Outcome::taken(0), number);
-            heard.note_at(&format!("made-up-{number}"), &refused(&"x".repeat(5000)), number);
+            activity.note_at("A", &Outcome::taken(0), number);
+            activity.note_at(&format!("made-up-{number}"), &refused(&"x".repeat(5000)), number);
         }
-        let last = heard.last(10_000);
-        assert!(heard.count() <= MOST && last.len() >= KEPT, "{}", last.len());
+        let last = activity.last(10_000);
+        assert!(activity.count() <= MOST && last.len() >= KEPT, "{}", last.len());
         let of_a = last.iter().find(|(name, _)| name == "A").map(|(_, of)| of.taken);
         assert_eq!((of_a, &*last[1].0), (Some(5000), "made-up-4999"));
         assert!(last[1].1.refused["unreadable"].text.len() <= TEXT);
-        heard.note_at("B", &Outcome::taken(0), 0); // all at one time
-        let alike = Heard::default();
+        activity.note_at("B", &Outcome::taken(0), 0); // all at one time
+        let alike = SenderActivity::default();
         for number in 0..5000 {
             alike.note_at(&number.to_string(), &Outcome::taken(0), 7);
         }

@@ -3,7 +3,7 @@
 
 use super::{held, record, Expected, Size, HELD};
 use crate::files::disk::Disk;
-use crate::files::judge::{is_torn, CHANGED};
+use crate::files::torn_tail::{check_torn, CHANGED};
 use crate::files::records::{self, Next, Reader, Which};
 use crate::files::{segment, Fault};
 use std::path::{Path, PathBuf};
@@ -12,8 +12,8 @@ const NO_HEADER: &str =
     "has no header, and had one: it was changed, cut or emptied. Nothing was deleted: put a copy of \
                          this file in its place, or move the folder away and start with a new one";
 
-/// How a segment was found.
-pub(super) struct Found {
+/// A segment that an earlier run left, as it was found.
+pub(super) struct EarlierSegment {
     pub size: Size,
     /// Where its last whole record ends.
     pub end: u64,
@@ -28,7 +28,7 @@ pub(super) struct Found {
     pub held: held::List,
 }
 
-pub(super) fn find(disk: &Disk, folder: &Path, number: u64) -> Result<Found, Fault> {
+pub(super) fn read(disk: &Disk, folder: &Path, number: u64) -> Result<EarlierSegment, Fault> {
     let path = segment::path(folder, number);
     let length = disk.length(&path)?.unwrap_or(0); // where there is none, the reader says so
     let (mut reader, mut next) = Reader::open(disk, &path, Which::Journal, number, None)?;
@@ -59,7 +59,7 @@ pub(super) fn find(disk: &Disk, folder: &Path, number: u64) -> Result<Found, Fau
                 size.first = size.first.or_else(|| record::since(kind, &bytes));
             }
             Next::Closed | Next::Stop => {
-                return Ok(Found {
+                return Ok(EarlierSegment {
                     size,
                     end: reader.at,
                     closed: next == Next::Closed,
@@ -78,10 +78,10 @@ pub(super) fn find(disk: &Disk, folder: &Path, number: u64) -> Result<Found, Fau
 }
 
 /// Passes where what is there is what an end of the process or a loss of power may leave.
-pub(super) fn check(disk: &Disk, folder: &Path, found: &[Found], expected: &Expected) -> Result<(), Fault> {
-    is_not_behind(found, expected)?;
+pub(super) fn check(disk: &Disk, folder: &Path, segments: &[EarlierSegment], expected: &Expected) -> Result<(), Fault> {
+    is_not_behind(segments, expected)?;
     let reach = expected.reach.max(1);
-    let mut needed: Vec<u64> = found.iter().map(|one| one.size.number).collect();
+    let mut needed: Vec<u64> = segments.iter().map(|one| one.size.number).collect();
     needed.retain(|number| *number >= reach);
     // Each of them is there for good, up to the last one that is known.
     let known = expected.begun.map_or(0, |begun| begun.max(reach));
@@ -92,16 +92,16 @@ pub(super) fn check(disk: &Disk, folder: &Path, found: &[Found], expected: &Expe
     if needed.first().is_some_and(|first| *first > reach) {
         return Err(segment::missing(folder, reach));
     }
-    found
+    segments
         .iter()
         .try_for_each(|one| one.check(disk, folder, expected))?;
-    let first = found.iter().find(|one| one.size.number == reach);
+    let first = segments.iter().find(|one| one.size.number == reach);
     first.map_or(Ok(()), |first| held::check(disk, folder, &first.held))
 }
 
 /// An older outbox would have posts counted again that are in a group.
-fn is_not_behind(found: &[Found], expected: &Expected) -> Result<(), Fault> {
-    let forgotten = found.iter().map(|one| one.forgotten).max().unwrap_or(0);
+fn is_not_behind(segments: &[EarlierSegment], expected: &Expected) -> Result<(), Fault> {
+    let forgotten = segments.iter().map(|one| one.forgotten).max().unwrap_or(0);
     if forgotten <= expected.reach {
         return Ok(());
     }
@@ -115,7 +115,7 @@ fn is_not_behind(found: &[Found], expected: &Expected) -> Result<(), Fault> {
     Err(Fault::Damaged { path, at, what })
 }
 
-impl Found {
+impl EarlierSegment {
     fn check(&self, disk: &Disk, folder: &Path, expected: &Expected) -> Result<(), Fault> {
         let path = segment::path(folder, self.size.number);
         let damaged = |path: PathBuf, at, what: String| Err(Fault::Damaged { path, at, what });
@@ -133,7 +133,7 @@ impl Found {
             );
             return damaged(path, length, what);
         }
-        is_torn(disk, &path, self.end)?;
+        check_torn(disk, &path, self.end)?;
         // Each start closes all that is there, durably, before it begins another.
         match expected.begun.is_some_and(|begun| self.size.number < begun) {
             true => damaged(path, self.end, CHANGED.into()),

@@ -1,7 +1,7 @@
 //! What `--whole auto` decides, of slots that go from one instance to another.
 
 use super::*;
-use crate::otlp::{Choice, Whole};
+use crate::otlp::{Choice, FinerUnits};
 use crate::service::OfStore;
 use crate::store::postgres::{address, Copies};
 
@@ -20,7 +20,7 @@ fn instance(place: &Path) -> Service {
         Settings {
             store: Some(store),
             reading: Reading {
-                whole: Whole::of([Choice::Auto]).unwrap(),
+                finer_units: FinerUnits::of([Choice::Auto]).unwrap(),
                 ..Reading::default()
             },
             ..settings(place)

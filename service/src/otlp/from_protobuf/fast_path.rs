@@ -8,7 +8,7 @@ use super::Writer;
 
 impl<'a> Writer<'a, '_> {
     /// Writes a message in its plain form. Of another nothing is written.
-    pub(super) fn plain(&mut self, of: &'static Message, message: &'a [u8]) -> bool {
+    pub(super) fn write_plain(&mut self, of: &'static Message, message: &'a [u8]) -> bool {
         let from = self.out.text.len();
         let written = if std::ptr::eq(of, &KEY_VALUE) {
             self.attribute(message)

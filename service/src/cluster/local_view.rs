@@ -34,12 +34,12 @@ pub struct Cluster {
 pub(super) struct Database {
     owners: Mutex<Owners>,
     pub look: Notify,
-    heard: Mutex<Heard>,
+    own_beats: Mutex<OwnBeats>,
     unserved: Mutex<Unserved>,
 }
 
 #[derive(Default)]
-struct Heard {
+struct OwnBeats {
     /// When the last own beat that is committed was sent; none before the first.
     beaten: Option<Instant>,
     /// What became of the last one, where that got no answer.
@@ -166,7 +166,7 @@ impl Database {
         Database {
             owners: Mutex::new(Owners::new(name)),
             look: Notify::new(),
-            heard: Mutex::default(),
+            own_beats: Mutex::default(),
             unserved: Mutex::default(),
         }
     }
@@ -176,13 +176,13 @@ impl Database {
         self.owners.lock().unwrap_or_else(PoisonError::into_inner)
     }
 
-    fn heard(&self) -> MutexGuard<'_, Heard> {
-        self.heard.lock().unwrap_or_else(PoisonError::into_inner) // two values are sound at any time
+    fn own_beats(&self) -> MutexGuard<'_, OwnBeats> {
+        self.own_beats.lock().unwrap_or_else(PoisonError::into_inner) // two values are sound at any time
     }
 
     /// An own beat that was sent then is committed.
     pub fn has_beaten(&self, sent: Instant) {
-        *self.heard() = Heard {
+        *self.own_beats() = OwnBeats {
             beaten: Some(sent),
             why: None,
         };
@@ -196,12 +196,12 @@ impl Database {
 
     /// An own beat got no answer.
     pub fn is_silent(&self, silence: &Silence) {
-        self.heard().why = Some(silence.0.clone());
+        self.own_beats().why = Some(silence.0.clone());
         self.owners().unanswered();
     }
 
     fn beat_age(&self) -> Option<Duration> {
-        self.heard().beaten.map(|beaten| beaten.elapsed())
+        self.own_beats().beaten.map(|beaten| beaten.elapsed())
     }
 
     fn is_stalled(&self) -> bool {
@@ -210,7 +210,7 @@ impl Database {
 
     /// Why it does not answer, where it does not.
     fn silence(&self) -> Option<String> {
-        let said = self.heard().why.clone();
+        let said = self.own_beats().why.clone();
         let why = said.unwrap_or_else(|| format!("no answer within {} s", STALL.as_secs()));
         self.is_stalled().then_some(why)
     }

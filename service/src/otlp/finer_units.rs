@@ -6,7 +6,7 @@
 //! for points that are read by number.
 
 mod decimal;
-mod known;
+mod folder_units;
 mod plan;
 mod rewrite;
 mod rounded;
@@ -153,7 +153,7 @@ impl FromStr for Choice {
 
 /// All rules, one for a unit.
 #[derive(Clone, Default)]
-pub struct Whole {
+pub struct FinerUnits {
     rules: BTreeMap<String, Rule>,
     /// For known units without a rule; none where these are off.
     units: Option<Arc<Units>>,
@@ -161,16 +161,16 @@ pub struct Whole {
     profile: Profile,
 }
 
-impl Whole {
+impl FinerUnits {
     /// Rules alone. The error names the unit that has two.
-    pub fn new(rules: impl IntoIterator<Item = Rule>) -> Result<Whole, String> {
+    pub fn new(rules: impl IntoIterator<Item = Rule>) -> Result<FinerUnits, String> {
         let mut all = BTreeMap::new();
         for rule in rules {
             if let Some(other) = all.insert(rule.from.clone(), rule) {
                 return Err(format!("--whole has two rules for the unit `{}`", other.from));
             }
         }
-        Ok(Whole {
+        Ok(FinerUnits {
             rules: all,
             units: None,
             profile: Profile::default(),
@@ -178,7 +178,7 @@ impl Whole {
     }
 
     /// As the option has it: `auto` unless it is off.
-    pub fn of(choices: impl IntoIterator<Item = Choice>) -> Result<Whole, String> {
+    pub fn of(choices: impl IntoIterator<Item = Choice>) -> Result<FinerUnits, String> {
         let (mut rules, mut said) = (Vec::new(), [false; 2]);
         for choice in choices {
             match choice {
@@ -189,23 +189,23 @@ impl Whole {
         }
         match said {
             [true, true] => Err("--whole is both auto and off: leave one out".to_string()),
-            [_, true] => Whole::new(rules),
-            _ => Ok(Whole {
+            [_, true] => FinerUnits::new(rules),
+            _ => Ok(FinerUnits {
                 units: Some(Arc::default()),
-                ..Whole::new(rules)?
+                ..FinerUnits::new(rules)?
             }),
         }
     }
 
     /// The same, for these points.
-    pub fn with_profile(self, profile: Profile) -> Whole {
-        Whole { profile, ..self }
+    pub fn with_profile(self, profile: Profile) -> FinerUnits {
+        FinerUnits { profile, ..self }
     }
 
     /// The same for a slot of several, which decides by what it has itself.
-    pub fn of_slot(&self) -> Whole {
+    pub fn of_slot(&self) -> FinerUnits {
         let units = self.units.clone();
-        Whole {
+        FinerUnits {
             units: units.map(|of_all| Arc::new(Units::of_slot(of_all))),
             ..self.clone()
         }
@@ -238,10 +238,10 @@ impl Whole {
     }
 }
 
-impl fmt::Debug for Whole {
+impl fmt::Debug for FinerUnits {
     fn fmt(&self, out: &mut fmt::Formatter<'_>) -> fmt::Result {
         let auto = if self.units.is_some() { "auto" } else { "off" };
-        out.debug_tuple("Whole").field(&auto).field(&self.rules).finish()
+        out.debug_tuple("FinerUnits").field(&auto).field(&self.rules).finish()
     }
 }
 

@@ -2,7 +2,7 @@
 //! form, or in another of which nothing is said here.
 
 use super::units::{Unit, Units};
-use super::{Rule, Whole};
+use super::{Rule, FinerUnits};
 use crate::otlp::json::Value;
 use crate::otlp::number::book_whole;
 use crate::otlp::series::Profile;
@@ -28,7 +28,7 @@ pub(super) struct Delta<'d> {
 }
 
 impl<'d> Delta<'d> {
-    pub fn of(whole: &Whole, metric: Value<'d>) -> Option<Delta<'d>> {
+    pub fn of(finer_units: &FinerUnits, metric: Value<'d>) -> Option<Delta<'d>> {
         let found = metric.named(DATA)?;
         let mut there = DATA
             .into_iter()
@@ -36,7 +36,7 @@ impl<'d> Delta<'d> {
             .filter_map(|(kind, data)| Some((kind, data?)));
         let (kind, data) = there.next()?;
         let is_one = there.next().is_none() && DATA[..2].contains(&kind);
-        (is_one && whole.adds_up(data)).then_some(Delta { kind, data })
+        (is_one && finer_units.adds_up(data)).then_some(Delta { kind, data })
     }
 
     pub fn points(&self) -> impl Iterator<Item = Value<'d>> {
@@ -56,7 +56,7 @@ impl<'d> Delta<'d> {
     }
 }
 
-impl Whole {
+impl FinerUnits {
     /// Whether points are added up, by their temporality.
     pub(super) fn adds_up(&self, data: Value<'_>) -> bool {
         match member(data, "aggregationTemporality").and_then(Value::number) {
@@ -95,8 +95,8 @@ pub(super) fn elements<'d>(object: Value<'d>, name: &str) -> impl Iterator<Item 
 }
 
 /// How a metric is taken. Where nothing is known of its name yet, its points decide.
-pub(super) fn taken<'r>(whole: &'r Whole, metric: Value<'_>) -> Taken<'r> {
-    plan(whole, metric, |units, name, unit, delta| {
+pub(super) fn taken<'r>(finer_units: &'r FinerUnits, metric: Value<'_>) -> Taken<'r> {
+    plan(finer_units, metric, |units, name, unit, delta| {
         // Durations are measured: one that is whole is so by chance.
         let is_duration = unit.is_time() && delta.kind == "histogram";
         Some(units.decide(name, unit, is_duration || delta.has_doubles()))
@@ -105,12 +105,12 @@ pub(super) fn taken<'r>(whole: &'r Whole, metric: Value<'_>) -> Taken<'r> {
 }
 
 /// The same of a metric without points; none where nothing is decided yet.
-pub(super) fn decided<'r>(whole: &'r Whole, metric: Value<'_>) -> Option<Taken<'r>> {
-    plan(whole, metric, |units, name, unit, _| units.decided(name, unit))
+pub(super) fn decided<'r>(finer_units: &'r FinerUnits, metric: Value<'_>) -> Option<Taken<'r>> {
+    plan(finer_units, metric, |units, name, unit, _| units.decided(name, unit))
 }
 
 fn plan<'r, 'd>(
-    whole: &'r Whole,
+    finer_units: &'r FinerUnits,
     metric: Value<'d>,
     unit_of: impl FnOnce(&Units, &str, Unit, &Delta<'d>) -> Option<Unit>,
 ) -> Option<Taken<'r>> {
@@ -122,18 +122,18 @@ fn plan<'r, 'd>(
         return Some(Taken::AsItIs);
     };
     let name = || member(metric, "name").map_or(Some("".into()), Value::text);
-    if let Some(rule) = whole.rules.get(&*own) {
-        if let (Some(units), Some(to), Some(_)) = (&whole.units, Unit::of(&rule.to), Delta::of(whole, metric))
+    if let Some(rule) = finer_units.rules.get(&*own) {
+        if let (Some(units), Some(to), Some(_)) = (&finer_units.units, Unit::of(&rule.to), Delta::of(finer_units, metric))
         {
             name().iter().for_each(|name| units.note(name, to));
         }
         return Some(Taken::In(rule));
     }
-    let (Some(units), Some(unit)) = (&whole.units, Unit::of(&own)) else {
+    let (Some(units), Some(unit)) = (&finer_units.units, Unit::of(&own)) else {
         return Some(Taken::AsItIs);
     };
     let name = name().filter(|name| name.len() <= MAX_NAME);
-    let (Some(name), Some(delta)) = (name, Delta::of(whole, metric)) else {
+    let (Some(name), Some(delta)) = (name, Delta::of(finer_units, metric)) else {
         return Some(Taken::AsItIs);
     };
     let wanted = unit_of(units, &name, unit, &delta)?;
@@ -146,24 +146,24 @@ fn plan<'r, 'd>(
 }
 
 /// Whether a metric is taken otherwise than it is, or has something that can't be taken.
-pub fn changes(whole: &Whole, metric: Value<'_>) -> bool {
+pub fn changes(finer_units: &FinerUnits, metric: Value<'_>) -> bool {
     let is_about = match member(metric, "unit") {
-        None => whole.has_no_unit(),
-        Some(unit) => unit.text().is_some_and(|unit| whole.is_about(&unit)),
+        None => finer_units.has_no_unit(),
+        Some(unit) => unit.text().is_some_and(|unit| finer_units.is_about(&unit)),
     };
     is_about
-        && match taken(whole, metric) {
+        && match taken(finer_units, metric) {
             Taken::AsItIs => false,
             Taken::In(rule) if !rule.is_same() => true,
             Taken::Whole(_) | Taken::In(_) => {
-                Delta::of(whole, metric).is_some_and(|delta| delta.has_doubles())
+                Delta::of(finer_units, metric).is_some_and(|delta| delta.has_doubles())
             }
         }
 }
 
 /// The first double of a metric that is taken in whole numbers alone, and what it is.
-pub(super) fn first_double<'d>(whole: &Whole, metric: Value<'d>) -> Option<(&'static str, Value<'d>)> {
-    let delta = Delta::of(whole, metric)?;
+pub(super) fn first_double<'d>(finer_units: &FinerUnits, metric: Value<'d>) -> Option<(&'static str, Value<'d>)> {
+    let delta = Delta::of(finer_units, metric)?;
     if delta.kind == "sum" {
         let point = delta.points().find(|point| is_double(*point))?;
         return Some(("the value", member(point, "asDouble")?));

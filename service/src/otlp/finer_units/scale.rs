@@ -3,7 +3,7 @@
 use super::decimal::Decimal;
 use super::plan::{decided, elements, Delta, Taken};
 use super::rewrite::{is_whole_double, is_word};
-use super::Whole;
+use super::FinerUnits;
 use crate::otlp::json::Document;
 use crate::otlp::number::MAX_WHOLE_DOUBLE;
 use std::sync::Arc;
@@ -29,16 +29,16 @@ pub enum Scaled {
 }
 
 /// Of the one metric of a request in the book's form, which has no points.
-pub fn scale_of(request: &[u8], whole: &Whole) -> Option<Scaled> {
+pub fn scale_of(request: &[u8], finer_units: &FinerUnits) -> Option<Scaled> {
     let document = Document::parse(request).ok()?;
     let resource = elements(document.root(), "resourceMetrics").next()?;
     let scope = elements(resource, "scopeMetrics").next()?;
     let metric = elements(scope, "metrics").next()?;
-    let Some(delta) = Delta::of(whole, metric) else {
+    let Some(delta) = Delta::of(finer_units, metric) else {
         return Some(Scaled::Plain); // none of its points is taken
     };
     let is_monotonic = delta.is_monotonic();
-    let (factor, rule) = match decided(whole, metric) {
+    let (factor, rule) = match decided(finer_units, metric) {
         None => return Some(Scaled::Undecided),
         Some(Taken::AsItIs) => return Some(Scaled::Plain),
         Some(Taken::Whole(_)) => (None, "".into()),

@@ -1,15 +1,15 @@
-//! A switch that is turned on once: what tells a part to stop.
+//! A latch: it is set once, and who waits goes on. It tells a part to stop, or that what it has is lost.
 
 use std::future::Future;
 use tokio::sync::watch;
 
-pub trait Switch {
-    /// Waits until it is on.
+pub trait Latch {
+    /// Waits until it is set.
     fn wait_true(&mut self) -> impl Future<Output = ()> + Send;
 }
 
-impl Switch for watch::Receiver<bool> {
-    /// A switch whose owner is gone is on.
+impl Latch for watch::Receiver<bool> {
+    /// One whose owner is gone is set.
     async fn wait_true(&mut self) {
         while !*self.borrow_and_update() {
             if self.changed().await.is_err() {

@@ -4,7 +4,7 @@ use super::*;
 
 fn auto(choices: &[&str]) -> Reading {
     Reading {
-        whole: Whole::of(choices.iter().map(|choice| choice.parse().unwrap())).unwrap(),
+        finer_units: FinerUnits::of(choices.iter().map(|choice| choice.parse().unwrap())).unwrap(),
         ..Reading::default()
     }
 }
@@ -132,7 +132,7 @@ fn rules_win_and_off_is_off() {
         [taken_by(&["off"], "s"), taken_by(&["off", "s=us"], "s")],
         ["s", "us"]
     );
-    assert!(Whole::of([Choice::Auto, Choice::Off])
+    assert!(FinerUnits::of([Choice::Auto, Choice::Off])
         .unwrap_err()
         .contains("both auto and off"));
     // A rule's unit is one that the metric is in from then on.
@@ -178,7 +178,7 @@ fn what_stays_as_it_is_is_not_written_anew() {
         let prepared = prepare(Encoding::Json, body.clone().into(), &reading).unwrap();
         assert_eq!(prepared.body, body.as_bytes());
     }
-    for (metric, is_usual) in [
+    for (metric, may_go) in [
         (sum("a", "By", &[WHOLE]), true),
         (sum("a", "By", &[WHOLE, DOUBLE]), false),
         (sum("d", "1", &[WHOLE]), true),
@@ -187,8 +187,8 @@ fn what_stays_as_it_is_is_not_written_anew() {
         (sum("new", "{request}", &[DOUBLE]), true),
     ] {
         let body = request(&[metric]);
-        let found = crate::otlp::usual::is_usual(body.as_bytes(), &reading);
-        assert_eq!(found, is_usual, "{body}");
+        let found = crate::otlp::json_fast_path::may_go_as_it_came(body.as_bytes(), &reading);
+        assert_eq!(found, may_go, "{body}");
     }
 }
 
@@ -199,9 +199,9 @@ fn what_a_folder_knows_decides() {
     let request = request(&[sum("a", "s", &[DOUBLE]), sum("b", "s", &[WHOLE])]);
     let posted = prepare(Encoding::Json, request.into(), &before).unwrap();
     let after = auto(&[]);
-    after.whole.know_request(&posted.body);
+    after.finer_units.know_request(&posted.body);
     after
-        .whole
+        .finer_units
         .know_series(r#"[[],"","",[],"c","ms","monotonic",[]]"#);
     let unit = |name, unit, point| taken(&after, &[sum(name, unit, &[point])]).0;
     assert_eq!(

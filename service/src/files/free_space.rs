@@ -17,35 +17,35 @@ const FILES: u64 = 64;
 /// Free bytes, all bytes, free files of a disk.
 type Look = dyn Fn() -> std::io::Result<(u64, u64, u64)> + Send + Sync;
 
-pub struct Room {
+pub struct FreeSpace {
     look: Box<Look>,
     began: Instant,
     looked: AtomicU64,
     /// What posts may still use.
     left: AtomicI64,
     /// What posts that are under way will use of it.
-    promised: AtomicI64,
+    reserved: AtomicI64,
     /// As it was found last, and told.
     is_full: AtomicBool,
 }
 
 /// Room of a post that is under way. It is held until the post is in the journal, or is not taken.
 #[must_use = "what is dropped may be used by others"]
-pub struct Promise<'a> {
-    room: &'a Room,
+pub struct Reservation<'a> {
+    free_space: &'a FreeSpace,
     bytes: i64,
 }
 
-impl Drop for Promise<'_> {
+impl Drop for Reservation<'_> {
     fn drop(&mut self) {
-        self.room.promised.fetch_sub(self.bytes, Relaxed);
+        self.free_space.reserved.fetch_sub(self.bytes, Relaxed);
     }
 }
 
-impl Room {
-    pub fn new(path: &Path) -> Result<Room, Fault> {
+impl FreeSpace {
+    pub fn new(path: &Path) -> Result<FreeSpace, Fault> {
         let folder = path.to_path_buf();
-        Room::with(move || {
+        FreeSpace::with(move || {
             let disk = nix::sys::statvfs::statvfs(&folder)?;
             let unit = disk.fragment_size();
             let files = if disk.files() == 0 {
@@ -59,45 +59,45 @@ impl Room {
     }
 
     /// Of a slot that has no disk: what keeps its files says itself that it is full.
-    pub fn endless() -> Room {
-        Room {
+    pub fn endless() -> FreeSpace {
+        FreeSpace {
             look: Box::new(|| Ok((u64::MAX >> 2, 0, u64::MAX))),
             began: Instant::now(),
             looked: AtomicU64::new(0),
             left: AtomicI64::new(i64::MAX >> 2),
-            promised: AtomicI64::new(0),
+            reserved: AtomicI64::new(0),
             is_full: AtomicBool::new(false),
         }
     }
 
     pub(super) fn with(
         look: impl Fn() -> std::io::Result<(u64, u64, u64)> + Send + Sync + 'static,
-    ) -> std::io::Result<Room> {
+    ) -> std::io::Result<FreeSpace> {
         look()?;
-        let room = Room {
+        let space = FreeSpace {
             look: Box::new(look),
             began: Instant::now(),
             looked: AtomicU64::new(0),
             left: AtomicI64::new(0),
-            promised: AtomicI64::new(0),
+            reserved: AtomicI64::new(0),
             is_full: AtomicBool::new(false),
         };
-        room.look_again();
-        Ok(room)
+        space.look_again();
+        Ok(space)
     }
 
     /// As it was a moment ago, less what was written since, and what posts under way will write.
     pub fn is_left(&self) -> bool {
-        self.left() > self.promised.load(Relaxed)
+        self.left() > self.reserved.load(Relaxed)
     }
 
     /// Room for a post of so many bytes, where any is left: so of all that come at once no more are taken than the disk
     /// has room for, and one.
-    pub fn promise(&self, bytes: usize) -> Option<Promise<'_>> {
+    pub fn reserve(&self, bytes: usize) -> Option<Reservation<'_>> {
         let (left, bytes) = (self.left(), bytes as i64);
-        let more = |promised| (promised < left).then_some(promised + bytes);
-        self.promised.fetch_update(Relaxed, Relaxed, more).ok()?;
-        Some(Promise { room: self, bytes })
+        let more = |reserved| (reserved < left).then_some(reserved + bytes);
+        self.reserved.fetch_update(Relaxed, Relaxed, more).ok()?;
+        Some(Reservation { free_space: self, bytes })
     }
 
     fn left(&self) -> i64 {
@@ -168,16 +168,16 @@ mod tests {
     use std::sync::Arc;
     use std::time::Duration;
 
-    fn room(free: Arc<AtomicU64>, files: u64) -> Room {
-        Room::with(move || Ok((free.load(Relaxed), 1 << 40, files))).unwrap()
+    fn space(free: Arc<AtomicU64>, files: u64) -> FreeSpace {
+        FreeSpace::with(move || Ok((free.load(Relaxed), 1 << 40, files))).unwrap()
     }
 
     #[test]
     fn what_is_kept_back_is_not_for_posts() {
-        assert!(!room(Arc::new(AtomicU64::new(MOST)), 1000).is_left());
-        assert!(room(Arc::new(AtomicU64::new(MOST + 1)), 1000).is_left());
+        assert!(!space(Arc::new(AtomicU64::new(MOST)), 1000).is_left());
+        assert!(space(Arc::new(AtomicU64::new(MOST + 1)), 1000).is_left());
         assert!(
-            !room(Arc::new(AtomicU64::new(2 * MOST)), FILES - 1).is_left(),
+            !space(Arc::new(AtomicU64::new(2 * MOST)), FILES - 1).is_left(),
             "no file can be made"
         );
     }
@@ -185,44 +185,44 @@ mod tests {
     #[test]
     fn what_was_written_counts_at_once_and_the_disk_a_little_later() {
         let free = Arc::new(AtomicU64::new(MOST + 100));
-        let room = room(free.clone(), 1000);
-        room.use_up(99);
-        assert!(room.is_left());
-        room.use_up(1);
-        assert!(!room.is_left());
+        let space = space(free.clone(), 1000);
+        space.use_up(99);
+        assert!(space.is_left());
+        space.use_up(1);
+        assert!(!space.is_left());
         free.store(2 * MOST, Relaxed);
         std::thread::sleep(Duration::from_millis(LOOK + 20));
-        assert!(room.is_left());
+        assert!(space.is_left());
     }
 
     #[test]
     fn what_posts_under_way_will_write_is_not_there_for_others() {
         let free = Arc::new(AtomicU64::new(MOST + 100));
-        let room = room(free.clone(), 1000);
+        let space = space(free.clone(), 1000);
         // A look at the disk, whenever it comes, finds the same.
         let write = |bytes| {
-            room.use_up(bytes);
+            space.use_up(bytes);
             free.fetch_sub(bytes, Relaxed);
         };
-        let first = room.promise(60).unwrap();
-        let second = room.promise(60).unwrap();
-        assert!(room.promise(1).is_none() && !room.is_left());
+        let first = space.reserve(60).unwrap();
+        let second = space.reserve(60).unwrap();
+        assert!(space.reserve(1).is_none() && !space.is_left());
         drop(second);
-        assert!(room.is_left(), "it was not taken");
+        assert!(space.is_left(), "it was not taken");
         write(60);
         drop(first);
-        assert!(room.promise(39).is_some());
+        assert!(space.reserve(39).is_some());
         write(40);
-        assert!(room.promise(1).is_none(), "it is in the journal");
+        assert!(space.reserve(1).is_none(), "it is in the journal");
     }
 
     #[test]
     fn a_disk_that_does_not_answer_has_no_room() {
         let asked = AtomicU64::new(0);
-        let room = Room::with(move || match asked.fetch_add(1, Relaxed) {
+        let space = FreeSpace::with(move || match asked.fetch_add(1, Relaxed) {
             0 => Ok((u64::MAX >> 2, 1 << 30, 1000)),
             _ => Err(std::io::ErrorKind::Other.into()),
         });
-        assert!(!room.unwrap().is_left());
+        assert!(!space.unwrap().is_left());
     }
 }

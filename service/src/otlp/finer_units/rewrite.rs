@@ -6,7 +6,7 @@
 use super::decimal::Decimal;
 use super::plan::{elements, first_double, member, taken, Taken, DATA};
 use super::rounded::{resource_shown, rounded, Mark};
-use super::{Rounded, Rule, Whole};
+use super::{Rounded, Rule, FinerUnits};
 use crate::otlp::json::{write_text, Document, NotJson, Value};
 use crate::otlp::number::{double_shown, MAX_WHOLE_DOUBLE};
 use std::borrow::Cow;
@@ -20,11 +20,11 @@ const AS_DOUBLE: &str = "\"asDouble\":";
 const NAME_SHOWN: usize = 100;
 
 /// The text is one that `otlp` has written.
-pub fn rewritten(text: &[u8], whole: &Whole) -> Result<(String, Rounded), NotJson> {
+pub fn rewritten(text: &[u8], finer_units: &FinerUnits) -> Result<(String, Rounded), NotJson> {
     let document = Document::parse(text)?;
     let mut rewriting = Rewriting {
         text: document.text(),
-        whole,
+        finer_units,
         copied: 0,
         out: String::with_capacity(text.len() + text.len() / 8),
         marks: Vec::new(),
@@ -34,13 +34,13 @@ pub fn rewritten(text: &[u8], whole: &Whole) -> Result<(String, Rounded), NotJso
     let Rewriting {
         out, marks, unfit, ..
     } = rewriting;
-    let rounded = rounded(&out, marks, whole.profile)?;
+    let rounded = rounded(&out, marks, finer_units.profile)?;
     Ok((out, Rounded { unfit, ..rounded }))
 }
 
 struct Rewriting<'r> {
     text: &'r str,
-    whole: &'r Whole,
+    finer_units: &'r FinerUnits,
     /// How much of the text is done.
     copied: usize,
     out: String,
@@ -95,7 +95,7 @@ impl<'r> Rewriting<'r> {
     }
 
     fn metric<'d>(&mut self, value: Value<'d>, resource: &'d Resource<'d>) {
-        let rule = match taken(self.whole, value) {
+        let rule = match taken(self.finer_units, value) {
             Taken::AsItIs => return,
             Taken::Whole(unit) => return self.first_double(value, unit.name()),
             Taken::In(rule) => rule,
@@ -113,8 +113,8 @@ impl<'r> Rewriting<'r> {
                     write_text(&mut unit, &rule.to);
                     self.put((part.range(), unit));
                 }
-                "sum" if there == 1 && self.whole.adds_up(part) => self.sum(&metric, part),
-                "histogram" if there == 1 && self.whole.adds_up(part) => {
+                "sum" if there == 1 && self.finer_units.adds_up(part) => self.sum(&metric, part),
+                "histogram" if there == 1 && self.finer_units.adds_up(part) => {
                     for point in elements(part, "dataPoints") {
                         self.histogram_point(&metric, point);
                     }
@@ -216,7 +216,7 @@ impl<'r> Rewriting<'r> {
 
     /// Names the first double of a metric that was first taken in whole numbers of its own unit.
     fn first_double(&mut self, metric: Value<'_>, unit: &str) {
-        if let (None, Some((what, value))) = (&self.unfit, first_double(self.whole, metric)) {
+        if let (None, Some((what, value))) = (&self.unfit, first_double(self.finer_units, metric)) {
             let name = name_shown(member(metric, "name"));
             let value = shown(value).unwrap_or_default();
             self.unfit = Some(format!(

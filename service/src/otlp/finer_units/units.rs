@@ -4,7 +4,6 @@
 //! a finer one if it has doubles, and else in its own. So what decides is what the folder knows already, and nothing else
 //! is kept: a unit that was taken once is the coarsest of these for ever, since a coarser one between would be taken in it
 //! (units are in chains, each of which divides the one before). Which is why a start has to know all series before posts are read.
-
 //!
 //! Of several slots each decides by what it has itself, so that a post means the same wherever its slot is: else a repeat
 //! would be of another series, and count twice. Where a slot knows nothing of a name yet, it takes what others here have.

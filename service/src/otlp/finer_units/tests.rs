@@ -10,7 +10,7 @@ mod rounded;
 
 fn reading(rules: &[&str]) -> Reading {
     Reading {
-        whole: Whole::new(rules.iter().map(|rule| rule.parse().unwrap())).unwrap(),
+        finer_units: FinerUnits::new(rules.iter().map(|rule| rule.parse().unwrap())).unwrap(),
         ..Reading::default()
     }
 }
@@ -76,7 +76,7 @@ fn rules_are_read_or_refused() {
         assert!(text.parse::<Rule>().is_err(), "{text}");
     }
     let twice = ["s=us", "s=ms"].map(|rule| rule.parse().unwrap());
-    assert!(Whole::new(twice)
+    assert!(FinerUnits::new(twice)
         .unwrap_err()
         .contains("two rules for the unit `s`"));
 }
