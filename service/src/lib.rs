@@ -38,7 +38,7 @@ pub mod otlp;
 pub mod pass;
 pub mod post_reports;
 pub mod postgres;
-pub mod renewed;
+pub mod reloaded;
 pub mod runs;
 pub mod service;
 pub mod shares;

@@ -5,12 +5,12 @@
 //! place says how many there were. `form` is how a line is written, `shown` what is shown of others' texts.
 
 mod form;
-mod seldom;
+mod rate_limit;
 mod shown;
 mod time;
 
 pub use form::{Events, Form};
-pub use seldom::Seldom;
+pub use rate_limit::RateLimit;
 pub use shown::{all_shown, cut, shown};
 pub use time::{now, of_nanoseconds, utc};
 

@@ -5,7 +5,7 @@
 
 mod send;
 
-use crate::log::Seldom;
+use crate::log::RateLimit;
 use crate::metrics::Metrics;
 use crate::otlp::{Encoding, Outside};
 use bytes::Bytes;
@@ -28,7 +28,7 @@ pub struct Pass {
     waiting: Mutex<Waiting>,
     arrived: Notify,
     metrics: Arc<Metrics>,
-    seldom: Seldom,
+    rate_limit: RateLimit,
 }
 
 #[derive(Default)]
@@ -68,7 +68,7 @@ impl Pass {
             waiting: Mutex::default(),
             arrived: Notify::new(),
             metrics,
-            seldom: Seldom::every(Duration::from_secs(60)),
+            rate_limit: RateLimit::every(Duration::from_secs(60)),
         }))
     }
 
@@ -115,7 +115,7 @@ impl Pass {
             .passed_points
             .with_label_values(&[name])
             .inc_by(points);
-        if passed != Passed::Taken && self.seldom.is_due() {
+        if passed != Passed::Taken && self.rate_limit.is_due() {
             let url = self.url();
             tracing::warn!(
                 url,

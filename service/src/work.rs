@@ -1,11 +1,11 @@
-//! Work of more than a moment, on a thread of its own, or on several (`line`); and what is seldom waited for.
+//! Work of more than a moment, on a thread of its own, or on several (`in_order`); and what is seldom waited for.
 //!
 //! A timer is on the heap here: else each future that may need one had room for it, at an address that the allocator has to
 //! look for.
 
-mod line;
+mod in_order;
 
-pub use line::{in_line, Line};
+pub use in_order::{in_order, WorkQueue};
 
 use std::future::{poll_fn, Future};
 use std::pin::pin;

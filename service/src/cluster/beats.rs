@@ -4,8 +4,8 @@
 use super::local_view::{Cluster, Database, STALL};
 use super::owners::Step;
 use super::terms::{Silence, Terms, Units, Unopened};
-use crate::log::Seldom;
 use crate::latch::Latch;
+use crate::log::RateLimit;
 use std::collections::HashMap;
 use std::sync::Arc;
 use std::time::Duration;
@@ -22,8 +22,8 @@ const LEAVES_WITHIN: Duration = Duration::from_secs(60);
 /// Steps that follow from what was done: one at a time, as one slot is handed over at a time.
 const FOLLOWING: usize = 16;
 
-static SILENT: Seldom = Seldom::every(Duration::from_secs(10));
-static NAMESAKE: Seldom = Seldom::every(Duration::from_secs(10));
+static SILENT: RateLimit = RateLimit::every(Duration::from_secs(10));
+static NAMESAKE: RateLimit = RateLimit::every(Duration::from_secs(10));
 
 /// What beats in a database.
 pub struct Beats<T, U> {

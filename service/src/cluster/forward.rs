@@ -1,5 +1,5 @@
 //! Posts for slots of other instances: each goes to its slot's owner over kept connections, and that one's answer comes back
-//! as it said it. `internal` is the owner's side, `head` what a request says beside its body, `said` an answer on its way,
+//! as it said it. `internal` is the owner's side, `head` what a request says beside its body, `owner_answer` an answer on its way,
 //! `wire` what they speak. `operators` are questions that come the same way.
 //!
 //! One that has not the slot has taken nothing, so another is asked then. Any other end may be behind a post that was taken:
@@ -8,8 +8,8 @@
 mod head;
 mod internal;
 mod operators;
+mod owner_answer;
 mod peer;
-mod said;
 mod wire;
 
 pub use head::Secret;
@@ -21,13 +21,13 @@ pub use wire::Wire;
 use super::local_view::{Cluster, Places, NO_STORE};
 use super::owners::Whose;
 use super::terms::Doing;
-use crate::log::Seldom;
+use crate::log::RateLimit;
 use crate::otlp::{Original, Outcome};
 use crate::slot::Elsewhere;
 use head::Head;
 use hyper::{Body, Request};
+use owner_answer::OwnerAnswer;
 use peer::{Peer, Peers};
-use said::Said;
 use std::sync::atomic::{AtomicU64, Ordering::Relaxed};
 use std::sync::{Arc, OnceLock};
 use std::time::Duration;
@@ -55,7 +55,7 @@ const BROKEN: &str = "the instance that has the slot of this post has given no a
 /// Why one is that was not.
 const MOVED: &str = "the slot of this post is being moved";
 
-static TOLD: Seldom = Seldom::every(Duration::from_secs(10));
+static TOLD: RateLimit = RateLimit::every(Duration::from_secs(10));
 
 type Watched = watch::Receiver<Places>;
 
@@ -184,13 +184,13 @@ impl<H: Here> Forward<H> {
         Some(unavailable(BROKEN))
     }
 
-    fn count(&self, said: Said) -> Option<Outcome> {
+    fn count(&self, said: OwnerAnswer) -> Option<Outcome> {
         match said {
-            Said::NotMine => {
+            OwnerAnswer::NotMine => {
                 self.counts.not_mine.fetch_add(1, Relaxed);
                 None
             }
-            Said::Outcome(outcome) => {
+            OwnerAnswer::Outcome(outcome) => {
                 self.counts.answered.fetch_add(1, Relaxed);
                 Some(outcome)
             }
@@ -203,7 +203,7 @@ impl<H: Here> Forward<H> {
         address: &str,
         head: &Head,
         part: &Original,
-    ) -> Result<Said, Broken> {
+    ) -> Result<OwnerAnswer, Broken> {
         let _room = peer.room(part.body.len()).await;
         let uri = format!("{}://{address}{PATH}", self.connections.scheme());
         let request = head.put(Request::post(uri), &self.secret);
@@ -211,7 +211,7 @@ impl<H: Here> Forward<H> {
             .body(Body::from(part.body.clone()))
             .map_err(Broken::Address)?;
         let response = self.connections.asks().request(request).await;
-        said::read(response.map_err(Broken::Wire)?).await
+        owner_answer::read(response.map_err(Broken::Wire)?).await
     }
 
     pub fn forwarded(&self) -> Forwarded {

@@ -3,7 +3,7 @@
 use super::of_store::likeness;
 use super::values::{time_or_off, MayBeOff};
 use crate::core::Across;
-use crate::otlp::{Bounds, Choice, Clock, Cumulative, Reading, FinerUnits, INSTANCE};
+use crate::otlp::{Bounds, Choice, Clock, Cumulative, FinerUnits, Reading, INSTANCE};
 use anyhow::{anyhow, bail};
 use clap::builder::NonEmptyStringValueParser;
 use clap::Args;

@@ -1,11 +1,11 @@
 //! `totxegun serve`: its options, and its run.
 
-use super::keeping::OfKeeping;
 use super::of_book::OfBook;
 use super::of_runs::OfRuns;
 use super::of_senders::OfSenders;
 use super::of_store::{needs_sink, OfStore};
 use super::reading::OfReading;
+use super::retention::OfRetention;
 use super::settings::Names;
 use super::values::{operator, orders_at, place, size, time, time_or_never, MayBeNever, SOCKET};
 use super::version::Versions;
@@ -135,7 +135,7 @@ pub struct Options {
     #[command(flatten)]
     of_sink: OfSink,
     #[command(flatten)]
-    of_keeping: OfKeeping,
+    of_retention: OfRetention,
     #[command(flatten)]
     of_reading: OfReading,
     #[command(flatten)]
@@ -274,7 +274,7 @@ impl Options {
             None => Address::Sqlite(data.join("metrics.db")),
         };
         let sink = self.of_sink.put_into(sink).map_err(Failure::Line)?;
-        let keep = self.of_keeping.keep(&sink).map_err(Failure::Line)?;
+        let retention = self.of_retention.retention(&sink).map_err(Failure::Line)?;
         let likeness = self.of_reading.likeness(self.never_across);
         let pair = self.of_senders.pair();
         let store = self.of_store.settings(likeness, &sink, pair);
@@ -310,7 +310,7 @@ impl Options {
             behind_proxy,
             of_each,
             sink,
-            keep,
+            retention,
             new_sink: self.new_sink,
             durability: self.durable,
             every: self.flush_every,

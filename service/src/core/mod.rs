@@ -1,18 +1,18 @@
 //! The book: proved, linked in, and asked by calls. `book` is the wrapper over its library, the only file that calls what
 //! is not Rust, `refusal` what it says no by, `memory` what it may have, `names` has numbers for series, `rounds` when rounds are
 //! closed, `read` a post that was read, `readers` what reads them, `stretch` which points are of one hour, `earlier` what is taken
-//! where a later one begins, `flushed` what was taken, `beyond` where the series of a refused post end.
+//! where a later one begins, `flushed` what was taken, `out_of_order` where the series of a refused post end.
 //!
 //! A post is read by a reader, which needs no lock. All else is asked of the one `Book` under the lock of `Core`: so
 //! there is one order of all that changes it, and what is put into the journal under that lock has the same.
 
-mod beyond;
 #[allow(unsafe_code)]
 mod book;
 mod earlier;
 mod flushed;
 mod memory;
 mod names;
+mod out_of_order;
 mod read;
 mod readers;
 mod refusal;

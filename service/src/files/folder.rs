@@ -18,8 +18,8 @@ mod usable;
 mod version;
 
 use super::disk::{io_fault, Disk};
-use super::journal::Expected;
 use super::free_space::FreeSpace;
+use super::journal::Expected;
 use super::{lock, segment, Dead, Durability, Fault, Journal, Outbox};
 use nix::errno::Errno;
 use nix::fcntl::{flock, FlockArg};

@@ -97,7 +97,10 @@ impl FreeSpace {
         let (left, bytes) = (self.left(), bytes as i64);
         let more = |reserved| (reserved < left).then_some(reserved + bytes);
         self.reserved.fetch_update(Relaxed, Relaxed, more).ok()?;
-        Some(Reservation { free_space: self, bytes })
+        Some(Reservation {
+            free_space: self,
+            bytes,
+        })
     }
 
     fn left(&self) -> i64 {

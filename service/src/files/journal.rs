@@ -15,23 +15,23 @@
 
 mod earlier_segment;
 mod held;
+mod named_numbers;
 mod open;
 mod packed;
 mod post;
 mod reading;
 mod record;
-mod said;
 mod sync;
 
 use super::disk::{Disk, File};
 use super::drive::Lost;
-use super::records::{self, Which};
 use super::free_space::FreeSpace;
+use super::records::{self, Which};
 use super::segment::{self, Ahead, Dropped, Segment};
 use super::{lock, seconds, Durability, Fault};
 pub use held::Held;
+use named_numbers::NamedNumbers;
 pub use post::{Body, Names, NoNames, OfRun, Points, Post, Replayed};
-use said::Said;
 use std::collections::{BTreeMap, BTreeSet};
 use std::path::{Path, PathBuf};
 use std::sync::atomic::{AtomicU64, Ordering::SeqCst};
@@ -97,7 +97,7 @@ struct Place {
     named: bool,
     ticket: u64,
     /// What the segment has named.
-    said: Said,
+    said: NamedNumbers,
     /// Segments that were ended, and not synced since.
     ended: Vec<(Arc<File>, PathBuf)>,
     /// The ticket of the last turn, or note of what is held: earlier segments are not deleted before it is durable.
@@ -308,7 +308,7 @@ impl Shared {
         let ended = std::mem::replace(&mut place.segment, next);
         place.ended.push((ended.file, ended.path));
         place.named = false;
-        place.said = Said::default();
+        place.said = NamedNumbers::default();
         place.ticket += 1;
         place.kept = place.ticket;
         lock(&self.sizes).push(Size {

@@ -6,13 +6,13 @@ pub mod drive;
 pub mod folder;
 mod free_space;
 pub mod journal;
-#[cfg(test)]
-pub(crate) mod numbers;
 pub mod outbox;
 #[cfg(test)]
 mod power;
 mod records;
 mod segment;
+#[cfg(test)]
+pub(crate) mod test_random;
 mod torn_tail;
 
 pub use dead::Dead;
@@ -21,9 +21,9 @@ pub(crate) use disk::FAILED;
 pub(crate) use disk::{Call, Disk};
 pub use drive::{Drive, Lost};
 pub use folder::{Folder, FolderFault, KnownSink, Mark, Way, MOST_SLOTS};
+pub(crate) use free_space::FreeSpace;
 pub use journal::{Body, Held, Journal, Names, NoNames, OfRun, Points, Post, Replayed, Ticket};
 pub use outbox::{Beginning, Outbox, Runs, Series, Waits};
-pub(crate) use free_space::FreeSpace;
 pub use segment::Dropped;
 
 use std::sync::{Mutex, MutexGuard, PoisonError};

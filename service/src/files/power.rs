@@ -3,7 +3,7 @@
 
 use super::disk::{Call, Disk};
 use super::lock;
-use super::numbers::Numbers;
+use super::test_random::TestRandom;
 use std::collections::{BTreeMap, HashMap};
 use std::os::unix::fs::MetadataExt;
 use std::path::{Path, PathBuf};
@@ -68,7 +68,7 @@ impl Shadow {
     }
 
     /// The names as they were at one time; any of those that were deleted before may be back.
-    fn left(&self, chance: &mut Numbers) -> Names {
+    fn left(&self, chance: &mut TestRandom) -> Names {
         let some = chance.below(self.names.len() as u64) as usize;
         let mut left = self.names[some].clone();
         let may_be_back = chance.below(2);
@@ -81,7 +81,7 @@ impl Shadow {
     }
 
     /// Puts what a loss of power leaves into another folder.
-    pub fn lose_power(&mut self, left: &Path, chance: &mut Numbers) {
+    pub fn lose_power(&mut self, left: &Path, chance: &mut TestRandom) {
         std::fs::create_dir(left).unwrap();
         self.see(Call::Write, &self.folder.clone());
         for (name, inode) in &self.left(chance) {
@@ -97,7 +97,7 @@ impl Shadow {
 }
 
 /// The length is the former one or the new one, and so is each sector.
-fn mixed(synced: &[u8], now: &[u8], chance: &mut Numbers) -> Vec<u8> {
+fn mixed(synced: &[u8], now: &[u8], chance: &mut TestRandom) -> Vec<u8> {
     let mut mixed = vec![0; [synced, now][chance.below(2) as usize].len()];
     let new = [0, 1, 2, 3, 3, 3][chance.below(6) as usize];
     for (number, sector) in mixed.chunks_mut(SECTOR).enumerate() {

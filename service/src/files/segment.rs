@@ -1,8 +1,8 @@
 //! Segments: numbered files of a folder, of which the last is written.
 
 use super::disk::{io_fault, Disk, File};
-use super::torn_tail::CHANGED;
 use super::records::{self, Which, END, MARK, MARK_LENGTHS};
+use super::torn_tail::CHANGED;
 use super::Fault;
 use std::io::ErrorKind;
 use std::path::{Path, PathBuf};

@@ -3,7 +3,7 @@
 use super::who::{By, Certified};
 use super::{Tokens, Who};
 use crate::metrics::Metrics;
-use crate::renewed::{Reader, Renewed};
+use crate::reloaded::{Reader, Reloaded};
 use crate::tls::{Files, Shaken, Tls, WithoutCertificate};
 use anyhow::Result;
 use std::fmt;
@@ -23,16 +23,16 @@ pub struct Options {
 pub struct Door {
     pub(crate) tls: Option<Arc<Tls>>,
     by_certificate: bool,
-    tokens: Option<Arc<Renewed<Tokens>>>,
+    tokens: Option<Arc<Reloaded<Tokens>>>,
 }
 
 /// The file of `--operate-tokens`.
-pub fn operators(path: PathBuf, metrics: &Metrics) -> Result<Arc<Renewed<Tokens>>> {
+pub fn operators(path: PathBuf, metrics: &Metrics) -> Result<Arc<Reloaded<Tokens>>> {
     let reader = Reader {
         read: Box::new(|contents: &[Vec<u8>]| Tokens::read(&contents.concat())?.of_operators()),
         shut: Tokens::shut,
     };
-    Renewed::open(vec![("--operate-tokens", path)], reader, metrics)
+    Reloaded::open(vec![("--operate-tokens", path)], reader, metrics)
 }
 
 impl Door {
@@ -51,7 +51,7 @@ impl Door {
             shut: Tokens::shut,
         };
         let tokens = options.tokens.as_ref();
-        let tokens = tokens.map(|path| Renewed::open(vec![("--tokens", path.clone())], reader(), metrics));
+        let tokens = tokens.map(|path| Reloaded::open(vec![("--tokens", path.clone())], reader(), metrics));
         Ok(Door {
             tls: tls.map(Arc::new),
             by_certificate: options
@@ -80,7 +80,7 @@ impl Door {
     }
 
     /// The file of `--tokens`.
-    pub fn tokens(&self) -> Option<Arc<Renewed<Tokens>>> {
+    pub fn tokens(&self) -> Option<Arc<Reloaded<Tokens>>> {
         self.tokens.clone()
     }
 

@@ -2,7 +2,7 @@
 
 use super::{Sender, Stranger, Tokens};
 use crate::otlp::{self, NO_NAME};
-use crate::renewed::Renewed;
+use crate::reloaded::Reloaded;
 use crate::tls::{Certificate, Contexts, Tls};
 use std::net::IpAddr;
 use std::sync::{Arc, Mutex, PoisonError};
@@ -19,7 +19,7 @@ pub enum By {
     /// By their own word.
     Believed,
     /// By the token of each.
-    Token(Arc<Renewed<Tokens>>),
+    Token(Arc<Reloaded<Tokens>>),
     /// By the certificate that the connection has shown.
     Certificate(Certified),
 }
@@ -138,7 +138,7 @@ pub struct Certified {
     ends: i64,
     tls: Arc<Tls>,
     believed_by: Mutex<Arc<Contexts>>,
-    tokens: Option<Arc<Renewed<Tokens>>>,
+    tokens: Option<Arc<Reloaded<Tokens>>>,
 }
 
 impl Certified {
@@ -146,7 +146,7 @@ impl Certified {
         chain: Vec<rustls::Certificate>,
         believed_by: Arc<Contexts>,
         tls: Arc<Tls>,
-        tokens: Option<Arc<Renewed<Tokens>>>,
+        tokens: Option<Arc<Reloaded<Tokens>>>,
     ) -> Certified {
         let read = chain.first().and_then(|first| Certificate::read(&first.0));
         let ends = read.as_ref().map_or(0, |read| read.ends);

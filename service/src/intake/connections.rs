@@ -5,8 +5,8 @@ use super::pace::{Overdue, Pace, Watched};
 use super::user::User;
 use super::{Intake, Listener, Taker, Threads};
 use crate::identity::{Door, Who};
-use crate::log::Seldom;
 use crate::latch::Latch;
+use crate::log::RateLimit;
 use crate::tls::{self, Tls};
 use hyper::server::conn::Http;
 use hyper::service::service_fn;
@@ -28,7 +28,7 @@ const READ_AHEAD: usize = 64 << 10;
 /// How long to wait where the system has no connection to give, for want of file descriptors.
 const NO_CONNECTION: Duration = Duration::from_millis(100);
 /// That it has none is told once a second at most, of all addresses together.
-static TOLD: Seldom = Seldom::new();
+static TOLD: RateLimit = RateLimit::new();
 
 /// How often it is looked whether an operator's connection is overdue.
 const LOOK: Duration = Duration::from_secs(1);

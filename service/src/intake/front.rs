@@ -1,13 +1,13 @@
 //! A connection of a sender over HTTP: it serves many requests one after another, and is closed where it is slow or idle.
 
-use super::connections::{Protocol, ConnectionPermits, Shared, Transport};
+use super::connections::{ConnectionPermits, Protocol, Shared, Transport};
 use super::head::{self, Connection};
 use super::refusal::Refusal;
 use super::wire::Wire;
 use super::{answer, Intake, Taker};
 use crate::identity::Who;
-use crate::otlp::{Encoding, Outcome};
 use crate::latch::Latch;
+use crate::otlp::{Encoding, Outcome};
 use crate::tls;
 use crate::work::within;
 use bytes::Buf;
@@ -151,10 +151,20 @@ struct Waiting {
 impl Waiting {
     fn new<T>(shared: &Shared<T>) -> Waiting {
         let limits = &shared.limits;
-        Waiting::of(limits.head, limits.idle, shared.stop.clone(), shared.permits.clone())
+        Waiting::of(
+            limits.head,
+            limits.idle,
+            shared.stop.clone(),
+            shared.permits.clone(),
+        )
     }
 
-    fn of(head: Duration, idle: Duration, stop: watch::Receiver<bool>, permits: Arc<ConnectionPermits>) -> Waiting {
+    fn of(
+        head: Duration,
+        idle: Duration,
+        stop: watch::Receiver<bool>,
+        permits: Arc<ConnectionPermits>,
+    ) -> Waiting {
         let period = (head / LOOKS).max(Duration::from_millis(1));
         let mut stopped = stop.clone();
         Waiting {

@@ -28,7 +28,7 @@ pub(crate) use weight::Hold;
 
 use crate::core;
 use crate::metrics::Metrics;
-use crate::otlp::{self, together, OfPart, Original, Outcome, Reading};
+use crate::otlp::{self, combined, OfPart, Original, Outcome, Reading};
 use crate::slot::{ByNumber, Request, Slot, Slots};
 use crate::work::blocking;
 use bytes::Bytes;
@@ -297,21 +297,21 @@ impl<T: Taker> Intake<T> {
                 of_parts[place].outcome = outcome;
             }
         }
-        self.together(sender, of_parts).await
+        self.combined(sender, of_parts).await
     }
 
-    async fn together(&self, sender: &str, parts: Vec<OfPart>) -> Outcome {
+    async fn combined(&self, sender: &str, parts: Vec<OfPart>) -> Outcome {
         let length: usize = parts.iter().map(|part| part.part.body.len()).sum();
         let (parts, outcome) = match length {
             0..=SHORT => {
-                let outcome = together(&parts, &self.reading);
+                let outcome = combined(&parts, &self.reading);
                 (parts, outcome)
             }
             _ => {
                 let reading = self.reading.clone();
                 let _turn = self.readers.acquire().await; // it is never closed
                 blocking(move || {
-                    let outcome = together(&parts, &reading);
+                    let outcome = combined(&parts, &reading);
                     (parts, outcome)
                 })
                 .await

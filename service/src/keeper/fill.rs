@@ -15,7 +15,7 @@ use crate::files::{Body, Outbox, Post};
 use crate::otlp::series::{zeros, NotForwarded, SeriesKey};
 use crate::runs::State;
 use crate::slot::Slot;
-use crate::work::{in_line, Line};
+use crate::work::{in_order, WorkQueue};
 use std::collections::{BTreeMap, BTreeSet};
 use std::sync::Arc;
 use std::time::{Duration, Instant};
@@ -125,13 +125,13 @@ struct Again {
 impl<S: Fn() -> bool> Filling<'_, S> {
     fn prime(&mut self) -> Result<(), Trouble> {
         let (slot, fresh, stops) = (self.slot, &mut self.fresh, &self.stops);
-        in_line(
+        in_order(
             |priming: &mut Priming| priming.be_read(&slot.core),
             |priming| fresh.prime(priming),
-            |line| {
+            |queue| {
                 for (owner, series) in owned(&slot.outbox) {
                     let mut parts = series.chunks(SERIES_OF_A_POST);
-                    if !parts.all(|part| !stops() && line.push(Priming::of(&owner, part))) {
+                    if !parts.all(|part| !stops() && queue.push(Priming::of(&owner, part))) {
                         break;
                     }
                 }
@@ -146,20 +146,20 @@ impl<S: Fn() -> bool> Filling<'_, S> {
     fn replay(&mut self, is_wanted: impl Fn(&Post) -> bool, admit: Admit) -> Result<(), Trouble> {
         let (slot, fresh) = (self.slot, &mut self.fresh);
         let (numbers, stops) = (&mut self.numbers, &self.stops);
-        in_line(
+        in_order(
             |coming: &mut Coming| coming.iter_mut().for_each(Again::be_read),
             |coming| match coming {
                 Some(again) => fresh.replay_one(again, admit),
                 None => fresh.make_room(),
             },
-            |line| {
+            |queue| {
                 let first = slot.outbox.journal();
                 slot.journal.posts(first, u64::MAX, |read| {
                     // Also of a post that is not wanted: no later one says it again.
                     numbers.note(read.named);
                     if is_wanted(&read.post) {
-                        let again = Again::of(numbers, read.post, line);
-                        return line.push(Some(again)) && !stops();
+                        let again = Again::of(numbers, read.post, queue);
+                        return queue.push(Some(again)) && !stops();
                     }
                     !stops()
                 })?;
@@ -191,11 +191,11 @@ impl Priming {
 impl Again {
     /// Its numbers are those that stand for the same here. Where there is no memory for that, it is tried again behind all
     /// before it, with room.
-    fn of(numbers: &mut Numbers, post: Post, line: &Line<Coming>) -> Again {
+    fn of(numbers: &mut Numbers, post: Post, queue: &WorkQueue<Coming>) -> Again {
         let mut read = numbers.unread(&post);
         if read.as_ref().is_err_and(|refused| refused.status() == 503) {
-            line.push(None);
-            line.wait_until_empty();
+            queue.push(None);
+            queue.wait_until_empty();
             read = numbers.unread(&post);
         }
         Again {

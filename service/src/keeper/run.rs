@@ -3,10 +3,10 @@
 use super::fill::{fill, Filled};
 use super::{Done, Keeper, Order, Trouble};
 use crate::files::{Fault, Lost};
+use crate::latch::Latch;
 use crate::log::shown;
 use crate::post_reports::SERIES_SHOWN;
 use crate::slot::Slot;
-use crate::latch::Latch;
 use crate::work::blocking;
 use std::time::{Duration, Instant, SystemTime, UNIX_EPOCH};
 use tokio::sync::{oneshot, watch};

@@ -153,7 +153,7 @@ impl Table {
 #[cfg(test)]
 mod tests {
     use super::*;
-    use crate::otlp::{prepare, Encoding, Reading, FinerUnits};
+    use crate::otlp::{prepare, Encoding, FinerUnits, Reading};
 
     /// A post of one point of each of these series: its name, and a value in seconds that whole milliseconds are made of.
     fn post(points: &[(String, &str)]) -> Rounded {

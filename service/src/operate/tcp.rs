@@ -4,7 +4,7 @@
 use super::{is_met, message, Actor, Desk, Page, Route};
 use crate::identity::{by_token, Stranger, Tokens};
 use crate::intake::connections::Handler;
-use crate::renewed::Renewed;
+use crate::reloaded::Reloaded;
 use hyper::header::{HeaderValue, AUTHORIZATION, WWW_AUTHENTICATE};
 use hyper::{Body, Request, Response};
 use std::sync::Arc;
@@ -13,7 +13,7 @@ pub struct AtTcp {
     pub desk: Arc<Desk>,
     /// The socket, where orders are taken without a token.
     pub orders_at: String,
-    pub tokens: Option<Arc<Renewed<Tokens>>>,
+    pub tokens: Option<Arc<Reloaded<Tokens>>>,
 }
 
 impl Handler for AtTcp {

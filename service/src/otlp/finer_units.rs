@@ -241,7 +241,10 @@ impl FinerUnits {
 impl fmt::Debug for FinerUnits {
     fn fmt(&self, out: &mut fmt::Formatter<'_>) -> fmt::Result {
         let auto = if self.units.is_some() { "auto" } else { "off" };
-        out.debug_tuple("FinerUnits").field(&auto).field(&self.rules).finish()
+        out.debug_tuple("FinerUnits")
+            .field(&auto)
+            .field(&self.rules)
+            .finish()
     }
 }
 

@@ -4,11 +4,11 @@
 //! `.proto` files. What neither reads as a value of its field stays a wrong value, so that the book counts
 //! the points that it makes foreign.
 
+use super::finer_units::changes;
 use super::json::{Document, Value};
 use super::number::{book_whole, is_plain, mapped_double, mapped_whole, whole_double, MAX_WHOLE_DOUBLE};
 use super::output::{Output, Written, CUMULATIVE, SHORT_LIST};
 use super::schema::{exponential_histogram, Kind, Message, KEY_VALUE, METRIC, REQUEST};
-use super::finer_units::changes;
 use super::{Reading, Refused};
 
 /// Why a walk ended before the end.

@@ -4,8 +4,8 @@
 //! its table. So the memory is that of the JSON, however many small messages the bytes are. `fast_path` writes at once what
 //! has the form that nearly all points and attributes have.
 
-mod lists;
 mod fast_path;
+mod lists;
 mod time;
 
 use super::json::is_text;
@@ -238,8 +238,9 @@ impl<'a, 'r> Writer<'a, 'r> {
 
     /// Of the fields of which a message has one, the last that is there counts (a oneof of protobuf).
     fn forget_others(&mut self, of: &'static Message, first: usize, place: usize) {
-        let is_other =
-            |found: &FoundField<'_>| found.place != place && of.one_of.contains(&of.fields[found.place].number);
+        let is_other = |found: &FoundField<'_>| {
+            found.place != place && of.one_of.contains(&of.fields[found.place].number)
+        };
         while let Some(other) = self.found[first..].iter().position(is_other) {
             self.found.remove(first + other);
         }

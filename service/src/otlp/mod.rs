@@ -7,12 +7,13 @@
 //! reads bodies as the book does, and what it forwards. `sender` finds a request's sender in it, `instance` puts a sender's name
 //! into its resources.
 //! `outside` is what of a request is handed on to another receiver, `answers` what senders are answered, `clock` which points
-//! end too far from the service's clock. `resources` says which slot a resource has and takes requests apart, `together` is one
-//! answer of several.
+//! end too far from the service's clock. `resources` says which slot a resource has and takes requests apart, `combined_outcome` is
+//! one answer of several.
 
 mod answers;
 mod causes;
 mod clock;
+mod combined_outcome;
 mod explain;
 mod exponential;
 mod finer_units;
@@ -30,14 +31,15 @@ mod resources;
 mod schema;
 mod sender;
 pub mod series;
-mod together;
 mod wire;
 
 pub(crate) use answers::partial_success;
 pub use causes::{Cause, Causes};
 pub use clock::{Clock, Off, OffClock, Window};
+pub use combined_outcome::{combined, OfPart};
 pub use explain::{explained, foreign_points, point_at, Explained};
 pub use exponential::Bounds;
+pub use finer_units::{Choice, FinerUnits, Rounded, Rounding, Rule};
 pub use instance::{with_instance, INSTANCE};
 pub(crate) use messages::ExportMetricsServiceResponse;
 pub use numbered::{Learnt, NotNamed, Numbered, Series};
@@ -45,8 +47,6 @@ pub use outside::{Original, Outside};
 pub use resources::{slot_of, slot_of_series, Part, Resources, Split};
 pub use sender::{legal, sender, NO_NAME};
 pub use series::Profile;
-pub use together::{together, OfPart};
-pub use finer_units::{Choice, FinerUnits, Rounded, Rounding, Rule};
 
 use bytes::Bytes;
 
@@ -177,7 +177,8 @@ pub fn prepare_with<E: From<Refused>>(
     let (text, mut rounded) = match written.is_measured {
         true => {
             room(written.text.len())?;
-            let rewritten = finer_units::rewritten(&written.text, &reading.finer_units).map_err(Refused::from)?;
+            let rewritten =
+                finer_units::rewritten(&written.text, &reading.finer_units).map_err(Refused::from)?;
             (rewritten.0.into_bytes(), rewritten.1)
         }
         false => (written.text, Rounded::default()),

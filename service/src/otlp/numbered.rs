@@ -18,7 +18,7 @@ use super::{Reading, Rounded};
 use crate::files::Points;
 use bytes::Bytes;
 use identity::{Learn, Learner};
-use levels::{LookupOnly, Levels};
+use levels::{Levels, LookupOnly};
 use std::sync::atomic::{AtomicBool, Ordering::Relaxed};
 use std::sync::{Arc, PoisonError, RwLock};
 use walk::{Find, Stop, Walk};

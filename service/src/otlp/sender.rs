@@ -136,7 +136,10 @@ fn parts<'m>(of: &Message, message: &'m [u8], number: u32) -> Result<Vec<&'m [u8
     bytes_of(message, number).map(|bytes| part(of, bytes)).collect()
 }
 
-fn in_protobuf<'d>(body: &'d [u8], attribute: &'d str) -> impl Iterator<Item = Result<ResourceName<'d>, Refused>> {
+fn in_protobuf<'d>(
+    body: &'d [u8],
+    attribute: &'d str,
+) -> impl Iterator<Item = Result<ResourceName<'d>, Refused>> {
     bytes_of(body, 1).map(move |resource| {
         let parts = parts(&RESOURCE, resource, 1)?.into_iter();
         let mut pairs = parts.flat_map(|resource| bytes_of(resource, 1));

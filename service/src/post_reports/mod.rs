@@ -9,7 +9,7 @@ mod activity;
 mod logged;
 mod texts;
 
-pub use activity::{SenderActivity, OfReason, OfSender};
+pub use activity::{OfReason, OfSender, SenderActivity};
 pub(crate) use texts::SERIES_SHOWN;
 
 use crate::core;
@@ -23,11 +23,11 @@ use crate::pass::Pass;
 use crate::slot::{is_sender, ByNumber, Request, Source};
 use crate::work::blocking;
 use bytes::Bytes;
+use logged::Logged;
 use std::sync::atomic::{AtomicBool, Ordering::Relaxed};
 use std::sync::{Arc, Mutex, PoisonError};
 use texts::{of_late, of_other_writer, other_writer, place_of, reason};
 use tokio::sync::Semaphore;
-use logged::Logged;
 
 /// How many senders, series and refusals are remembered as told.
 const REMEMBERED: usize = 1000;

@@ -24,7 +24,11 @@ impl Owners for Owned {
     }
 }
 
-fn reported(outcome: Outcome, owner: Option<&'static str>, options: ReportOptions) -> Arc<Reported<Answering>> {
+fn reported(
+    outcome: Outcome,
+    owner: Option<&'static str>,
+    options: ReportOptions,
+) -> Arc<Reported<Answering>> {
     let metrics = Arc::new(Metrics::new().unwrap());
     let reporter = Reporter::new(options, metrics, Arc::default(), None);
     Reported::new(Arc::new(Answering(outcome)), Owned(owner), reporter)
@@ -221,7 +225,11 @@ async fn a_sender_whose_clock_is_off_is_told_by_how_much() {
         "{answer}"
     );
     answered(&reported, GAUGES).await;
-    assert_eq!(reported.reporter.logged().clocks.len(), 1, "it is in the log once");
+    assert_eq!(
+        reported.reporter.logged().clocks.len(),
+        1,
+        "it is in the log once"
+    );
     let page = String::from_utf8(reported.reporter.metrics.page()).unwrap();
     let line = "totxegun_foreign_points_total{cause=\"clock-ahead\",sender=\"a\"} 2";
     assert!(page.lines().any(|found| found == line), "{page}");
@@ -298,7 +306,9 @@ async fn refusals_are_noted() {
         status: 503,
         message: "too many bytes in flight".into(),
     };
-    let refused = reported(late.clone(), None, ReportOptions::default()).reporter.clone();
+    let refused = reported(late.clone(), None, ReportOptions::default())
+        .reporter
+        .clone();
     refused.answered("a", &late);
     refused.part_refused("a", &late);
     refused.answered("b", &busy);
@@ -330,7 +340,14 @@ async fn so_many_strangers_are_told_of() {
     reported.reporter.answered("shop-1", &unknown);
     assert_eq!(reported.reporter.logged().refusals, STRANGERS + 2);
     let activity = reported.reporter.activity.last(1000);
-    let of = |name: &str| activity.iter().find(|(activity, _)| activity == name).unwrap().1.clone();
+    let of = |name: &str| {
+        activity
+            .iter()
+            .find(|(activity, _)| activity == name)
+            .unwrap()
+            .1
+            .clone()
+    };
     let posts = |name: &str| of(name).refused["the token is not known"].posts;
     assert_eq!((posts("address 10.0.0.7"), posts("shop-1")), (1, 1));
     assert_eq!(posts(NO_NAME), 4 * STRANGERS as u64);

@@ -3,10 +3,10 @@
 mod address;
 mod connection;
 mod identity;
-mod said;
+mod server_error;
 mod tls;
 
 pub use address::Server;
 pub(crate) use connection::{connect, Connected, Driver, NotConnected};
 pub(crate) use identity::identity;
-pub(crate) use said::shown;
+pub(crate) use server_error::shown;

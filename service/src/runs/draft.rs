@@ -1,6 +1,6 @@
 //! The points that the book is asked to take of a post.
 
-use super::{Added, Entry, SeriesPlace, Kind, Locked, Names, Options, Points, Refused, Run, Runs, SeriesKey};
+use super::{Added, Entry, Kind, Locked, Names, Options, Points, Refused, Run, Runs, SeriesKey, SeriesPlace};
 use crate::core;
 use crate::files::OfRun;
 use std::collections::BTreeMap;

@@ -159,7 +159,12 @@ impl State {
     }
 
     /// The series of a number; none where its name is that of none. `frontier` is asked of one that is new here.
-    fn find(&mut self, names: &Names, number: u64, frontier: impl Fn(&SeriesKey) -> u64) -> Option<SeriesPlace> {
+    fn find(
+        &mut self,
+        names: &Names,
+        number: u64,
+        frontier: impl Fn(&SeriesKey) -> u64,
+    ) -> Option<SeriesPlace> {
         let generation = files::Names::generation(names);
         if self.generation != generation {
             self.generation = generation;

@@ -2,7 +2,7 @@
 
 use super::law::entry;
 use super::*;
-use crate::files::numbers::Numbers;
+use crate::files::test_random::TestRandom;
 
 fn run(start: u64, time: u64, words: &[u64]) -> Run {
     let words = words.to_vec();
@@ -175,7 +175,7 @@ impl Plain {
 /// Lost, repeated, reordered points, runs that begin anew, clocks that jump.
 #[test]
 fn what_was_added_is_the_sum_of_the_last_values_of_the_runs() {
-    let mut chance = Numbers(1);
+    let mut chance = TestRandom(1);
     for kind in [Kind::Monotonic, Kind::Sum] {
         for _ in 0..2_000 {
             let (mut plain, mut added, mut kept) = (Plain::default(), 0i128, None);
@@ -258,7 +258,7 @@ fn a_place_is_told_among_the_points_of_the_profile() {
 /// A start finds entries that a commit has already, and others.
 #[test]
 fn entries_behind_any_commit_come_to_what_was_kept() {
-    let mut chance = Numbers(2);
+    let mut chance = TestRandom(2);
     for _ in 0..2_000 {
         let (mut kept, mut entries) = (vec![None], Vec::new());
         let (mut start, mut time, mut words) = (10, 10, [0, 1, 0, 0, 0]);

@@ -31,7 +31,7 @@ use crate::pass::Pass;
 use crate::post_reports::ReportOptions;
 use crate::runs;
 use crate::shares::Share;
-use crate::sinks::{Address, Keep};
+use crate::sinks::{Address, Retention};
 use anyhow::{anyhow, Context};
 use instance::Joining;
 use operators::{Operators, Readers};
@@ -61,7 +61,7 @@ pub struct Settings {
     pub of_each: Share,
     pub sink: Address,
     /// How long the sink keeps what it has.
-    pub keep: Keep,
+    pub retention: Retention,
     /// It may be another than the folder has.
     pub new_sink: bool,
     pub durability: Durability,

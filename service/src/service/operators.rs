@@ -6,7 +6,7 @@ use crate::identity::Tokens;
 use crate::intake::connections::{serve, Handler, Limits};
 use crate::intake::{listen_at_socket, Listener};
 use crate::operate::{AtTcp, Desk};
-use crate::renewed::Renewed;
+use crate::reloaded::Reloaded;
 use anyhow::anyhow;
 use std::path::{Path, PathBuf};
 use std::sync::Arc;
@@ -21,7 +21,7 @@ pub struct Operate {
     /// Where orders are taken.
     pub socket: PathBuf,
     /// Whose orders are taken over TCP too.
-    pub tokens: Option<Arc<Renewed<Tokens>>>,
+    pub tokens: Option<Arc<Reloaded<Tokens>>>,
 }
 
 /// The address of TCP, before the folder is this process' own.
@@ -30,7 +30,7 @@ pub(super) struct Readers(Option<TcpListener>);
 pub(super) struct Operators {
     tcp: Option<TcpListener>,
     socket: UnixListener,
-    tokens: Option<Arc<Renewed<Tokens>>>,
+    tokens: Option<Arc<Reloaded<Tokens>>>,
 }
 
 impl Readers {

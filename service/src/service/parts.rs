@@ -12,7 +12,7 @@ use crate::files::{Folder, Outbox};
 use crate::intake::connections::Limits;
 use crate::intake::{Budget, Intake, Threads};
 use crate::operate::{self, Acts, Desk, Pulse, Totals};
-use crate::post_reports::{SenderActivity, Reported, Reporter};
+use crate::post_reports::{Reported, Reporter, SenderActivity};
 use crate::shares::Rules;
 use crate::sinks::Sink;
 use crate::slot::{Shared, Slot, Slots};
@@ -59,7 +59,7 @@ impl Parts {
         let sink = super::sink::open(
             &folder,
             &settings.sink,
-            settings.keep,
+            settings.retention,
             settings.new_sink,
             outboxes,
             acts.clone(),
@@ -82,7 +82,7 @@ impl Parts {
         let sink = super::sink::open_of_store(
             &joining.store,
             &settings.sink,
-            settings.keep,
+            settings.retention,
             settings.new_sink,
             acts.clone(),
         )?;

@@ -5,7 +5,7 @@ mod in_store;
 use super::Ended;
 use crate::files::{Folder, KnownSink, Outbox};
 use crate::operate::{Act, Actor, Acts};
-use crate::sinks::{self, Address, Keep, Memory, Sink};
+use crate::sinks::{self, Address, Memory, Retention, Sink};
 use crate::store::postgres::PostgresStore;
 use anyhow::{anyhow, Context};
 use in_store::InStore;
@@ -51,19 +51,19 @@ struct Remembered {
 pub(super) fn open_of_store(
     store: &Arc<PostgresStore>,
     address: &Address,
-    keep: Keep,
+    retention: Retention,
     takes_new: bool,
     acts: Arc<Acts>,
 ) -> Result<Arc<dyn Sink>, Ended> {
     let place = InStore::open(store.clone()).context("the store can't be used")?;
-    opened(Box::new(place), address, keep, takes_new, acts)
+    opened(Box::new(place), address, retention, takes_new, acts)
 }
 
 /// Opens the sink. What waits in these outboxes goes into it.
 pub(super) fn open(
     folder: &Arc<Folder>,
     address: &Address,
-    keep: Keep,
+    retention: Retention,
     takes_new: bool,
     outboxes: Vec<Arc<Outbox>>,
     acts: Arc<Acts>,
@@ -72,13 +72,13 @@ pub(super) fn open(
         folder: folder.clone(),
         outboxes,
     };
-    opened(Box::new(place), address, keep, takes_new, acts)
+    opened(Box::new(place), address, retention, takes_new, acts)
 }
 
 fn opened(
     place: Box<dyn Remembers>,
     address: &Address,
-    keep: Keep,
+    retention: Retention,
     takes_new: bool,
     acts: Arc<Acts>,
 ) -> Result<Arc<dyn Sink>, Ended> {
@@ -89,7 +89,7 @@ fn opened(
         acts,
     });
     memory.look_at_kind()?;
-    let sink = sinks::open(address, keep, memory.clone()).context("the sink can't be opened")?;
+    let sink = sinks::open(address, retention, memory.clone()).context("the sink can't be opened")?;
     memory.look_at_address()?;
     Ok(sink)
 }

@@ -2,11 +2,11 @@
 
 use super::unit::{cause, End, Files, Opened, Unit};
 use super::{Ended, Settings};
+use crate::latch::Latch;
 use crate::operate;
 use crate::post_reports::{Reported, Reporter};
 use crate::sinks::Sink;
 use crate::slot::{Place, Shared, Slot, Slots};
-use crate::latch::Latch;
 use crate::work::blocking;
 use std::collections::BTreeMap;
 use std::sync::{Arc, Mutex, MutexGuard, PoisonError};

@@ -8,7 +8,7 @@ use super::{Ended, OfStore, Settings};
 use crate::cluster::NO_STORE;
 use crate::intake::connections::Handler;
 use crate::intake::{Budget, Intake, Threads};
-use crate::log::Seldom;
+use crate::log::RateLimit;
 use crate::otlp::{Original, Outcome, Resources};
 use crate::slot::{Elsewhere, Slot, Slots};
 use crate::store::postgres::PostgresStore;
@@ -29,7 +29,7 @@ const SOON: Duration = Duration::from_secs(1);
 /// Between two tries.
 const PAUSE: Duration = Duration::from_secs(1);
 
-static TOLD: Seldom = Seldom::every(Duration::from_secs(10));
+static TOLD: RateLimit = RateLimit::every(Duration::from_secs(10));
 
 /// Tries until it answers, or says what waiting does not mend.
 async fn tried(of: &OfStore) -> Result<PostgresStore, Ended> {

@@ -2,7 +2,7 @@
 
 use crate::identity::Tokens;
 use crate::otlp::series::{posted_with, Profile, SeriesKey};
-use crate::renewed::Renewed;
+use crate::reloaded::Reloaded;
 use bytes::Bytes;
 use std::collections::HashMap;
 use std::sync::Arc;
@@ -44,7 +44,7 @@ pub struct Rules {
     /// Of each sender that has none of its own.
     pub of_each: Share,
     /// Whose are its own.
-    pub tokens: Option<Arc<Renewed<Tokens>>>,
+    pub tokens: Option<Arc<Reloaded<Tokens>>>,
     /// Which points have a series.
     pub profile: Profile,
     pub owned: Box<dyn Owned>,

@@ -3,8 +3,8 @@
 use super::{backoff, Fate, Forwarded, Sink};
 use crate::files::outbox::Waiting;
 use crate::files::{Dead, Fault, Lost, Outbox};
-use crate::metrics::Metrics;
 use crate::latch::Latch;
+use crate::metrics::Metrics;
 use crate::work::blocking;
 use std::future::Future;
 use std::sync::{Arc, Mutex, PoisonError};

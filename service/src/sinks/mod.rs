@@ -7,21 +7,21 @@ mod attributes;
 mod backoff;
 mod delivery;
 pub mod export;
-mod keep;
 mod keys;
+mod left_out;
 mod otlp;
-mod part;
 pub mod periods;
 pub mod postgres;
+mod retention;
 pub(crate) mod roots;
 pub mod sqlite;
 
 pub use address::{Address, BadAddress};
 pub use delivery::{deliver, of_part, Delivery};
-pub use keep::Keep;
 pub use keys::{Held, Keys};
 pub use otlp::header_of;
 use periods::{Deed, Told};
+pub use retention::Retention;
 
 use std::future::Future;
 use std::pin::Pin;
@@ -143,10 +143,14 @@ impl Memory for () {
 
 /// Opens a sink. What may mend itself (a file that is locked, a server that is down) is no fault here: deliveries
 /// are tried again until the sink takes them. What can't mend itself is one.
-pub fn open(address: &Address, keep: Keep, memory: Arc<dyn Memory>) -> anyhow::Result<Arc<dyn Sink>> {
+pub fn open(
+    address: &Address,
+    retention: Retention,
+    memory: Arc<dyn Memory>,
+) -> anyhow::Result<Arc<dyn Sink>> {
     match address {
-        Address::Sqlite(path) => Ok(Arc::new(sqlite::SqliteSink::open(path, keep, memory)?)),
-        Address::Postgres(server) => Ok(Arc::new(postgres::PostgresSink::open(server, keep, memory)?)),
+        Address::Sqlite(path) => Ok(Arc::new(sqlite::SqliteSink::open(path, retention, memory)?)),
+        Address::Postgres(server) => Ok(Arc::new(postgres::PostgresSink::open(server, retention, memory)?)),
         Address::Otlp {
             url,
             protobuf,

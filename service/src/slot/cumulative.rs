@@ -194,7 +194,7 @@ impl Slot {
             .filter(|place| *place > first.0)
             .collect();
         for places in left.chunks(TRIED_AT_ONCE) {
-            let found = self.core.lock().beyond(&mut read.read, places);
+            let found = self.core.lock().out_of_order(&mut read.read, places);
             let noted = |(place, frontier)| Some((draft.note_frontier(place, frontier)?, frontier));
             beyond.extend(found.into_iter().filter_map(noted));
         }

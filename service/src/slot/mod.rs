@@ -1,10 +1,10 @@
 //! The book with its journal and outbox, and the way of a post through them.
 //!
 //! `request` is that way, `posted` reads a request, `cumulative` what is done ahead of it with cumulative points, `numbers` which series have numbers, `verdict` what is said of a post and when, `phase` whether
-//! posts are taken, `disk` whether the disk answers. `slots` is where posts of each slot go.
+//! posts are taken, `disk_stall` whether the disk answers. `slots` is where posts of each slot go.
 
 mod cumulative;
-mod disk;
+mod disk_stall;
 mod numbers;
 mod phase;
 mod posted;
@@ -62,7 +62,7 @@ pub struct Slot {
     pub(crate) hurried: Notify,
     /// What was taken is not in flight any more.
     pub(crate) landed: Notify,
-    told: disk::Told,
+    told: disk_stall::Stall,
     pub(crate) shares: Arc<Shares>,
     /// Where it reads by itself, as each of several does.
     reading: Option<Arc<Reading>>,
@@ -150,7 +150,7 @@ impl Slot {
             crowded: Notify::new(),
             hurried: Notify::new(),
             landed: Notify::new(),
-            told: disk::Told::default(),
+            told: disk_stall::Stall::default(),
             shares: shared.shares.clone(),
         })
     }

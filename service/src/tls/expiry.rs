@@ -2,7 +2,7 @@
 
 use super::Contexts;
 use crate::metrics::Metrics;
-use crate::renewed::Renewed;
+use crate::reloaded::Reloaded;
 use prometheus::core::{Collector, Desc};
 use prometheus::proto::MetricFamily;
 use prometheus::IntGauge;
@@ -11,11 +11,11 @@ use std::time::{SystemTime, UNIX_EPOCH};
 
 struct Expiry {
     left: IntGauge,
-    contexts: Arc<Renewed<Contexts>>,
+    contexts: Arc<Reloaded<Contexts>>,
 }
 
 /// The page has it from now on. Without TLS it has none, and no alert of it.
-pub fn register(metrics: &Metrics, contexts: Arc<Renewed<Contexts>>) -> prometheus::Result<()> {
+pub fn register(metrics: &Metrics, contexts: Arc<Reloaded<Contexts>>) -> prometheus::Result<()> {
     let left = IntGauge::new(
         "totxegun_certificate_expires_seconds",
         "Seconds until the certificate of the senders' addresses ends, below 0 after that",
@@ -24,7 +24,7 @@ pub fn register(metrics: &Metrics, contexts: Arc<Renewed<Contexts>>) -> promethe
 }
 
 /// The same of the certificate that other instances are shown.
-pub fn register_peers(metrics: &Metrics, contexts: Arc<Renewed<Contexts>>) -> prometheus::Result<()> {
+pub fn register_peers(metrics: &Metrics, contexts: Arc<Reloaded<Contexts>>) -> prometheus::Result<()> {
     let left = IntGauge::new(
         "totxegun_peer_certificate_expires_seconds",
         "Seconds until the certificate of --peer ends, below 0 after that",

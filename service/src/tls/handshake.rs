@@ -2,7 +2,7 @@
 
 use super::socket::Socket;
 use super::{Contexts, Protocol, Tls};
-use crate::log::Seldom;
+use crate::log::RateLimit;
 use rustls::internal::msgs::enums::AlertDescription::{BadCertificate, CertificateUnknown, UnknownCA};
 use std::future::Future;
 use std::io::{Error, Result};
@@ -19,7 +19,7 @@ const LOOK: Duration = Duration::from_secs(1);
 const LOOKS: u32 = 10;
 
 /// A stranger can fail at any rate, so a failure is told once a minute at most.
-static TOLD: Seldom = Seldom::every(Duration::from_secs(60));
+static TOLD: RateLimit = RateLimit::every(Duration::from_secs(60));
 
 /// A connection behind its handshake.
 pub type Stream = TlsStream<Socket>;

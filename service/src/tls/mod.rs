@@ -18,7 +18,7 @@ pub use handshake::{Shaken, Stream};
 
 use crate::intake::Threads;
 use crate::metrics::Metrics;
-use crate::renewed::{Reader, Renewed};
+use crate::reloaded::{Reader, Reloaded};
 use anyhow::Context;
 use pair::{certificates, Pair};
 use rustls::server::{ClientCertVerifier, NoClientAuth};
@@ -180,7 +180,7 @@ fn config(
 
 /// What makes handshakes, on a thread of its own: one costs as much as many posts.
 pub struct Tls {
-    contexts: Arc<Renewed<Contexts>>,
+    contexts: Arc<Reloaded<Contexts>>,
     threads: Threads,
     metrics: Arc<Metrics>,
     /// The option of our certificate.
@@ -200,7 +200,7 @@ impl Tls {
             read: Box::new(move |contents: &[Vec<u8>]| Contexts::read(named, contents, without)),
             shut: Contexts::shut,
         };
-        let contexts = Renewed::open(paths, reader, &metrics)?;
+        let contexts = Reloaded::open(paths, reader, &metrics)?;
         expiry::register(&metrics, contexts.clone()).context("metrics")?;
         let threads = Threads::named("handshake", 1).context("no thread could be started")?;
         Ok(Tls {

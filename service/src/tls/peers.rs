@@ -5,7 +5,7 @@ use super::pair::Pair;
 use super::{expiry, roots, Contexts, Files, Named, Tls, WithoutCertificate};
 use crate::intake::Threads;
 use crate::metrics::Metrics;
-use crate::renewed::{Reader, Renewed};
+use crate::reloaded::{Reader, Reloaded};
 use anyhow::{bail, Context};
 use rustls::client::{ServerCertVerifier, WebPkiVerifier};
 use rustls::{ClientConfig, RootCertStore, ServerName};
@@ -32,7 +32,7 @@ impl Tls {
             read: Box::new(move |contents: &[Vec<u8>]| read(named, contents, &name, &host)),
             shut: Contexts::shut,
         };
-        let contexts = Renewed::open(paths, reader, &metrics)?;
+        let contexts = Reloaded::open(paths, reader, &metrics)?;
         expiry::register_peers(&metrics, contexts.clone()).context("metrics")?;
         let threads = Threads::named("peers", 1).context("no thread could be started")?;
         Ok(Tls {

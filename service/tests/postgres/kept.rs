@@ -4,7 +4,7 @@ use crate::points::HOUR;
 use crate::server::{sum, sums, Server};
 use crate::{open, open_with, refused, taken};
 use std::time::Duration;
-use totxegun::sinks::{Fate, Keep};
+use totxegun::sinks::{Fate, Retention};
 
 const DAY: u64 = 24 * HOUR;
 
@@ -61,9 +61,9 @@ async fn old_spans_are_deleted_and_not_counted_again() {
     drop(before);
     let sink = open_with(
         &address,
-        Keep {
+        Retention {
             spans: days(2),
-            ..Keep::default()
+            ..Retention::default()
         },
     );
     until(&server, "select count(*) from totxegun.span", "1").await;
@@ -145,9 +145,9 @@ async fn old_hours_are_deleted_and_not_counted_again() {
     drop(before);
     let sink = open_with(
         &address,
-        Keep {
+        Retention {
             hours: days(2),
-            ..Keep::default()
+            ..Retention::default()
         },
     );
     until(&server, "select name, total from totxegun.by_hour", "a|2").await;
@@ -188,9 +188,9 @@ async fn a_series_out_of_use_loses_its_spans_alone() {
     drop(before);
     let sink = open_with(
         &address,
-        Keep {
+        Retention {
             series: days(1),
-            ..Keep::default()
+            ..Retention::default()
         },
     );
     let left = "select name, count(*) from totxegun.span join totxegun.series on id = series group by 1";
@@ -213,9 +213,9 @@ async fn deliveries_go_on_while_a_reader_holds_up_a_deletion() {
     let held = server.hold("begin; select count(*) from totxegun.span; select pg_sleep(60)");
     let sink = open_with(
         &address,
-        Keep {
+        Retention {
             spans: days(2),
-            ..Keep::default()
+            ..Retention::default()
         },
     );
     let mut longest = Duration::ZERO;
@@ -237,9 +237,9 @@ async fn deliveries_go_on_while_a_reader_holds_up_a_deletion() {
     until(&server, waits, "0").await;
     let _sink = open_with(
         &address,
-        Keep {
+        Retention {
             spans: days(2),
-            ..Keep::default()
+            ..Retention::default()
         },
     );
     until(

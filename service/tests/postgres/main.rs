@@ -16,7 +16,7 @@ mod versions;
 
 use server::{histogram, sum, sum_named, Server};
 use std::time::Duration;
-use totxegun::sinks::{self, Fate, Forwarded, Keep, Sink};
+use totxegun::sinks::{self, Fate, Forwarded, Retention, Sink};
 
 fn request(number: u64, body: String) -> Forwarded {
     Forwarded {
@@ -28,7 +28,7 @@ fn request(number: u64, body: String) -> Forwarded {
 }
 
 fn open(address: &str) -> std::sync::Arc<dyn Sink> {
-    open_with(address, Keep::default())
+    open_with(address, Retention::default())
 }
 
 fn open_with(address: &str, keep: Keep) -> std::sync::Arc<dyn Sink> {
@@ -234,7 +234,7 @@ async fn what_is_told() {
     again(&*open(&by_password("right", "d1")), 2, body(), "read-only").await;
     let refuses = |database: &str, part: &str| {
         let address = server.by_socket(database).parse().expect("an address");
-        let error = sinks::open(&address, Keep::default(), std::sync::Arc::new(()))
+        let error = sinks::open(&address, Retention::default(), std::sync::Arc::new(()))
             .err()
             .expect("it is refused")
             .to_string();

@@ -4,7 +4,7 @@ use crate::server::{histogram, sum, Server};
 use crate::{again, open, open_with, refused, request, taken};
 use std::collections::BTreeSet;
 use std::time::Duration;
-use totxegun::sinks::{Fate, Keep};
+use totxegun::sinks::{Fate, Retention};
 
 /// The steps, of which each version has made so many.
 const STEPS: [&str; 4] = [
@@ -287,9 +287,9 @@ async fn hours_are_filled_in_while_deliveries_go_on_over_kills() {
 /// Once all of them are too old.
 async fn old_spans_go_together(server: &Server, address: &str, number: u64) {
     let ask = |query: &str| server.ask_of("old", query);
-    let keep = Keep {
+    let keep = Retention {
         spans: Some(Duration::from_secs(86_400)),
-        ..Keep::default()
+        ..Retention::default()
     };
     let is_gone = "select to_regclass('totxegun.span_before') is null";
     let sink = open_with(address, keep);

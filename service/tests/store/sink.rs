@@ -6,7 +6,7 @@ use super::{make, open};
 use std::sync::Arc;
 use totxegun::files::drive::{self, Drive};
 use totxegun::files::Runs;
-use totxegun::sinks::{self, Fate, Forwarded, Keep, Memory, Sink};
+use totxegun::sinks::{self, Fate, Forwarded, Memory, Retention, Sink};
 use totxegun::store::postgres::{Copies, PostgresStore};
 
 /// It knows the store that the slots are in.
@@ -24,7 +24,7 @@ impl Memory for OfStore {
 
 fn sink(address: &str, store: &Arc<PostgresStore>) -> Arc<dyn Sink> {
     let memory = Arc::new(OfStore(store.clone()));
-    sinks::open(&address.parse().unwrap(), Keep::default(), memory).unwrap()
+    sinks::open(&address.parse().unwrap(), Retention::default(), memory).unwrap()
 }
 
 fn request(slot: u16, number: u64, start: u64) -> Forwarded {

@@ -2,7 +2,7 @@
 
 use super::head::{Head, Secret};
 use super::operators::{self, Answers};
-use super::{said, unavailable, Here, PATH};
+use super::{owner_answer, unavailable, Here, PATH};
 use crate::cluster::local_view::{Cluster, NO_STORE};
 use crate::cluster::owners::Whose;
 use crate::cluster::terms::Doing;
@@ -48,34 +48,35 @@ impl<H: Here> Internal<H> {
     async fn take(&self, request: Request<Body>) -> Result<Response<Body>, Response<Body>> {
         let is_question = request.uri().path() == operators::PATH;
         if !(is_question || request.uri().path() == PATH) || request.method() != Method::POST {
-            return Err(said::refused(404, "there is no such page"));
+            return Err(owner_answer::refused(404, "there is no such page"));
         }
         if !self.secret.is_in(request.headers()) {
-            return Err(said::refused(401, "this is no instance of this cluster"));
+            return Err(owner_answer::refused(401, "this is no instance of this cluster"));
         }
         if is_question {
             return self.answered(request.into_body()).await;
         }
-        let head = Head::read(request.headers()).ok_or_else(|| said::refused(400, "a head is missing"))?;
+        let head =
+            Head::read(request.headers()).ok_or_else(|| owner_answer::refused(400, "a head is missing"))?;
         if self.cluster.whose(head.slot) != (Whose::Here { term: head.term }) {
-            return Err(said::not_mine());
+            return Err(owner_answer::not_mine());
         }
         if self.cluster.is_stalled_for(head.slot) {
-            return Err(said::answer(&unavailable(NO_STORE)));
+            return Err(owner_answer::answer(&unavailable(NO_STORE)));
         }
         let _room = self.parts.acquire().await; // it is never closed
         let body = timeout(WITHIN, whole(request.into_body())).await;
         let body = body
             .ok()
             .flatten()
-            .ok_or_else(|| said::refused(400, "the body is not whole, or too long"))?;
+            .ok_or_else(|| owner_answer::refused(400, "the body is not whole, or too long"))?;
         let part = Original {
             encoding: head.encoding,
             body,
         };
         // The slot says itself whether it is still here.
         let outcome = self.here.post(head.slot, head.term, &head.sender, part).await;
-        Ok(outcome.map_or_else(said::not_mine, |outcome| said::answer(&outcome)))
+        Ok(outcome.map_or_else(owner_answer::not_mine, |outcome| owner_answer::answer(&outcome)))
     }
 }
 

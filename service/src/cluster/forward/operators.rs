@@ -2,7 +2,7 @@
 //! knows.
 
 use super::internal::{whole, Internal, WITHIN};
-use super::{said, Broken, Forward, Forwarded, Here};
+use super::{owner_answer, Broken, Forward, Forwarded, Here};
 use crate::cluster::terms::Doing;
 use bytes::Bytes;
 use hyper::{Body, Request, Response};
@@ -64,7 +64,7 @@ impl<H: Here> Forward<H> {
             .request(request)
             .await
             .map_err(Broken::Wire)?;
-        said::read_bytes(response, MOST).await
+        owner_answer::read_bytes(response, MOST).await
     }
 }
 
@@ -79,13 +79,13 @@ impl<H: Here> Internal<H> {
         let question = question
             .ok()
             .flatten()
-            .ok_or_else(|| said::refused(400, "the question is not whole, or too long"))?;
+            .ok_or_else(|| owner_answer::refused(400, "the question is not whole, or too long"))?;
         let Some(answers) = self.answers.get() else {
-            return Err(said::refused(503, "this instance is starting"));
+            return Err(owner_answer::refused(503, "this instance is starting"));
         };
         let answer = answers.clone().answer_question(question).await;
         answer
-            .map(said::bytes)
-            .ok_or_else(|| said::refused(400, "this is asked by another version"))
+            .map(owner_answer::bytes)
+            .ok_or_else(|| owner_answer::refused(400, "this is asked by another version"))
     }
 }

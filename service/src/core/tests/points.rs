@@ -75,7 +75,7 @@ fn where_series_end_is_said_of_all_points_that_are_out_of_order() {
     };
     assert_eq!(core.lock().admit(&mut read), Err(late));
     assert_eq!(
-        core.lock().beyond(&mut read, &[0, 1, 2, 3, 4]),
+        core.lock().out_of_order(&mut read, &[0, 1, 2, 3, 4]),
         [(0, 20), (2, 20)]
     );
     assert_eq!(core.lock().series(), 2, "nothing of it is kept");
@@ -86,7 +86,7 @@ fn where_series_end_is_said_of_all_points_that_are_out_of_order() {
         .read_points("A".into(), of([0, 2], 15, 6), by.clone(), 0)
         .unwrap();
     for _ in 0..20_000 {
-        assert_eq!(core.lock().beyond(&mut read, &[1]), [(1, 30)]);
+        assert_eq!(core.lock().out_of_order(&mut read, &[1]), [(1, 30)]);
     }
     assert_eq!(taken(&core)["s0"], (6, 30));
 }

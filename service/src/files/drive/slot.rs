@@ -2,8 +2,8 @@
 
 use super::Drive;
 use crate::files::disk::Disk;
-use crate::files::journal::Expected;
 use crate::files::free_space::FreeSpace;
+use crate::files::journal::Expected;
 use crate::files::{segment, Dead, Durability, Fault, Journal, Outbox};
 use std::path::Path;
 use std::sync::Arc;

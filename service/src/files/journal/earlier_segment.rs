@@ -3,8 +3,8 @@
 
 use super::{held, record, Expected, Size, HELD};
 use crate::files::disk::Disk;
-use crate::files::torn_tail::{check_torn, CHANGED};
 use crate::files::records::{self, Next, Reader, Which};
+use crate::files::torn_tail::{check_torn, CHANGED};
 use crate::files::{segment, Fault};
 use std::path::{Path, PathBuf};
 
@@ -78,7 +78,12 @@ pub(super) fn read(disk: &Disk, folder: &Path, number: u64) -> Result<EarlierSeg
 }
 
 /// Passes where what is there is what an end of the process or a loss of power may leave.
-pub(super) fn check(disk: &Disk, folder: &Path, segments: &[EarlierSegment], expected: &Expected) -> Result<(), Fault> {
+pub(super) fn check(
+    disk: &Disk,
+    folder: &Path,
+    segments: &[EarlierSegment],
+    expected: &Expected,
+) -> Result<(), Fault> {
     is_not_behind(segments, expected)?;
     let reach = expected.reach.max(1);
     let mut needed: Vec<u64> = segments.iter().map(|one| one.size.number).collect();

@@ -5,8 +5,8 @@
 //! posts are replayed, in one record: a move before a commit that does not come counts for nothing, since the segments
 //! still have these posts, and a sender whose points were flushed is in the next segment's record no more.
 
+use super::named_numbers::put_name;
 use super::record::{self, Posts};
-use super::said::put_name;
 use super::{lock, Journal, Post, Replayed, Shared, HELD};
 use crate::files::disk::{io_fault, Disk, File};
 use crate::files::records::{self, Next, Reader, Which};
@@ -261,7 +261,9 @@ impl<'a> Moving<'a> {
         let part = self.list.entry(post.sender.clone()).or_default();
         part.end = part.end.max(writer.at + before) + writer.waiting.len() as u64 - before;
         part.posts += 1;
-        self.shared.free_space.use_up(writer.waiting.len() as u64 - before);
+        self.shared
+            .free_space
+            .use_up(writer.waiting.len() as u64 - before);
         if writer.waiting.len() >= PIECE {
             writer.write(self.shared)?;
         }

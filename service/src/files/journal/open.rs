@@ -1,11 +1,11 @@
 //! What an earlier run left in the journal.
 
 use super::earlier_segment::{self, EarlierSegment};
-use super::{name, prepare, Expected, Journal, Place, Said, Shared, Size, Waiters};
+use super::{name, prepare, Expected, Journal, NamedNumbers, Place, Shared, Size, Waiters};
 use crate::files::disk::{io_fault, Disk};
-use crate::files::torn_tail::CHANGED;
 use crate::files::free_space::FreeSpace;
 use crate::files::segment::{self, Dropped};
+use crate::files::torn_tail::CHANGED;
 use crate::files::{Durability, Fault};
 use std::collections::BTreeSet;
 use std::path::Path;
@@ -41,7 +41,7 @@ impl Journal {
         let place = Place {
             segment,
             named: false,
-            said: Said::default(),
+            said: NamedNumbers::default(),
             ticket: 1,
             ended: Vec::new(),
             kept: 1,
@@ -91,7 +91,11 @@ fn remove_drafts(disk: &Disk, folder: &Path) -> Result<(), Fault> {
 ///
 /// A segment is begun before the one before it is synced. So a power loss can tear a segment that is not the last;
 /// then nothing of the later ones was durable, nobody was told of it, and it goes with what was torn.
-fn close(disk: &Disk, folder: &Path, expected: &Expected) -> Result<(Vec<EarlierSegment>, Vec<Dropped>), Fault> {
+fn close(
+    disk: &Disk,
+    folder: &Path,
+    expected: &Expected,
+) -> Result<(Vec<EarlierSegment>, Vec<Dropped>), Fault> {
     let mut found = Vec::new();
     for number in segment::numbers(disk, folder)? {
         found.push(earlier_segment::read(disk, folder, number)?);
@@ -153,7 +157,12 @@ fn cut(
 
 /// Which segment is begun: another one takes the place of a last one that has no post, and those that have none behind
 /// it are deleted. Starts that end at once would leave one each.
-fn drop_empty(disk: &Disk, folder: &Path, found: &mut Vec<EarlierSegment>, expected: &Expected) -> Result<u64, Fault> {
+fn drop_empty(
+    disk: &Disk,
+    folder: &Path,
+    found: &mut Vec<EarlierSegment>,
+    expected: &Expected,
+) -> Result<u64, Fault> {
     let known = expected.begun.unwrap_or(0).max(expected.reach);
     let is_empty = |last: &mut EarlierSegment| last.size.bytes == 0 && last.size.number > known;
     while let Some(last) = found.pop_if(is_empty) {

@@ -8,7 +8,7 @@ mod size;
 
 use super::*;
 use crate::files::disk::Call;
-use crate::files::numbers::Numbers;
+use crate::files::test_random::TestRandom;
 use std::fs::File;
 use std::path::Path;
 use std::sync::atomic::{AtomicBool, AtomicUsize};

@@ -1,7 +1,7 @@
 //! Cumulative points, who sends them, and what a plain count of them says.
 
 use super::*;
-use crate::files::numbers::Numbers;
+use crate::files::test_random::TestRandom;
 use crate::otlp::series::{forwarded, Value};
 use crate::otlp::Outcome;
 use crate::runs::Options;
@@ -164,7 +164,7 @@ impl Program {
     }
 
     /// What it sends next; nothing where that is lost on its way.
-    pub fn next(&mut self, now: u64, chance: &mut Numbers) -> Option<Vec<Point>> {
+    pub fn next(&mut self, now: u64, chance: &mut TestRandom) -> Option<Vec<Point>> {
         if chance.below(12) == 0 {
             self.start = now - 1;
             self.points

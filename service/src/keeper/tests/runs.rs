@@ -3,7 +3,7 @@
 
 use super::cumulative::{copy, killed, point, rejected, text, Plain, Point, Program, BEGIN};
 use super::*;
-use crate::files::numbers::Numbers;
+use crate::files::test_random::TestRandom;
 use crate::otlp::Outcome;
 use crate::runs::{First, Options, Reset};
 use std::collections::BTreeMap;
@@ -16,7 +16,7 @@ async fn runs_over_kills_and_quarantines_come_to_the_sum_of_their_last_values() 
     };
     for seed in 1..=4 {
         let place = tempfile::tempdir().unwrap();
-        let (mut chance, mut now, mut kills) = (Numbers(seed), BEGIN + 10, 0);
+        let (mut chance, mut now, mut kills) = (TestRandom(seed), BEGIN + 10, 0);
         let mut run = Run::begin_runs(&place.path().join("data0"), options).await;
         let (mut plain, mut sums) = (Plain::default(), BTreeMap::<String, (i128, i128)>::new());
         let mut programs = ["A", "B"].map(Program::new);
@@ -85,7 +85,7 @@ async fn runs_over_kills_and_quarantines_come_to_the_sum_of_their_last_values() 
 async fn the_same_counts_in_delta_and_cumulative_come_to_the_same() {
     let (place, options) = (tempfile::tempdir().unwrap(), Options::default());
     let mut run = Run::begin_runs(&place.path().join("data0"), options).await;
-    let (mut chance, mut start, mut now, mut kills) = (Numbers(7), BEGIN, BEGIN, 0);
+    let (mut chance, mut start, mut now, mut kills) = (TestRandom(7), BEGIN, BEGIN, 0);
     let mut come_to = [(0, 0); 3];
     for step in 0..150 {
         let before = now;
@@ -304,7 +304,7 @@ async fn a_journal_that_is_cut_anywhere_goes_on_with_what_is_posted_again() {
         reset: Reset::Refuse,
     };
     let run = Run::begin_runs(&path, options).await;
-    let (mut chance, mut plain, mut program) = (Numbers(7), Plain::default(), Program::new("A"));
+    let (mut chance, mut plain, mut program) = (TestRandom(7), Plain::default(), Program::new("A"));
     let mut posts = Vec::new();
     while posts.len() < 12 {
         posts.extend(program.next(BEGIN + 100 * (1 + posts.len() as u64), &mut chance));

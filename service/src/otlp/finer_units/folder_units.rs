@@ -6,7 +6,7 @@ use super::FinerUnits;
 use crate::files::{Body, Fault, Journal, Outbox};
 use crate::otlp::json::{Document, Value};
 use crate::otlp::series::visit;
-use crate::work::in_line;
+use crate::work::in_order;
 use bytes::Bytes;
 
 impl FinerUnits {
@@ -20,17 +20,17 @@ impl FinerUnits {
         }
         // Side by side: what is known of a metric is a set of units.
         let know = |text: &mut Bytes| self.know_request(text);
-        in_line(
+        in_order(
             know,
             |_| Ok(()),
-            |line| {
+            |queue| {
                 journal.posts(outbox.journal(), u64::MAX, |read| {
                     let named = read.named.into_iter().map(|(_, text)| text);
                     let text = match read.post.body {
                         Body::Text(text) => Some(text),
                         Body::Points(_) => None,
                     };
-                    named.chain(text).all(|text| line.push(text))
+                    named.chain(text).all(|text| queue.push(text))
                 })
             },
         )

@@ -2,7 +2,7 @@
 //! form, or in another of which nothing is said here.
 
 use super::units::{Unit, Units};
-use super::{Rule, FinerUnits};
+use super::{FinerUnits, Rule};
 use crate::otlp::json::Value;
 use crate::otlp::number::book_whole;
 use crate::otlp::series::Profile;
@@ -106,7 +106,9 @@ pub(super) fn taken<'r>(finer_units: &'r FinerUnits, metric: Value<'_>) -> Taken
 
 /// The same of a metric without points; none where nothing is decided yet.
 pub(super) fn decided<'r>(finer_units: &'r FinerUnits, metric: Value<'_>) -> Option<Taken<'r>> {
-    plan(finer_units, metric, |units, name, unit, _| units.decided(name, unit))
+    plan(finer_units, metric, |units, name, unit, _| {
+        units.decided(name, unit)
+    })
 }
 
 fn plan<'r, 'd>(
@@ -123,8 +125,11 @@ fn plan<'r, 'd>(
     };
     let name = || member(metric, "name").map_or(Some("".into()), Value::text);
     if let Some(rule) = finer_units.rules.get(&*own) {
-        if let (Some(units), Some(to), Some(_)) = (&finer_units.units, Unit::of(&rule.to), Delta::of(finer_units, metric))
-        {
+        if let (Some(units), Some(to), Some(_)) = (
+            &finer_units.units,
+            Unit::of(&rule.to),
+            Delta::of(finer_units, metric),
+        ) {
             name().iter().for_each(|name| units.note(name, to));
         }
         return Some(Taken::In(rule));
@@ -162,7 +167,10 @@ pub fn changes(finer_units: &FinerUnits, metric: Value<'_>) -> bool {
 }
 
 /// The first double of a metric that is taken in whole numbers alone, and what it is.
-pub(super) fn first_double<'d>(finer_units: &FinerUnits, metric: Value<'d>) -> Option<(&'static str, Value<'d>)> {
+pub(super) fn first_double<'d>(
+    finer_units: &FinerUnits,
+    metric: Value<'d>,
+) -> Option<(&'static str, Value<'d>)> {
     let delta = Delta::of(finer_units, metric)?;
     if delta.kind == "sum" {
         let point = delta.points().find(|point| is_double(*point))?;

@@ -6,7 +6,7 @@
 use super::decimal::Decimal;
 use super::plan::{elements, first_double, member, taken, Taken, DATA};
 use super::rounded::{resource_shown, rounded, Mark};
-use super::{Rounded, Rule, FinerUnits};
+use super::{FinerUnits, Rounded, Rule};
 use crate::otlp::json::{write_text, Document, NotJson, Value};
 use crate::otlp::number::{double_shown, MAX_WHOLE_DOUBLE};
 use std::borrow::Cow;

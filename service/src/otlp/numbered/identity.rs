@@ -1,11 +1,11 @@
 //! What is not known yet is read once by the reader for all requests: a request that has this alone.
 
-use super::levels::{Full, LookupOnly, Level, Levels, CUMULATIVE, FOREIGN};
+use super::levels::{Full, Level, Levels, LookupOnly, CUMULATIVE, FOREIGN};
 use super::walk::{Find, Head, Own, Path, Stop};
 use super::Learnt;
+use crate::otlp::finer_units::{rewritten, scale_of, shown_of, Scale, Scaled, ShownSeries};
 use crate::otlp::from_protobuf;
 use crate::otlp::output::Written;
-use crate::otlp::finer_units::{rewritten, scale_of, shown_of, Scale, Scaled, ShownSeries};
 use crate::otlp::wire::{Fields, Payload};
 use crate::otlp::{Cumulative, Reading};
 use bytes::Bytes;

@@ -5,9 +5,9 @@ use super::fields::{adds_up, eights, is_recorded, is_span, number, pass_extremes
 use super::levels::{Level, CUMULATIVE};
 use super::Numbered;
 use crate::files::Points;
+use crate::otlp::finer_units::{InFiner, RoundedPoint, Scale, ShownSeries};
 use crate::otlp::from_protobuf::is_exemplar;
 use crate::otlp::schema::{Message, METRIC, REQUEST, RESOURCE_METRICS, SCOPE_METRICS};
-use crate::otlp::finer_units::{InFiner, RoundedPoint, Scale, ShownSeries};
 use crate::otlp::wire::{Fields, Payload};
 use crate::otlp::{Reading, Rounded};
 use std::sync::Arc;

@@ -42,7 +42,7 @@ impl Place {
         let opened = open(
             &folder,
             &sink.parse().unwrap(),
-            Keep::default(),
+            Retention::default(),
             takes_new,
             vec![Arc::new(outbox)],
             acts,

@@ -1,9 +1,9 @@
 use super::*;
 use crate::files::drive::{self, memory::Store};
 use crate::files::{Durability, Folder, Lost};
+use crate::latch::Latch;
 use crate::metrics::Metrics;
 use crate::otlp::Clock;
-use crate::latch::Latch;
 use std::future::Future;
 use std::path::Path;
 

@@ -1,7 +1,7 @@
 //! Slots with their files in folders of their own, which come and go while posts go on.
 
-mod reach;
 mod finer_units;
+mod reach;
 
 use super::super::operators::Operate;
 use super::super::unit::tests::{no_disk, unit};
@@ -17,7 +17,7 @@ use crate::operate::{Acts, Desk, Others, Pulse};
 use crate::otlp::series::{forwarded, Value};
 use crate::otlp::{slot_of, Clock, Encoding, Outcome, Reading, Resources};
 use crate::shares::Share;
-use crate::sinks::{Address, Answer, Fate, Forwarded, Keep, Keys};
+use crate::sinks::{Address, Answer, Fate, Forwarded, Keys, Retention};
 use crate::slot::{MOVED, NO_OWNER};
 use bytes::Bytes;
 use hyper::{Body, Request};
@@ -68,7 +68,7 @@ fn settings(place: &Path) -> Settings {
         behind_proxy: false,
         of_each: Share::default(),
         sink: Address::Sqlite(PathBuf::new()),
-        keep: Keep::default(),
+        retention: Retention::default(),
         new_sink: false,
         durability: Durability::Process,
         every: Duration::from_secs(3600),
@@ -109,7 +109,12 @@ impl Service {
         let place = settings.data.clone();
         let shared = Arc::new(Shared::new(metrics.clone(), settings.clock));
         let sink = Arc::<Taken>::default();
-        let reporter = Reporter::new(settings.report_options.clone(), metrics.clone(), Arc::default(), None);
+        let reporter = Reporter::new(
+            settings.report_options.clone(),
+            metrics.clone(),
+            Arc::default(),
+            None,
+        );
         let slots = Slots::several(Resources::new(SLOTS, reading.clone()), None);
         let of_desk = operate::Units::of(SLOTS);
         let (at_work, ends) = AtWork::new(of_desk.clone());

@@ -7,7 +7,6 @@ pub mod by_hour;
 pub mod export;
 mod fault;
 mod fence;
-mod keeping;
 mod metric_rows;
 mod overlap;
 mod periods;
@@ -21,16 +20,16 @@ mod session;
 mod statements;
 mod store;
 pub mod totals;
+mod upkeep;
 mod values;
 
 pub use crate::postgres::Server;
 pub use fault::PostgresFault;
 
-use super::part::LeftOut;
+use super::left_out::LeftOut;
 use super::periods::{Deed, Told};
-use super::{Answer, Fate, Forwarded, Keep, Keys, Memory, Sink};
+use super::{Answer, Fate, Forwarded, Keys, Memory, Retention, Sink};
 use fault::NotTaken;
-use keeping::Keeper;
 use rows::Content;
 use session::Session;
 use std::sync::atomic::{AtomicBool, Ordering::Relaxed};
@@ -38,6 +37,7 @@ use std::sync::Arc;
 use std::time::Duration;
 use tokio::sync::Mutex;
 use tokio::time::timeout;
+use upkeep::Upkeep;
 
 /// How long a connection may take, and then a delivery. The server gives a statement up before.
 const PATIENCE: Duration = Duration::from_secs(30);
@@ -54,13 +54,17 @@ pub struct PostgresSink {
     was_there: Arc<AtomicBool>,
     patience: Duration,
     keys: Keys,
-    _keeper: Option<Keeper>,
+    _upkeep: Option<Upkeep>,
 }
 
 impl PostgresSink {
     /// Makes the schema where there is none. A server that does not answer now is asked again at each delivery; a
     /// schema that must not be written (of a later version, of another program, another than is remembered) is an error.
-    pub fn open(server: &Server, keep: Keep, memory: Arc<dyn Memory>) -> anyhow::Result<PostgresSink> {
+    pub fn open(
+        server: &Server,
+        retention: Retention,
+        memory: Arc<dyn Memory>,
+    ) -> anyhow::Result<PostgresSink> {
         let tried = try_once(server, memory.clone())?;
         let was_there = Arc::new(AtomicBool::new(tried.is_ok()));
         if let Err(fault) = tried {
@@ -70,7 +74,7 @@ impl PostgresSink {
             let reason = fault.to_string();
             tracing::warn!(reason, "{reason}; it is tried again at each delivery");
         }
-        let keeper = Keeper::start(server.clone(), keep, memory.clone(), was_there.clone())?;
+        let upkeep = Upkeep::start(server.clone(), retention, memory.clone(), was_there.clone())?;
         Ok(PostgresSink {
             server: server.clone(),
             name: server.to_string(),
@@ -79,7 +83,7 @@ impl PostgresSink {
             was_there,
             patience: PATIENCE,
             keys: Keys::default(),
-            _keeper: Some(keeper),
+            _upkeep: Some(upkeep),
         })
     }
 
@@ -204,7 +208,7 @@ mod tests {
             was_there: Arc::default(),
             patience: Duration::from_millis(300),
             keys: Keys::default(),
-            _keeper: None,
+            _upkeep: None,
         };
         let request = |slot| Forwarded {
             slot,

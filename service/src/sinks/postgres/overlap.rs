@@ -11,7 +11,7 @@ use super::series::StoredSeries;
 use super::store::{each, Writing};
 use super::values::Numeric;
 use crate::otlp::series::ForwardedPoint;
-use crate::sinks::part::shown;
+use crate::sinks::left_out::shown;
 use tokio_postgres::types::ToSql;
 use tokio_postgres::Row;
 
@@ -32,7 +32,11 @@ struct Before<'a> {
 impl Writing<'_> {
     /// A span that overlaps one that is there was counted before, at least in part; so it may have been where what was
     /// there is deleted.
-    pub(super) async fn overlapping(&self, all: &[OfSeries], known: &[StoredSeries]) -> Result<Refused, NotTaken> {
+    pub(super) async fn overlapping(
+        &self,
+        all: &[OfSeries],
+        known: &[StoredSeries],
+    ) -> Result<Refused, NotTaken> {
         let is_before = |(point, known): &(&ForwardedPoint, &StoredSeries)| {
             known.last_end.is_some_and(|last_end| point.start < last_end)
         };

@@ -2,7 +2,7 @@
 
 use super::fault::NotTaken;
 use crate::otlp::series::{self, ForwardedPoint, SeriesKey, Value};
-use crate::sinks::part::shown;
+use crate::sinks::left_out::shown;
 use crate::sinks::periods::Closed;
 use sha2::{Digest, Sha256};
 use std::collections::BTreeMap;

@@ -1,7 +1,7 @@
 //! The schema `totxegun` of a database: a version in it, and the steps that lead from each version to the next.
 
 use super::fault::PostgresFault;
-use super::keeping::days;
+use super::upkeep::days;
 use crate::sinks::Memory;
 use tokio_postgres::{Client, Error, GenericClient, Transaction};
 

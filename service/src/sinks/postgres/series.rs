@@ -127,7 +127,11 @@ impl Writing<'_> {
     }
 
     /// Locks the totals of those that were there, and reads where their spans end.
-    async fn lock(&self, all: &[OfSeries], mut known: Vec<StoredSeries>) -> Result<Vec<StoredSeries>, NotTaken> {
+    async fn lock(
+        &self,
+        all: &[OfSeries],
+        mut known: Vec<StoredSeries>,
+    ) -> Result<Vec<StoredSeries>, NotTaken> {
         let places: Vec<usize> = (0..all.len()).filter(|place| !known[*place].is_new).collect();
         if places.is_empty() {
             return Ok(known);

@@ -11,7 +11,7 @@ use super::series::StoredSeries;
 use super::session::{Session, Statements};
 use super::values::Numeric;
 use crate::otlp::series::ForwardedPoint;
-use crate::sinks::part::LeftOut;
+use crate::sinks::left_out::LeftOut;
 use crate::sinks::periods::Closed;
 use crate::sinks::Forwarded;
 use tokio_postgres::types::ToSql;

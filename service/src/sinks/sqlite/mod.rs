@@ -22,7 +22,7 @@ pub use fault::SqliteFault;
 pub use wide_integers::Exact;
 
 use super::periods::{Deed, Told};
-use super::{Answer, Fate, Forwarded, Keep, Keys, Memory, Sink};
+use super::{Answer, Fate, Forwarded, Keys, Memory, Retention, Sink};
 use fault::NotTaken;
 use std::path::{Path, PathBuf};
 use std::sync::mpsc::{self, RecvTimeoutError};
@@ -58,12 +58,16 @@ enum Job {
 impl SqliteSink {
     /// Opens the file, made where there is none. A file that can't be opened now is opened at a later delivery; one
     /// that must not be written (of a later version, of another program, another than is remembered) is an error.
-    pub fn open(path: &Path, keep: Keep, memory: Arc<dyn Memory>) -> Result<SqliteSink, SqliteFault> {
+    pub fn open(
+        path: &Path,
+        retention: Retention,
+        memory: Arc<dyn Memory>,
+    ) -> Result<SqliteSink, SqliteFault> {
         let mut writer = Writer {
             path: path.into(),
             store: None,
             memory,
-            upkeep: Upkeep::new(keep),
+            upkeep: Upkeep::new(retention),
             was_replaced: false,
             is_told: false,
             is_kept: true,
@@ -263,7 +267,9 @@ impl Writer {
     }
 
     fn is(&self, state: FileState) -> bool {
-        self.store.as_ref().is_some_and(|store| store.file_state() == state)
+        self.store
+            .as_ref()
+            .is_some_and(|store| store.file_state() == state)
     }
 
     fn take(&mut self, request: &Forwarded) -> Fate {

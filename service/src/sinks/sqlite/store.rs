@@ -8,7 +8,7 @@ use super::upkeep::Upkeep;
 use super::views::VIEWS;
 use super::wide_integers::Unsigned;
 use crate::otlp::series::{self, ForwardedPoint, SeriesKey};
-use crate::sinks::part::{shown, LeftOut};
+use crate::sinks::left_out::{shown, LeftOut};
 use crate::sinks::periods::{Closed, Deed, Told};
 use crate::sinks::Forwarded;
 use rusqlite::{params, Connection, OpenFlags, Transaction, TransactionBehavior};
@@ -271,7 +271,11 @@ impl Writing<'_> {
     }
 
     /// What is left, where it is not all: a request of which nothing can be added is refused as it is.
-    fn request(&mut self, request: &Forwarded, points: &[ForwardedPoint]) -> Result<Option<LeftOut>, NotTaken> {
+    fn request(
+        &mut self,
+        request: &Forwarded,
+        points: &[ForwardedPoint],
+    ) -> Result<Option<LeftOut>, NotTaken> {
         let (first_start, last) = time_of(points);
         let row = self.of(|transaction| {
             transaction

@@ -1,8 +1,8 @@
 //! What the file has behind each request; what goes wrong around it is in `trouble`.
 
 mod hours;
+mod left_out;
 mod older;
-mod part;
 mod periods;
 mod speed;
 mod trouble;
@@ -126,7 +126,7 @@ fn writer(path: &Path) -> Writer {
         path: path.into(),
         store: None,
         memory: Arc::new(()),
-        upkeep: Upkeep::new(Keep::default()),
+        upkeep: Upkeep::new(Retention::default()),
         was_replaced: false,
         is_told: false,
         is_kept: true,
@@ -343,7 +343,7 @@ fn series_differ_by_each_part() {
 async fn a_sink_has_a_thread_that_ends_with_it() {
     let folder = tempfile::tempdir().expect("a folder");
     let path = folder.path().join("totals.db");
-    let sink = SqliteSink::open(&path, Keep::default(), Arc::new(())).expect("a sink");
+    let sink = SqliteSink::open(&path, Retention::default(), Arc::new(())).expect("a sink");
     assert_eq!(sink.name(), format!("sqlite {}", path.display()));
     let bodies: Vec<Forwarded> = (1..=20)
         .map(|number| forwarded(number, sum("a", number, number + 1, 1)))

@@ -8,8 +8,8 @@ mod fill;
 use super::horizon::Horizon;
 use super::store::utc::{day_of, month_of, HOUR_NS};
 use super::wide_integers::Unsigned;
-use crate::sinks::keep::tell_of_spans;
-use crate::sinks::Keep;
+use crate::sinks::retention::tell_of_spans;
+use crate::sinks::Retention;
 use ended::Ended;
 use rusqlite::{params, Connection, OptionalExtension, Transaction, TransactionBehavior};
 use std::time::{Duration, Instant};
@@ -20,7 +20,7 @@ const STEP: usize = 5000;
 const EVERY: Duration = Duration::from_secs(10);
 
 pub(super) struct Upkeep {
-    keep: Keep,
+    retention: Retention,
     /// So many.
     pub(super) step: usize,
     ended: Ended,
@@ -28,9 +28,9 @@ pub(super) struct Upkeep {
 }
 
 impl Upkeep {
-    pub(super) fn new(keep: Keep) -> Upkeep {
+    pub(super) fn new(retention: Retention) -> Upkeep {
         Upkeep {
-            keep,
+            retention,
             step: STEP,
             ended: Ended::default(),
             due: Instant::now(),
@@ -74,17 +74,17 @@ impl Upkeep {
             return Ok(true);
         }
         let ago = |time: Duration| now.saturating_sub(u64::try_from(time.as_nanos()).unwrap_or(u64::MAX));
-        if let Some(time) = self.keep.spans {
+        if let Some(time) = self.retention.spans {
             if spans(transaction, horizon, time, ago(time), self.step)? {
                 return Ok(true);
             }
         }
-        if let Some(time) = self.keep.hours {
+        if let Some(time) = self.retention.hours {
             if hours(transaction, horizon, ago(time), self.step)? {
                 return Ok(true);
             }
         }
-        match self.keep.series {
+        match self.retention.series {
             Some(time) => self.ended.step(transaction, horizon, ago(time), self.step),
             None => Ok(false),
         }

@@ -97,9 +97,11 @@ mod tests {
             .expect("numbers");
         assert_eq!(read, numbers.map(Unsigned));
         let less: i64 = connection
-            .query_row("select count(*) from t where n < ?1", [Unsigned(u64::MAX)], |row| {
-                row.get(0)
-            })
+            .query_row(
+                "select count(*) from t where n < ?1",
+                [Unsigned(u64::MAX)],
+                |row| row.get(0),
+            )
             .expect("a count");
         assert_eq!(less, 7);
     }

@@ -3,7 +3,7 @@
 use super::*;
 use crate::core::{Across, Read};
 use crate::files::{self, Body, Durability, Folder};
-use crate::otlp::{posts_of_test, requests_of_test, Choice, Clock, Rule, FinerUnits};
+use crate::otlp::{posts_of_test, requests_of_test, Choice, Clock, FinerUnits, Rule};
 use crate::slot::posted::{self, Posted};
 use std::collections::HashSet;
 

@@ -171,7 +171,12 @@ pub(super) async fn check(servers: &[Server]) -> Result<Cluster, StoreFault> {
     all.ok_or(StoreFault::Nowhere)
 }
 
-fn check_one(found: &ClusterRow, server: &Server, servers: &[Server], place: usize) -> Result<(), StoreFault> {
+fn check_one(
+    found: &ClusterRow,
+    server: &Server,
+    servers: &[Server],
+    place: usize,
+) -> Result<(), StoreFault> {
     if found.version != KNOWN {
         return Err(StoreFault::Version {
             server: server.to_string(),

@@ -2,13 +2,13 @@
 
 use super::doubt::{Backoff, Doubt, Next};
 use super::session::Session;
-use crate::log::Seldom;
+use crate::log::RateLimit;
 use crate::postgres::Server;
 use std::sync::Arc;
 use std::time::Duration;
 use tokio::sync::Mutex;
 
-static NOT_READ: Seldom = Seldom::every(Duration::from_secs(10));
+static NOT_READ: RateLimit = RateLimit::every(Duration::from_secs(10));
 
 /// It is made when it is needed, and anew after a fault.
 pub(super) struct Shared {

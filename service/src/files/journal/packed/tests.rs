@@ -2,15 +2,15 @@
 
 use super::super::post::OfRun;
 use super::*;
-use crate::files::numbers::Numbers;
 use crate::files::records;
+use crate::files::test_random::TestRandom;
 
 const MINUTE: u64 = 60_000_000_000;
 /// A time of 2026.
 const NOW: u64 = 1_795_000_000_000_000_000;
 
 /// Any 64 bits, more often small ones.
-fn any(chance: &mut Numbers) -> u64 {
+fn any(chance: &mut TestRandom) -> u64 {
     let bits = chance.below(1 << 31) << 33 ^ chance.below(1 << 31) << 16 ^ chance.below(1 << 16);
     match chance.below(4) {
         0 => 0,
@@ -20,7 +20,7 @@ fn any(chance: &mut Numbers) -> u64 {
     }
 }
 
-fn random(chance: &mut Numbers) -> Points {
+fn random(chance: &mut TestRandom) -> Points {
     let mut points = Points::default();
     for _ in 0..chance.below(12) {
         let says: Vec<u64> = (0..chance.below(25)).map(|_| any(chance)).collect();
@@ -54,7 +54,7 @@ fn the_bytes_are_those_of_the_table() {
 }
 
 /// The same of points some of which are of runs.
-fn of_runs(chance: &mut Numbers) -> Points {
+fn of_runs(chance: &mut TestRandom) -> Points {
     let mut points = random(chance);
     points.push(any(chance), any(chance), any(chance), [any(chance)]);
     for place in 0..points.count() as u32 {
@@ -101,7 +101,7 @@ fn the_bytes_of_runs_are_those_of_the_table() {
 
 #[test]
 fn random_runs_come_back_and_changed_ones_are_none_or_of_others() {
-    let mut chance = Numbers(3);
+    let mut chance = TestRandom(3);
     for _ in 0..3_000 {
         let points = of_runs(&mut chance);
         let bytes = of(&points);
@@ -121,7 +121,7 @@ fn random_runs_come_back_and_changed_ones_are_none_or_of_others() {
 
 #[test]
 fn random_points_come_back() {
-    let mut chance = Numbers(1);
+    let mut chance = TestRandom(1);
     for _ in 0..20_000 {
         let points = random(&mut chance);
         let bytes = of(&points);
@@ -134,7 +134,7 @@ fn random_points_come_back() {
 /// So a change is refused, or it is of other points; which it is not says the record's checksum.
 #[test]
 fn each_cut_and_each_flipped_byte_is_no_points_or_the_one_form_of_some() {
-    let mut chance = Numbers(2);
+    let mut chance = TestRandom(2);
     for _ in 0..300 {
         let bytes = of(&random(&mut chance));
         for at in 0..bytes.len() {
@@ -148,7 +148,7 @@ fn each_cut_and_each_flipped_byte_is_no_points_or_the_one_form_of_some() {
 
 #[test]
 fn any_bytes_are_no_points_or_the_one_form_of_some() {
-    let mut chance = Numbers(3);
+    let mut chance = TestRandom(3);
     for _ in 0..100_000 {
         let (least, most) = [(32, 3), (32, 70), (0, 256)][chance.below(3) as usize];
         let length = chance.below(60);
@@ -198,7 +198,7 @@ fn a_number_has_one_form() {
 }
 
 /// One of the SDKs' default bounds, which are 15.
-fn histogram(points: &mut Points, number: u64, end: u64, chance: &mut Numbers) {
+fn histogram(points: &mut Points, number: u64, end: u64, chance: &mut TestRandom) {
     let mut buckets = [0; 16];
     let near = 2 + chance.below(8) as usize;
     let counts = [0, 1, 2, 3, 4].map(|_| chance.below(40));
@@ -212,7 +212,7 @@ fn histogram(points: &mut Points, number: u64, end: u64, chance: &mut Numbers) {
     );
 }
 
-fn sum(points: &mut Points, number: u64, end: u64, chance: &mut Numbers) {
+fn sum(points: &mut Points, number: u64, end: u64, chance: &mut TestRandom) {
     points.push(
         number,
         end - MINUTE - chance.below(2000),
@@ -223,7 +223,7 @@ fn sum(points: &mut Points, number: u64, end: u64, chance: &mut Numbers) {
 
 /// As the SDKs send them: each instrument has been read a little later, and its series have the same times.
 fn usual(count: u64, histograms: impl Fn(u64) -> bool) -> Points {
-    let (mut points, mut chance, mut end) = (Points::default(), Numbers(4), NOW);
+    let (mut points, mut chance, mut end) = (Points::default(), TestRandom(4), NOW);
     for number in 0..count {
         if number % 4 == 0 {
             end += 1000 + chance.below(100_000);

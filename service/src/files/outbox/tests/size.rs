@@ -39,8 +39,15 @@ fn request_ends(body: &[u8]) -> Result<Vec<(SeriesKey, u64)>, NotForwarded> {
 fn it_is_at_most_a_fifth_of_what_is_forwarded() {
     let folder = tempfile::tempdir().unwrap();
     let free_space = Arc::new(FreeSpace::new(folder.path()).unwrap());
-    let outbox =
-        Outbox::open_with(&Disk::default(), folder.path(), "e", free_space, request_ends, SEGMENT).unwrap();
+    let outbox = Outbox::open_with(
+        &Disk::default(),
+        folder.path(),
+        "e",
+        free_space,
+        request_ends,
+        SEGMENT,
+    )
+    .unwrap();
     let mut forwarded = 0;
     for round in 0..5 {
         let body = request(1000, 1_700_000_000_000_000_000 + round * 10_000_000_000);

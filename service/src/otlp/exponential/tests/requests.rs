@@ -1,9 +1,9 @@
-//! FinerUnits requests with exponential histograms, in both encodings.
+//! Whole requests with exponential histograms, in both encodings.
 
 use super::bounds;
 use crate::otlp::series::posted_with;
 use crate::otlp::{
-    explained, prepare, Cause, Causes, Clock, Encoding, Original, Prepared, Profile, Reading, FinerUnits,
+    explained, prepare, Cause, Causes, Clock, Encoding, FinerUnits, Original, Prepared, Profile, Reading,
 };
 
 fn reading(bounds: &str) -> Reading {

@@ -2,7 +2,7 @@
 
 use super::{spans, time_of, Total, Unsigned, Writing};
 use crate::otlp::series::ForwardedPoint;
-use crate::sinks::part::{LeftOut, OTHER_REQUEST};
+use crate::sinks::left_out::{LeftOut, OTHER_REQUEST};
 use crate::sinks::sqlite::fault::NotTaken;
 use crate::sinks::Forwarded;
 use rusqlite::{params, OptionalExtension, Transaction};

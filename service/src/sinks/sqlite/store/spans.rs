@@ -29,9 +29,12 @@ pub(super) fn insert(
 ) -> rusqlite::Result<()> {
     let (value, count, sum, buckets) = match &point.value {
         Value::Sum(value) => (Some(*value), None, None, None),
-        Value::Histogram { count, sum, buckets } => {
-            (None, Some(Unsigned(*count)), sum.map(Unsigned), Some(list(buckets)))
-        }
+        Value::Histogram { count, sum, buckets } => (
+            None,
+            Some(Unsigned(*count)),
+            sum.map(Unsigned),
+            Some(list(buckets)),
+        ),
     };
     transaction
         .prepare_cached(
@@ -129,7 +132,11 @@ fn within(
 }
 
 /// One of an older file, that was not moved yet.
-fn before(transaction: &Transaction, series: i64, point: &ForwardedPoint) -> rusqlite::Result<Option<StoredSpan>> {
+fn before(
+    transaction: &Transaction,
+    series: i64,
+    point: &ForwardedPoint,
+) -> rusqlite::Result<Option<StoredSpan>> {
     transaction
         .prepare_cached(
             "select span.request, span.start_ns, span.end_ns from request
@@ -137,13 +144,16 @@ fn before(transaction: &Transaction, series: i64, point: &ForwardedPoint) -> rus
              where request.has_spans and request.last_end_ns > ?2 and request.first_start_ns < ?3
              and span.series = ?1 and span.start_ns < ?3 and span.end_ns > ?2 limit 1",
         )?
-        .query_row(params![series, Unsigned(point.start), Unsigned(point.end)], |row| {
-            Ok(StoredSpan {
-                request: row.get(0)?,
-                start: row.get::<_, Unsigned>(1)?.0,
-                end: row.get::<_, Unsigned>(2)?.0,
-            })
-        })
+        .query_row(
+            params![series, Unsigned(point.start), Unsigned(point.end)],
+            |row| {
+                Ok(StoredSpan {
+                    request: row.get(0)?,
+                    start: row.get::<_, Unsigned>(1)?.0,
+                    end: row.get::<_, Unsigned>(2)?.0,
+                })
+            },
+        )
         .optional()
 }
 

@@ -96,7 +96,7 @@ fn hours_of_an_older_file_are_filled_in() {
 const NOON: u64 = 1_709_294_400_000_000_000;
 
 /// Of the first four hours no span is left, of the first two no hour, and all series but one are out of use.
-const KEEP: Keep = Keep {
+const KEEP: Retention = Retention {
     spans: Some(Duration::from_secs(34 * 3600)),
     hours: Some(Duration::from_secs(36 * 3600)),
     series: Some(Duration::from_secs(6 * 3600)),

@@ -52,9 +52,9 @@ fn a_lock_is_waited_for() {
 fn a_lock_holds_up_the_upkeep_alone() {
     let mut trial = Trial::new();
     trial.taken(1, sum("a", 10, 20, 1));
-    trial.writer.upkeep = Upkeep::new(Keep {
+    trial.writer.upkeep = Upkeep::new(Retention {
         spans: Some(Duration::from_secs(1)),
-        ..Keep::default()
+        ..Retention::default()
     });
     let other = Connection::open(trial.path()).expect("open");
     other.execute_batch("begin immediate").expect("a lock");
@@ -195,7 +195,7 @@ fn a_damaged_file_is_told_and_waited_for() {
     .expect("a file");
     trial.again(1, sum("a", 10, 20, 1), "no SQLite database");
     assert!(
-        SqliteSink::open(&trial.path(), Keep::default(), Arc::new(())).is_ok(),
+        SqliteSink::open(&trial.path(), Retention::default(), Arc::new(())).is_ok(),
         "the service starts all the same"
     );
     std::fs::remove_file(trial.path()).expect("away");
@@ -217,7 +217,7 @@ fn a_later_schema_is_refused_by_name_and_left_alone() {
     trial.taken(1, sum("a", 10, 20, 1));
     trial.writer.store = None;
     trial.ask("pragma user_version = 5");
-    let error = SqliteSink::open(&trial.path(), Keep::default(), Arc::new(()))
+    let error = SqliteSink::open(&trial.path(), Retention::default(), Arc::new(()))
         .err()
         .expect("it is later")
         .to_string();

@@ -13,7 +13,7 @@ fn days(days: u64) -> Option<Duration> {
 }
 
 impl Trial {
-    pub(super) fn keep(&mut self, keep: Keep) {
+    pub(super) fn keep(&mut self, keep: Retention) {
         self.writer.upkeep = Upkeep::new(keep);
     }
 
@@ -53,9 +53,9 @@ fn two_days(trial: &mut Trial) {
 fn spans_that_are_too_old_are_deleted_and_counted_once() {
     let mut trial = Trial::new();
     two_days(&mut trial);
-    trial.keep(Keep {
+    trial.keep(Retention {
         spans: days(1),
-        ..Keep::default()
+        ..Retention::default()
     });
     let (before, total) = (view(&trial, "hour"), trial.totals());
     // The first 24 ended by then, the last of them at this very moment.
@@ -101,9 +101,9 @@ fn of_a_part_that_was_left_its_number_is_known_for_ever() {
         trial.take(2, both.clone()),
         Fate::TakenPartly { left: Some(_), .. }
     ));
-    trial.keep(Keep {
+    trial.keep(Retention {
         spans: days(1),
-        ..Keep::default()
+        ..Retention::default()
     });
     trial.keep_up(DAY + 1000);
     assert_eq!(trial.ask("select count(*) from span"), "0");
@@ -122,9 +122,9 @@ fn hours_that_are_too_old_are_deleted_and_stay_away() {
             sum("a", october + hour * HOUR, october + (hour + 1) * HOUR, 1),
         );
     }
-    trial.keep(Keep {
+    trial.keep(Retention {
         hours: days(10),
-        ..Keep::default()
+        ..Retention::default()
     });
     let rows =
         |trial: &Trial, unit: &str| trial.ask(&format!("select {unit}, total from by_{unit} order by 1"));
@@ -165,9 +165,9 @@ fn a_series_out_of_use_loses_its_spans() {
     }
     trial.taken(200, sum("c", NOVEMBER + 47 * HOUR, NOVEMBER + 48 * HOUR, 7));
     let before = (view(&trial, "hour"), trial.totals());
-    let keep = Keep {
+    let keep = Retention {
         series: days(1),
-        ..Keep::default()
+        ..Retention::default()
     };
     trial.keep(keep);
     assert!(trial.keep_up(NOVEMBER + 2 * DAY) > 3);
@@ -198,9 +198,9 @@ fn a_file_put_in_the_place_of_another_loses_nothing() {
         }
     };
     twenty(&mut trial, "former");
-    trial.keep(Keep {
+    trial.keep(Retention {
         series: days(1),
-        ..Keep::default()
+        ..Retention::default()
     });
     let now = NOVEMBER + 2 * DAY;
     assert!(trial.step(now) && trial.step(now));
@@ -217,9 +217,9 @@ fn a_file_put_in_the_place_of_another_loses_nothing() {
 fn a_clock_that_was_ahead_leaves_out_nothing_that_comes() {
     let mut trial = Trial::new();
     two_days(&mut trial);
-    trial.keep(Keep {
+    trial.keep(Retention {
         hours: days(10),
-        ..Keep::default()
+        ..Retention::default()
     });
     trial.keep_up(NOVEMBER + 4000 * DAY);
     let hours = "select hour, total from by_hour order by 1";
@@ -234,9 +234,9 @@ fn a_clock_that_was_ahead_leaves_out_nothing_that_comes() {
 #[tokio::test]
 async fn deliveries_go_on_while_much_is_deleted() {
     let trial = much();
-    let keep = Keep {
+    let keep = Retention {
         spans: days(35),
-        ..Keep::default()
+        ..Retention::default()
     };
     let sink = SqliteSink::open(&trial.path(), keep, Arc::new(())).expect("a sink");
     let left = || {

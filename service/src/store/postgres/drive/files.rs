@@ -79,7 +79,11 @@ pub enum Read {
 impl Files {
     /// The files that a new owner finds. `pieces` are in the order of their numbers. Its own numbers begin with its
     /// term, so none is used twice, also where the greatest are gone.
-    pub fn found(term: u64, names: Vec<(u64, String)>, pieces: impl IntoIterator<Item = StoredPiece>) -> Files {
+    pub fn found(
+        term: u64,
+        names: Vec<(u64, String)>,
+        pieces: impl IntoIterator<Item = StoredPiece>,
+    ) -> Files {
         let mut files = Files {
             next: term << NUMBERS,
             queued: term << NUMBERS,

@@ -1,8 +1,8 @@
 //! The files in memory against a map, over rows that are written twice now and then, and found by a next owner.
 
-use super::files::{Batch, Bytes, Files, StoredPiece, Read};
+use super::files::{Batch, Bytes, Files, Read, StoredPiece};
 use super::packed::{unpacked, Packed};
-use crate::files::numbers::Numbers;
+use crate::files::test_random::TestRandom;
 use std::collections::BTreeMap;
 use std::path::{Path, PathBuf};
 
@@ -66,7 +66,7 @@ struct Trial {
     /// A batch that is on its way, and what there was when it began.
     sent: Option<(Batch, BTreeMap<PathBuf, Vec<u8>>)>,
     term: u64,
-    chance: Numbers,
+    chance: TestRandom,
 }
 
 impl Trial {
@@ -203,7 +203,7 @@ fn files_are_as_a_map_has_them_whatever_is_repeated_or_lost() {
             synced: BTreeMap::new(),
             sent: None,
             term: 1,
-            chance: Numbers(seed),
+            chance: TestRandom(seed),
         };
         (0..400).for_each(|_| trial.step());
     }

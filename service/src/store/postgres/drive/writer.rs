@@ -3,7 +3,7 @@
 use super::files::{Batch, Files, StoredPiece};
 use super::packed::{Columns, Packed};
 use crate::files::drive::Lost;
-use crate::log::Seldom;
+use crate::log::RateLimit;
 use crate::postgres::Server;
 use crate::store::postgres::counts::Counts;
 use crate::store::postgres::doubt::{Backoff, Doubt, Next};
@@ -26,7 +26,7 @@ const NAMES: &str = "select file, name from totxegun_store.file where slot = $1"
 const PIECES: &str =
     "select number, file, place, length from totxegun_store.piece where slot = $1 order by number";
 
-static IN_DOUBT: Seldom = Seldom::every(Duration::from_secs(10));
+static IN_DOUBT: RateLimit = RateLimit::every(Duration::from_secs(10));
 
 /// Who writes a slot, under a term and, on each connection, a link.
 pub struct Writer {

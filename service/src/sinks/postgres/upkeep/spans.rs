@@ -3,7 +3,7 @@
 //! The horizon is written down first: what begins before it, and before its series' last end, is never added again.
 
 use super::STEP;
-use crate::sinks::keep::tell_of_spans;
+use crate::sinks::retention::tell_of_spans;
 use std::time::Duration;
 use tokio_postgres::{Client, Error};
 

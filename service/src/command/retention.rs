@@ -1,7 +1,7 @@
 //! Options that say how long a database keeps what it has.
 
 use super::values::{time_or_forever, MayBeForever};
-use crate::sinks::{Address, Keep};
+use crate::sinks::{Address, Retention};
 use anyhow::{bail, Result};
 use clap::Args;
 use std::time::Duration;
@@ -11,7 +11,7 @@ const SPANS: MayBeForever = MayBeForever(Some(Duration::from_secs(35 * 86_400)))
 
 #[derive(Args)]
 #[command(next_help_heading = "Options of a SQLite or PostgreSQL sink")]
-pub(super) struct OfKeeping {
+pub(super) struct OfRetention {
     /// How long the sink keeps spans (a row a flush and series), or `forever` [default: 35d]
     #[arg(long, env = "TOTXEGUN_KEEP_SPANS", value_name = "TIME", value_parser = time_or_forever)]
     keep_spans: Option<MayBeForever>,
@@ -23,15 +23,15 @@ pub(super) struct OfKeeping {
     keep_series: Option<MayBeForever>,
 }
 
-impl OfKeeping {
+impl OfRetention {
     /// What an OTLP sink keeps is its own matter: for it these options are a mistake.
-    pub fn keep(self, sink: &Address) -> Result<Keep> {
+    pub fn retention(self, sink: &Address) -> Result<Retention> {
         let all = [self.keep_spans, self.keep_hours, self.keep_series];
         if matches!(sink, Address::Otlp { .. }) && all.iter().any(Option::is_some) {
             bail!("--keep-spans, --keep-hours and --keep-series are for a sink of SQLite or PostgreSQL: leave them out");
         }
         let [spans, hours, series] = all;
-        Ok(Keep {
+        Ok(Retention {
             spans: spans.unwrap_or(SPANS).0,
             hours: hours.and_then(|hours| hours.0),
             series: series.and_then(|series| series.0),
@@ -45,11 +45,11 @@ mod tests {
     use crate::command::Line;
     use clap::{CommandFactory, FromArgMatches};
 
-    fn keep(sink: &str, options: &[&str]) -> Result<Keep> {
+    fn keep(sink: &str, options: &[&str]) -> Result<Retention> {
         let line = [&["totxegun", "serve", "--data", "d"], options].concat();
         let found = Line::command().try_get_matches_from(line)?;
         let (_, serve) = found.subcommand().unwrap();
-        OfKeeping::from_arg_matches(serve)?.keep(&sink.parse()?)
+        OfRetention::from_arg_matches(serve)?.retention(&sink.parse()?)
     }
 
     const DAY: u64 = 86_400;
@@ -58,9 +58,9 @@ mod tests {
     fn spans_go_after_35_days_and_the_rest_stays() {
         let days = |days| Some(Duration::from_secs(days * DAY));
         let found = keep("sqlite:a", &[]).unwrap();
-        let wanted = Keep {
+        let wanted = Retention {
             spans: days(35),
-            ..Keep::default()
+            ..Retention::default()
         };
         assert_eq!(found, wanted);
         let options = [
@@ -72,7 +72,7 @@ mod tests {
             "48h",
         ];
         let found = keep("postgres://u@h/d", &options).unwrap();
-        let wanted = Keep {
+        let wanted = Retention {
             spans: None,
             hours: days(730),
             series: days(2),

@@ -15,7 +15,7 @@ use super::fault::PostgresFault;
 use super::Server;
 use super::{schema, session};
 use crate::postgres::shown;
-use crate::sinks::{Keep, Memory};
+use crate::sinks::{Memory, Retention};
 use std::sync::atomic::{AtomicBool, Ordering::Relaxed};
 use std::sync::Arc;
 use std::thread::JoinHandle;
@@ -38,19 +38,19 @@ const LOCK: i64 = schema::LOCK + 1;
 const STEP: i64 = 10_000;
 
 /// A thread that goes on until this is dropped.
-pub(super) struct Keeper {
+pub(super) struct Upkeep {
     stop: Option<oneshot::Sender<()>>,
     thread: Option<JoinHandle<()>>,
 }
 
-impl Keeper {
+impl Upkeep {
     /// It touches nothing before `was_there` says that the sink is the one that is remembered.
     pub(super) fn start(
         server: Server,
-        keep: Keep,
+        retention: Retention,
         memory: Arc<dyn Memory>,
         was_there: Arc<AtomicBool>,
-    ) -> std::io::Result<Keeper> {
+    ) -> std::io::Result<Upkeep> {
         let runtime = tokio::runtime::Builder::new_current_thread()
             .enable_all()
             .build()?;
@@ -58,18 +58,18 @@ impl Keeper {
         let rounds = async move {
             tokio::select! {
                 _ = stopped => {}
-                () = rounds(&server, keep, &*memory, &was_there) => {}
+                () = rounds(&server, retention, &*memory, &was_there) => {}
             }
         };
         let thread = std::thread::Builder::new().name("postgres keeper".into());
-        Ok(Keeper {
+        Ok(Upkeep {
             stop: Some(stop),
             thread: Some(thread.spawn(move || runtime.block_on(rounds))?),
         })
     }
 }
 
-impl Drop for Keeper {
+impl Drop for Upkeep {
     /// A step that is under way is undone by the server, once it sees that its client is gone.
     fn drop(&mut self) {
         drop(self.stop.take());
@@ -77,7 +77,7 @@ impl Drop for Keeper {
     }
 }
 
-async fn rounds(server: &Server, keep: Keep, memory: &dyn Memory, was_there: &AtomicBool) {
+async fn rounds(server: &Server, retention: Retention, memory: &dyn Memory, was_there: &AtomicBool) {
     let (mut wait, mut told) = (FIRST, None);
     let mut reader = reader::Reader::default();
     loop {
@@ -86,7 +86,7 @@ async fn rounds(server: &Server, keep: Keep, memory: &dyn Memory, was_there: &At
             continue;
         }
         wait = PAUSE;
-        let fault = round(server, keep, memory, &mut reader).await.err();
+        let fault = round(server, retention, memory, &mut reader).await.err();
         let reason = fault.map(|fault| fault.to_string());
         if let Some(reason) = reason.as_ref().filter(|_| told != reason) {
             tracing::warn!(
@@ -101,7 +101,7 @@ async fn rounds(server: &Server, keep: Keep, memory: &dyn Memory, was_there: &At
 /// Whatever fails, the others are tried: a lock that somebody keeps holds up one of them.
 async fn round(
     server: &Server,
-    keep: Keep,
+    retention: Retention,
     memory: &dyn Memory,
     reader: &mut reader::Reader,
 ) -> Result<(), PostgresFault> {
@@ -116,9 +116,9 @@ async fn round(
         reader.let_in(&client, &name).await,
         days::make(&mut client).await,
         filling::fill(&mut client, &name).await,
-        spans::delete(&mut client, keep.spans).await,
-        hours::delete(&client, keep.hours).await,
-        ending::delete(&client, keep.series).await,
+        spans::delete(&mut client, retention.spans).await,
+        hours::delete(&client, retention.hours).await,
+        ending::delete(&client, retention.series).await,
         days::summarize(&client).await,
     ];
     all.into_iter().collect::<Result<(), Error>>().map_err(fault)

@@ -16,7 +16,7 @@ const NOT_MINE: &str = "not mine";
 const MOST: usize = 256 << 10;
 
 #[derive(Debug, PartialEq)]
-pub(super) enum Said {
+pub(super) enum OwnerAnswer {
     /// Nothing was taken.
     NotMine,
     Outcome(Outcome),
@@ -110,15 +110,15 @@ pub(super) async fn read_bytes(response: Response<Body>, most: usize) -> Result<
 }
 
 /// All of an answer.
-pub(super) async fn read(response: Response<Body>) -> Result<Said, Broken> {
+pub(super) async fn read(response: Response<Body>) -> Result<OwnerAnswer, Broken> {
     if !is_answer(&response)? {
-        return Ok(Said::NotMine);
+        return Ok(OwnerAnswer::NotMine);
     }
     let status = response.status().as_u16();
     let seconds = head(&response, RETRY_AFTER.as_str()).and_then(|text| text.parse().ok());
     let bytes = body_of(response, MOST).await?;
     let words = serde_json::from_slice(&bytes).map_err(|_| Broken::Strange(status))?;
-    Ok(Said::Outcome(outcome(status, seconds, words)))
+    Ok(OwnerAnswer::Outcome(outcome(status, seconds, words)))
 }
 
 fn outcome(status: u16, seconds: Option<u64>, words: Words) -> Outcome {

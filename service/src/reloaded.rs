@@ -42,16 +42,16 @@ impl<T> Reader<T> {
 }
 
 /// What the files had when they were last found to be sound.
-pub struct Renewed<T>(RwLock<Arc<T>>);
+pub struct Reloaded<T>(RwLock<Arc<T>>);
 
-impl<T: Send + Sync + 'static> Renewed<T> {
+impl<T: Send + Sync + 'static> Reloaded<T> {
     /// Reads the files, each with its option, that are used together, and goes on looking at them until what is returned is
     /// dropped. The first option stands for all.
     pub fn open(
         files: Vec<(&'static str, PathBuf)>,
         reader: Reader<T>,
         metrics: &Metrics,
-    ) -> anyhow::Result<Arc<Renewed<T>>> {
+    ) -> anyhow::Result<Arc<Reloaded<T>>> {
         let option = files.first().map_or("", |(option, _)| *option);
         let mut files = Files {
             files,
@@ -66,13 +66,13 @@ impl<T: Send + Sync + 'static> Renewed<T> {
         files.seen = files.judged.clone();
         let first = all(contents).and_then(|contents| files.reader.at_start(&contents));
         let first = first.map_err(|why| anyhow!("{option} can't be used: {why}"))?;
-        let renewed = Arc::new(Renewed(RwLock::new(Arc::new(first))));
-        files.into = Arc::downgrade(&renewed);
+        let reloaded = Arc::new(Reloaded(RwLock::new(Arc::new(first))));
+        files.into = Arc::downgrade(&reloaded);
         std::thread::Builder::new()
             .name(option.trim_matches('-').to_string())
             .spawn(move || while files.look() {})
             .context("no thread could be started")?;
-        Ok(renewed)
+        Ok(reloaded)
     }
 
     pub fn now(&self) -> Arc<T> {
@@ -97,7 +97,7 @@ struct Files<T> {
     /// What the last look found.
     seen: Digests,
     stale: IntGauge,
-    into: Weak<Renewed<T>>,
+    into: Weak<Reloaded<T>>,
 }
 
 impl<T: Send + Sync + 'static> Files<T> {
@@ -127,7 +127,7 @@ impl<T: Send + Sync + 'static> Files<T> {
         options.join(", ")
     }
 
-    fn judge(&self, contents: Contents, option: &str, into: &Renewed<T>) {
+    fn judge(&self, contents: Contents, option: &str, into: &Reloaded<T>) {
         match all(contents).and_then(|contents| (self.reader.read)(&contents)) {
             Ok(new) => {
                 match (self.reader.shut)(&new) {
@@ -187,7 +187,7 @@ mod tests {
     use std::time::Instant;
 
     /// A file of a number.
-    fn number(path: &Path, metrics: &Metrics) -> anyhow::Result<Arc<Renewed<u64>>> {
+    fn number(path: &Path, metrics: &Metrics) -> anyhow::Result<Arc<Reloaded<u64>>> {
         let read = |contents: &[Vec<u8>]| {
             let text = String::from_utf8_lossy(&contents[0]);
             text.parse().map_err(|_| "write a number".to_string())
@@ -196,7 +196,7 @@ mod tests {
             read: Box::new(read),
             shut: |number| (*number == 0).then_some("0 is none: write another number"),
         };
-        Renewed::open(vec![("--number", path.into())], reader, metrics)
+        Reloaded::open(vec![("--number", path.into())], reader, metrics)
     }
 
     fn is_within(time: Duration, is_so: impl Fn() -> bool) -> bool {
@@ -223,18 +223,18 @@ mod tests {
         let refused = number(&path, &metrics).err().unwrap().to_string();
         assert_eq!(refused, "--number can't be used: write a number");
         std::fs::write(&path, "1").unwrap();
-        let renewed = number(&path, &metrics).unwrap();
+        let reloaded = number(&path, &metrics).unwrap();
         let stale = metrics.stale_files.with_label_values(&["--number"]);
         let second = Duration::from_secs(1);
-        assert_eq!((*renewed.now(), stale.get()), (1, 0));
+        assert_eq!((*reloaded.now(), stale.get()), (1, 0));
         std::fs::write(&path, "2").unwrap();
-        assert!(is_within(second, || *renewed.now() == 2));
+        assert!(is_within(second, || *reloaded.now() == 2));
         std::fs::write(&path, "two").unwrap();
         assert!(is_within(second, || stale.get() == 1));
-        assert_eq!(*renewed.now(), 2);
+        assert_eq!(*reloaded.now(), 2);
         std::fs::remove_file(&path).unwrap();
         std::thread::sleep(4 * LOOK);
-        assert_eq!((*renewed.now(), stale.get()), (2, 1));
+        assert_eq!((*reloaded.now(), stale.get()), (2, 1));
         std::fs::write(&path, "2").unwrap();
         assert!(is_within(second, || stale.get() == 0));
     }
@@ -247,9 +247,9 @@ mod tests {
         let refused = number(&path, &metrics).err().unwrap().to_string();
         assert_eq!(refused, "--number can't be used: 0 is none: write another number");
         std::fs::write(&path, "1").unwrap();
-        let renewed = number(&path, &metrics).unwrap();
+        let reloaded = number(&path, &metrics).unwrap();
         std::fs::write(&path, "0").unwrap();
-        assert!(is_within(Duration::from_secs(1), || *renewed.now() == 0));
+        assert!(is_within(Duration::from_secs(1), || *reloaded.now() == 0));
     }
 
     #[test]
@@ -268,16 +268,16 @@ mod tests {
             stale: metrics.stale_files.with_label_values(&["--number"]),
             into: Weak::new(),
         };
-        let renewed = Arc::new(Renewed(RwLock::new(Arc::new(b"0".to_vec()))));
-        files.into = Arc::downgrade(&renewed);
+        let reloaded = Arc::new(Reloaded(RwLock::new(Arc::new(b"0".to_vec()))));
+        files.into = Arc::downgrade(&reloaded);
         for text in ["12", "123", "1234"] {
             assert!(files.look());
-            assert_eq!(*renewed.now(), b"0");
+            assert_eq!(*reloaded.now(), b"0");
             std::fs::write(&path, text).unwrap();
         }
         assert!(files.look() && files.look());
-        assert_eq!(*renewed.now(), b"1234");
-        drop(renewed);
+        assert_eq!(*reloaded.now(), b"1234");
+        drop(reloaded);
         assert!(!files.look());
     }
 

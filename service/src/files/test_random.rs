@@ -1,9 +1,9 @@
 //! Numbers for tests that try many orders of calls.
 
 /// A small generator: the same numbers in each run.
-pub(crate) struct Numbers(pub u64);
+pub(crate) struct TestRandom(pub u64);
 
-impl Numbers {
+impl TestRandom {
     pub fn below(&mut self, end: u64) -> u64 {
         self.0 = self
             .0

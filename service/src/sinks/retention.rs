@@ -6,7 +6,7 @@ use std::time::Duration;
 /// What ended longer ago is deleted in the background; what is `None` is kept for ever. What a series comes to, and the
 /// keys of requests, are always kept: so nothing that was deleted is counted again.
 #[derive(Clone, Copy, Debug, Default, PartialEq, Eq)]
-pub struct Keep {
+pub struct Retention {
     /// Of spans.
     pub spans: Option<Duration>,
     /// Of rows of `hour`.

@@ -11,7 +11,7 @@ use std::thread;
 /// So many wait, or are under way, for each thread.
 const FOR_A_THREAD: usize = 8;
 
-pub struct Line<T> {
+pub struct WorkQueue<T> {
     most: usize,
     state: Mutex<State<T>>,
     /// Something came, or nothing comes any more.
@@ -35,15 +35,15 @@ struct State<T> {
     wanted: Option<usize>,
 }
 
-/// Gives `work` each that `give` puts into the line, side by side, and then `put`, in order, until that fails. Returns once all
+/// Gives `work` each that `give` puts into the queue, side by side, and then `put`, in order, until that fails. Returns once all
 /// is done, with the first fault of `put`, or else that of `give`.
-pub fn in_line<T: Send, E: Send>(
+pub fn in_order<T: Send, E: Send>(
     work: impl Fn(&mut T) + Sync,
     put: impl FnMut(T) -> Result<(), E> + Send,
-    give: impl FnOnce(&Line<T>) -> Result<(), E>,
+    give: impl FnOnce(&WorkQueue<T>) -> Result<(), E>,
 ) -> Result<(), E> {
     let threads = threads();
-    let line = Line::new(FOR_A_THREAD * threads);
+    let queue = WorkQueue::new(FOR_A_THREAD * threads);
     let putting = Mutex::new((put, Ok(())));
     let put_one = |one| {
         let (put, ended) = &mut *locked(&putting);
@@ -52,10 +52,10 @@ pub fn in_line<T: Send, E: Send>(
     };
     let given = thread::scope(|scope| {
         for _ in 0..threads {
-            scope.spawn(|| line.work(&work, &put_one));
+            scope.spawn(|| queue.work(&work, &put_one));
         }
-        let _end = End(&line);
-        give(&line)
+        let _end = End(&queue);
+        give(&queue)
     });
     let (_, ended) = putting.into_inner().unwrap_or_else(PoisonError::into_inner);
     ended.and(given)
@@ -66,9 +66,9 @@ fn locked<T>(mutex: &Mutex<T>) -> MutexGuard<'_, T> {
     mutex.lock().unwrap_or_else(PoisonError::into_inner)
 }
 
-impl<T> Line<T> {
-    fn new(most: usize) -> Line<T> {
-        Line {
+impl<T> WorkQueue<T> {
+    fn new(most: usize) -> WorkQueue<T> {
+        WorkQueue {
             most,
             state: Mutex::new(State {
                 waiting: VecDeque::new(),
@@ -207,7 +207,7 @@ impl<T> State<T> {
 }
 
 /// Nothing comes any more once this is dropped.
-struct End<'l, T>(&'l Line<T>);
+struct End<'l, T>(&'l WorkQueue<T>);
 
 impl<T> Drop for End<'_, T> {
     fn drop(&mut self) {
@@ -216,7 +216,7 @@ impl<T> Drop for End<'_, T> {
 }
 
 /// Else others would wait for what a thread that panics had.
-struct StopByPanic<'l, T>(&'l Line<T>);
+struct StopByPanic<'l, T>(&'l WorkQueue<T>);
 
 impl<T> Drop for StopByPanic<'_, T> {
     fn drop(&mut self) {
@@ -249,11 +249,11 @@ mod tests {
                 all.push(number);
                 Ok::<(), ()>(())
             };
-            let give = |line: &Line<_>| {
-                assert!((0..count).all(|number| line.push((number, false))));
+            let give = |queue: &WorkQueue<_>| {
+                assert!((0..count).all(|number| queue.push((number, false))));
                 Ok(())
             };
-            assert_eq!(in_line(work, put, give), Ok(()));
+            assert_eq!(in_order(work, put, give), Ok(()));
             assert!(all.into_iter().eq(0..count), "{count}");
         }
     }
@@ -265,11 +265,11 @@ mod tests {
             assert_eq!(put.fetch_add(1, SeqCst), number);
             (number < 100).then_some(()).ok_or(number)
         };
-        let give = |line: &Line<_>| {
-            while line.push((given.fetch_add(1, SeqCst), false)) {}
+        let give = |queue: &WorkQueue<_>| {
+            while queue.push((given.fetch_add(1, SeqCst), false)) {}
             Err(usize::MAX)
         };
-        assert_eq!(in_line(work, put_one, give), Err(100));
+        assert_eq!(in_order(work, put_one, give), Err(100));
         assert_eq!(put.load(SeqCst), 101);
         assert!(given.load(SeqCst) <= 100 + FOR_A_THREAD * threads() + 2);
     }
@@ -281,17 +281,17 @@ mod tests {
             put.fetch_add(1, SeqCst);
             Ok::<(), ()>(())
         };
-        let give = |line: &Line<_>| {
+        let give = |queue: &WorkQueue<_>| {
             for number in 0..100 {
-                line.push((number, false));
+                queue.push((number, false));
                 if number % 10 == 0 {
-                    line.wait_until_empty();
+                    queue.wait_until_empty();
                     assert_eq!(put.load(SeqCst), number + 1);
                 }
             }
             Ok(())
         };
-        assert_eq!(in_line(work, put_one, give), Ok(()));
+        assert_eq!(in_order(work, put_one, give), Ok(()));
         assert_eq!(put.load(SeqCst), 100);
     }
 
@@ -299,10 +299,10 @@ mod tests {
     #[should_panic(expected = "a scoped thread panicked")]
     fn a_panic_of_one_ends_all() {
         let work = |number: &mut usize| assert!(*number < 50);
-        let give = |line: &Line<_>| {
-            while line.push(100) {}
+        let give = |queue: &WorkQueue<_>| {
+            while queue.push(100) {}
             Ok::<(), ()>(())
         };
-        let _ = in_line(work, |_| Ok(()), give);
+        let _ = in_order(work, |_| Ok(()), give);
     }
 }

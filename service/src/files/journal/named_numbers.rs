@@ -6,12 +6,12 @@ use crate::files::records;
 
 /// The numbers that a segment has named: a bit each, so an eighth of a byte of each name that there is.
 #[derive(Default)]
-pub(super) struct Said {
+pub(super) struct NamedNumbers {
     generation: u64,
     numbers: Vec<u64>,
 }
 
-impl Said {
+impl NamedNumbers {
     /// Names that have to be ahead of these points, as records.
     pub fn say(&mut self, points: &Points, names: &dyn Names) -> Vec<u8> {
         if self.generation != names.generation() {
@@ -53,7 +53,7 @@ mod tests {
 
     #[test]
     fn a_million_names_that_were_said_take_an_eighth_of_a_byte_each() {
-        let (mut said, mut points) = (Said::default(), Points::default());
+        let (mut said, mut points) = (NamedNumbers::default(), Points::default());
         points.push(999_999, 0, 1, [7]);
         assert!(!said.say(&points, &NoNames).is_empty());
         assert!(said.say(&points, &NoNames).is_empty(), "once");

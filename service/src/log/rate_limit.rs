@@ -4,19 +4,19 @@ use std::sync::{Mutex, PoisonError};
 use std::time::{Duration, Instant};
 
 /// Once in so long at most.
-pub struct Seldom {
+pub struct RateLimit {
     between: Duration,
     last: Mutex<Option<Instant>>,
 }
 
-impl Seldom {
+impl RateLimit {
     /// Once a second.
-    pub const fn new() -> Seldom {
-        Seldom::every(Duration::from_secs(1))
+    pub const fn new() -> RateLimit {
+        RateLimit::every(Duration::from_secs(1))
     }
 
-    pub const fn every(between: Duration) -> Seldom {
-        Seldom {
+    pub const fn every(between: Duration) -> RateLimit {
+        RateLimit {
             between,
             last: Mutex::new(None),
         }
@@ -43,8 +43,8 @@ mod tests {
 
     #[test]
     fn once_a_second() {
-        let (seldom, begun) = (Seldom::new(), Instant::now());
-        let told = |millis| seldom.is_due_at(begun + Duration::from_millis(millis));
+        let (rate_limit, begun) = (RateLimit::new(), Instant::now());
+        let told = |millis| rate_limit.is_due_at(begun + Duration::from_millis(millis));
         assert_eq!(
             [0, 1, 999, 1000, 1500, 2000, 9000].map(told),
             [true, false, false, true, false, true, true]

@@ -10,7 +10,7 @@ const PATIENCE: Duration = Duration::from_secs(2);
 
 /// As it was found last, and told.
 #[derive(Default)]
-pub(super) struct Told(AtomicBool);
+pub(super) struct Stall(AtomicBool);
 
 impl Slot {
     /// How long the call of the disk that began first has been under way; zero where none is. Never waits.

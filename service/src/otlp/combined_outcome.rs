@@ -26,7 +26,7 @@ pub struct OfPart {
 }
 
 /// What the sender of a request is answered of which these are all parts, in the order of their first resources.
-pub fn together(parts: &[OfPart], reading: &Reading) -> Outcome {
+pub fn combined(parts: &[OfPart], reading: &Reading) -> Outcome {
     if let Some(again) = again(parts) {
         return again.clone();
     }

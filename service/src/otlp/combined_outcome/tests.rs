@@ -41,7 +41,7 @@ fn part(outcome: Outcome, resources: &[(u32, usize)]) -> OfPart {
 }
 
 fn said(parts: &[OfPart]) -> (u16, u64, String) {
-    match together(parts, &Reading::default()) {
+    match combined(parts, &Reading::default()) {
         Outcome::Taken {
             rejected, message, ..
         } => (200, rejected, message.unwrap_or_default()),
@@ -55,7 +55,7 @@ fn all_that_is_taken_is_taken() {
         part(Outcome::taken(0), &[(0, 2)]),
         part(Outcome::taken(0), &[(1, 3)]),
     ];
-    assert_eq!(together(&both, &Reading::default()), Outcome::taken(0));
+    assert_eq!(combined(&both, &Reading::default()), Outcome::taken(0));
 }
 
 /// Else a sender would drop what was not taken.
@@ -74,14 +74,14 @@ fn what_may_be_taken_later_makes_all_of_it_to_be_sent_again() {
     ] {
         for (again, wanted) in [(busy.clone(), 503), (later(7), 429)] {
             let parts = [part(others.clone(), &[(0, 2)]), part(again.clone(), &[(1, 2)])];
-            assert_eq!(together(&parts, &Reading::default()), again);
+            assert_eq!(combined(&parts, &Reading::default()), again);
             assert_eq!(said(&parts).0, wanted);
         }
     }
     let all = [later(3), busy.clone(), later(9)].map(|outcome| part(outcome, &[(0, 2)]));
-    assert_eq!(together(&all, &Reading::default()), busy);
+    assert_eq!(combined(&all, &Reading::default()), busy);
     let both = [later(3), later(9)].map(|outcome| part(outcome, &[(0, 2)]));
-    assert_eq!(together(&both, &Reading::default()), later(9));
+    assert_eq!(combined(&both, &Reading::default()), later(9));
 }
 
 /// Else a sender whose answer was lost would take its repeat for lost.

@@ -10,7 +10,7 @@ const ENTRIES: usize = 2;
 impl Book {
     /// Of these points of a post by number, by their places, those that are out of order each by itself: the place, and where
     /// its series ends. Nothing changes. Where no round has room for more tries, the rest is not tried.
-    pub fn beyond(&mut self, read: &mut Read, places: &[u32]) -> Vec<(u32, u64)> {
+    pub fn out_of_order(&mut self, read: &mut Read, places: &[u32]) -> Vec<(u32, u64)> {
         let mut found = Vec::new();
         for (place, point) in single(read, places) {
             if !self.rounds.have_room_for(ENTRIES) {
