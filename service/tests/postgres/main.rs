@@ -31,8 +31,13 @@ fn open(address: &str) -> std::sync::Arc<dyn Sink> {
     open_with(address, Retention::default())
 }
 
-fn open_with(address: &str, keep: Keep) -> std::sync::Arc<dyn Sink> {
-    sinks::open(&address.parse().expect(address), keep, std::sync::Arc::new(())).expect(address)
+fn open_with(address: &str, retention: Retention) -> std::sync::Arc<dyn Sink> {
+    sinks::open(
+        &address.parse().expect(address),
+        retention,
+        std::sync::Arc::new(()),
+    )
+    .expect(address)
 }
 
 async fn taken(sink: &dyn Sink, number: u64, body: String) {

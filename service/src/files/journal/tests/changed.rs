@@ -88,7 +88,7 @@ fn a_segment_that_is_missing_or_another_file_is_named() {
         let folder = place();
         let sound = killed(folder.path(), durability);
         let path = segment::path(folder.path(), 1);
-        let mut numbers = Numbers(3);
+        let mut numbers = TestRandom(3);
         let noise: Vec<u8> = (0..70_000).map(|_| numbers.below(256) as u8).collect();
         let other = [&sound[..1], &sound[..]].concat();
         for (what, found) in [

@@ -264,7 +264,7 @@ fn queues(journal: &Journal, first: u64) -> Queues {
 
 /// A run of checkpoints, of which the power is lost in the last one: the first segment that counts, what it has, and
 /// how much of that was durable.
-fn run(folder: &Path, left: &Path, chance: &mut Numbers) -> (u64, Queues) {
+fn run(folder: &Path, left: &Path, chance: &mut TestRandom) -> (u64, Queues) {
     std::fs::create_dir(folder).unwrap();
     let shadow = Arc::new(Mutex::new(Shadow::of(folder)));
     let calls = Arc::new(AtomicU64::new(u64::MAX));
@@ -321,7 +321,7 @@ fn whenever_the_power_is_lost_each_post_that_is_held_is_there_once() {
     for seed in 0..seeds(12) {
         let place = place();
         let at = |name: &str| place.path().join(name);
-        let mut chance = Numbers(seed);
+        let mut chance = TestRandom(seed);
         let (first, expected) = run(&at("run"), &at("left"), &mut chance);
         for calls in 0.. {
             let (again, left) = (at(&format!("again-{calls}")), at(&format!("left-{calls}")));

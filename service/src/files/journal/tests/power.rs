@@ -13,7 +13,7 @@ struct Posted {
     reach: u64,
 }
 
-fn run(folder: &Path, left: &Path, durability: Durability, chance: &mut Numbers) -> Posted {
+fn run(folder: &Path, left: &Path, durability: Durability, chance: &mut TestRandom) -> Posted {
     std::fs::create_dir(folder).unwrap();
     let shadow = Arc::new(Mutex::new(Shadow::of(folder)));
     let journal = open_on(&disk(&shadow, u64::MAX), folder, durability).unwrap();
@@ -55,7 +55,7 @@ fn what_was_durable_is_there_and_of_the_rest_the_first_posts() {
     for seed in 0..seeds(45) {
         let place = place();
         let at = |name: &str| place.path().join(name);
-        let mut chance = Numbers(seed);
+        let mut chance = TestRandom(seed);
         let durability = [Durability::Disk, Durability::Process][chance.below(2) as usize];
         let posted = run(&at("run"), &at("left"), durability, &mut chance);
         for calls in 0.. {

@@ -44,7 +44,7 @@ fn a_group_whose_middle_was_lost_is_not_there_though_its_commit_is() {
     let folder = tempfile::tempdir().unwrap();
     let outbox = open(folder.path());
     let before = view(&outbox);
-    let mut numbers = Numbers(1);
+    let mut numbers = TestRandom(1);
     let noise: String = (0..9000)
         .map(|_| char::from(b'a' + numbers.below(26) as u8))
         .collect();

@@ -13,7 +13,7 @@ struct Model {
 }
 
 impl Model {
-    fn change(&mut self, outbox: &Outbox, numbers: &mut Numbers) {
+    fn change(&mut self, outbox: &Outbox, numbers: &mut TestRandom) {
         let key = format!("key {}", numbers.below(30));
         let sender = format!("s{}", numbers.below(4));
         match numbers.below(9) {
@@ -56,7 +56,7 @@ impl Model {
         }
     }
 
-    fn commit(&mut self, outbox: &Outbox, numbers: &mut Numbers) {
+    fn commit(&mut self, outbox: &Outbox, numbers: &mut TestRandom) {
         let mut bodies = Vec::new();
         self.journal += 1;
         for _ in 0..numbers.below(4) {
@@ -90,7 +90,7 @@ impl Model {
 #[tokio::test]
 async fn it_is_as_its_model_over_any_calls_and_starts() {
     for seed in 0..10 {
-        let mut numbers = Numbers(seed);
+        let mut numbers = TestRandom(seed);
         let folder = tempfile::tempdir().unwrap();
         let open = || open_on(&Disk::default(), folder.path(), "e", 2500).unwrap();
         let (mut outbox, mut model) = (open(), Model::default());

@@ -13,15 +13,15 @@ enum Step {
 }
 
 /// Requests of up to three series, of which some are longer than a sector.
-fn steps(chance: &mut Numbers) -> Vec<Step> {
+fn steps(chance: &mut TestRandom) -> Vec<Step> {
     let mut end = 0;
-    let mut request = |chance: &mut Numbers| {
+    let mut request = |chance: &mut TestRandom| {
         end += 1;
         let series = ["a", "b", "c"][chance.below(3) as usize];
         let noise = (0..chance.below(1500)).map(|_| char::from(b'a' + chance.below(26) as u8));
         body(&[(series, end)], &noise.collect::<String>())
     };
-    let mut step = |chance: &mut Numbers| match chance.below(10) {
+    let mut step = |chance: &mut TestRandom| match chance.below(10) {
         0..=3 => Step::Commit((0..chance.below(4)).map(|_| request(chance)).collect()),
         4 => Step::Own,
         5 => Step::Hold(chance.below(2) == 0),
@@ -75,7 +75,7 @@ fn said(outbox: &Outbox) -> String {
 }
 
 /// Of a run up to a loss of power: what may be said after it.
-fn run(at: impl Fn(&str) -> PathBuf, chance: &mut Numbers) -> Vec<String> {
+fn run(at: impl Fn(&str) -> PathBuf, chance: &mut TestRandom) -> Vec<String> {
     let steps = steps(chance);
     for name in ["run", "whole"] {
         std::fs::create_dir(at(name)).unwrap();
@@ -105,7 +105,7 @@ async fn what_was_durable_is_there_and_of_the_rest_what_was_made_first() {
     for seed in 0..seeds(45) {
         let place = place();
         let at = |name: &str| place.path().join(name);
-        let mut chance = Numbers(seed);
+        let mut chance = TestRandom(seed);
         let may_be = run(at, &mut chance);
         for calls in 0.. {
             let (again, left) = (at(&format!("again-{calls}")), at(&format!("left-{calls}")));
