@@ -142,10 +142,6 @@ impl Outbox {
         lock(&self.state).quarantined.clone()
     }
 
-    pub fn is_quarantined(&self, sender: &str) -> bool {
-        lock(&self.state).quarantined.contains(sender)
-    }
-
     /// Leaves out the series that no group had for so long, but those in `keep`. Which these were.
     pub fn forget(&self, age: Duration, keep: &HashSet<SeriesKey>) -> Result<Vec<SeriesKey>, Fault> {
         self.forget_of(Age::from_now(age), keep)
