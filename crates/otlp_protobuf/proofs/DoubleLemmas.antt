@@ -1,7 +1,8 @@
 -- Whole doubles, by their bits.
-use Rattle.std.proofs.Common.{◌≡◌, ◌≢◌, ◌<◌, ◌≤◌, ℕ, zero, suc, ◌+◌, ◌-◌, ◌*◌, ◌/◌, ◌%◌, ◌^◌, Bool, true, false, Option, Some, None, option_map, refl, ap, sym, ◌∙◌, arith}
-use Rattle.std.specs.Prelude.{ℤ, pos, negsuc, neg_ℤ, nat_lt, ◌==◌, option_and_then}
+use Rattle.std.proofs.Common.{◌≡◌, ◌≢◌, ◌<◌, ◌≤◌, ℕ, zero, suc, ◌+◌, ◌-◌, ◌*◌, ◌/◌, ◌%◌, ◌^◌, Bool, true, false, Option, Some, None, option_map, refl, ap, sym, ◌∙◌, arith, w64, ◌-ℤ◌, to_z, of_z}
+use Rattle.std.specs.Prelude.{FitsSigned, ℤ, pos, negsuc, neg_ℤ, nat_lt, ◌==◌, option_and_then}
 use Rattle.std.proofs.lemmas.Bool.{lt-ltb, le-ltb, le-leb, lt-leb, ltb-true, ltb-false, ne_eqb, eq-eqb}
+use Rattle.std.proofs.lemmas.Int.{to_z_pos, to_z-of_z, fits_signed_from_abs}
 use Rattle.std.proofs.lemmas.Nat.{mul-le, shl_whole, shr_le}
 use Rattle.std.proofs.Math.Nat.{pow-le-pow_right}
 use Rattle.series_id.specs.declared.limits.TheConstants.{MAX_BOUND}
@@ -124,6 +125,19 @@ unfolding signed_in
 bound_below bits zero h fits below = rw (double_is bits zero h, le-ltb bits (2 ^ 63) below) refl
 bound_below bits (suc n) h fits below =
     rw (double_is bits (suc n) h, le-ltb bits (2 ^ 63) below, le-leb (suc n) MAX_BOUND fits) refl
+
+less_of : (n : ℕ) → pos 0 -ℤ pos n ≡ neg_ℤ (pos n)
+less_of zero = refl
+less_of (suc n) = refl
+
+fits_below : (n : ℕ) → n ≤ MAX_BOUND → FitsSigned w64 (neg_ℤ (pos n))
+fits_below zero fits = fits_signed_from_abs w64 (pos 0) (omega arith)
+fits_below (suc n) fits = fits_signed_from_abs w64 (negsuc n) (omega arith)
+
+-- a bound of 64 bits, below zero
+pub negated : (n : ℕ) → n ≤ MAX_BOUND → to_z w64 (of_z w64 (pos 0 -ℤ to_z w64 n)) ≡ neg_ℤ (pos n)
+negated n fits =
+    rw (to_z_pos w64 n (omega arith), less_of n) (to_z-of_z w64 (neg_ℤ (pos n)) (fits_below n fits))
 
 no_bound : (bits : ℕ) (o : Option ℕ) → option_and_then if_below o ≡ None → signed_in MAX_BOUND MAX_BOUND (number_data bits (option_map (signed_size bits) o)) ≡ None
 unfolding signed_in

@@ -27,7 +27,11 @@ packed_more bytes long =
 packed_over : (bytes : List ℕ) → length bytes < 8 → packed bytes ≡ []
 packed_over bytes short = none_packed (length bytes / 8) bytes (omega arith)
 
-first_by : (bytes : List ℕ) (short : Bool) (p : ℕ × List ℕ) → nat_lt (length bytes) 8 ≡ short → (if short then Err Cut else Ok (from_le_bytes w64 (take 8 bytes), drop 8 bytes)) ≡ Ok p → packed bytes ≡ p.0 ∷ packed p.1
+-- the first number, if there are 8 bytes
+abbrev first_if : Bool → List ℕ → Result (ℕ × List ℕ) Malformed
+first_if short bytes = if short then Err Cut else Ok (from_le_bytes w64 (take 8 bytes), drop 8 bytes)
+
+first_by : (bytes : List ℕ) (short : Bool) (p : ℕ × List ℕ) → nat_lt (length bytes) 8 ≡ short → first_if short bytes ≡ Ok p → packed bytes ≡ p.0 ∷ packed p.1
 first_by bytes true p is h = absurd cc
 first_by bytes false p is h =
     let e : (from_le_bytes w64 (take 8 bytes), drop 8 bytes) ≡ p = cc in
@@ -37,7 +41,7 @@ first_by bytes false p is h =
 pub first_packed : (bytes : List ℕ) (p : ℕ × List ℕ) → fixed64 bytes ≡ Ok p → packed bytes ≡ p.0 ∷ packed p.1
 first_packed bytes p h = first_by bytes (nat_lt (length bytes) 8) p refl h
 
-none_by : (bytes : List ℕ) (short : Bool) (e : Malformed) → nat_lt (length bytes) 8 ≡ short → (if short then Err Cut else Ok (from_le_bytes w64 (take 8 bytes), drop 8 bytes)) ≡ Err e → packed bytes ≡ []
+none_by : (bytes : List ℕ) (short : Bool) (e : Malformed) → nat_lt (length bytes) 8 ≡ short → first_if short bytes ≡ Err e → packed bytes ≡ []
 none_by bytes true e is h = packed_over bytes (ltb-true (length bytes) 8 is)
 none_by bytes false e is h = absurd cc
 

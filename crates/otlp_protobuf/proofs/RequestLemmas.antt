@@ -28,12 +28,12 @@ use Rattle.otlp_protobuf.proofs.ValueLemmas.{elements_are}
 -- ---- lists of messages, and messages that may be absent
 
 all_objects : (shows : List ℕ → Data) (bs : List (List ℕ)) → ((b : List ℕ) → is_object (shows b) ≡ true) → list_all is_object (map shows bs) ≡ true
-all_objects shows [] object = refl
-all_objects shows (b ∷ bs) object = rw (object b) (all_objects shows bs object)
+all_objects shows [] are = refl
+all_objects shows (b ∷ bs) are = rw (are b) (all_objects shows bs are)
 
 pub list_shown : (p : Place) (shows : List ℕ → Data) (bs : List (List ℕ)) → ((b : List ℕ) → is_object (shows b) ≡ true) → objects p (Some (list_data (map shows bs))) ≡ Ok (map shows bs)
 unfolding objects
-list_shown p shows bs object = rw (elements_are (map shows bs), all_objects shows bs object) refl
+list_shown p shows bs are = rw (elements_are (map shows bs), all_objects shows bs are) refl
 
 is_present : (d : Data) → is_object d ≡ true → present (Some d) ≡ Some d
 is_present null h = absurd cc
@@ -44,13 +44,13 @@ is_present (array ds) h = refl
 is_present (object ms) h = refl
 
 message_shown : (shows : List ℕ → Data) (w : Option (List ℕ)) → ((b : List ℕ) → is_object (shows b) ≡ true) → present (Some (or_null (option_map shows w))) ≡ option_map shows w
-message_shown shows None object = refl
-message_shown shows (Some b) object = is_present (shows b) (object b)
+message_shown shows None are = refl
+message_shown shows (Some b) are = is_present (shows b) (are b)
 
 object_shown : (p : Place) (shows : List ℕ → Data) (w : Option (List ℕ)) → ((b : List ℕ) → is_object (shows b) ≡ true) → object_in p (option_map shows w) ≡ Ok (option_map shows w)
 unfolding object_in
-object_shown p shows None object = refl
-object_shown p shows (Some b) object = rw (object b) refl
+object_shown p shows None are = refl
+object_shown p shows (Some b) are = rw (are b) refl
 
 -- ---- each message is an object
 

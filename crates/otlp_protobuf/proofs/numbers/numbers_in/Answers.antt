@@ -7,11 +7,11 @@ loop-bits-init g c = rw (c.new-found.ensures.items, c.of-rest.ensures) (no_front
 
 pub loop-bits-preserved : goal.loop-bits-preserved
 loop-bits-preserved g c =
-    rw c.in_ok-push.ensures.items (one_more g.T.Number.shows g.T.Number.reads c.loop-bits.found.items c.in-Some-2.element _ c.in-Some.bits _ _ c.in-Some.ensures (sym c.of_bits.ensures ∙ c.in-Some-2.is) c.loop-bits.invariant)
+    rw c.in_ok-push.ensures.items (one_more g.T.Number.shows g.T.Number.reads c.loop-bits.found.items c.in-Some-of_bits.element _ c.in-Some.bits _ _ c.in-Some.ensures (sym c.of_bits.ensures ∙ c.in-Some-of_bits.is) c.loop-bits.invariant)
 
-pub returns-in_default-2 : goal.returns-in_default-2
-returns-in_default-2 g c =
-    sym (one_stops g.T.Number.shows g.T.Number.reads c.loop-bits.found.items _ c.in-Some.bits _ _ c.in-Some.ensures (sym c.of_bits.ensures ∙ c.in_default-2.is) c.loop-bits.invariant)
+pub returns-in_default-of_bits : goal.returns-in_default-of_bits
+returns-in_default-of_bits g c =
+    sym (one_stops g.T.Number.shows g.T.Number.reads c.loop-bits.found.items _ c.in-Some.bits _ _ c.in-Some.ensures (sym c.of_bits.ensures ∙ c.in_default-of_bits.is) c.loop-bits.invariant)
 
 pub returns : goal.returns
 returns g c =
