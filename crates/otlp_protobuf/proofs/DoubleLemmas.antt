@@ -2,7 +2,7 @@
 use Rattle.std.proofs.Common.{◌≡◌, ◌≢◌, ◌<◌, ◌≤◌, ℕ, zero, suc, ◌+◌, ◌-◌, ◌*◌, ◌/◌, ◌%◌, ◌^◌, Bool, true, false, Option, Some, None, option_map, refl, ap, sym, ◌∙◌, arith, w64, ◌-ℤ◌, to_z, of_z}
 use Rattle.std.specs.Prelude.{FitsSigned, ℤ, pos, negsuc, neg_ℤ, nat_lt, ◌==◌, option_and_then}
 use Rattle.std.proofs.lemmas.Bool.{lt-ltb, le-ltb, le-leb, lt-leb, ltb-true, ltb-false, ne_eqb, eq-eqb}
-use Rattle.std.proofs.lemmas.Int.{to_z_pos, to_z-of_z, fits_signed_from_abs}
+use Rattle.std.proofs.lemmas.Int.{ints, to_z_pos, to_z-of_z, fits_signed_from_abs}
 use Rattle.std.proofs.lemmas.Nat.{mul-le, shl_whole, shr_le}
 use Rattle.std.proofs.Math.Nat.{pow-le-pow_right}
 use Rattle.series_id.specs.declared.limits.TheConstants.{MAX_BOUND}
@@ -128,7 +128,7 @@ bound_below bits (suc n) h fits below =
 
 less_of : (n : ℕ) → pos 0 -ℤ pos n ≡ neg_ℤ (pos n)
 less_of zero = refl
-less_of (suc n) = refl
+less_of (suc n) = omega (arith, ints)
 
 fits_below : (n : ℕ) → n ≤ MAX_BOUND → FitsSigned w64 (neg_ℤ (pos n))
 fits_below zero fits = fits_signed_from_abs w64 (pos 0) (omega arith)
