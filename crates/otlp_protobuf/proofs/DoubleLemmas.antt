@@ -1,13 +1,13 @@
 -- Whole doubles, by their bits.
-use Rattle.std.proofs.Common.{◌≡◌, ◌≢◌, ◌<◌, ◌≤◌, ℕ, zero, suc, ◌+◌, ◌-◌, ◌*◌, ◌/◌, ◌%◌, ◌^◌, Bool, true, false, Option, Some, None, option_map, refl, ap, sym, ◌∙◌, arith, w64, ◌-ℤ◌, to_z, of_z}
-use Rattle.std.specs.Prelude.{FitsSigned, ℤ, pos, negsuc, neg_ℤ, nat_lt, ◌==◌, option_and_then}
-use Rattle.std.proofs.lemmas.Bool.{lt-ltb, le-ltb, le-leb, lt-leb, ltb-true, ltb-false, ne_eqb, eq-eqb}
+use Rattle.std.proofs.Common.{◌≡◌, ◌≢◌, ◌<◌, ◌≤◌, ℕ, zero, suc, ◌-◌, ◌*◌, ◌/◌, ◌%◌, ◌^◌, Bool, true, false, Option, Some, None, option_map, refl, ap, sym, ◌∙◌, arith, w64, ◌-ℤ◌, to_z, of_z}
+use Rattle.std.specs.Prelude.{FitsSigned, pos, negsuc, neg_ℤ, nat_lt, option_and_then}
+use Rattle.std.proofs.lemmas.Bool.{lt-ltb, le-ltb, le-leb, lt-leb, ltb-false, ne_eqb, eq-eqb}
 use Rattle.std.proofs.lemmas.Int.{ints, to_z_pos, to_z-of_z, fits_signed_from_abs}
 use Rattle.std.proofs.lemmas.Nat.{mul-le, shl_whole, shr_le}
 use Rattle.std.proofs.Math.Nat.{pow-le-pow_right}
 use Rattle.series_id.specs.declared.limits.TheConstants.{MAX_BOUND}
 use Rattle.otlp_read.specs.Integers.{unsigned_in, unsigned_64, signed_in}
-use Rattle.otlp_protobuf.specs.Doubles.{exponent, digits, whole_size, signed_size, whole_double}
+use Rattle.otlp_protobuf.specs.Doubles.{exponent, digits, whole_size, signed_size}
 use Rattle.otlp_protobuf.specs.Members.{number_data, double_data}
 use Rattle.otlp_protobuf.specs.inner.NumberViews.{if_below, small_size}
 

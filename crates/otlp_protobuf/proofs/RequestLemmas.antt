@@ -1,5 +1,5 @@
 -- The containers of a request, found again in its JSON.
-use Rattle.std.proofs.Common.{◌≡◌, ℕ, List, [], ◌∷◌, map, Bool, true, Option, Some, None, option_map, Result, Ok, refl, ap, sym, ◌∙◌}
+use Rattle.std.proofs.Common.{◌≡◌, ℕ, List, [], ◌∷◌, map, true, Option, Some, None, option_map, Ok, refl, ap, sym, ◌∙◌}
 use Rattle.std.specs.Prelude.{codes}
 use Rattle.std.specs.List.{list_all}
 use Rattle.serde_json.specs.Data.{Data, null, boolean, number, string, array, object}
@@ -7,10 +7,10 @@ use Rattle.series_id.specs.declared.attributes.Attribute.{Attribute}
 use Rattle.otlp_read.specs.declared.place.Place.{Place}
 use Rattle.otlp_read.specs.declared.place.Place.TheVariants as place
 use Rattle.otlp_read.specs.Attributes.{attributes_in}
-use Rattle.otlp_read.specs.Containers.{◌>>=◌, elements, is_object, objects, object_in}
+use Rattle.otlp_read.specs.Containers.{is_object, objects, object_in}
 use Rattle.otlp_read.specs.Fields.{field, present}
 use Rattle.otlp_read.specs.Lists.{elements_in}
-use Rattle.otlp_read.specs.Metrics.{Part, Parts, part, parts, one_if as one_part, add_parts, metric}
+use Rattle.otlp_read.specs.Metrics.{part, parts, one_if as one_part, add_parts, metric}
 use Rattle.otlp_read.specs.Reading.{each, scope_metrics, resource_metrics, body, reading}
 use Rattle.otlp_read.specs.Streams.{Scope, inner}
 use Rattle.otlp_read.specs.Tallies.{Tally, nothing, add_metric}

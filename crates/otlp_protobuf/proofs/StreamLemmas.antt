@@ -1,8 +1,8 @@
 -- The texts of scopes and metrics, and what a sum and a histogram say of themselves.
-use Rattle.std.proofs.Common.{◌≡◌, ◌<◌, ◌≤◌, ℕ, suc, ◌-◌, ◌^◌, ◌%◌, List, map, Bool, true, false, Option, Some, None, option_map, refl, ap, sym, ◌∙◌, arith, w32}
+use Rattle.std.proofs.Common.{◌≡◌, ℕ, suc, ◌-◌, ◌^◌, ◌%◌, List, map, Bool, true, false, Option, Some, None, option_map, refl, ap, sym, ◌∙◌, arith, w32}
 use Rattle.std.specs.Prelude.{codes, nat_lt, ◌==◌, negsuc}
 use Rattle.std.specs.Int.{cast_signed}
-use Rattle.std.proofs.lemmas.Bool.{le-ltb, ltb-true, ltb-false, ne_eqb}
+use Rattle.std.proofs.lemmas.Bool.{ltb-true, ltb-false, ne_eqb}
 use Rattle.std.proofs.lemmas.Int.{to_z_pos}
 use Rattle.serde_json.specs.Data.{Data, string}
 use Rattle.series_id.specs.declared.attributes.Attribute.{Attribute}

@@ -1,4 +1,3 @@
-use Rattle.std.proofs.Common.{sym, ◌∙◌}
 use Rattle.otlp_read.specs.Tallies.{tally}
 use Rattle.otlp_protobuf.proofs.ListLemmas.{over}
 use Rattle.otlp_protobuf.proofs.LoopLemmas.{each_more, each_done}
