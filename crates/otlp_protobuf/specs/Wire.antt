@@ -1,5 +1,5 @@
 -- The wire format of protobuf: what the bytes of a message say of its fields.
-use Rattle.std.specs.Prelude.{◌≡◌, ℕ, zero, suc, ◌+◌, ◌-◌, ◌*◌, ◌/◌, ◌%◌, ◌^◌, ◌==◌, nat_lt, nat_le}
+use Rattle.std.specs.Prelude.{ℕ, zero, suc, ◌+◌, ◌-◌, ◌*◌, ◌/◌, ◌%◌, ◌^◌, ◌==◌, nat_lt, nat_le}
 use Rattle.std.specs.Prelude.{if◌then◌else◌, List, [], ◌∷◌, length, take, drop}
 use Rattle.std.specs.Prelude.{Option, Some, None, Result, Ok, Err}
 use Rattle.std.specs.Int.{w32, w64, from_le_bytes}
@@ -14,11 +14,6 @@ abbrev pub ◌>>=◌ : {A B : Type 0} → Result A Malformed → (A → Result B
     → Result B Malformed
 (Ok x) >>= f = f x
 (Err e) >>= f = Err e
-
--- the function's result, seen by view, is what the bytes say
-abbrev pub Gives : {X Y : Type 0} → (X → Y) → Result X Malformed → Result Y Malformed → Type 0
-Gives view (Ok x) read = read ≡ Ok (view x)
-Gives view (Err e) read = read ≡ Err e
 
 -- a sum and the low seven bits of a byte at this weight, of at most 64 bits together
 abbrev pub weighed : ℕ → ℕ → ℕ → Option ℕ

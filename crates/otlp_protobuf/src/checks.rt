@@ -2,9 +2,8 @@
 
 ghost use Rattle.std.specs.Prelude.{◌≡◌, ◌%◌, ◌==◌, if◌then◌else◌, length, option_map, Ok, Err};
 ghost use Rattle.std.specs.Str.{is_utf8};
-ghost use Rattle.otlp_protobuf.specs.Wire.{Gives};
 ghost use Rattle.otlp_protobuf.specs.Checks.{nested, plain_checked, checked_from, checked};
-ghost use Rattle.otlp_protobuf.specs.inner.Views.{payload_data};
+ghost use Rattle.otlp_protobuf.specs.inner.Views.{Gives, payload_data};
 
 use crate::fields::field_at;
 use crate::malformed::Malformed;

@@ -1,8 +1,8 @@
 //! The fields of a message, one after the other, where they are in its bytes.
 
 ghost use Rattle.std.specs.Prelude.{◌≡◌, ◌∷◌, [], MatchOption};
-ghost use Rattle.otlp_protobuf.specs.Wire.{Gives, field_at, fields};
-ghost use Rattle.otlp_protobuf.specs.inner.Views.{payload_data, field_data, fields_data};
+ghost use Rattle.otlp_protobuf.specs.Wire.{field_at, fields};
+ghost use Rattle.otlp_protobuf.specs.inner.Views.{Gives, payload_data, field_data, fields_data};
 
 use crate::malformed::Malformed;
 use crate::wire::{Payload, key, payload_at};

@@ -2,9 +2,9 @@
 //! (<https://protobuf.dev/programming-guides/encoding/>).
 
 ghost use Rattle.std.specs.Prelude.{◌≡◌, ◌≤◌, ◌^◌, if◌then◌else◌, Ok, Err};
-ghost use Rattle.otlp_protobuf.specs.Wire.{Gives, varint, varint_from, weighed, key, taken, plain};
+ghost use Rattle.otlp_protobuf.specs.Wire.{varint, varint_from, weighed, key, taken, plain};
 ghost use Rattle.otlp_protobuf.specs.Wire.{fixed64, fixed32, counted, group_from, payload_at};
-ghost use Rattle.otlp_protobuf.specs.inner.Views.{payload_data};
+ghost use Rattle.otlp_protobuf.specs.inner.Views.{Gives, payload_data};
 
 use crate::malformed::Malformed;
 

@@ -1,5 +1,5 @@
-//! Requests in both encodings read alike. The bytes were encoded apart, after the guide of protobuf's
-//! encoding.
+//! Requests in both encodings read alike. The bytes were encoded apart, after the guide of
+//! protobuf's encoding.
 
 use crate::bodies::are_alike;
 use std::test::Fail;
@@ -31,7 +31,8 @@ const REQUESTS: &[(&[u8], &str)] = &[
         ],
         r#"{"resourceMetrics":[{"scopeMetrics":[{"metrics":[{"name":"m","sum":{"aggregationTemporality":1,"isMonotonic":true,"dataPoints":[{"startTimeUnixNano":"10","timeUnixNano":"20","asInt":"3"},{"startTimeUnixNano":"10","timeUnixNano":"20","asDouble":1.5},{"startTimeUnixNano":"10","timeUnixNano":"20","asInt":"3","flags":2},{"startTimeUnixNano":"10","timeUnixNano":"20","asInt":"3","flags":1},{"timeUnixNano":"20","asInt":"3"}]}}]}]}]}"#,
     ),
-    // Histograms: packed numbers, single ones, both; a sum that is no whole number; a bound that is none.
+    // Histograms: packed numbers, single ones, both; a sum that is no whole number; a bound that is
+    // none.
     (
         &[
             10, 169, 5, 18, 166, 5, 18, 163, 5, 10, 1, 104, 74, 157, 5, 10, 64, 17, 10, 0, 0, 0, 0,
@@ -63,7 +64,8 @@ const REQUESTS: &[(&[u8], &str)] = &[
         ],
         r#"{"resourceMetrics":[{"scopeMetrics":[{"metrics":[{"name":"h","histogram":{"aggregationTemporality":1,"dataPoints":[{"startTimeUnixNano":"10","timeUnixNano":"20","count":3,"sum":9,"bucketCounts":[1,2],"explicitBounds":[5]},{"startTimeUnixNano":"10","timeUnixNano":"20","count":3,"bucketCounts":[1,2],"explicitBounds":[-5]},{"startTimeUnixNano":"10","timeUnixNano":"20","count":6,"bucketCounts":[1,2,3],"explicitBounds":[0,9007199254740992]},{"startTimeUnixNano":"10","timeUnixNano":"20","count":3,"sum":9.5,"bucketCounts":[1,2],"explicitBounds":[5]},{"startTimeUnixNano":"10","timeUnixNano":"20","count":3,"bucketCounts":[1,2],"explicitBounds":[0.5]},{"startTimeUnixNano":"10","timeUnixNano":"20","count":4},{"startTimeUnixNano":"10","timeUnixNano":"20","count":3,"bucketCounts":[1,2],"explicitBounds":[9007199254740994]},{"startTimeUnixNano":"10","timeUnixNano":"20","count":1,"sum":9223372036854775808},{"startTimeUnixNano":"10","timeUnixNano":"20","count":1,"sum":18446744073709551616},{"startTimeUnixNano":"10","timeUnixNano":"20","count":1,"sum":-1},{"startTimeUnixNano":"10","timeUnixNano":"20","count":1,"sum":1e300},{"startTimeUnixNano":"10","timeUnixNano":"20","count":1,"sum":4.9e-324},{"startTimeUnixNano":"10","timeUnixNano":"20","count":3,"bucketCounts":[3],"attributes":[{"key":"k","value":{"stringValue":"v"}}],"flags":2}]}}]}]}]}"#,
     ),
-    // Gauges, exponential histograms and summaries are foreign; a metric without data; one with two kinds.
+    // Gauges, exponential histograms and summaries are foreign; a metric without data; one with two
+    // kinds.
     (
         &[
             10, 158, 1, 18, 155, 1, 18, 11, 10, 1, 103, 42, 6, 10, 0, 10, 2, 16, 1, 18, 9, 10, 1,

@@ -1,5 +1,6 @@
--- What a field has, and the fields that are left of a message, without the references.
-use Rattle.std.specs.Prelude.{ℕ, List, Option, Some, None}
+-- What a field has, and the fields that are left of a message, without the references; and results.
+use Rattle.std.specs.Prelude.{◌≡◌, ℕ, List, Option, Some, None, Result, Ok, Err}
+use Rattle.otlp_protobuf.specs.declared.malformed.Malformed.{Malformed}
 use Rattle.otlp_protobuf.specs.declared.scan.Whole.{Whole}
 use Rattle.otlp_protobuf.specs.declared.scan.Whole.TheVariants as found
 use Rattle.otlp_protobuf.specs.declared.fields.Field.{Field as BorrowedField}
@@ -8,6 +9,11 @@ use Rattle.otlp_protobuf.specs.declared.wire.Payload.{Payload}
 use Rattle.otlp_protobuf.specs.declared.wire.Payload.TheVariants as payload
 use Rattle.otlp_protobuf.specs.Wire.{Value, varint_value, fixed64_value, bytes_value, group_value}
 use Rattle.otlp_protobuf.specs.Wire.{fixed32_value, Field, fields_from}
+
+-- the function's result, seen by view, is what the bytes say
+abbrev pub Gives : {X Y : Type 0} → (X → Y) → Result X Malformed → Result Y Malformed → Type 0
+Gives view (Ok x) read = read ≡ Ok (view x)
+Gives view (Err e) read = read ≡ Err e
 
 abbrev pub payload_data : Payload → Value
 payload_data (payload.Varint n) = varint_value n

@@ -1,5 +1,5 @@
 use Rattle.std.proofs.Common.{sym, subst, ◌∙◌, arith}
-use Rattle.otlp_protobuf.specs.Wire.{Gives}
+use Rattle.otlp_protobuf.specs.inner.Views.{Gives}
 use Rattle.otlp_protobuf.proofs.CheckLemmas.{check_none}
 use Rattle.otlp_protobuf.proofs.checks.+checked_from.Goals as goal
 
