@@ -26,8 +26,8 @@ and_taken E = E ▸ Take (takes E + 1) (pick E MAX_TAKEN)
 abbrev pub taken_points : History → List DataPoint
 taken_points E = flush_points (and_taken E) (takes E + 1)
 
--- the bytes are a request; read back, the text has just the points of the flush that is taken once a
--- book of this history has admitted the request's points
+-- the bytes are a request; read back, the text has just the points of the flush that is taken once
+-- a book of this history has admitted the request's points
 pub record IsForwarded (E : History) (sender bytes text : List ℕ) : Type 0 where
   pub post : Tally
   pub said : bytes_reading bytes ≡ Ok (Ok post)
@@ -45,7 +45,8 @@ series_sum qs x = merged x (of_series x qs)
 abbrev pub series_sums : List Accepted → List DataPoint
 series_sums qs = present (map (series_sum qs) (take MAX_TAKEN (series_in_order qs)))
 
--- the bytes are a request; read back, the text has of each series one point, the sum of the request's
+-- the bytes are a request; read back, the text has of each series one point, the sum of those of
+-- the request
 pub record IsSummed (sender bytes text : List ℕ) : Type 0 where
   pub post : Tally
   pub said : bytes_reading bytes ≡ Ok (Ok post)

@@ -1,5 +1,5 @@
-//! The way of a post in protobuf through a book, from its bytes to those that forward it: what these
-//! say is proved from the contracts of the calls alone.
+//! The way of a post in protobuf through a book, from its bytes to those that forward it: what
+//! these say is proved from the contracts of the calls alone.
 
 ghost use Rattle.std.specs.Prelude.{IfSome};
 ghost use Rattle.delta_book.specs.Journal.{history};
