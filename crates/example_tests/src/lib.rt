@@ -30,6 +30,8 @@ mod uses_json_points;
 #[cfg(test)]
 mod uses_metric_events;
 #[cfg(test)]
+mod uses_otlp_protobuf;
+#[cfg(test)]
 mod uses_otlp_read;
 #[cfg(test)]
 mod uses_out_texts;

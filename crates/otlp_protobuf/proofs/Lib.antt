@@ -1,0 +1,13 @@
+pub mod WireLemmas
+pub mod CheckLemmas
+pub mod Texts
+pub mod PointLemmas
+pub mod ValueLemmas
+pub mod ListLemmas
+pub mod NumberLemmas
+pub mod DoubleLemmas
+pub mod SumLemmas
+pub mod HistogramLemmas
+pub mod StreamLemmas
+pub mod LoopLemmas
+pub mod RequestLemmas

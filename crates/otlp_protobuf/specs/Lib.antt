@@ -1,0 +1,11 @@
+pub mod Wire
+pub mod Schema
+pub mod Checks
+pub mod Fields
+pub mod Doubles
+pub mod Members
+pub mod Values
+pub mod Points
+pub mod Request
+pub mod Reading
+pub mod inner

@@ -1,0 +1,120 @@
+//! Whether bytes are a message.
+
+ghost use Rattle.std.specs.Prelude.{◌≡◌, ◌%◌, ◌==◌, if◌then◌else◌, length, option_map, Ok, Err};
+ghost use Rattle.std.specs.Str.{is_utf8};
+ghost use Rattle.otlp_protobuf.specs.Checks.{nested, plain_checked, checked_from, checked};
+ghost use Rattle.otlp_protobuf.specs.inner.Views.{Gives, payload_data};
+
+use crate::fields::field_at;
+use crate::malformed::Malformed;
+use crate::schema::{Kind, Message};
+use crate::wire::Payload;
+
+/// How many levels of messages may be in a message: protobuf's own readers allow 100 in all.
+pub const MAX_LEVELS: u32 = 99;
+
+/// Checks a message with all that is in it.
+pub fn checked(message: Message, bytes: &[u8]) -> Result<(), Malformed>
+    ensures { Gives (λ done. done) result (checked message bytes.now) }
+{
+    checked_from(message, bytes, MAX_LEVELS, bytes.len())
+}
+
+/// The same with so many levels of messages below it at most, and so many fields.
+#[tactic(auto, using(crate::proofs::CheckLemmas::check_step))]
+fn checked_from(message: Message, bytes: &[u8], levels: u32, left: usize) -> Result<(), Malformed>
+    ensures { Gives (λ done. done) result (checked_from left levels message bytes.now) }
+{
+    let mut rest = bytes;
+    let mut left = left;
+    while left > 0 {
+        if rest.is_empty() {
+            return Ok(());
+        }
+        left -= 1;
+        let (field, after) = field_at(rest)?;
+        let kind = message.kind_of(field.number);
+        let Some((inner, content)) = nested(kind, field.payload) else {
+            plain_checked(kind, field.payload)?;
+            rest = after;
+            continue;
+        };
+        if levels == 0 {
+            return Err(Malformed::Deep);
+        }
+        checked_from(inner, content, levels - 1, left)?;
+        rest = after;
+    }
+    ended(rest)
+}
+
+/// Nothing may be left.
+fn ended(rest: &[u8]) -> Result<(), Malformed>
+    ensures { Gives (λ done. done) result
+        (if length rest.now == 0 then Ok tt else Err Malformed.Cut) }
+{
+    if rest.is_empty() {
+        Ok(())
+    } else {
+        Err(Malformed::Cut)
+    }
+}
+
+/// The message that a field has.
+fn nested<'a>(kind: Kind, payload: Payload<'a>) -> Option<(Message, &'a [u8])>
+    ensures { option_map (λ r. (r.0, r.1.now)) result ≡ nested kind (payload_data payload.entry) }
+{
+    match (kind, payload) {
+        (Kind::Inner(message), Payload::Bytes(content)) => Some((message, content)),
+        _ => None,
+    }
+}
+
+/// Checks the wire type of a field that has no message.
+fn plain_checked(kind: Kind, payload: Payload<'_>) -> Result<(), Malformed>
+    ensures { Gives (λ done. done) result (plain_checked kind (payload_data payload.entry)) }
+{
+    match (kind, payload) {
+        (Kind::Unknown, _) => Ok(()),
+        (Kind::Old, _) => Err(Malformed::Old),
+        (Kind::Varint, Payload::Varint(_)) => Ok(()),
+        (Kind::Fixed64, Payload::Fixed64(_)) => Ok(()),
+        (Kind::Packed, Payload::Fixed64(_)) => Ok(()),
+        (Kind::Packed, Payload::Bytes(content)) => packed_checked(content),
+        (Kind::Text, Payload::Bytes(content)) => text_checked(content),
+        (Kind::Bytes, Payload::Bytes(_)) => Ok(()),
+        _ => Err(Malformed::OtherType),
+    }
+}
+
+fn packed_checked(content: &[u8]) -> Result<(), Malformed>
+    ensures { Gives (λ done. done) result
+        (if length content.now % 8 == 0 then Ok tt else Err Malformed.OtherType) }
+{
+    if content.len() % 8 == 0 {
+        Ok(())
+    } else {
+        Err(Malformed::OtherType)
+    }
+}
+
+fn text_checked(content: &[u8]) -> Result<(), Malformed>
+    ensures { Gives (λ done. done) result
+        (if is_utf8 content.now then Ok tt else Err Malformed.NotText) }
+{
+    if is_text(content) {
+        Ok(())
+    } else {
+        Err(Malformed::NotText)
+    }
+}
+
+/// Whether bytes are UTF-8.
+fn is_text(bytes: &[u8]) -> bool
+    ensures { result ≡ is_utf8 bytes.now }
+{
+    match std::str::from_utf8(bytes) {
+        Ok(_) => true,
+        Err(_) => false,
+    }
+}

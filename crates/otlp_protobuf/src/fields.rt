@@ -1,0 +1,62 @@
+//! The fields of a message, one after the other, where they are in its bytes.
+
+ghost use Rattle.std.specs.Prelude.{◌≡◌, ◌∷◌, [], MatchOption};
+ghost use Rattle.otlp_protobuf.specs.Wire.{field_at, fields};
+ghost use Rattle.otlp_protobuf.specs.inner.Views.{Gives, payload_data, field_data, fields_data};
+
+use crate::malformed::Malformed;
+use crate::wire::{Payload, key, payload_at};
+
+/// A field of a message.
+#[derive(Clone, Copy)]
+pub struct Field<'a> {
+    pub number: u32,
+    pub payload: Payload<'a>,
+}
+
+/// The field at the front, and the bytes after it.
+#[tactic(auto, unfolding(crate::specs::Wire::field_at))]
+pub fn field_at(bytes: &[u8]) -> Result<(Field<'_>, &[u8]), Malformed>
+    ensures { Gives (λ r. (field_data r.0, r.1.now)) result (field_at bytes.now) }
+{
+    let (key, rest) = key(bytes)?;
+    let (payload, rest) = payload_at(key, rest)?;
+    let number = key / 8;
+    Ok((Field { number, payload }, rest))
+}
+
+/// The fields of a message that are still to come, at most `left` of them.
+#[derive(Clone, Copy)]
+pub struct Fields<'a> {
+    pub rest: &'a [u8],
+    pub left: usize,
+}
+
+impl<'a> Fields<'a> {
+    /// The fields of a message, up to the first that is malformed.
+    pub fn of(bytes: &'a [u8]) -> Fields<'a>
+        ensures { fields_data result ≡ fields bytes.now }
+    {
+        Fields {
+            rest: bytes,
+            left: bytes.len(),
+        }
+    }
+
+    /// The next field.
+    #[tactic(auto, using(crate::proofs::WireLemmas::fields_step, crate::proofs::WireLemmas::no_fields))]
+    pub fn next(&mut self) -> Option<Field<'a>>
+        ensures { MatchOption result (fields_data self.old ≡ [])
+            (λ f. fields_data self.old ≡ field_data f ∷ fields_data self.new) }
+    {
+        if self.left == 0 {
+            return None;
+        }
+        let Ok((field, rest)) = field_at(self.rest) else {
+            return None;
+        };
+        self.rest = rest;
+        self.left -= 1;
+        Some(field)
+    }
+}

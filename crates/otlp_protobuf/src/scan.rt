@@ -1,0 +1,203 @@
+//! Finds fields of a message by their numbers, in its bytes.
+
+ghost use Rattle.std.specs.Prelude.{◌≡◌, ◌∷◌, ◌++◌, [], option_map, IfOk, MatchOption, None, Some};
+ghost use Rattle.otlp_protobuf.specs.Wire.{Field as FieldData, fields};
+ghost use Rattle.otlp_protobuf.specs.Fields.{gathered, newer, last, bits, content, if_text};
+ghost use Rattle.otlp_protobuf.specs.Fields.{text_of, text_at, content_at, contents, so_far};
+ghost use Rattle.otlp_protobuf.specs.Fields.{whole_at};
+ghost use Rattle.otlp_protobuf.specs.inner.Views.{payload_data, field_data, fields_data};
+ghost use Rattle.otlp_protobuf.specs.inner.Views.{whole_data};
+
+use crate::fields::{Field, Fields};
+use crate::wire::Payload;
+use std::alloc::{AllocError, Global};
+
+/// What a message says, gathered field by field.
+pub trait Gathered: Copy {
+    /// What there is after a field.
+    ghost takes: { Self → FieldData → Self };
+
+    /// Takes a field.
+    fn take(self, field: Field<'_>) -> Self
+        ensures { result ≡ takes self (field_data field.entry) };
+}
+
+/// What a message says, after what there is.
+pub fn gather<G: Gathered>(nothing: G, bytes: &[u8]) -> G
+    ensures { result ≡ gathered G.takes nothing (fields bytes.now) }
+{
+    let mut found = nothing;
+    let mut rest = Fields::of(bytes);
+    while let Some(field) = rest.next() {
+        found = found.take(field);
+    }
+    found
+}
+
+/// The last value of this number.
+pub fn last<'a>(bytes: &'a [u8], number: u32) -> Option<Payload<'a>>
+    ensures { option_map payload_data result ≡ last number bytes.now }
+{
+    let mut found = None;
+    let mut rest = Fields::of(bytes);
+    while let Some(field) = rest.next() {
+        found = newer(number, found, field);
+    }
+    found
+}
+
+/// The value of a field of this number, if it is one, else what was found before.
+fn newer<'a>(number: u32, found: Option<Payload<'a>>, field: Field<'a>) -> Option<Payload<'a>>
+    ensures { option_map payload_data result
+        ≡ newer number (option_map payload_data found.entry) (field_data field.entry) }
+{
+    if field.number == number {
+        Some(field.payload)
+    } else {
+        found
+    }
+}
+
+/// The bits of a number.
+pub fn bits(payload: Payload<'_>) -> u64
+    ensures { result ≡ bits (payload_data payload.entry) }
+{
+    match payload {
+        Payload::Varint(bits) => bits,
+        Payload::Fixed64(bits) => bits,
+        _ => 0,
+    }
+}
+
+/// The bytes of a text, a message or of packed numbers.
+pub fn content(payload: Payload<'_>) -> Option<&[u8]>
+    ensures { option_map (λ b. b.now) result ≡ content (payload_data payload.entry) }
+{
+    match payload {
+        Payload::Bytes(content) => Some(content),
+        _ => None,
+    }
+}
+
+/// The same, none if there are no such bytes.
+pub fn content_or_none(payload: Payload<'_>) -> &[u8]
+    ensures { result.now ≡ so_far (content (payload_data payload.entry)) }
+{
+    match content(payload) {
+        Some(content) => content,
+        None => &[],
+    }
+}
+
+/// A text, if the bytes are UTF-8.
+fn if_text(bytes: &[u8]) -> Option<&str>
+    ensures { option_map (λ s. s.now) result ≡ if_text bytes.now }
+{
+    match std::str::from_utf8(bytes) {
+        Ok(text) => Some(text),
+        Err(_) => None,
+    }
+}
+
+/// A text.
+pub fn text_of(payload: Payload<'_>) -> Option<&str>
+    ensures { option_map (λ s. s.now) result ≡ text_of (payload_data payload.entry) }
+{
+    if_text(content(payload)?)
+}
+
+/// The text of this number.
+pub fn text_at(bytes: &[u8], number: u32) -> Option<&str>
+    ensures { option_map (λ s. s.now) result ≡ text_at number bytes.now }
+{
+    text_of(last(bytes, number)?)
+}
+
+/// The bytes of a field, if it has this number.
+fn content_at<'a>(number: u32, field: Field<'a>) -> Option<&'a [u8]>
+    ensures { option_map (λ b. b.now) result ≡ content_at number (field_data field.entry) }
+{
+    if field.number == number {
+        content(field.payload)
+    } else {
+        None
+    }
+}
+
+/// The bytes of the next field of this number. Others are passed over.
+#[tactic(auto, unfolding(crate::specs::Fields::contents))]
+pub fn next_content<'a>(rest: &mut Fields<'a>, number: u32) -> Option<&'a [u8]>
+    ensures { MatchOption result (contents number (fields_data rest.old) ≡ [])
+        (λ b. contents number (fields_data rest.old)
+        ≡ b.now ∷ contents number (fields_data rest.new)) }
+{
+    while let Some(field) = rest.next() {
+        if let Some(content) = content_at(number, field) {
+            return Some(content);
+        }
+    }
+    None
+}
+
+/// A message, where it is in the bytes around it, or, if it comes in several parts, a copy of them
+/// one after the other.
+#[derive(Drop)]
+pub enum Whole<'a> {
+    Absent,
+    Slice(&'a [u8]),
+    Joined(Vec<u8>),
+}
+
+impl<'a> Whole<'a> {
+    /// Its bytes.
+    pub fn bytes(&self) -> Option<&[u8]>
+        ensures { option_map (λ b. b.now) result ≡ whole_data self.now }
+    {
+        match self {
+            Whole::Absent => None,
+            Whole::Slice(bytes) => Some(bytes),
+            Whole::Joined(bytes) => Some(bytes.as_slice()),
+        }
+    }
+
+    /// Its bytes, none if it is absent.
+    pub fn bytes_or_none(&self) -> &[u8]
+        ensures { result.now ≡ so_far (whole_data self.now) }
+    {
+        match self.bytes() {
+            Some(bytes) => bytes,
+            None => &[],
+        }
+    }
+
+    /// The message with one more part.
+    pub fn with(self, alloc: Global, part: &'a [u8]) -> Result<Whole<'a>, AllocError>
+        ensures { IfOk result (λ w. whole_data w
+            ≡ Some (so_far (whole_data self.entry) ++ part.now)) }
+    {
+        match self {
+            Whole::Absent => Ok(Whole::Slice(part)),
+            Whole::Slice(first) => {
+                let mut both = Vec::from_slice(alloc, first)?;
+                both.extend_from_slice(part)?;
+                Ok(Whole::Joined(both))
+            }
+            Whole::Joined(mut all) => {
+                all.extend_from_slice(part)?;
+                Ok(Whole::Joined(all))
+            }
+        }
+    }
+}
+
+/// The message of this number.
+pub fn whole_at<'a>(alloc: Global, bytes: &'a [u8], number: u32) -> Result<Whole<'a>, AllocError>
+    ensures { IfOk result (λ w. whole_data w ≡ whole_at number bytes.now) }
+{
+    let mut found = Whole::Absent;
+    let mut rest = Fields::of(bytes);
+    while let Some(part) = next_content(&mut rest, number) {
+        found = found.with(alloc, part)?;
+    }
+    Ok(found)
+}

@@ -1,0 +1,91 @@
+//! Reads the points of sums, as `otlp_read` reads those of their JSON mapping.
+
+ghost use Rattle.std.specs.Prelude.{◌≡◌, IfOk, List, option_map};
+ghost use Rattle.serde_json.specs.Data.{Data};
+ghost use Rattle.otlp_read.specs.Sums.{number_in, sum_fields, sum_point, sum_point_in};
+ghost use Rattle.otlp_protobuf.specs.Members.{signed_data};
+ghost use Rattle.otlp_protobuf.specs.Points.{number_point, number_point_of, number_point_data};
+ghost use Rattle.otlp_protobuf.specs.inner.StreamViews.{sum_stream_data};
+ghost use Rattle.otlp_protobuf.specs.inner.SumViews.{sum_fields_data, sum_fields_of};
+
+use crate::number_point::NumberPoint;
+use crate::point_fields::{flags_fit, nanos_in};
+use crate::streams::{PointStream, SumStream, series_of};
+use metric_events::point::Point;
+use series_id::Kind;
+use std::alloc::{AllocError, Global};
+
+/// The number of a point's attributes.
+const ATTRIBUTES: u32 = 7;
+
+/// Start and end (nanoseconds) and value of a sum's point.
+#[derive(Clone, Copy)]
+pub struct SumFields {
+    pub start: u64,
+    pub end: u64,
+    pub value: i64,
+}
+
+/// A whole number, if it is there.
+fn number_in(found: Option<i64>) -> Option<i64>
+    ensures { result ≡ number_in (option_map signed_data found) }
+{
+    match found {
+        Some(number) => Some(number),
+        None => None,
+    }
+}
+
+/// The fields of a point with these values.
+fn fields_of(point: NumberPoint) -> Option<SumFields>
+    ensures { option_map sum_fields_data result ≡ sum_fields_of point }
+{
+    let start = nanos_in(point.start)?;
+    let end = nanos_in(point.end)?;
+    let value = number_in(point.int)?;
+    if flags_fit(point.flags) && point.double.is_none() {
+        Some(SumFields { start, end, value })
+    } else {
+        None
+    }
+}
+
+/// The fields of a point; `None` if the point is foreign for one of them.
+fn sum_fields(bytes: &[u8]) -> Option<SumFields>
+    ensures { (attributes : List Data) → option_map sum_fields_data result
+        ≡ sum_fields (number_point_data (number_point_of bytes.now) attributes) }
+{
+    fields_of(NumberPoint::of(bytes))
+}
+
+/// In no stream, every point is foreign.
+impl PointStream for Option<SumStream<'_>> {
+    ghost shows = { number_point };
+
+    ghost reads = { λ sum. sum_point_in (option_map sum_stream_data sum) };
+
+    fn read(self, alloc: Global, bytes: &[u8]) -> Result<Option<Point>, AllocError> {
+        match self {
+            None => Ok(None),
+            Some(sum) => sum_point(alloc, sum, bytes),
+        }
+    }
+}
+
+/// Reads a point of a sum in a stream; `None` if it is foreign.
+fn sum_point(alloc: Global, sum: SumStream<'_>, bytes: &[u8]) -> Result<Option<Point>, AllocError>
+    ensures { IfOk result (λ o. o
+        ≡ sum_point (sum_stream_data sum.entry) (number_point bytes.now)) }
+{
+    let Some(fields) = sum_fields(bytes) else {
+        return Ok(None);
+    };
+    let kind = Kind::Sum {
+        monotonic: sum.monotonic,
+    };
+    let Some(series) = series_of(alloc, sum.stream, kind, bytes, ATTRIBUTES)? else {
+        return Ok(None);
+    };
+    let point = Point::shared_sum(series, fields.start, fields.end, fields.value);
+    Ok(point.ok())
+}
