@@ -28,17 +28,20 @@ use head::Head;
 use hyper::{Body, Request};
 use owner_answer::OwnerAnswer;
 use peer::{Peer, Peers};
+use std::future::Future;
 use std::sync::atomic::{AtomicU64, Ordering::Relaxed};
 use std::sync::{Arc, OnceLock};
 use std::time::Duration;
 use tokio::sync::watch;
-use tokio::time::{timeout, timeout_at, Instant};
+use tokio::time::{sleep_until, timeout_at, Instant};
 use wire::Connections;
 
 /// Where posts of other instances come.
 pub const PATH: &str = "/internal/post";
 /// Until a post is answered, whatever becomes of it.
 const WITHIN: Duration = Duration::from_secs(10);
+/// So long an owner's answer is waited for once it has the slot no more: one that hands over gives it.
+const AFTER_MOVE: Duration = Duration::from_millis(500);
 /// So long an owner is looked for.
 const LOOKED_FOR: Duration = Duration::from_secs(3);
 /// And so often instances are asked that say it is not theirs.
@@ -137,7 +140,8 @@ impl<H: Here> Forward<H> {
                 Whose::There { address, term, .. } => {
                     asked += 1;
                     let head = Head::new(slot, *term, sender, part.encoding);
-                    self.ask(address, &head, &part, began + WITHIN).await
+                    let no_answer = self.no_answer(slot, &whose, began + WITHIN);
+                    self.ask(address, &head, &part, no_answer).await
                 }
             };
             if let Some(outcome) = said {
@@ -147,30 +151,47 @@ impl<H: Here> Forward<H> {
                 return unavailable(MOVED);
             }
             self.cluster.look();
-            pause = match self.has_moved(slot, &whose, &mut places, pause).await {
+            let until = Instant::now() + pause;
+            pause = match self.has_moved(slot, &whose, &mut places, until).await {
                 true => SHORTEST,
                 false => (2 * pause).min(LONGEST),
             };
         }
     }
 
-    /// Waits until another has the slot, as far as is known, and not longer than this.
-    async fn has_moved(&self, slot: u16, from: &Whose, places: &mut Watched, most: Duration) -> bool {
+    /// Waits until another has the slot, as far as is known, and not longer than until then.
+    async fn has_moved(&self, slot: u16, from: &Whose, places: &mut Watched, until: Instant) -> bool {
         let moves = async { while self.cluster.whose(slot) == *from && places.changed().await.is_ok() {} };
-        timeout(most, moves).await.is_ok()
+        timeout_at(until, moves).await.is_ok()
+    }
+
+    /// Waits until an owner's answer can't be waited for any longer: it is late, or the owner has the slot no more.
+    async fn no_answer(&self, slot: u16, owner: &Whose, until: Instant) {
+        if self.has_moved(slot, owner, &mut self.cluster.places(), until).await {
+            sleep_until(until.min(Instant::now() + AFTER_MOVE)).await;
+        }
     }
 
     /// One that has not the slot says so: then none.
-    async fn ask(&self, address: &str, head: &Head, part: &Original, until: Instant) -> Option<Outcome> {
+    async fn ask(
+        &self,
+        address: &str,
+        head: &Head,
+        part: &Original,
+        no_answer: impl Future<Output = ()>,
+    ) -> Option<Outcome> {
         let (peer, began) = (self.peers.at(address), Instant::now());
-        let said = timeout_at(until, self.exchange(&peer, address, head, part)).await;
+        let said = tokio::select! {
+            biased;
+            said = self.exchange(&peer, address, head, part) => said,
+            () = no_answer => Err(Broken::Late),
+        };
         let why = match said {
-            Ok(Ok(said)) => {
+            Ok(said) => {
                 peer.answers();
                 return self.count(said);
             }
-            Ok(Err(why)) => why,
-            Err(_) => Broken::Late,
+            Err(why) => why,
         };
         self.counts.broken.fetch_add(1, Relaxed);
         if peer.is_silent_since(began) && TOLD.is_due() {

@@ -198,6 +198,35 @@ async fn who_stalls_is_left_after_ten_seconds_and_said_and_holds_up_no_other() {
 }
 
 #[tokio::test]
+async fn who_stalls_is_left_once_another_has_the_slot_but_not_before_it_may_have_handed_over() {
+    let ((stalls, count), peer) = (strange(b"", true).await, Peer::here().await);
+    let forward = receiver(there(&stalls), secret("of all"));
+    let moves = |places: Whose| {
+        let cluster = forward.cluster.clone();
+        async move {
+            sleep(Duration::from_millis(100)).await;
+            cluster.knows(&[(3, places)]);
+        }
+    };
+    let began = Instant::now();
+    let (outcome, ()) = tokio::join!(posted(&forward, "{}"), moves(peer.whose()));
+    assert_eq!(outcome, unavailable(BROKEN));
+    assert!((AFTER_MOVE..WITHIN / 2).contains(&began.elapsed()));
+    assert_eq!((count.load(SeqCst), peer.slots.count()), (1, 0), "it may have been taken");
+    assert_eq!(posted(&forward, "{}").await, Outcome::taken(0));
+    // It hands over, and answers what is under way.
+    let slots = Slots {
+        takes: AFTER_MOVE / 2,
+        ..Slots::default()
+    };
+    let slow = Peer::with(slots, Whose::Here { term: 5 }).await;
+    forward.cluster.knows(&[(3, slow.whose())]);
+    let (outcome, ()) = tokio::join!(posted(&forward, "{}"), moves(peer.whose()));
+    assert_eq!(outcome, Outcome::taken(0));
+    assert_eq!((slow.slots.count(), peer.slots.count()), (1, 1));
+}
+
+#[tokio::test]
 async fn so_many_posts_are_on_their_way_to_one_and_each_comes_once() {
     let slots = Slots {
         takes: Duration::from_millis(20),
