@@ -167,7 +167,10 @@ impl<H: Here> Forward<H> {
 
     /// Waits until an owner's answer can't be waited for any longer: it is late, or the owner has the slot no more.
     async fn no_answer(&self, slot: u16, owner: &Whose, until: Instant) {
-        if self.has_moved(slot, owner, &mut self.cluster.places(), until).await {
+        if self
+            .has_moved(slot, owner, &mut self.cluster.places(), until)
+            .await
+        {
             sleep_until(until.min(Instant::now() + AFTER_MOVE)).await;
         }
     }

@@ -324,12 +324,25 @@ impl Drop for Flushes {
 extern "C" {
     #[link_name = "MallocExtension_ReleaseFreeMemory"]
     fn release_free_memory();
+    #[cfg(test)]
+    #[link_name = "MallocExtension_GetNumericProperty"]
+    fn number_of(property: *const libc::c_char, number: *mut usize) -> libc::c_int;
 }
 
 /// Gives the system back what nobody has of the process' memory.
 pub(super) fn give_back() {
     // SAFETY: it may be called at any time, by any thread.
     unsafe { release_free_memory() };
+}
+
+/// How many bytes of the allocator's the system has back now.
+#[cfg(test)]
+pub(super) fn given_back() -> usize {
+    let mut bytes = 0;
+    // SAFETY: the name ends with a zero, and both are there through the call.
+    let is_known = unsafe { number_of(c"tcmalloc.pageheap_unmapped_bytes".as_ptr(), &mut bytes) };
+    assert_eq!(is_known, 1, "tcmalloc has this number");
+    bytes
 }
 
 /// The length that the allocator gave a block, which counts.

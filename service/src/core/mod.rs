@@ -73,6 +73,12 @@ pub fn give_back_memory() {
     book::give_back();
 }
 
+/// How much of it the system has back now.
+#[cfg(test)]
+pub(crate) fn given_back() -> usize {
+    book::given_back()
+}
+
 impl Core {
     /// A book with room for so many series, which keeps hours apart.
     pub fn new(series: usize) -> Result<Arc<Core>, Refused> {

@@ -11,7 +11,10 @@ mod open;
 mod owned;
 mod reading;
 mod rows;
+mod snapshot;
 mod state;
+mod table;
+mod texts;
 mod writer;
 mod written;
 
@@ -47,7 +50,7 @@ pub struct Series {
     /// Where its last forwarded point ends.
     pub frontier: u64,
     /// Unknown until the journal's posts of its first group were looked through.
-    pub owner: Option<String>,
+    pub owner: Option<Arc<str>>,
     /// When a group last had a point of it, in seconds since 1970.
     pub seen: u64,
     /// What was last taken of it, where its points are made of cumulative ones.
@@ -111,12 +114,26 @@ impl Outbox {
     }
 
     pub fn series(&self) -> HashMap<SeriesKey, Series> {
-        let state = lock(&self.state);
-        state
-            .series
-            .iter()
-            .map(|(key, known)| (key.clone(), known.series.clone()))
-            .collect()
+        self.those(|_| true).into_iter().collect()
+    }
+
+    /// The series whose owners are unknown.
+    pub fn without_owner(&self) -> HashSet<SeriesKey> {
+        let unknown = self.those(|series| series.owner.is_none());
+        unknown.into_iter().map(|(key, _)| key).collect()
+    }
+
+    /// Their keys are read without the lock.
+    fn those(&self, wanted: impl Fn(&Series) -> bool) -> Vec<(SeriesKey, Series)> {
+        let (ids, series, texts): (Vec<u32>, Vec<Series>, _) = {
+            let state = lock(&self.state);
+            let all = state.series.iter().map(|(id, known)| (id, &known.series));
+            let those = all.filter(|(_, series)| wanted(series));
+            let (ids, series) = those.map(|(id, series)| (id, series.clone())).unzip();
+            (ids, series, state.series.texts())
+        };
+        let keys = texts.of(ids.into_iter());
+        keys.zip(series).collect()
     }
 
     /// When what is known here began.
@@ -131,7 +148,8 @@ impl Outbox {
     }
 
     pub fn owner(&self, series: &SeriesKey) -> Option<String> {
-        lock(&self.state).series.get(series)?.series.owner.clone()
+        let state = lock(&self.state);
+        Some(state.series.get(series)?.series.owner.as_ref()?.to_string())
     }
 
     pub fn series_count(&self) -> usize {
@@ -148,16 +166,19 @@ impl Outbox {
     }
 
     fn forget_of(&self, age: Age, keep: &HashSet<SeriesKey>) -> Result<Vec<SeriesKey>, Fault> {
-        self.leave_out(|key, known| known.may_be_forgotten(age) && !keep.contains(key))
+        self.leave_out(|series| {
+            let keep: HashSet<u32> = keep.iter().filter_map(|key| series.id(key)).collect();
+            let old = series.iter().filter(|(_, known)| known.may_be_forgotten(age));
+            old.map(|(id, _)| id).filter(|id| !keep.contains(id)).collect()
+        })
     }
 
     /// Whether there may be a series to forget.
     pub fn has_any_of(&self, age: Duration) -> bool {
         let age = Age::from_now(age);
-        lock(&self.state)
-            .series
-            .values()
-            .any(|known| known.may_be_forgotten(age))
+        let state = lock(&self.state);
+        let mut all = state.series.iter();
+        all.any(|(_, known)| known.may_be_forgotten(age))
     }
 
     /// How many requests wait, how many bytes they take on disk, and the first of them.

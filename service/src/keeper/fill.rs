@@ -327,8 +327,8 @@ fn not_taken(refused: Refused) -> Trouble {
 
 /// The series whose owners are known, by these, each with where it ends. In the order of their keys: so neighbours share most, and
 /// each goes behind those that a book has, or near their end.
-fn owned(outbox: &Outbox) -> BTreeMap<String, Vec<(SeriesKey, u64)>> {
-    let mut owned: BTreeMap<String, Vec<(SeriesKey, u64)>> = BTreeMap::new();
+fn owned(outbox: &Outbox) -> BTreeMap<Arc<str>, Vec<(SeriesKey, u64)>> {
+    let mut owned: BTreeMap<Arc<str>, Vec<(SeriesKey, u64)>> = BTreeMap::new();
     for (key, series) in outbox.series() {
         if let Some(owner) = series.owner {
             owned.entry(owner).or_default().push((key, series.frontier));

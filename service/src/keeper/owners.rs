@@ -26,10 +26,8 @@ pub(super) fn find_owners_left(slot: &Slot, end: u64) -> Result<(), Fault> {
 }
 
 fn find_in(slot: &Slot, ranges: impl Iterator<Item = (u64, u64)>) -> Result<(), Fault> {
-    let series = slot.outbox.series();
-    let unknown = series.into_iter().filter(|(_, about)| about.owner.is_none());
     let mut search = Search {
-        unknown: unknown.map(|(key, _)| key).collect(),
+        unknown: slot.outbox.without_owner(),
         owners: HashMap::new(),
         misread: 0,
         series: SeriesOfPosts::default(),

@@ -48,3 +48,49 @@ fn rest(slot: &Slot, before: u64) -> u64 {
     }
     came
 }
+
+#[cfg(test)]
+mod tests {
+    use super::*;
+    use crate::core::{given_back, tests::points, Core};
+    use crate::files::{Durability, Folder};
+    use crate::keeper::tests::settings;
+    use crate::metrics::Metrics;
+    use std::sync::Arc;
+
+    /// Looks now; how many rounds were closed.
+    async fn look(keeper: &mut Keeper) -> usize {
+        keeper.rest.next = Instant::now();
+        keeper.rest().await;
+        assert!(keeper.rest.next > Instant::now() + LOOK / 2);
+        let closed = keeper.slot.core.lock().rounds_closed();
+        closed
+    }
+
+    #[tokio::test]
+    async fn memory_is_given_back_once_nothing_came_between_two_looks() {
+        const BLOCK: usize = 1 << 20;
+        const BLOCKS: usize = 128;
+        let place = tempfile::tempdir().unwrap();
+        let folder = Folder::open(&place.path().join("data"), Durability::Process).unwrap();
+        let (journal, outbox) = folder.slot(0).unwrap();
+        let metrics = Arc::new(Metrics::new().unwrap());
+        let slot = Slot::new(0, journal, Arc::new(outbox), metrics, Core::new(1).unwrap());
+        let (mut keeper, _orders) = Keeper::new(slot.clone(), settings());
+        for start in [10, 20] {
+            let body = points(&["a".into()], start, 1);
+            let mut read = slot.core.read("A".into(), body.into()).unwrap();
+            slot.core.lock().admit(&mut read).unwrap();
+            assert_eq!(look(&mut keeper).await, 0, "a post came");
+        }
+        // One after the other is freed: by itself the allocator gives back one of many.
+        let block = || vec![1u8; BLOCK];
+        let (freed, _kept): (Vec<_>, Vec<_>) = (0..BLOCKS).map(|_| (block(), block())).unzip();
+        let before = given_back();
+        drop(freed);
+        assert_eq!(look(&mut keeper).await, 1);
+        // Other tests free and use some meanwhile.
+        assert!(given_back() > before + BLOCK * BLOCKS / 2);
+        assert_eq!(look(&mut keeper).await, 0, "there is no other");
+    }
+}

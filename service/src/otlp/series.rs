@@ -1,5 +1,6 @@
 //! The series that a body has points of.
 
+mod digest;
 mod forwarded;
 mod identity;
 mod point;
@@ -7,6 +8,7 @@ mod posted;
 mod why;
 mod zeros;
 
+pub use digest::{Digest, Digests};
 pub use forwarded::forwarded;
 pub(super) use forwarded::protobuf_of_forwarded;
 pub(super) use point::Temporality;

@@ -212,7 +212,11 @@ async fn who_stalls_is_left_once_another_has_the_slot_but_not_before_it_may_have
     let (outcome, ()) = tokio::join!(posted(&forward, "{}"), moves(peer.whose()));
     assert_eq!(outcome, unavailable(BROKEN));
     assert!((AFTER_MOVE..WITHIN / 2).contains(&began.elapsed()));
-    assert_eq!((count.load(SeqCst), peer.slots.count()), (1, 0), "it may have been taken");
+    assert_eq!(
+        (count.load(SeqCst), peer.slots.count()),
+        (1, 0),
+        "it may have been taken"
+    );
     assert_eq!(posted(&forward, "{}").await, Outcome::taken(0));
     // It hands over, and answers what is under way.
     let slots = Slots {

@@ -3,11 +3,11 @@
 use super::changes::{Change, Group};
 use super::rows;
 use super::state::{Batch, Front};
-use super::{Outbox, Runs, Series, Waiting};
+use super::{Outbox, Series, Waiting};
 use crate::files::{lock, segment, Fault};
 use crate::otlp::series::SeriesKey;
 use crate::runs::Since;
-use std::collections::{BTreeSet, HashMap};
+use std::collections::BTreeSet;
 use std::sync::Arc;
 
 /// What an outbox begins with that goes on from others.
@@ -80,20 +80,18 @@ impl Outbox {
     /// Goes on with requests of another outbox, whose series are known here already: the next ones in its order.
     pub fn go_on_with(&self, waits: Waits) -> Result<(), Fault> {
         let mut writer = lock(&self.writer);
-        let (group, bytes) = {
+        let group = {
             let state = lock(&self.state);
-            let group = Group {
+            Group {
                 first: waits.first,
                 epoch: waits.epoch,
                 since: waits.since,
                 heard: None,
                 journal: state.journal,
-                ends: HashMap::new(),
-                runs: Runs::new(),
-            };
-            let bytes = rows::group(&group, &waits.bodies, &state);
-            (group, bytes)
+                ends: Vec::new(),
+            }
         };
+        let bytes = rows::group(&group, &waits.bodies);
         let count = waits.bodies.len() as u64;
         self.write(&mut writer, &bytes.records, true, |begin| Change::Group {
             group,

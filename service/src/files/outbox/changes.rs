@@ -1,8 +1,7 @@
 //! What can become of an outbox.
 
-use super::Runs;
 use crate::otlp::series::SeriesKey;
-use std::collections::HashMap;
+use crate::runs::Run;
 use std::ops::Range;
 use std::sync::Arc;
 use std::time::Instant;
@@ -20,10 +19,11 @@ pub enum Change {
         number: u64,
         length: u64,
     },
-    Own(Vec<(SeriesKey, String)>),
+    /// Series by their ids.
+    Own(Vec<(u32, String)>),
     Quarantine(String),
     Lift(String),
-    Forget(Vec<SeriesKey>),
+    Forget(Vec<u32>),
 }
 
 /// What one checkpoint flushed.
@@ -37,10 +37,19 @@ pub struct Group {
     pub heard: Option<Instant>,
     /// Posts of the journal's segments before it are in this group or in earlier ones.
     pub journal: u64,
-    /// Where the last point of each of its series ends.
-    pub ends: HashMap<SeriesKey, u64>,
-    /// Of some of these their runs.
-    pub runs: Runs,
+    /// What it does to series, in the order of their ids.
+    pub ends: Vec<End>,
+}
+
+/// What a group does to a series.
+#[derive(Debug)]
+pub struct End {
+    pub id: u32,
+    /// Of one that is new: these have the next ids, in the order of their keys.
+    pub new: Option<SeriesKey>,
+    /// Where its last point ends.
+    pub end: u64,
+    pub run: Option<Arc<Run>>,
 }
 
 impl Change {

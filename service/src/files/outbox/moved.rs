@@ -1,16 +1,22 @@
 //! Series that leave an outbox, those that another slot had, and those whose ends are put back.
 
 use super::changes::Change;
-use super::state::{KnownSeries, State};
+use super::state::State;
+use super::table::Table;
 use super::{Outbox, Series};
 use crate::files::{lock, Fault};
 use crate::otlp::series::SeriesKey;
-use std::collections::HashSet;
+use std::collections::BTreeSet;
 
 impl Outbox {
     /// Leaves out the series whose owners post to another slot: how many.
     pub fn leave(&self, is_others: impl Fn(&str) -> bool) -> Result<usize, Fault> {
-        let left = self.leave_out(|_, known| known.series.owner.as_deref().is_some_and(&is_others));
+        let left = self.leave_out(|series| {
+            let others = series
+                .iter()
+                .filter(|(_, known)| known.series.owner.as_deref().is_some_and(&is_others));
+            others.map(|(id, _)| id).collect()
+        });
         left.map(|left| left.len())
     }
 
@@ -45,24 +51,26 @@ impl Outbox {
             all.filter(|(_, known)| known.series.frontier > time)
         };
         let last = ahead().max_by_key(|(_, known)| known.series.frontier);
-        (ahead().count(), last.map(|(key, _)| key.clone()))
+        let last = state.series.keys(last.map(|(id, _)| id).into_iter()).next();
+        (ahead().count(), last)
     }
 
     /// Leaves these out.
     pub fn leave_these(&self, series: &[SeriesKey]) -> Result<(), Fault> {
-        let series: HashSet<&SeriesKey> = series.iter().collect();
-        self.leave_out(|key, _| series.contains(key)).map(drop)
+        let these = |all: &Table| series.iter().filter_map(|key| all.id(key)).collect();
+        self.leave_out(these).map(drop)
     }
 
+    /// Which ones these were.
     pub(super) fn leave_out(
         &self,
-        is_left: impl Fn(&SeriesKey, &KnownSeries) -> bool,
+        to_leave: impl FnOnce(&Table) -> BTreeSet<u32>,
     ) -> Result<Vec<SeriesKey>, Fault> {
         let mut left = Vec::new();
         self.change(true, |state| {
-            let all = state.series.iter().filter(|(key, known)| is_left(key, known));
-            left = all.map(|(key, _)| key.clone()).collect();
-            (!left.is_empty()).then(|| Change::Forget(left.clone()))
+            let ids = to_leave(&state.series);
+            left = state.series.keys(ids.iter().copied()).collect();
+            (!ids.is_empty()).then(|| Change::Forget(ids.into_iter().collect()))
         })?;
         Ok(left)
     }

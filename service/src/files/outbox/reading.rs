@@ -5,12 +5,13 @@
 
 use super::changes::{Change, Group};
 use super::rows::{self, GroupHead};
+use super::snapshot::Snapshot;
 use super::state::{Batch, State};
+use super::table::Table;
 use crate::files::disk::Disk;
 use crate::files::records::{Next, Reader, Which, HEADER};
 use crate::files::torn_tail::{check_torn, CHANGED};
 use crate::files::{segment, Fault};
-use crate::otlp::series::SeriesKey;
 use std::path::Path;
 use std::sync::Arc;
 
@@ -173,9 +174,7 @@ impl Reading {
         else {
             return Err(self.reader.damaged(self.reader.at, CHANGED));
         };
-        let mut state = rows::Snapshot::read(&bytes).ok_or_else(|| self.reader.damaged(at, NOT_WRITTEN))?;
-        let mut keys: Vec<SeriesKey> = state.series.keys().cloned().collect();
-        keys.sort_unstable_by_key(|key| state.series.get(key).map(|known| known.id));
+        let mut state = Snapshot::read(&bytes).ok_or_else(|| self.reader.damaged(at, NOT_WRITTEN))?;
         loop {
             match std::mem::replace(&mut self.next, Next::Stop) {
                 Next::Closed => return Ok((state, None)),
@@ -191,22 +190,19 @@ impl Reading {
                     let head = self.head(at, &bytes)?;
                     match self.last_items(&head)? {
                         Items::Torn(_) => return Ok((state, Some(at))),
-                        whole => state.apply(self.group(head, whole, &mut keys, at)?),
+                        whole => {
+                            let group = self.group(head, whole, &state.series, at)?;
+                            state.apply(group);
+                        }
                     }
                 }
-                Next::Record { at, kind, bytes } => self.apply(&mut state, at, kind, &bytes, &keys)?,
+                Next::Record { at, kind, bytes } => self.apply(&mut state, at, kind, &bytes)?,
             }
             self.next = self.reader.next()?;
         }
     }
 
-    fn group(
-        &mut self,
-        head: GroupHead,
-        items: Items,
-        keys: &mut Vec<SeriesKey>,
-        at: u64,
-    ) -> Result<Change, Fault> {
+    fn group(&mut self, head: GroupHead, items: Items, series: &Table, at: u64) -> Result<Change, Fault> {
         let wrong = || self.reader.damaged(at, NOT_WRITTEN);
         let Items::Whole {
             journal,
@@ -217,7 +213,7 @@ impl Reading {
         else {
             return Err(wrong());
         };
-        let (ends, runs) = rows::ends_of(&ends, keys).ok_or_else(wrong)?;
+        let ends = rows::ends_of(&ends, series).ok_or_else(wrong)?;
         let group = Group {
             first: head.first,
             epoch: head.epoch.as_str().into(),
@@ -225,7 +221,6 @@ impl Reading {
             heard: None,
             journal,
             ends,
-            runs,
         };
         Ok(Change::Group {
             group,
@@ -235,14 +230,7 @@ impl Reading {
         })
     }
 
-    fn apply(
-        &self,
-        state: &mut State,
-        at: u64,
-        kind: u8,
-        bytes: &[u8],
-        keys: &[SeriesKey],
-    ) -> Result<(), Fault> {
+    fn apply(&self, state: &mut State, at: u64, kind: u8, bytes: &[u8]) -> Result<(), Fault> {
         let wrong = || self.reader.damaged(at, NOT_WRITTEN);
         match kind {
             HEADER => return Err(wrong()),
@@ -250,7 +238,7 @@ impl Reading {
             rows::ACK => {
                 state.acknowledged = bytes.try_into().map(u64::from_le_bytes).map_err(|_| wrong())?
             }
-            _ => state.apply(rows::change_of(kind, bytes, keys).ok_or_else(wrong)?),
+            _ => state.apply(rows::change_of(kind, bytes, &state.series).ok_or_else(wrong)?),
         }
         Ok(())
     }

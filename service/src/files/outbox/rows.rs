@@ -14,21 +14,20 @@
 //! Packed is deflated; but bodies it is JSON. A series has the id of the snapshot, or the next free one from the
 //! commit that first has it.
 
-use super::changes::{Change, Group};
-use super::state::{Front, KnownSeries, State};
-use super::{Runs, Series};
+use super::changes::{Change, End, Group};
+use super::snapshot::RunRow;
+use super::state::Front;
+use super::table::Table;
 use crate::files::disk::{io_fault, Disk};
 use crate::files::records::{self, put, take_number, HEAD, OWN};
 use crate::files::Fault;
 use crate::otlp::series::SeriesKey;
-use crate::runs::{Run, Since};
 use flate2::{read::DeflateDecoder, write::DeflateEncoder, Compression};
 use serde::{de::DeserializeOwned, Deserialize, Serialize};
-use std::collections::{BTreeSet, HashMap};
-use std::io::{Read, Write};
+use std::collections::HashMap;
+use std::io::{self, BufWriter, Read, Write};
 use std::ops::Range;
 use std::path::Path;
-use std::sync::Arc;
 
 pub const SNAPSHOT: u8 = OWN;
 pub const GROUP: u8 = OWN + 1;
@@ -40,44 +39,15 @@ pub const QUARANTINE: u8 = OWN + 6;
 pub const LIFT: u8 = OWN + 7;
 pub const FORGET: u8 = OWN + 8;
 
-/// The state that a segment begins with.
-#[derive(Serialize, Deserialize)]
-pub struct Snapshot {
-    pub epoch: String,
-    pub next: u64,
-    pub acknowledged: u64,
-    pub journal: u64,
-    pub quarantined: BTreeSet<String>,
-    /// Key, frontier, seconds since 1970 when last seen, owner.
-    pub series: Vec<(String, u64, u64, Option<String>)>,
-    /// None in an outbox of version 1, and so it has no runs.
-    #[serde(default)]
-    pub since: Option<Since>,
-    #[serde(default)]
-    pub runs: Vec<RunRow>,
-}
-
-/// The run of a series: its id, its start, how far its frontier is after the last point, that point's words.
-pub type RunRow = (u32, u64, u64, Vec<u64>);
-
 /// What a group did to series.
 #[derive(Serialize, Deserialize)]
-pub struct Ends {
+struct Ends {
     /// Id and frontier.
     known: Vec<(u32, u64)>,
     /// Key and frontier of those that get the next ids.
     new: Vec<(String, u64)>,
     #[serde(default)]
     runs: Vec<RunRow>,
-}
-
-pub fn run_row(id: u32, frontier: u64, run: &Run) -> RunRow {
-    (id, run.start, frontier.wrapping_sub(run.time), run.words.clone())
-}
-
-fn run_of((_, start, after, words): RunRow, frontier: u64) -> Arc<Run> {
-    let time = frontier.wrapping_sub(after);
-    Arc::new(Run { start, time, words })
 }
 
 /// A group's records, and where in them its items are.
@@ -96,24 +66,33 @@ pub struct GroupHead {
 }
 
 pub fn deflated(bytes: &[u8]) -> Vec<u8> {
-    let mut packer = DeflateEncoder::new(Vec::new(), Compression::new(5));
+    deflated_by(Compression::new(5), |out| out.write_all(bytes))
+}
+
+/// The same in less time, and somewhat longer.
+pub fn deflated_fast(bytes: &[u8]) -> Vec<u8> {
+    deflated_by(Compression::fast(), |out| out.write_all(bytes))
+}
+
+fn deflated_by(level: Compression, write: impl FnOnce(&mut dyn Write) -> io::Result<()>) -> Vec<u8> {
+    let mut packer = BufWriter::new(DeflateEncoder::new(Vec::new(), level));
+    let packed = write(&mut packer).and_then(|()| packer.into_inner()?.finish());
     // Nothing fails that writes to memory.
-    let packed = packer.write_all(bytes).and_then(|()| packer.finish());
     packed.unwrap_or_default()
 }
 
-fn inflated(bytes: &[u8]) -> Option<Vec<u8>> {
+pub fn inflated(bytes: &[u8]) -> Option<Vec<u8>> {
     let mut out = Vec::new();
     DeflateDecoder::new(bytes).read_to_end(&mut out).ok()?;
     Some(out)
 }
 
-fn packed(value: &impl Serialize) -> Vec<u8> {
+pub fn packed(value: &impl Serialize) -> Vec<u8> {
     // These types have no key that is not a text, and so can be written.
-    deflated(&serde_json::to_vec(value).unwrap_or_default())
+    deflated_by(Compression::new(5), |out| Ok(serde_json::to_writer(out, value)?))
 }
 
-fn unpacked<T: DeserializeOwned>(bytes: &[u8]) -> Option<T> {
+pub fn unpacked<T: DeserializeOwned>(bytes: &[u8]) -> Option<T> {
     serde_json::from_slice(&inflated(bytes)?).ok()
 }
 
@@ -121,40 +100,7 @@ fn numbers<const N: usize>(numbers: [u64; N]) -> Vec<u8> {
     numbers.map(u64::to_le_bytes).concat()
 }
 
-impl Snapshot {
-    pub fn record(&self) -> Vec<u8> {
-        let mut out = Vec::new();
-        put(&mut out, SNAPSHOT, &[&packed(self)]);
-        out
-    }
-
-    pub fn read(bytes: &[u8]) -> Option<State> {
-        let snapshot: Snapshot = unpacked(bytes)?;
-        let mut state = State::new(&snapshot.epoch);
-        (state.next, state.acknowledged, state.journal) =
-            (snapshot.next, snapshot.acknowledged, snapshot.journal);
-        (state.quarantined, state.since) = (snapshot.quarantined, snapshot.since);
-        let runs = snapshot.runs.into_iter().map(|row| (row.0, row));
-        let mut runs: HashMap<u32, RunRow> = runs.collect();
-        for (key, frontier, seen, owner) in snapshot.series {
-            let known = KnownSeries {
-                id: state.next_id,
-                series: Series {
-                    frontier,
-                    owner,
-                    seen,
-                    run: runs.remove(&state.next_id).map(|row| run_of(row, frontier)),
-                },
-                heard: None,
-            };
-            state.series.insert(SeriesKey(key.into()), known);
-            state.next_id += 1;
-        }
-        runs.is_empty().then_some(state)
-    }
-}
-
-pub fn group(group: &Group, items: &[Vec<u8>], state: &State) -> GroupBytes {
+pub fn group(group: &Group, items: &[Vec<u8>]) -> GroupBytes {
     let mut bodies = Vec::new();
     for (number, item) in (group.first..).zip(items) {
         put(&mut bodies, ITEM, &[&number.to_le_bytes(), item]);
@@ -165,37 +111,30 @@ pub fn group(group: &Group, items: &[Vec<u8>], state: &State) -> GroupBytes {
     put(&mut out, GROUP, &[&head, group.epoch.as_bytes()]);
     let items = out.len()..out.len() + bodies.len();
     out.append(&mut bodies);
-    let ends = ends(group, state);
+    let ends = packed(&ends(&group.ends));
     put(
         &mut out,
         COMMIT,
-        &[&numbers([group.first, count, group.journal]), &packed(&ends)],
+        &[&numbers([group.first, count, group.journal]), &ends],
     );
     GroupBytes { records: out, items }
 }
 
-fn ends(group: &Group, state: &State) -> Ends {
+fn ends(all: &[End]) -> Ends {
     let (mut known, mut new, mut runs) = (Vec::new(), Vec::new(), Vec::new());
-    let run = |id: u32, key: &SeriesKey, end: u64| group.runs.get(key).map(|run| run_row(id, end, run));
-    for (key, end) in &group.ends {
-        match state.series.get(key) {
-            Some(series) => {
-                known.push((series.id, *end));
-                runs.extend(run(series.id, key, *end));
-            }
-            None => new.push((key, *end)),
+    for End {
+        id,
+        new: key,
+        end,
+        run,
+    } in all
+    {
+        match key {
+            None => known.push((*id, *end)),
+            Some(key) => new.push((key.0.to_string(), *end)),
         }
+        runs.extend(run.as_ref().map(|run| RunRow::of(*id, *end, run)));
     }
-    known.sort_unstable();
-    new.sort_unstable();
-    for (id, (key, end)) in (state.next_id..).zip(&new) {
-        runs.extend(run(id, key, *end));
-    }
-    runs.sort_unstable();
-    let new = new
-        .into_iter()
-        .map(|(key, end)| (key.0.to_string(), end))
-        .collect();
     Ends { known, new, runs }
 }
 
@@ -221,73 +160,58 @@ pub fn commit_of<'a>(mut bytes: &'a [u8], head: &GroupHead) -> Option<(u64, &'a 
     is_its.then_some((journal, *rest))
 }
 
-/// Where series end, and their runs. `keys` are the series by their ids; it gets the new ones.
-pub fn ends_of(bytes: &[u8], keys: &mut Vec<SeriesKey>) -> Option<(HashMap<SeriesKey, u64>, Runs)> {
+/// What a group did to series, behind all that these know.
+pub fn ends_of(bytes: &[u8], series: &Table) -> Option<Vec<End>> {
     let ends: Ends = unpacked(bytes)?;
-    let mut all = HashMap::new();
-    for (id, end) in ends.known {
-        all.insert(keys.get(id as usize)?.clone(), end);
-    }
-    for (key, end) in ends.new {
-        let key = SeriesKey(key.into());
-        keys.push(key.clone());
-        all.insert(key, end);
-    }
-    let run = |row: RunRow| {
-        let key = keys.get(row.0 as usize)?.clone();
-        let end = *all.get(&key)?;
-        Some((key, run_of(row, end)))
+    let runs = ends.runs.into_iter().map(|row| (row.0, row));
+    let mut runs: HashMap<u32, RunRow> = runs.collect();
+    let mut of = |id: u32, new: Option<SeriesKey>, end: u64| {
+        let run = runs.remove(&id).map(|row| row.run(end));
+        End { id, new, end, run }
     };
-    let runs = ends.runs.into_iter().map(run).collect::<Option<Runs>>()?;
-    Some((all, runs))
+    let mut all = Vec::new();
+    for (id, end) in ends.known {
+        series.at(id)?;
+        all.push(of(id, None, end));
+    }
+    for (id, (key, end)) in (series.next_id()..).zip(ends.new) {
+        all.push(of(id, Some(SeriesKey(key.into())), end));
+    }
+    runs.is_empty().then_some(all)
 }
 
 /// The record of a change that is no group.
-pub fn record(change: &Change, state: &State) -> Vec<u8> {
-    let id = |key| state.series.get(key).map(|known| known.id);
+pub fn record(change: &Change) -> Vec<u8> {
     let (kind, bytes) = match change {
         Change::Group { .. } => return Vec::new(),
         Change::Acknowledge { number, .. } => (ACK, number.to_le_bytes().to_vec()),
-        Change::Own(owners) => {
-            let rows: Vec<_> = owners
-                .iter()
-                .filter_map(|(key, owner)| Some((id(key)?, owner)))
-                .collect();
-            (OWNERS, packed(&rows))
-        }
+        Change::Own(owners) => (OWNERS, packed(owners)),
         Change::Quarantine(sender) => (QUARANTINE, sender.as_bytes().to_vec()),
         Change::Lift(sender) => (LIFT, sender.as_bytes().to_vec()),
-        Change::Forget(series) => (
-            FORGET,
-            packed(&series.iter().filter_map(id).collect::<Vec<u32>>()),
-        ),
+        Change::Forget(ids) => (FORGET, packed(ids)),
     };
     let mut out = Vec::new();
     put(&mut out, kind, &[&bytes]);
     out
 }
 
-/// The change of a record that is of no group, and no ack.
-pub fn change_of(kind: u8, bytes: &[u8], keys: &[SeriesKey]) -> Option<Change> {
-    let key = |id: u32| keys.get(id as usize).cloned();
+/// The change of a record that is of no group, and no ack, behind all that these know.
+pub fn change_of(kind: u8, bytes: &[u8], series: &Table) -> Option<Change> {
+    let was_given = |id: &u32| *id < series.next_id();
     let name = || Some(std::str::from_utf8(bytes).ok()?.to_string());
     Some(match kind {
         OWNERS => {
             let rows: Vec<(u32, String)> = unpacked(bytes)?;
-            Change::Own(
-                rows.into_iter()
-                    .map(|(id, owner)| Some((key(id)?, owner)))
-                    .collect::<Option<_>>()?,
-            )
+            rows.iter()
+                .all(|(id, _)| was_given(id))
+                .then_some(Change::Own(rows))?
         }
         QUARANTINE => Change::Quarantine(name()?),
         LIFT => Change::Lift(name()?),
-        FORGET => Change::Forget(
-            unpacked::<Vec<u32>>(bytes)?
-                .into_iter()
-                .map(key)
-                .collect::<Option<_>>()?,
-        ),
+        FORGET => {
+            let ids: Vec<u32> = unpacked(bytes)?;
+            ids.iter().all(was_given).then_some(Change::Forget(ids))?
+        }
         _ => return None,
     })
 }

@@ -1,21 +1,14 @@
 //! What the outbox knows, in memory: some bytes a series, and some a group, but none a waiting request.
 
-use super::changes::Change;
-use super::rows::{run_row, Snapshot};
+use super::changes::{Change, Group};
+use super::snapshot::Snapshot;
+use super::table::{KnownSeries, Table};
 use super::{Series, Waiting};
 use crate::otlp::series::SeriesKey;
 use crate::runs::Since;
-use std::collections::{BTreeSet, HashMap, VecDeque};
+use std::collections::{BTreeSet, VecDeque};
 use std::sync::Arc;
-use std::time::{Duration, Instant, SystemTime, UNIX_EPOCH};
-
-pub struct KnownSeries {
-    /// How the records of the segment name it.
-    pub id: u32,
-    pub series: Series,
-    /// When a group of this run last had a point of it. A clock that is set says nothing of that.
-    pub heard: Option<Instant>,
-}
+use std::time::{Duration, SystemTime, UNIX_EPOCH};
 
 /// How long ago something was.
 #[derive(Clone, Copy)]
@@ -76,9 +69,7 @@ pub struct State {
     pub quarantined: BTreeSet<String>,
     /// None until the outbox is opened.
     pub since: Option<Since>,
-    pub series: HashMap<SeriesKey, KnownSeries>,
-    /// The id of the next new series.
-    pub next_id: u32,
+    pub series: Table,
     pub batches: VecDeque<Batch>,
     /// Of the waiting requests, on disk.
     pub bytes: u64,
@@ -93,8 +84,7 @@ impl State {
             journal: 1,
             quarantined: BTreeSet::new(),
             since: None,
-            series: HashMap::new(),
-            next_id: 0,
+            series: Table::default(),
             batches: VecDeque::new(),
             bytes: 0,
         }
@@ -121,32 +111,17 @@ impl State {
 
     /// The series get the ids that they have in a snapshot.
     pub fn snapshot(&mut self) -> Snapshot {
-        self.next_id = 0;
-        let mut series = Vec::with_capacity(self.series.len());
-        let mut runs = Vec::new();
-        for (key, known) in &mut self.series {
-            known.id = self.next_id;
-            self.next_id += 1;
-            let Series {
-                frontier,
-                owner,
-                seen,
-                run,
-            } = known.series.clone();
-            series.push((key.0.to_string(), frontier, seen, owner));
-            runs.extend(run.map(|run| run_row(known.id, frontier, &run)));
-        }
-        let (next, acknowledged, journal) = (self.next, self.acknowledged, self.journal);
-        let (epoch, quarantined) = (self.next_epoch.to_string(), self.quarantined.clone());
+        self.series.renumber();
+        let known = self.series.iter().map(|(_, known)| known.series.clone());
         Snapshot {
-            epoch,
-            next,
-            acknowledged,
-            journal,
-            quarantined,
-            series,
+            epoch: self.next_epoch.clone(),
+            next: self.next,
+            acknowledged: self.acknowledged,
+            journal: self.journal,
+            quarantined: self.quarantined.clone(),
             since: self.since,
-            runs,
+            series: known.collect(),
+            texts: self.series.texts(),
         }
     }
 
@@ -165,14 +140,8 @@ impl State {
             } => {
                 self.journal = group.journal;
                 self.next = group.first + count;
-                self.advance(group.ends, group.since, group.heard);
-                for (key, run) in group.runs {
-                    if let Some(known) = self.series.get_mut(&key) {
-                        known.series.run = Some(run);
-                    }
-                }
                 if count > 0 {
-                    let (first, epoch, since) = (group.first, group.epoch, group.since);
+                    let (first, epoch, since) = (group.first, group.epoch.clone(), group.since);
                     self.wait(Batch {
                         first,
                         count,
@@ -183,31 +152,36 @@ impl State {
                         end: items.end,
                     });
                 }
+                self.advance(group);
             }
             Change::Acknowledge { number, length } => self.acknowledge(number, length),
             Change::Own(owners) => {
-                for (key, owner) in owners {
-                    if let Some(known) = self.series.get_mut(&key) {
+                for (id, owner) in owners {
+                    let owner = self.series.shared(&owner);
+                    if let Some(known) = self.series.at_mut(id) {
                         known.series.owner = Some(owner);
                     }
                 }
             }
             Change::Quarantine(sender) => drop(self.quarantined.insert(sender)),
             Change::Lift(sender) => drop(self.quarantined.remove(&sender)),
-            Change::Forget(series) => series.iter().for_each(|key| self.forget(key)),
+            Change::Forget(ids) => self.forget(&ids),
         }
     }
 
-    fn forget(&mut self, key: &SeriesKey) {
-        let forgotten = self.series.remove(key).map_or(0, |known| known.series.frontier);
+    fn forget(&mut self, ids: &[u32]) {
+        let forgotten = ids.iter().filter_map(|id| self.series.at(*id));
+        let last = forgotten.map(|known| known.series.frontier).max();
+        self.series.forget(ids);
         let since = self.since.get_or_insert_default();
-        since.forgotten = since.forgotten.max(forgotten);
+        since.forgotten = since.forgotten.max(last.unwrap_or(0));
     }
 
     /// A snapshot has to follow: no record says this. What a run has come to stays, so its next point adds what is more.
     pub fn put_back(&mut self, series: &[SeriesKey], to: u64) {
-        for key in series {
-            let Some(KnownSeries { series, .. }) = self.series.get_mut(key) else {
+        let ids: Vec<u32> = series.iter().filter_map(|key| self.series.id(key)).collect();
+        for id in ids {
+            let Some(KnownSeries { series, .. }) = self.series.at_mut(id) else {
                 continue;
             };
             series.frontier = series.frontier.min(to);
@@ -220,36 +194,34 @@ impl State {
 
     /// A snapshot has to follow: no record names these.
     pub fn adopt(&mut self, series: Vec<(SeriesKey, Series)>) {
-        for (key, series) in series {
-            let id = self.next_id;
-            self.next_id += 1;
-            let heard = None;
-            self.series.insert(key, KnownSeries { id, series, heard });
+        for (key, mut series) in series {
+            series.owner = series.owner.map(|owner| self.series.shared(&owner));
+            self.series.put(key, KnownSeries { series, heard: None });
         }
     }
 
-    fn advance(&mut self, ends: HashMap<SeriesKey, u64>, seen: u64, heard: Option<Instant>) {
-        // New ones in the order of their keys, as the commit has them.
-        let mut ends: Vec<_> = ends.into_iter().collect();
-        ends.sort_unstable();
-        for (key, end) in ends {
-            let id = self.next_id;
-            let known = self.series.entry(key).or_insert_with(|| {
-                self.next_id += 1;
-                KnownSeries {
-                    id,
-                    series: Series {
-                        frontier: 0,
-                        owner: None,
-                        seen,
-                        run: None,
-                    },
-                    heard,
-                }
-            });
-            known.series.frontier = known.series.frontier.max(end);
+    fn advance(&mut self, group: Group) {
+        let (seen, heard) = (group.since, group.heard);
+        for end in group.ends {
+            if let Some(key) = end.new {
+                let (frontier, owner, run) = (0, None, None);
+                let series = Series {
+                    frontier,
+                    owner,
+                    seen,
+                    run,
+                };
+                self.series.put(key, KnownSeries { series, heard });
+            }
+            let Some(known) = self.series.at_mut(end.id) else {
+                continue;
+            };
+            known.series.frontier = known.series.frontier.max(end.end);
             known.series.seen = seen;
             known.heard = heard;
+            if end.run.is_some() {
+                known.series.run = end.run;
+            }
         }
     }
 

@@ -1,7 +1,9 @@
-//! What is kept comes back; `brought` is an outbox that goes on from another, `damage` has what goes wrong, `model` any order of calls, `size` bytes and times.
+//! What is kept comes back; `brought` is an outbox that goes on from another, `damage` has what goes wrong, `many` more series
+//! than are packed together, `model` any order of calls, `size` bytes and times.
 
 mod brought;
 mod damage;
+mod many;
 mod model;
 mod power;
 mod size;

@@ -1,14 +1,16 @@
 //! What is written to an outbox, and how: a change is a record first.
 
-use super::changes::{Change, Group};
-use super::rows::{self, Snapshot};
+use super::changes::{Change, End, Group};
+use super::rows;
+use super::snapshot::Snapshot;
 use super::state::State;
+use super::table::Table;
 use super::{Outbox, Runs, Writer};
 use crate::files::disk::Disk;
 use crate::files::records::Which;
 use crate::files::segment::{self, Ahead, Segment};
 use crate::files::{lock, seconds, Fault};
-use crate::otlp::series::{NotForwarded, SeriesKey};
+use crate::otlp::series::{Digest, Digests, NotForwarded, SeriesKey};
 use std::collections::HashMap;
 use std::io;
 use std::path::Path;
@@ -24,33 +26,29 @@ impl Outbox {
     /// Makes a group durable, whole or not at all; with a drive once it is settled. Posts of the journal's segments before `journal` are in it or in earlier
     /// ones. Of the runs those count whose series the group has: these are returned.
     pub fn commit_with(&self, bodies: &[Vec<u8>], journal: u64, mut runs: Runs) -> Result<Runs, Fault> {
-        let mut ends: HashMap<SeriesKey, u64> = HashMap::new();
+        let (mut ends, mut digests) = (Ends::new(), Digests::default());
         let mut items = Vec::new();
         for body in bodies {
             for (key, end) in (self.read_ends)(body).map_err(|error| self.unreadable(error))? {
-                ends.entry(key)
-                    .and_modify(|known| *known = end.max(*known))
-                    .or_insert(end);
+                let (_, known) = ends.entry(digests.of(&key)).or_insert((key, end));
+                *known = end.max(*known);
             }
             items.push(rows::deflated(body));
         }
-        runs.retain(|key, _| ends.contains_key(key));
-        let saved = runs.clone();
+        runs.retain(|key, _| ends.contains_key(&key.digest()));
         let mut writer = lock(&self.writer);
-        let (group, bytes) = {
+        let group = {
             let state = lock(&self.state);
-            let group = Group {
+            Group {
                 first: state.next,
                 epoch: state.next_epoch.clone(),
                 since: seconds(),
                 heard: Some(Instant::now()),
                 journal,
-                ends,
-                runs,
-            };
-            let bytes = rows::group(&group, &items, &state);
-            (group, bytes)
+                ends: by_id(ends, &runs, &state.series),
+            }
         };
+        let bytes = rows::group(&group, &items);
         self.write(&mut writer, &bytes.records, true, |begin| {
             let items = begin + bytes.items.start as u64..begin + bytes.items.end as u64;
             Change::Group {
@@ -61,7 +59,7 @@ impl Outbox {
             }
         })?;
         self.arrived.notify_one();
-        Ok(saved)
+        Ok(runs)
     }
 
     fn unreadable(&self, error: NotForwarded) -> Fault {
@@ -74,11 +72,11 @@ impl Outbox {
 
     /// Makes durable who owns series.
     pub fn own(&self, owners: HashMap<SeriesKey, String>) -> Result<(), Fault> {
+        let by_digest = owners.into_iter().map(|(key, owner)| (key.digest(), owner));
+        let owners: Vec<_> = by_digest.collect();
         self.change(true, |state| {
-            let owners: Vec<_> = owners
-                .into_iter()
-                .filter(|(key, _)| state.series.contains_key(key))
-                .collect();
+            let by_id = |(digest, owner)| Some((state.series.id_of(&digest)?, owner));
+            let owners: Vec<_> = owners.into_iter().filter_map(by_id).collect();
             (!owners.is_empty()).then_some(Change::Own(owners))
         })
         .map(drop)
@@ -108,7 +106,7 @@ impl Outbox {
             let Some(change) = make(&state) else {
                 return Ok(false);
             };
-            let record = rows::record(&change, &state);
+            let record = rows::record(&change);
             (change, record)
         };
         self.write(&mut writer, &record, sync, |_| change)?;
@@ -169,6 +167,36 @@ impl Outbox {
         }
         Ok(())
     }
+}
+
+/// Where the last points of series end.
+pub(super) type Ends = HashMap<Digest, (SeriesKey, u64)>;
+
+/// What they do to these series.
+pub(super) fn by_id(ends: Ends, runs: &Runs, series: &Table) -> Vec<End> {
+    let (mut all, mut new) = (Vec::new(), Vec::new());
+    for (digest, (key, end)) in ends {
+        let run = runs.get(&key).cloned();
+        match series.id_of(&digest) {
+            Some(id) => all.push(End {
+                id,
+                new: None,
+                end,
+                run,
+            }),
+            None => new.push((key, end, run)),
+        }
+    }
+    all.sort_unstable_by_key(|end| end.id);
+    new.sort_unstable_by(|one, other| one.0.cmp(&other.0));
+    let new = (series.next_id()..).zip(new);
+    all.extend(new.map(|(id, (key, end, run))| End {
+        id,
+        new: Some(key),
+        end,
+        run,
+    }));
+    all
 }
 
 /// Makes a segment that begins with a snapshot. It has another name until it is whole.

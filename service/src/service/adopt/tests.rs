@@ -81,7 +81,8 @@ async fn known(path: &Path) -> (u16, Vec<BTreeMap<String, u64>>, BTreeMap<String
         let outbox = folder.outbox(number).unwrap();
         leave_others(&outbox, number, slots).unwrap();
         let series = outbox.series().into_values();
-        all.push(series.map(|it| (it.owner.unwrap(), it.frontier)).collect());
+        let owned = series.map(|it| (it.owner.unwrap().to_string(), it.frontier));
+        all.push(owned.collect());
         while outbox.waiting().0 > 0 {
             let (waiting, body) = outbox.first().await.unwrap();
             for point in forwarded(&body).unwrap() {

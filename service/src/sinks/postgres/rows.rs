@@ -1,7 +1,7 @@
 //! What a request has for each of its series, before a server is asked.
 
 use super::fault::NotTaken;
-use crate::otlp::series::{self, ForwardedPoint, SeriesKey, Value};
+use crate::otlp::series::{self, Digests, ForwardedPoint, SeriesKey, Value};
 use crate::sinks::left_out::shown;
 use crate::sinks::periods::Closed;
 use sha2::{Digest, Sha256};
@@ -68,7 +68,7 @@ pub(super) fn read(body: &[u8]) -> Result<Content, NotTaken> {
     }
     let mut digests = Digests::default();
     let of_series = |(key, points): (SeriesKey, _)| OfSeries {
-        digest: digests.of(key.0.as_bytes()),
+        digest: digests.of(&key).to_vec(),
         key,
         points,
     };
@@ -82,34 +82,6 @@ pub(super) fn read(body: &[u8]) -> Result<Content, NotTaken> {
 /// Hours since 1970 (UTC). A span counts in the one in which it ends; where it ends at a full hour, in the one before.
 pub(super) fn hour_of(point: &ForwardedPoint) -> i32 {
     ((point.end - 1) / HOUR) as i32
-}
-
-/// Digests texts one after the other. Neighbours in an order mostly begin alike, and what they share is digested once.
-#[derive(Default)]
-struct Digests {
-    last: Vec<u8>,
-    /// Of so many bytes, with which the last one begins.
-    shared: Sha256,
-    length: usize,
-}
-
-/// SHA-256 takes so many bytes at once.
-const BLOCK: usize = 64;
-
-impl Digests {
-    fn of(&mut self, text: &[u8]) -> Vec<u8> {
-        let alike = self.last.iter().zip(text).take_while(|(one, other)| one == other);
-        let alike = alike.count() / BLOCK * BLOCK;
-        // One block more is not worth a beginning.
-        if alike < self.length || alike > self.length + BLOCK {
-            self.shared = Sha256::new_with_prefix(&text[..alike]);
-            self.length = alike;
-        }
-        self.last.clear();
-        self.last.extend_from_slice(text);
-        let rest = &text[self.length..];
-        self.shared.clone().chain_update(rest).finalize().to_vec()
-    }
 }
 
 impl OfSeries {
@@ -178,32 +150,4 @@ pub(super) fn overlaps(point: &ForwardedPoint, start: impl ToString, end: impl T
     let (start, end) = (start.to_string(), end.to_string());
     let shown = shown(point);
     format!("the span {shown} overlaps ({start}, {end}], which is there already")
-}
-
-#[cfg(test)]
-mod tests {
-    use super::*;
-
-    #[test]
-    fn digests_are_those_of_whole_texts() {
-        let mut digests = Digests::default();
-        for (alike, other) in [
-            (0, 0),
-            (0, 500),
-            (300, 10),
-            (300, 200),
-            (320, 1),
-            (384, 9),
-            (63, 64),
-            (64, 0),
-            (900, 9),
-        ] {
-            let text: Vec<u8> = [vec![b'a'; alike], vec![b'b'; other]].concat();
-            assert_eq!(
-                digests.of(&text),
-                Sha256::digest(&text).to_vec(),
-                "{alike} {other}"
-            );
-        }
-    }
 }

@@ -7,12 +7,11 @@ use super::schema::{self, STEPS};
 use super::upkeep::Upkeep;
 use super::views::VIEWS;
 use super::wide_integers::Unsigned;
-use crate::otlp::series::{self, ForwardedPoint, SeriesKey};
+use crate::otlp::series::{self, Digest, ForwardedPoint, SeriesKey};
 use crate::sinks::left_out::{shown, LeftOut};
 use crate::sinks::periods::{Closed, Deed, Told};
 use crate::sinks::Forwarded;
 use rusqlite::{params, Connection, OpenFlags, Transaction, TransactionBehavior};
-use sha2::{Digest as _, Sha256};
 use std::collections::HashMap;
 use std::fs::OpenOptions;
 use std::os::unix::fs::{MetadataExt, OpenOptionsExt, PermissionsExt};
@@ -37,9 +36,6 @@ const PATIENCE: Duration = Duration::from_secs(2);
 const STATEMENTS: usize = 64;
 /// How many series' row numbers are kept in memory; then they are read anew.
 const CACHED: usize = 100_000;
-
-/// Of a series' identity, which is longer by far.
-type Digest = [u8; 32];
 
 pub(super) struct Store {
     path: PathBuf,
@@ -343,7 +339,7 @@ impl Writing<'_> {
 
     /// A series' row, and whether it was made by this call.
     fn series(&mut self, key: &SeriesKey) -> Result<(SeriesIds, bool), NotTaken> {
-        let digest = Sha256::digest(key.0.as_bytes()).into();
+        let digest = key.digest();
         if let Some(known) = self.known.get(&digest).or_else(|| self.new.get(&digest)) {
             return Ok((*known, false));
         }

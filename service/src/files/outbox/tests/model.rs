@@ -71,7 +71,10 @@ impl Model {
     }
 
     async fn check(&self, outbox: &Outbox, about: &str) {
-        let known = |(key, known): (SeriesKey, Series)| (key.0.to_string(), (known.frontier, known.owner));
+        let known = |(key, known): (SeriesKey, Series)| {
+            let owner = known.owner.map(|owner| owner.to_string());
+            (key.0.to_string(), (known.frontier, owner))
+        };
         let series: std::collections::BTreeMap<_, _> = outbox.series().into_iter().map(known).collect();
         assert_eq!(series, self.series, "{about}");
         assert_eq!(

@@ -62,6 +62,20 @@ fn it_is_at_most_a_fifth_of_what_is_forwarded() {
     assert!(written * 5 <= forwarded);
 }
 
+/// Their keys are packed: a service with 100,000 series would have 30 MB more.
+#[test]
+fn a_series_takes_few_bytes_of_memory() {
+    let folder = tempfile::tempdir().unwrap();
+    let outbox = open_on(&Disk::default(), folder.path(), "e", SEGMENT).unwrap();
+    let ends = request_ends(&request(10_000, 1_700_000_000_000_000_000)).unwrap();
+    let bytes: usize = ends.iter().map(|(key, _)| key.0.len()).sum();
+    let keys: Vec<_> = ends.iter().map(|(key, end)| (&*key.0, *end)).collect();
+    outbox.commit(&[body(&keys, "")], 2).unwrap();
+    let packed = lock(&outbox.state).series.texts().bytes();
+    println!("{packed} bytes of {bytes}");
+    assert!(packed * 10 <= bytes);
+}
+
 /// Else each acknowledgement writes all series anew: with 10,000 of long identities hundreds of megabytes.
 #[test]
 fn a_long_snapshot_is_not_written_with_each_change() {
@@ -127,22 +141,21 @@ fn backlog() {
 
 fn commit_without_sync(outbox: &Outbox, bodies: &[Vec<u8>], journal: u64) {
     let items: Vec<_> = bodies.iter().map(|body| rows::deflated(body)).collect();
-    let ends = bodies.iter().flat_map(|body| read_ends(body).unwrap()).collect();
+    let read = bodies.iter().flat_map(|body| read_ends(body).unwrap());
+    let ends = read.map(|(key, end)| (key.digest(), (key, end))).collect();
     let mut writer = lock(&outbox.writer);
-    let (group, bytes) = {
+    let group = {
         let state = lock(&outbox.state);
-        let group = Group {
-            runs: Runs::new(),
+        Group {
             first: state.next,
             epoch: state.next_epoch.clone(),
             since: 1,
             heard: None,
             journal,
-            ends,
-        };
-        let bytes = rows::group(&group, &items, &state);
-        (group, bytes)
+            ends: written::by_id(ends, &Runs::new(), &state.series),
+        }
     };
+    let bytes = rows::group(&group, &items);
     let change = |begin: u64| {
         let items = begin + bytes.items.start as u64..begin + bytes.items.end as u64;
         Change::Group {

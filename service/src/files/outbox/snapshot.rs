@@ -1,0 +1,153 @@
+//! What a segment begins with: all that the outbox knows, but its requests.
+
+use super::rows::{packed, unpacked, SNAPSHOT};
+use super::state::State;
+use super::table::{KnownSeries, Table};
+use super::texts::Texts;
+use super::Series;
+use crate::files::records::put;
+use crate::otlp::series::SeriesKey;
+use crate::runs::{Run, Since};
+use serde::de::{Deserializer, SeqAccess, Visitor};
+use serde::ser::Serializer;
+use serde::{Deserialize, Serialize};
+use std::collections::BTreeSet;
+use std::fmt;
+use std::sync::Arc;
+
+/// To be written without the lock.
+pub struct Snapshot {
+    pub epoch: Arc<str>,
+    pub next: u64,
+    pub acknowledged: u64,
+    pub journal: u64,
+    pub quarantined: BTreeSet<String>,
+    pub since: Option<Since>,
+    /// By their ids, none is left out.
+    pub series: Vec<Series>,
+    pub texts: Texts,
+}
+
+/// As it is written.
+#[derive(Serialize, Deserialize)]
+struct Content<S> {
+    epoch: String,
+    next: u64,
+    acknowledged: u64,
+    journal: u64,
+    quarantined: BTreeSet<String>,
+    series: S,
+    /// None in an outbox of version 1, and so it has no runs.
+    #[serde(default)]
+    since: Option<Since>,
+    #[serde(default)]
+    runs: Vec<RunRow>,
+}
+
+/// Key, frontier, seconds since 1970 when last seen, owner.
+type Row<T> = (T, u64, u64, Option<T>);
+
+/// The run of a series: its id, its start, how far its frontier is after the last point, that point's words.
+#[derive(Serialize, Deserialize)]
+pub struct RunRow(pub u32, u64, u64, Vec<u64>);
+
+impl RunRow {
+    pub fn of(id: u32, frontier: u64, run: &Run) -> RunRow {
+        RunRow(id, run.start, frontier.wrapping_sub(run.time), run.words.clone())
+    }
+
+    pub fn run(self, frontier: u64) -> Arc<Run> {
+        let RunRow(_, start, after, words) = self;
+        let time = frontier.wrapping_sub(after);
+        Arc::new(Run { start, time, words })
+    }
+}
+
+impl Snapshot {
+    pub fn record(&self) -> Vec<u8> {
+        let run = |(id, series): (u32, &Series)| {
+            let run = series.run.as_ref()?;
+            Some(RunRow::of(id, series.frontier, run))
+        };
+        let content = Content {
+            epoch: self.epoch.to_string(),
+            next: self.next,
+            acknowledged: self.acknowledged,
+            journal: self.journal,
+            quarantined: self.quarantined.clone(),
+            series: Rows(self),
+            since: self.since,
+            runs: (0..).zip(&self.series).filter_map(run).collect(),
+        };
+        let mut out = Vec::new();
+        put(&mut out, SNAPSHOT, &[&packed(&content)]);
+        out
+    }
+
+    pub fn read(bytes: &[u8]) -> Option<State> {
+        let content: Content<Table> = unpacked(bytes)?;
+        let mut state = State::new(&content.epoch);
+        (state.next, state.acknowledged, state.journal) =
+            (content.next, content.acknowledged, content.journal);
+        (state.quarantined, state.since) = (content.quarantined, content.since);
+        state.series = content.series;
+        for row in content.runs {
+            let series = &mut state.series.at_mut(row.0)?.series;
+            series.run = Some(row.run(series.frontier));
+        }
+        Some(state)
+    }
+}
+
+/// The rows of series, written one by one: their keys are long.
+struct Rows<'s>(&'s Snapshot);
+
+impl Serialize for Rows<'_> {
+    fn serialize<S: Serializer>(&self, serializer: S) -> Result<S::Ok, S::Error> {
+        let Snapshot { series, texts, .. } = self.0;
+        let rows = texts.of(0..series.len() as u32).zip(series);
+        serializer.collect_seq(rows.map(|(key, series)| Written(key, series)))
+    }
+}
+
+struct Written<'s>(SeriesKey, &'s Series);
+
+impl Serialize for Written<'_> {
+    fn serialize<S: Serializer>(&self, serializer: S) -> Result<S::Ok, S::Error> {
+        let Written(key, series) = self;
+        let row: Row<&str> = (&key.0, series.frontier, series.seen, series.owner.as_deref());
+        row.serialize(serializer)
+    }
+}
+
+/// Read one by one as well.
+impl<'de> Deserialize<'de> for Table {
+    fn deserialize<D: Deserializer<'de>>(deserializer: D) -> Result<Table, D::Error> {
+        deserializer.deserialize_seq(OfRows)
+    }
+}
+
+struct OfRows;
+
+impl<'de> Visitor<'de> for OfRows {
+    type Value = Table;
+
+    fn expecting(&self, out: &mut fmt::Formatter) -> fmt::Result {
+        out.write_str("rows of series")
+    }
+
+    fn visit_seq<A: SeqAccess<'de>>(self, mut rows: A) -> Result<Table, A::Error> {
+        let mut table = Table::default();
+        while let Some((key, frontier, seen, owner)) = rows.next_element::<Row<String>>()? {
+            let (owner, run) = (owner.map(|owner| table.shared(&owner)), None);
+            let series = Series {
+                frontier,
+                owner,
+                seen,
+                run,
+            };
+            table.put(SeriesKey(key.into()), KnownSeries { series, heard: None });
+        }
+        Ok(table)
+    }
+}

@@ -1,0 +1,122 @@
+//! The series that an outbox knows. In memory they are known by digests of their keys: of these texts there are some hundred
+//! bytes a series, and they are asked for seldom.
+//!
+//! A digest is enough, as it is for the sinks: nobody knows two texts with the same SHA-256, whoever makes them.
+
+use super::texts::Texts;
+use super::Series;
+use crate::otlp::series::{Digest, SeriesKey};
+use std::collections::{HashMap, HashSet};
+use std::sync::Arc;
+use std::time::Instant;
+
+pub struct KnownSeries {
+    pub series: Series,
+    /// When a group of this run last had a point of it. A clock that is set says nothing of that.
+    pub heard: Option<Instant>,
+}
+
+/// Series have ids from 0 on, by which the records of the segment name them.
+#[derive(Default)]
+pub struct Table {
+    ids: HashMap<Digest, u32>,
+    /// By id; none of what was forgotten.
+    known: Vec<Option<KnownSeries>>,
+    keys: Texts,
+    /// Each is in memory once.
+    owners: HashSet<Arc<str>>,
+}
+
+impl Table {
+    pub fn len(&self) -> usize {
+        self.ids.len()
+    }
+
+    /// The id of the next new series.
+    pub fn next_id(&self) -> u32 {
+        self.known.len() as u32 // there is no memory for 2^32
+    }
+
+    pub fn id(&self, key: &SeriesKey) -> Option<u32> {
+        self.id_of(&key.digest())
+    }
+
+    pub fn id_of(&self, digest: &Digest) -> Option<u32> {
+        self.ids.get(digest).copied()
+    }
+
+    pub fn get(&self, key: &SeriesKey) -> Option<&KnownSeries> {
+        self.at(self.id(key)?)
+    }
+
+    pub fn at(&self, id: u32) -> Option<&KnownSeries> {
+        self.known.get(id as usize)?.as_ref()
+    }
+
+    pub fn at_mut(&mut self, id: u32) -> Option<&mut KnownSeries> {
+        self.known.get_mut(id as usize)?.as_mut()
+    }
+
+    /// All, in the order of their ids.
+    pub fn iter(&self) -> impl Iterator<Item = (u32, &KnownSeries)> {
+        (0..)
+            .zip(&self.known)
+            .filter_map(|(id, known)| Some((id, known.as_ref()?)))
+    }
+
+    /// The keys of these ids. It is quick where they ascend.
+    pub fn keys<'t>(&'t self, ids: impl Iterator<Item = u32> + 't) -> impl Iterator<Item = SeriesKey> + 't {
+        self.keys.of(ids)
+    }
+
+    /// All keys, by ids, for who has not the lock.
+    pub fn texts(&self) -> Texts {
+        self.keys.clone()
+    }
+
+    /// Has the next id, or where it is known already the one that it has.
+    pub fn put(&mut self, key: SeriesKey, known: KnownSeries) -> u32 {
+        let next = self.next_id();
+        let id = *self.ids.entry(key.digest()).or_insert(next);
+        if id == next {
+            self.known.push(Some(known));
+            self.keys.push(key);
+        } else {
+            self.known[id as usize] = Some(known);
+        }
+        id
+    }
+
+    pub fn forget(&mut self, ids: &[u32]) {
+        for id in ids {
+            if let Some(known) = self.known.get_mut(*id as usize) {
+                *known = None;
+            }
+        }
+        let known = &self.known;
+        self.ids.retain(|_, id| known[*id as usize].is_some());
+    }
+
+    /// Gives them new ids, without those of what was forgotten.
+    pub fn renumber(&mut self) {
+        if self.ids.len() < self.known.len() {
+            let old = std::mem::take(self);
+            self.owners = old.owners;
+            let left = (0..).zip(old.known).filter_map(|(id, known)| Some((id, known?)));
+            let (ids, left): (Vec<u32>, Vec<KnownSeries>) = left.unzip();
+            for (key, known) in old.keys.of(ids.into_iter()).zip(left) {
+                self.put(key, known);
+            }
+        }
+    }
+
+    /// An owner's name.
+    pub fn shared(&mut self, owner: &str) -> Arc<str> {
+        if let Some(known) = self.owners.get(owner) {
+            return known.clone();
+        }
+        let new: Arc<str> = owner.into();
+        self.owners.insert(new.clone());
+        new
+    }
+}

@@ -1,0 +1,86 @@
+//! So many series that their keys are packed, in several parts: each is found by its own key.
+
+use super::*;
+
+const MANY: u64 = 700;
+
+/// Where each ends that is there, in an outbox of these.
+fn wanted(ends: &[(u64, u64)]) -> HashMap<SeriesKey, u64> {
+    let named = |(number, end): &(u64, u64)| (key_of(&format!("[\"s{number}\"]")), *end);
+    ends.iter().map(named).collect()
+}
+
+fn commit(outbox: &Outbox, ends: &[(u64, u64)], journal: u64) {
+    let all = wanted(ends);
+    let all: Vec<(&str, u64)> = all.iter().map(|(key, end)| (&*key.0, *end)).collect();
+    outbox.commit(&[body(&all, "")], journal).unwrap();
+}
+
+fn found(outbox: &Outbox) -> HashMap<SeriesKey, u64> {
+    let all = outbox.series().into_iter();
+    let all = all.map(|(key, series)| {
+        assert_eq!(outbox.frontier(&key), series.frontier, "{key:?}");
+        assert_eq!(outbox.owner(&key).as_deref(), series.owner.as_deref());
+        (key, series.frontier)
+    });
+    all.collect()
+}
+
+/// Also behind a snapshot in which they have other ids, since some were forgotten.
+#[test]
+fn many_series_come_back_with_their_keys() {
+    let folder = tempfile::tempdir().unwrap();
+    let mut all: Vec<(u64, u64)> = (0..MANY).map(|number| (number, number + 1)).collect();
+    {
+        let outbox = open(folder.path());
+        commit(&outbox, &all, 2);
+        assert_eq!(outbox.without_owner().len(), MANY as usize);
+        let owner = |key: SeriesKey| {
+            let owner = format!("s{}", key.0.len());
+            (key, owner)
+        };
+        outbox
+            .own(outbox.without_owner().into_iter().map(owner).collect())
+            .unwrap();
+        assert_eq!(outbox.without_owner(), HashSet::new());
+        assert_eq!(outbox.series_by_owner()["s6"], 10);
+        assert_eq!(
+            outbox.ahead_of(MANY - 1),
+            (1, Some(key_of(&format!("[\"s{}\"]", MANY - 1))))
+        );
+        kill(outbox);
+    }
+    for start in 0..4 {
+        let outbox = open(folder.path());
+        assert_eq!(found(&outbox), wanted(&all), "start {start}");
+        let left: Vec<SeriesKey> = wanted(&all[..100]).into_keys().collect();
+        outbox.leave_these(&left).unwrap();
+        assert_eq!(found(&outbox), wanted(&all[100..]), "start {start}");
+        // One of them is new again, and others go on.
+        all.drain(..99);
+        all.push((MANY + start, 1));
+        all.iter_mut().for_each(|one| one.1 += 1000);
+        commit(&outbox, &all, 3 + start);
+        assert_eq!(found(&outbox), wanted(&all), "start {start}");
+        let to = start % 2 * 1500;
+        outbox
+            .put_back(&wanted(&all[..50]).into_keys().collect::<Vec<_>>(), to)
+            .unwrap();
+        all[..50].iter_mut().for_each(|one| one.1 = one.1.min(to));
+        assert_eq!(found(&outbox), wanted(&all), "start {start}");
+        kill(outbox);
+    }
+}
+
+/// What is written is what earlier versions write and read.
+#[test]
+fn a_snapshot_has_one_form() {
+    let text = r#"{"epoch":"e","next":4,"acknowledged":3,"journal":7,"quarantined":["q"],"series":[["a",5,6,null],["[\"b\"]",9,8,"me"]],"since":{"made":1,"forgotten":2},"runs":[[1,3,4,[5,6]]]}"#;
+    let mut state = snapshot::Snapshot::read(&rows::deflated(text.as_bytes())).unwrap();
+    let b = &state.series.get(&key_of("[\"b\"]")).unwrap().series;
+    assert_eq!((b.frontier, b.seen, b.owner.as_deref()), (9, 8, Some("me")));
+    assert_eq!(b.run, Some(run_of(3, 5, &[5, 6])));
+    let record = state.snapshot().record();
+    let written = rows::inflated(&record[crate::files::records::HEAD..]).unwrap();
+    assert_eq!(String::from_utf8(written).unwrap(), text);
+}

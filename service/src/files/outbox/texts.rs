@@ -1,0 +1,61 @@
+//! The keys of series by their ids, packed: neighbours share most of what they say, so one takes some ten bytes in the place
+//! of some hundreds. They are read seldom: at a start, for a snapshot, and where an operator names series.
+
+use super::rows::{deflated_fast, inflated};
+use crate::otlp::series::SeriesKey;
+use std::sync::Arc;
+
+/// So many are packed together: for one all of them are read.
+const IN_BLOCK: usize = 64;
+/// Between two keys: JSON has none within.
+const BETWEEN: &str = "\n";
+
+/// A copy shares what is packed.
+#[derive(Clone, Default)]
+pub struct Texts {
+    /// Each of `IN_BLOCK` keys.
+    blocks: Vec<Arc<[u8]>>,
+    /// Those behind them, fewer than a block has.
+    last: Vec<SeriesKey>,
+}
+
+impl Texts {
+    /// The one with the next id.
+    pub fn push(&mut self, key: SeriesKey) {
+        self.last.push(key);
+        if self.last.len() == IN_BLOCK {
+            let keys: Vec<&str> = self.last.iter().map(|key| &*key.0).collect();
+            self.blocks
+                .push(deflated_fast(keys.join(BETWEEN).as_bytes()).into());
+            self.last.clear();
+        }
+    }
+
+    /// Those of these ids. It is quick where they ascend.
+    pub fn of<'t>(&'t self, ids: impl Iterator<Item = u32> + 't) -> impl Iterator<Item = SeriesKey> + 't {
+        let (mut at, mut read) = (self.blocks.len(), self.last.clone());
+        ids.filter_map(move |id| {
+            let (block, place) = (id as usize / IN_BLOCK, id as usize % IN_BLOCK);
+            if block != at {
+                (at, read) = (block, self.read(block));
+            }
+            read.get(place).cloned()
+        })
+    }
+
+    /// How many the blocks take.
+    #[cfg(test)]
+    pub fn bytes(&self) -> usize {
+        self.blocks.iter().map(|block| block.len()).sum()
+    }
+
+    fn read(&self, block: usize) -> Vec<SeriesKey> {
+        let Some(packed) = self.blocks.get(block) else {
+            return self.last.clone();
+        };
+        // What was packed here is read here.
+        let text = inflated(packed).and_then(|bytes| String::from_utf8(bytes).ok());
+        let keys = text.iter().flat_map(|text| text.split(BETWEEN));
+        keys.map(|key| SeriesKey(key.into())).collect()
+    }
+}
