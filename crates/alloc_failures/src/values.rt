@@ -1,6 +1,6 @@
 //! Calls that make a value of what they are lent: identities, events, texts and messages. Each is
 //! made on values of its own, so that what it leaves is what it answers.
-use crate::bodies::{CHUNKED, LATER, MIXED, NO_JSON, NO_REQUEST, SUMS};
+use crate::bodies::{CHUNKED, LATER, MIXED, NO_JSON, NO_REQUEST, PROTOBUF, SUMS};
 use crate::lines::{no_memory, print_text};
 use crate::making::{batch_of, first_point, name_of, own_series, points_of, text, text_of};
 use back_answers::Act;
@@ -147,6 +147,14 @@ fn readings(alloc: Global, body: &[u8]) -> Result<String, AllocError> {
     Ok(plain)
 }
 
+fn of_protobuf(alloc: Global, body: &[u8]) -> Result<String, AllocError> {
+    match otlp_protobuf::read_request(alloc, body) {
+        Ok(found) => reading(alloc, Ok(found)),
+        Err(otlp_protobuf::ReadFault::NoMemory) => Err(AllocError),
+        Err(otlp_protobuf::ReadFault::Malformed(_)) => String::from_str(alloc, "malformed"),
+    }
+}
+
 /// What was read, and none where there is another fault than no memory.
 fn heard<T: Drop>(read: Result<T, HttpFault>) -> Result<Option<T>, AllocError> {
     match read {
@@ -188,6 +196,8 @@ fn make_texts(rt: &impl Print, alloc: Global) -> Result<(), AllocError> {
         "read_request of another shape" => reading(alloc, read_request(alloc, NO_REQUEST)),
         "read_request_with" => readings(alloc, MIXED),
         "read_request_with of sums" => readings(alloc, SUMS),
+        "read_request of protobuf" => of_protobuf(alloc, PROTOBUF),
+        "read_request of no protobuf" => of_protobuf(alloc, NO_JSON),
         "status_text" => text_of(alloc, status_text(alloc, "a \"message\"")?),
         "success_text" => text_of(alloc, success_text(alloc, 3)?),
         "turn_text" => text_of(alloc, turn_text(alloc, 1, 2, Act::GiveBack, Some(7))?),

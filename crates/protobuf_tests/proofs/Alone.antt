@@ -3,7 +3,7 @@ use Rattle.std.proofs.Common.{◌≡◌, ℕ, true, false, ◌&&◌, cond, List,
 use Rattle.std.specs.List.{filter}
 use Rattle.series_id.specs.Identity.{Identity}
 use Rattle.metric_events.specs.DataPoint.{DataPoint}
-use Rattle.metric_events.specs.History.{Start}
+use Rattle.metric_events.specs.History.{History, Start}
 use Rattle.metric_events.specs.Opening.{first_opening}
 use Rattle.metric_events.specs.Points.{admitted}
 use Rattle.metric_events.specs.Series.{is_of, merged, of_series, series_in_order}
@@ -44,8 +44,8 @@ summed sender ps =
     ∙ ap present (map_same (home_point qs) (series_sum qs) series (λ x. ap (merged x) (all_home sender ps x)))
 
 -- what forwards a post through a book in which nothing has happened
-pub forwarded_alone : (book : Journal) (sender bytes text : List ℕ) → book ≡ journal_of first_opening [] → IsForwarded (history book) sender bytes text → IsSummed sender bytes text
-forwarded_alone book sender bytes text fresh h = record {
+pub forwarded_alone : (book : Journal) (F : History) (sender bytes text : List ℕ) → book ≡ journal_of first_opening [] → IsForwarded (history book) F sender bytes text → IsSummed sender bytes text
+forwarded_alone book F sender bytes text fresh h = record {
   post = h.post;
   said = h.said;
   back = subst (ReadsBack text) (ap (λ b. taken_points (and_admitted (history b) sender h.post.points)) fresh ∙ summed sender h.post.points) h.back;

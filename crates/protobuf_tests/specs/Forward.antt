@@ -26,11 +26,12 @@ and_taken E = E ▸ Take (takes E + 1) (pick E MAX_TAKEN)
 abbrev pub taken_points : History → List DataPoint
 taken_points E = flush_points (and_taken E) (takes E + 1)
 
--- the bytes are a request; read back, the text has just the points of the flush that is taken once
--- a book of this history has admitted the request's points
-pub record IsForwarded (E : History) (sender bytes text : List ℕ) : Type 0 where
+-- the bytes are a request; a book of history E has admitted its points, has taken a flush, and has
+-- history F then; read back, the text has just the points of that flush
+pub record IsForwarded (E F : History) (sender bytes text : List ℕ) : Type 0 where
   pub post : Tally
   pub said : bytes_reading bytes ≡ Ok (Ok post)
+  pub events : F ≡ and_taken (and_admitted E sender post.points)
   pub back : ReadsBack text (taken_points (and_admitted E sender post.points))
 
 -- points as a fresh book has them

@@ -16,7 +16,8 @@ use std::alloc::Global;
 /// Has a book admit a post, and takes what it may: the request that forwards it. `None` where the
 /// post has no point of the profile or is refused, where nothing may be taken, or without memory.
 pub fn forward(alloc: Global, book: &mut Book, sender: SenderName, bytes: &[u8]) -> Option<Vec<u8>>
-    ensures { IfSome result (λ text. IsForwarded (history book.old) sender bytes.now text.items) }
+    ensures { IfSome result (λ text. IsForwarded (history book.old) (history book.new) sender
+        bytes.now text.items) }
 {
     let Ok(reading) = read_request(alloc, bytes) else {
         return None;
