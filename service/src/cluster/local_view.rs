@@ -73,6 +73,17 @@ impl Cluster {
         self.places.borrow().get(&slot).cloned().unwrap_or(Whose::Nobody)
     }
 
+    /// Whether posts of some slots are forwarded.
+    pub fn has_others(&self) -> bool {
+        let places = self.places.borrow();
+        places.values().any(|whose| matches!(whose, Whose::There { .. }))
+    }
+
+    /// Whether it hands over what it has, since it ends.
+    pub fn leaves(&self) -> bool {
+        self.databases.iter().any(|database| database.owners().leaves())
+    }
+
     /// Has the slots looked at again.
     pub fn look(&self) {
         self.databases

@@ -93,6 +93,10 @@ impl Owners {
         self.stay = Stay::Leaves;
     }
 
+    pub fn leaves(&self) -> bool {
+        self.stay == Stay::Leaves
+    }
+
     /// What the others are told with a beat.
     pub fn told(&self) -> (Stay, Refused) {
         (self.stay, self.refusals.told())

@@ -1,6 +1,6 @@
 //! What is asked of the keepers and of the books, of all slots together.
 
-use super::reach::{Answer, Command};
+use super::reach::{Answer, Command, ENDING};
 use super::{reply, Desk, JSON, TEXT};
 use crate::cluster::NO_STORE;
 use hyper::{Body, Response};
@@ -8,14 +8,21 @@ use serde_json::json;
 use std::sync::Arc;
 
 impl Desk {
-    /// Why posts are answered 503. Of several databases one may be silent: what the others have goes on.
+    /// Why posts are answered 503, where all are. Of several databases one may be silent, and a slot that is taken over is
+    /// read first: what the others have goes on, here or at its instance.
     pub(super) fn unavailable(&self) -> Option<&'static str> {
-        let cluster = self.others.as_ref().map(|others| &others.cluster);
-        if cluster.is_some_and(|cluster| cluster.is_stalled()) {
+        let Some(others) = &self.others else {
+            return self.units.unavailable(|_| false);
+        };
+        let cluster = &others.cluster;
+        if cluster.is_stalled() {
             return Some(NO_STORE);
         }
-        let is_silent = |slot| cluster.is_some_and(|cluster| cluster.is_stalled_for(slot));
-        self.units.unavailable(is_silent)
+        if cluster.leaves() {
+            return Some(ENDING);
+        }
+        let here = self.units.unavailable(|slot| cluster.is_stalled_for(slot));
+        here.filter(|_| !cluster.has_others())
     }
 
     /// Has each slot carry out an order, wherever it is.

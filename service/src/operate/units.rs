@@ -71,11 +71,12 @@ impl Units {
         here.get(&slot).cloned()
     }
 
-    /// Why posts of a slot that is here, and none of these, are answered 503.
+    /// Why posts of the slots that are here, and none of these, are answered 503, where those of all of them are.
     pub fn unavailable(&self, but: impl Fn(u16) -> bool) -> Option<&'static str> {
         let units = self.all();
-        let mut others = units.iter().filter(|unit| !but(unit.slot.number()));
-        others.find_map(|unit| unit.slot.unavailable())
+        let others = units.iter().filter(|unit| !but(unit.slot.number()));
+        let reasons: Option<Vec<_>> = others.map(|unit| unit.slot.unavailable()).collect();
+        reasons?.first().copied()
     }
 
     /// Whether each book has all posts that were accepted.

@@ -2,12 +2,16 @@
 
 use super::copies;
 use super::doubt::Doubt;
-use super::session::{within, Session, SILENT};
+use super::session::{within, Session};
 use super::shared::Shared;
 use crate::cluster::terms::{Instance, Refused, Row};
 use std::sync::Arc;
+use std::time::Duration;
 use tokio_postgres::types::ToSql;
 use tokio_postgres::Row as DatabaseRow;
+
+/// How long a question may take: none waits for a lock or a standby, so a server that is silent for so long is lost.
+const READ: Duration = Duration::from_secs(5);
 
 const BEAT: &str =
     "insert into totxegun_store.instance as i (name, address, version, beat, refused) values ($1, $2, $3, 1, $4)
@@ -32,7 +36,7 @@ impl Shared {
 
     async fn read<T>(&self, text: &str, each: impl Fn(&DatabaseRow) -> T) -> Result<Vec<T>, Doubt> {
         let session = self.session().await?;
-        let rows = within(SILENT, session.client.query(text, &[])).await;
+        let rows = within(READ, session.client.query(text, &[])).await;
         let rows: Result<Vec<DatabaseRow>, Doubt> = self.heard(&session, rows).await;
         Ok(rows?.iter().map(each).collect())
     }
@@ -104,7 +108,7 @@ impl Shared {
     /// How many servers have what is committed; none where this role may not look.
     pub(super) async fn copies(&self) -> Result<Option<u64>, Doubt> {
         let session = self.session().await?;
-        let counted = within(SILENT, copies::count(&session.client)).await;
+        let counted = within(READ, copies::count(&session.client)).await;
         self.heard(&session, counted).await
     }
 }
