@@ -165,7 +165,8 @@ COPIES = {
     "a_forwarded_answer_waits_too": ("forwarded_answer_comes_before_its_post_is_durable",),
     "a_post_is_answered_once_all_parts_are": ("part_that_may_be_taken_later_is_dropped",),
     "a_series_has_one_slot": ("resource_has_a_slot_by_its_words",),
-    "a_post_is_of_the_same_series_everywhere": ("slot_is_read_by_what_its_instance_knows", "instances_read_posts_in_different_ways"),
+    "a_post_is_of_the_same_series_everywhere": (
+        "slot_is_read_by_what_its_instance_knows", "units_of_a_slot_are_not_known", "instances_read_posts_in_different_ways"),
     "a_group_is_delivered_behind_its_commit": ("request_of_a_store_is_delivered_before_it_is_durable",),
     # The store has one epoch for all owners, and each group keeps the one that it was made with: either is enough.
     "a_key_is_the_stores": ("key_of_a_request_is_its_owners",),

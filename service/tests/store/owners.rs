@@ -152,8 +152,8 @@ fn a_long_sync_is_there_wholly_or_not_at_all() {
     let syncing = thread::spawn(move || drive.sync());
     wait_until("it is tried again", || store.counts().doubts.load(SeqCst) > 0);
     let (_, found) = take(&store, 0);
-    assert!(syncing.join().unwrap().is_err(), "the slot is another's");
     assert_eq!(found[name].len(), 6, "a part of it is there");
+    assert!(syncing.join().unwrap().is_err(), "the slot is another's");
 }
 
 #[test]
