@@ -2,7 +2,8 @@
 """Tries wrong copies of the service: a test has to find what is wrong with each.
 
     tools/wrong.py [NAME ..]
-    tools/wrong.py --check     whether all can be made, and have a test of that name: a step of the gate, which builds nothing
+    tools/wrong.py --check            whether all can be made, and have a test of that name: a step of the gate, builds nothing
+    tools/wrong.py --right [NAME ..]  whether their tests pass on the service as it is: else what they find is no wrong copy
 
 Each file service/wrong/NAME.edit breaks one rule. It names the test that has to find this: a script of tests/ with the
 words after its program, or the words of `cargo test`. The rest has the form of an edit of a crate: lines `file:`, `old:`,
@@ -25,6 +26,7 @@ import sys
 import tempfile
 import threading
 import time
+from collections.abc import Iterator
 from typing import NamedTuple
 
 from tooling.crates import OUT, ROOT
@@ -179,22 +181,43 @@ def run(command: list[str], log: str, folder: str) -> tuple[int, str | None]:
     return child.wait(), seen
 
 
+@contextlib.contextmanager
+def built(command: list[str], log: str) -> Iterator[str]:
+    """A folder for what a test keeps, once what it runs is built from the copy."""
+    open(log, "w", encoding="utf-8").close()
+    words = [*command[1:], "--no-run"] if command[0] == CARGO else ["build"]
+    with tempfile.TemporaryDirectory(dir=MEMORY, prefix="wrong-", ignore_cleanup_errors=True) as folder:
+        # A server that a test starts is another user's.
+        os.chmod(folder, 0o755)
+        if run([CARGO, *words, "--quiet"], log, folder)[0] != 0:
+            raise BadEdit(f"it can't be built: {log}")
+        yield folder
+
+
 def check_that_finds(name: str) -> str | None:
     """The first check that fails for what is wrong, or nothing."""
     log = f"{LOGS}/wrong-{name}.log"
-    open(log, "w", encoding="utf-8").close()
     edit = read_edit(name)
+    copy_service()
     make(edit)
     commands = runs(edit.test)
-    built = [*commands[0][1:], "--no-run"] if commands[0][0] == CARGO else ["build"]
-    with tempfile.TemporaryDirectory(dir=MEMORY, prefix="wrong-", ignore_cleanup_errors=True) as folder:
-        if run([CARGO, *built, "--quiet"], log, folder)[0] != 0:
-            raise BadEdit(f"it can't be built: {log}")
-        for command in commands:
-            seen = run(command, log, folder)[1]
-            if seen:
-                return seen
-    return None
+    with built(commands[0], log) as folder:
+        return next((seen for command in commands if (seen := run(command, log, folder)[1])), None)
+
+
+def try_right(names: list[str]) -> int:
+    """Runs each test once on the service as it is."""
+    copy_service()
+    tests = sorted({read_edit(name).test for name in names})
+    failed = 0
+    for place, test in enumerate(tests):
+        command, log = runs(test)[0], f"{LOGS}/wrong-right-{place}.log"
+        with built(command, log) as folder:
+            status = run(command, log, folder)[0]
+        failed += status != 0
+        print(f"passes: {test}" if status == 0 else f"FAILS: {test}: {log}", flush=True)
+    print(f"{len(tests) - failed} passed, {failed} failed")
+    return 1 if failed else 0
 
 
 def main(names: list[str]) -> int:
@@ -202,11 +225,12 @@ def main(names: list[str]) -> int:
     if names == ["--check"]:
         return check_all(all_names)
     os.makedirs(LOGS, exist_ok=True)
+    if names[:1] == ["--right"]:
+        return try_right(names[1:] or all_names)
     names = names or all_names
     found = 0
     for name in names:
         begun = time.monotonic()
-        copy_service()
         try:
             check = check_that_finds(name)
         except (BadEdit, OSError) as fault:

@@ -141,11 +141,11 @@ fn a_long_sync_is_there_wholly_or_not_at_all() {
     drive.write_at(file, &[b"before"], 0).unwrap();
     drive.sync().unwrap();
     server.ask(
-        "create function full() returns trigger language plpgsql as $$ begin
+        "create function no_room() returns trigger language plpgsql as $$ begin
             if new.place > 16 << 20 then raise exception sqlstate '53100'; end if; return new; end $$",
     );
     server.ask(
-        "create trigger full before insert on totxegun_store.piece for each row execute function full()",
+        "create trigger no_room before insert on totxegun_store.piece for each row execute function no_room()",
     );
     let long: Vec<u8> = (0..20 << 20).map(|_| chance.below(256) as u8).collect();
     drive.write_at(file, &[&long], 6).unwrap();
