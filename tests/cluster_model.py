@@ -21,10 +21,12 @@ In each state, of what the store has on both sides, and the sink:
 
 With all rules kept no state is at fault. Without any one of them some state is, by the name that stands beside it, or the
 test fails: so the rule is needed, and the model can see it. The search goes by breadth, so what is printed is a shortest way.
+Each rule has wrong copies of the program too, without it, in service/wrong: COPIES has their names.
 
 Each line is one check; the last line counts those that passed and failed, and the status is 0 where none failed.
 """
 import dataclasses
+import os
 import sys
 import time
 from collections import deque
@@ -140,6 +142,39 @@ WITHOUT = {
     "a_quarantine_is_told_behind_its_sync": (TWO, Left(takeovers=3, quarantines=2), TAKEN),
     "a_quarantine_is_told_once_all_slots_have_it": (TWO, Left(takeovers=2, quarantines=2), TAKEN),
 }
+# The wrong copies of the program that leave a rule out, files of service/wrong: a test has to find what is wrong with each.
+COPIES = {
+    "a_sync_looks_at_the_term": ("owner_writes_though_another_has_the_slot",),
+    "the_fence_outlives_what_is_removed": ("key_of_what_is_written_is_the_fence",),
+    "a_takeover_writes_a_term": ("takeover_keeps_the_term",),
+    "a_hand_over_ends_the_term": ("hand_over_keeps_the_term",),
+    # The term comes first in two ways: a slot is opened with what the take has answered, and the term is looked for on the
+    # connection that reads. The copy is without the second.
+    "files_are_read_behind_the_term": ("files_are_read_without_the_term",),
+    # What is short is one statement. Only a long sync can be done in part.
+    "a_sync_is_one_transaction": ("long_sync_is_several_transactions",),
+    # Their statements would still be sent one behind the other, by the writer's lock, but in any order, and be taken for done.
+    "one_sync_at_a_time": ("syncs_are_under_way_at_once",),
+    "a_doubt_is_repeated": ("write_in_doubt_is_taken_for_done",),
+    "a_repeat_is_a_write": ("repeat_that_finds_all_done_is_no_write",),
+    "a_late_copy_changes_nothing": ("late_write_of_an_own_connection_counts", "numbers_of_an_earlier_owner_are_used_again"),
+    "a_commit_waits_for_the_standby": ("commit_without_its_standby_is_answered",),
+    "who_is_lost_answers_nothing": ("who_has_lost_the_slot_answers",),
+    "an_answer_waits_for_its_sync": ("answer_comes_before_its_post_is_durable", "sync_joins_one_that_began_before"),
+    "a_refusal_waits_for_a_sync": ("refusal_comes_before_the_journal_is_durable", "refusal_of_a_lost_slot_is_given"),
+    "a_forwarded_answer_waits_too": ("forwarded_answer_comes_before_its_post_is_durable",),
+    "a_post_is_answered_once_all_parts_are": ("part_that_may_be_taken_later_is_dropped",),
+    "a_series_has_one_slot": ("resource_has_a_slot_by_its_words",),
+    "a_post_is_of_the_same_series_everywhere": (
+        "slot_is_read_by_what_its_instance_knows", "units_of_a_slot_are_not_known", "instances_read_posts_in_different_ways"),
+    "a_group_is_delivered_behind_its_commit": ("request_of_a_store_is_delivered_before_it_is_durable",),
+    # The store has one epoch for all owners, and each group keeps the one that it was made with: either is enough.
+    "a_key_is_the_stores": ("key_of_a_request_is_its_owners",),
+    "the_sink_answers_before_the_ack": ("request_is_acknowledged_before_the_sink_has_it",),
+    "a_quarantine_is_told_behind_its_sync": ("quarantine_is_told_before_its_sync",),
+    "a_quarantine_is_told_once_all_slots_have_it": ("order_counts_where_a_slot_has_not_done_it",),
+}
+EDITS = f"{os.path.dirname(os.path.dirname(os.path.abspath(__file__)))}/service/wrong"
 # All rules kept: none at fault.
 WHOLE = (
     (ONE, Left(takeovers=2, checkpoints=1, deliveries=2, hand_overs=1)),
@@ -660,7 +695,10 @@ def main():
         what = f"all rules kept, {world.slots} slots, {bounds}: {found.states} states, none at fault"
         checks.true(what, found.is_whole and not found.fault, found.fault or "not all states")
         show(found)
-    checks.same("each rule has a case", {rule.name for rule in dataclasses.fields(Rules)}, set(WITHOUT))
+    rules = {rule.name for rule in dataclasses.fields(Rules)}
+    checks.same("each rule has a case, and a wrong copy of the program", (rules, rules), (set(WITHOUT), set(COPIES)))
+    copies = {copy for copies in COPIES.values() for copy in copies}
+    checks.same("each copy is there", set(), {copy for copy in copies if not os.path.exists(f"{EDITS}/{copy}.edit")})
     for rule, (world, left, wanted) in WITHOUT.items():
         found = explore(Rules(**{rule: False}), world, left)
         what = f"without `{rule.replace('_', ' ')}`: {wanted}, after {len(found.way)} events"

@@ -2,6 +2,8 @@
 """Tries wrong copies of the service: a test has to find what is wrong with each.
 
     tools/wrong.py [NAME ..]
+    tools/wrong.py --check            whether all can be made, and have a test of that name: a step of the gate, builds nothing
+    tools/wrong.py --right [NAME ..]  whether their tests pass on the service as it is: else what they find is no wrong copy
 
 Each file service/wrong/NAME.edit breaks one rule. It names the test that has to find this: a script of tests/ with the
 words after its program, or the words of `cargo test`. The rest has the form of an edit of a crate: lines `file:`, `old:`,
@@ -14,6 +16,7 @@ A line for each edit; the last line counts those that were found and those that 
 were. The logs are in out/logs.
 """
 import contextlib
+import functools
 import os
 import re
 import shutil
@@ -23,9 +26,11 @@ import sys
 import tempfile
 import threading
 import time
+from collections.abc import Iterator
+from typing import NamedTuple
 
 from tooling.crates import OUT, ROOT
-from tooling.files import content
+from tooling.files import content, text_of, write
 from tooling.steps import LOGS
 
 EDITS = f"{ROOT}/service/wrong"
@@ -71,25 +76,70 @@ def copy_service() -> None:
             shutil.copy(source, copy)
 
 
-def apply(name: str) -> str:
-    """Makes an edit in the copy, and returns its test."""
+class Edit(NamedTuple):
+    test: str
+    # The text of each file of service/ that is wrong.
+    files: dict[str, str]
+
+
+def read_edit(name: str) -> Edit:
     test = path = old = ""
+    files: dict[str, str] = {}
     for line in content(f"{EDITS}/{name}.edit").decode().splitlines():
         key, _, text = line.partition(":")
         text = text.removeprefix(" ")
         if key == "test":
             test = text
         elif key == "file":
-            path = f"{FOLDER}/service/{text}"
+            path = text
         elif key == "old":
             old = text
         elif key == "new":
-            whole = content(path).decode()
+            whole = files.get(path) or content(f"{ROOT}/service/{path}").decode()
             if whole.count(old) != 1:
                 raise BadEdit(f"its old text is in the file {whole.count(old)} times: {old}")
-            with open(path, "w", encoding="utf-8") as file:
-                file.write(whole.replace(old, text))
-    return test
+            files[path] = whole.replace(old, text)
+        else:
+            raise BadEdit(f"what this line says isn't known: {line}")
+    return Edit(test, files)
+
+
+def make(edit: Edit) -> None:
+    """Makes an edit in the copy."""
+    for path, text in edit.files.items():
+        write(f"{FOLDER}/service/{path}", text)
+
+
+@functools.cache
+def names_of_tests(folder: str) -> str:
+    """The names of all functions of a folder of service/, one a line."""
+    files = [f"{place}/{file}" for place, _, found in os.walk(f"{ROOT}/service/{folder}") for file in found]
+    return "\n".join(name for file in files if file.endswith(".rs") for name in re.findall(r"fn (\w+)", text_of(file)))
+
+
+def check(name: str) -> None:
+    """Fails where an edit can't be made, or no test is there that it names."""
+    edit = read_edit(name)
+    if all(text == content(f"{ROOT}/service/{path}").decode() for path, text in edit.files.items()):
+        raise BadEdit("it changes nothing")
+    command, *_ = runs(edit.test)
+    if command[0] == CARGO:
+        folder = "src" if "--lib" in command else f"tests/{command[command.index('--test') + 1]}"
+        test = command[-1].rpartition("::")[2]
+        if test not in names_of_tests(folder):
+            raise BadEdit(f"no test of this name: {test}")
+
+
+def check_all(names: list[str]) -> int:
+    bad = 0
+    for name in names:
+        try:
+            check(name)
+        except (BadEdit, OSError) as fault:
+            print(f"BAD EDIT {name}: {fault}")
+            bad += 1
+    print(f"{len(names) - bad} passed, {bad} failed")
+    return 1 if bad else 0
 
 
 def runs(test: str) -> list[list[str]]:
@@ -131,29 +181,56 @@ def run(command: list[str], log: str, folder: str) -> tuple[int, str | None]:
     return child.wait(), seen
 
 
+@contextlib.contextmanager
+def built(command: list[str], log: str) -> Iterator[str]:
+    """A folder for what a test keeps, once what it runs is built from the copy."""
+    open(log, "w", encoding="utf-8").close()
+    words = [*command[1:], "--no-run"] if command[0] == CARGO else ["build"]
+    with tempfile.TemporaryDirectory(dir=MEMORY, prefix="wrong-", ignore_cleanup_errors=True) as folder:
+        # A server that a test starts is another user's.
+        os.chmod(folder, 0o755)
+        if run([CARGO, *words, "--quiet"], log, folder)[0] != 0:
+            raise BadEdit(f"it can't be built: {log}")
+        yield folder
+
+
 def check_that_finds(name: str) -> str | None:
     """The first check that fails for what is wrong, or nothing."""
     log = f"{LOGS}/wrong-{name}.log"
-    open(log, "w", encoding="utf-8").close()
-    commands = runs(apply(name))
-    built = [*commands[0][1:], "--no-run"] if commands[0][0] == CARGO else ["build"]
-    with tempfile.TemporaryDirectory(dir=MEMORY, prefix="wrong-", ignore_cleanup_errors=True) as folder:
-        if run([CARGO, *built, "--quiet"], log, folder)[0] != 0:
-            raise BadEdit(f"it can't be built: {log}")
-        for command in commands:
-            seen = run(command, log, folder)[1]
-            if seen:
-                return seen
-    return None
+    edit = read_edit(name)
+    copy_service()
+    make(edit)
+    commands = runs(edit.test)
+    with built(commands[0], log) as folder:
+        return next((seen for command in commands if (seen := run(command, log, folder)[1])), None)
+
+
+def try_right(names: list[str]) -> int:
+    """Runs each test once on the service as it is."""
+    copy_service()
+    tests = sorted({read_edit(name).test for name in names})
+    failed = 0
+    for place, test in enumerate(tests):
+        command, log = runs(test)[0], f"{LOGS}/wrong-right-{place}.log"
+        with built(command, log) as folder:
+            status = run(command, log, folder)[0]
+        failed += status != 0
+        print(f"passes: {test}" if status == 0 else f"FAILS: {test}: {log}", flush=True)
+    print(f"{len(tests) - failed} passed, {failed} failed")
+    return 1 if failed else 0
 
 
 def main(names: list[str]) -> int:
+    all_names = sorted(file.removesuffix(".edit") for file in os.listdir(EDITS) if file.endswith(".edit"))
+    if names == ["--check"]:
+        return check_all(all_names)
     os.makedirs(LOGS, exist_ok=True)
-    names = names or sorted(file.removesuffix(".edit") for file in os.listdir(EDITS) if file.endswith(".edit"))
+    if names[:1] == ["--right"]:
+        return try_right(names[1:] or all_names)
+    names = names or all_names
     found = 0
     for name in names:
         begun = time.monotonic()
-        copy_service()
         try:
             check = check_that_finds(name)
         except (BadEdit, OSError) as fault:

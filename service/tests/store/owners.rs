@@ -4,9 +4,12 @@ use super::proxy::Proxy;
 use super::server::{wait_until, Server};
 use super::work::{contents, take, wait, Chance, Contents, Work};
 use super::{make, open, rounds};
+use std::path::Path;
+use std::sync::atomic::Ordering::SeqCst;
 use std::sync::{Arc, Mutex};
 use std::thread;
 use totxegun::cluster::terms::Refused;
+use totxegun::files::drive::Drive;
 use totxegun::store::postgres::Copies;
 
 /// Works until the slot is lost or so many rounds are done, and says what it has said yes to.
@@ -102,6 +105,55 @@ fn what_comes_late_of_a_broken_connection_is_not_done() {
         held += 1;
     }
     println!("{held} connections were cut, and what they held came late");
+}
+
+/// Neither keeps the one before out: what the next owner writes, which may be gone, nor that nobody has the slot between.
+#[test]
+fn who_had_a_slot_writes_no_more_though_nothing_is_left_of_the_next_owner() {
+    let Some(server) = Server::start("") else { return };
+    make(&[&server.address()]);
+    let store = open(&[&server.address()], Copies::One);
+    for is_handed_over in [false, true] {
+        let slot = u16::from(is_handed_over);
+        let mut first = Work::take(&store, slot, 1);
+        (0..5).for_each(|_| assert!(first.round()));
+        if is_handed_over {
+            wait(store.release(slot, first.drive.term())).unwrap();
+        }
+        let (next, found) = take(&store, slot);
+        assert!(found == first.synced && !found.is_empty());
+        found.keys().for_each(|name| next.remove(name).unwrap());
+        next.sync().unwrap();
+        assert!(!first.round(), "handed over: {is_handed_over}");
+        assert!(take(&store, slot).1.is_empty());
+    }
+}
+
+/// One statement has not all of it. The server takes the first, and has no room for the second.
+#[test]
+fn a_long_sync_is_there_wholly_or_not_at_all() {
+    let Some(server) = Server::start("") else { return };
+    make(&[&server.address()]);
+    let store = open(&[&server.address()], Copies::One);
+    let (drive, _) = take(&store, 0);
+    let (name, mut chance) = (Path::new("journal/1"), Chance(1));
+    let file = drive.create(name).unwrap();
+    drive.write_at(file, &[b"before"], 0).unwrap();
+    drive.sync().unwrap();
+    server.ask(
+        "create function no_room() returns trigger language plpgsql as $$ begin
+            if new.place > 16 << 20 then raise exception sqlstate '53100'; end if; return new; end $$",
+    );
+    server.ask(
+        "create trigger no_room before insert on totxegun_store.piece for each row execute function no_room()",
+    );
+    let long: Vec<u8> = (0..20 << 20).map(|_| chance.below(256) as u8).collect();
+    drive.write_at(file, &[&long], 6).unwrap();
+    let syncing = thread::spawn(move || drive.sync());
+    wait_until("it is tried again", || store.counts().doubts.load(SeqCst) > 0);
+    let (_, found) = take(&store, 0);
+    assert_eq!(found[name].len(), 6, "a part of it is there");
+    assert!(syncing.join().unwrap().is_err(), "the slot is another's");
 }
 
 #[test]

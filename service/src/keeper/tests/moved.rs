@@ -6,8 +6,10 @@ use super::*;
 use crate::files::drive::memory::{Owner, Step, Store};
 use crate::files::drive::{self, lost};
 use crate::files::{Drive, Fault};
+use crate::intake::{Budget, Intake};
 use crate::otlp::series::{forwarded, Value};
-use crate::slot::{Request, MOVED, NO_STORE};
+use crate::otlp::{Encoding, Original, Resources};
+use crate::slot::{Place, Request, Slots, MOVED, NO_STORE};
 use std::collections::BTreeMap;
 use std::io;
 use std::sync::atomic::AtomicU64;
@@ -309,18 +311,50 @@ async fn what_was_answered_is_there_over_many_owners() {
     }
 }
 
-/// A store may take long, and posts are put into the book meanwhile; who comes later is told.
-#[tokio::test(flavor = "multi_thread", worker_threads = 4)]
-async fn nobody_waits_for_the_store_with_the_lock_of_the_book() {
-    let (store, stalls) = (Arc::new(Store::default()), Arc::new(AtomicBool::new(false)));
-    let stalling = stalls.clone();
+/// An instance whose syncs stand still while that is on.
+async fn stalling(store: &Arc<Store>) -> (Run, Arc<AtomicBool>) {
+    let stalls = Arc::new(AtomicBool::new(false));
+    let is_on = stalls.clone();
     let owner = store.take_with(move |step| {
-        while step == Step::Sync && stalling.load(SeqCst) {
+        while step == Step::Sync && is_on.load(SeqCst) {
             std::thread::sleep(Duration::from_millis(1));
         }
         Ok(())
     });
-    let run = began(owner).await.unwrap();
+    (began(owner).await.unwrap(), stalls)
+}
+
+/// Who has forwarded it hears of it once the store has it, and not what it was where the slot is lost.
+#[tokio::test(flavor = "multi_thread", worker_threads = 4)]
+async fn what_was_forwarded_waits_for_the_store_too() {
+    let store = Arc::new(Store::default());
+    let (run, stalls) = stalling(&store).await;
+    let slots = Slots::several(Resources::new(1, Arc::default()), None);
+    slots.set(0, Place::Here(run.slot.clone()));
+    let (budget, metrics) = (Budget::new(8 << 20), run.slot.metrics.clone());
+    let intake = Intake::of(slots, Arc::new(()), Arc::default(), budget, metrics);
+    stalls.store(true, SeqCst);
+    let part = Original {
+        encoding: Encoding::Json,
+        body: point("a", 1).into(),
+    };
+    let forwarded = tokio::spawn(async move { intake.forwarded(0, "A", part).await });
+    while run.slot.ungrouped() == 0 {
+        tokio::time::sleep(Duration::from_millis(1)).await;
+    }
+    tokio::time::sleep(Duration::from_millis(50)).await;
+    let waits = !forwarded.is_finished();
+    store.take();
+    stalls.store(false, SeqCst);
+    let told = forwarded.await.unwrap().unwrap();
+    assert!(waits, "{told:?}");
+    assert_eq!((told.status(), told.refusal()), (503, Some(MOVED)));
+}
+
+/// A store may take long, and posts are put into the book meanwhile; who comes later is told.
+#[tokio::test(flavor = "multi_thread", worker_threads = 4)]
+async fn nobody_waits_for_the_store_with_the_lock_of_the_book() {
+    let (run, stalls) = stalling(&Arc::default()).await;
     assert_eq!(run.post(1).await, Outcome::taken(0));
     stalls.store(true, SeqCst);
     let (orders, slot) = (run.orders.clone(), run.slot.clone());

@@ -54,6 +54,7 @@ struct Memory {
     acknowledge_fails: bool,
     /// Turned on once the slot is another instance's.
     lost: Option<watch::Receiver<bool>>,
+    term: Option<u64>,
     /// How often it is still found to be this instance's, where that ends.
     ours: Option<Mutex<u64>>,
 }
@@ -77,6 +78,10 @@ impl Memory {
 impl Store for &Memory {
     fn epoch(&self) -> String {
         "e".into()
+    }
+
+    fn term(&self) -> Option<u64> {
+        self.term
     }
 
     async fn first(&self) -> Result<(Waiting, Vec<u8>), Fault> {

@@ -33,3 +33,15 @@ async fn each_try_is_made_while_the_slot_is_this_instances() {
     assert!(matches!(end, Err(Fault::Lost(_))), "{end:?}");
     assert_eq!(tried.keys(), ["2-e-1", "2-e-1"]);
 }
+
+/// The sink may have it already, of the owner before.
+#[tokio::test]
+async fn the_next_owner_sends_what_waits_under_the_same_key() {
+    for term in [4, 5] {
+        let memory = Memory {
+            term: Some(term),
+            ..waiting([1])
+        };
+        assert_eq!(run(&memory, vec![]).await.keys(), ["2-e-1"]);
+    }
+}

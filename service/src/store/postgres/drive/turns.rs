@@ -138,4 +138,22 @@ mod tests {
         assert_eq!(count.load(SeqCst), 3, "nobody writes behind a loss");
         assert!(turns.check().is_err());
     }
+
+    /// Else what began later might be there sooner, and its end be taken for that of what began before.
+    #[test]
+    fn one_turn_is_under_way_at_a_time() {
+        let (turns, now, most) = (Turns::default(), AtomicU32::new(0), AtomicU32::new(0));
+        let turn = || {
+            most.fetch_max(now.fetch_add(1, SeqCst) + 1, SeqCst);
+            thread::sleep(Duration::from_millis(20));
+            now.fetch_sub(1, SeqCst);
+            Ok(())
+        };
+        thread::scope(|scope| {
+            for _ in 0..8 {
+                scope.spawn(|| turns.ended(turn).unwrap());
+            }
+        });
+        assert_eq!(most.load(SeqCst), 1);
+    }
 }
