@@ -93,7 +93,7 @@ async fn within<T>(patience: Duration, place: &str, asking: impl Future<Output =
     }
     if soon < patience {
         crate::complain(format_args!(
-            "{place} has not answered yet: `totxegun status` and the log say what it waits for"
+            "{place} has not answered yet: its log says what it waits for"
         ));
     }
     timeout(patience - soon, asking).await.ok()
