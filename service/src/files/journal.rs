@@ -10,8 +10,8 @@
 //!
 //! A name is written with the first points of a segment that need it, by the same write.
 //!
-//! A record is written in place, under one short lock, so that the order in the file is the order of the calls. One
-//! thread syncs, once for all that wait; nobody who must wait for the disk holds the lock of those who write.
+//! A record is written in place, under one short lock, so that the order in the file is the order of the calls. Two
+//! threads sync, each once for all that wait; nobody who must wait for the disk holds the lock of those who write.
 
 mod found;
 mod held;
@@ -23,7 +23,7 @@ mod record;
 mod said;
 mod sync;
 
-use super::disk::{Disk, File};
+use super::disk::Disk;
 use super::drive::Lost;
 use super::records::{self, Which};
 use super::room::Room;
@@ -37,7 +37,7 @@ use std::path::{Path, PathBuf};
 use std::sync::atomic::{AtomicU64, Ordering::SeqCst};
 use std::sync::{Arc, Condvar, Mutex};
 use std::time::Duration;
-use sync::Waiters;
+use sync::{Both, Syncs, Waiters};
 
 const POST: u8 = records::OWN;
 const COPY: u8 = records::OWN + 1;
@@ -54,7 +54,7 @@ pub struct Ticket(pub u64);
 /// is durable never.
 pub struct Journal {
     shared: Arc<Shared>,
-    syncer: Option<std::thread::JoinHandle<()>>,
+    syncers: Vec<std::thread::JoinHandle<()>>,
     /// The segment that this start has begun.
     begun: u64,
     dropped: Vec<Dropped>,
@@ -85,21 +85,25 @@ struct Shared {
     durable: AtomicU64,
     waiters: Mutex<Waiters>,
     work: Condvar,
-    syncing: Mutex<()>,
+    /// Locked before `place` and `waiters`.
+    syncing: Mutex<Syncs>,
+    /// A sync has ended.
+    ended: Condvar,
     /// The next segment, durable, which has no name yet. Locked after `place`.
-    next: Mutex<Option<Segment>>,
+    next: Mutex<Option<(Segment, Both)>>,
 }
 
 /// Where is written.
 struct Place {
     segment: Segment,
+    both: Both,
     /// Whether the segment's name is durable.
     named: bool,
     ticket: u64,
     /// What the segment has named.
     said: Said,
     /// Segments that were ended, and not synced since.
-    ended: Vec<(Arc<File>, PathBuf)>,
+    ended: Vec<(Both, PathBuf)>,
     /// The ticket of the last turn, or note of what is held: earlier segments are not deleted before it is durable.
     kept: u64,
     /// Quarantined senders whose posts are in their own files, and who have posted nothing since.
@@ -288,10 +292,10 @@ impl Shared {
     fn begin(&self, place: &mut Place, number: u64) -> Result<(), Fault> {
         place.segment.end()?;
         let mut prepared = lock(&self.next);
-        let mut next = match prepared.take() {
-            Some(next) if next.number == number => next,
+        let (mut next, both) = match prepared.take() {
+            Some((next, both)) if next.number == number => (next, both),
             other => {
-                if let Some(other) = other {
+                if let Some((other, _)) = other {
                     self.disk.remove(&other.path)?;
                 }
                 prepare(
@@ -306,7 +310,8 @@ impl Shared {
         drop(prepared);
         name(&self.disk, &self.folder, &mut next)?;
         let ended = std::mem::replace(&mut place.segment, next);
-        place.ended.push((ended.file, ended.path));
+        let both = std::mem::replace(&mut place.both, both);
+        place.ended.push((both, ended.path));
         place.named = false;
         place.said = Said::default();
         place.ticket += 1;
@@ -327,7 +332,7 @@ fn prepare(
     number: u64,
     durability: Durability,
     forgotten: u64,
-) -> Result<Segment, Fault> {
+) -> Result<(Segment, Both), Fault> {
     let draft = segment::path(folder, number).with_extension("draft");
     if disk.has(&draft)? {
         disk.remove(&draft)?;
@@ -335,7 +340,9 @@ fn prepare(
     let (ahead, which) = (ahead(disk, durability), Which::Journal);
     let segment = Segment::create(disk, draft.clone(), which, number, ahead, Some(forgotten))?;
     disk.order(&segment.file, &draft)?;
-    Ok(segment)
+    let other = Arc::new(disk.open_to_write(&draft)?);
+    let both = Both([segment.file.clone(), other]);
+    Ok((segment, both))
 }
 
 /// Gives a segment its name; durable with the next sync of the folder.

@@ -4,8 +4,8 @@ use std::sync::atomic::{AtomicU64, Ordering::Relaxed};
 use std::sync::LazyLock;
 use std::time::{Duration, Instant};
 
-/// Calls side by side: one writes, one syncs, one deletes, and one more.
-const PLACES: usize = 4;
+/// Calls side by side: one writes, two sync, one deletes, and one more.
+const PLACES: usize = 5;
 static BEGAN: LazyLock<Instant> = LazyLock::new(Instant::now);
 
 /// No lock is needed to look at them: who has one may be in such a call.

@@ -1,7 +1,8 @@
 //! What an earlier run left in the journal.
 
 use super::found::{self, Found};
-use super::{name, prepare, Expected, Journal, Place, Said, Shared, Size, Waiters};
+use super::sync::SIDE_BY_SIDE;
+use super::{name, prepare, Expected, Journal, Place, Said, Shared, Size, Syncs, Waiters};
 use crate::files::disk::{io_fault, Disk};
 use crate::files::judge::CHANGED;
 use crate::files::room::Room;
@@ -26,7 +27,7 @@ impl Journal {
         remove_drafts(disk, folder)?;
         let (mut found, dropped) = close(disk, folder, expected)?;
         let number = drop_empty(disk, folder, &mut found, expected)?;
-        let mut segment = prepare(disk, folder, number, durability, expected.reach)?;
+        let (mut segment, both) = prepare(disk, folder, number, durability, expected.reach)?;
         name(disk, folder, &mut segment)?;
         let lists = found
             .iter_mut()
@@ -40,6 +41,7 @@ impl Journal {
         });
         let place = Place {
             segment,
+            both,
             named: false,
             said: Said::default(),
             ticket: 1,
@@ -58,18 +60,24 @@ impl Journal {
             durable: AtomicU64::new(0),
             waiters: Mutex::new(Waiters::default()),
             work: Condvar::new(),
-            syncing: Mutex::new(()),
+            syncing: Mutex::new(Syncs::default()),
+            ended: Condvar::new(),
             next: Mutex::new(None),
         });
         shared.try_sync()?;
-        let run = shared.clone();
-        let syncer = std::thread::Builder::new()
-            .name("journal".into())
-            .spawn(move || run.run());
-        let syncer = Some(syncer.map_err(io_fault(folder))?);
+        let count = match durability {
+            Durability::Disk if !disk.keeps_order() => SIDE_BY_SIDE,
+            _ => 1,
+        };
+        let syncers = (0..count).map(|place| {
+            let run = shared.clone();
+            let syncer = std::thread::Builder::new().name("journal".into());
+            syncer.spawn(move || run.run(place == 0))
+        });
+        let syncers = syncers.collect::<Result<_, _>>().map_err(io_fault(folder))?;
         Ok(Journal {
             shared,
-            syncer,
+            syncers,
             begun: number,
             dropped,
         })

@@ -6,6 +6,7 @@ mod held;
 mod letters;
 mod points;
 mod power;
+mod side_by_side;
 mod syncs;
 
 use super::*;
@@ -91,8 +92,10 @@ fn texts(journal: &Journal, first: u64) -> Vec<String> {
 /// As `kill -9` leaves it.
 fn kill(mut journal: Journal) {
     lock(&journal.shared.waiters).ending = true;
-    journal.shared.work.notify_one();
-    journal.syncer.take().map(|syncer| syncer.join());
+    journal.shared.work.notify_all();
+    for syncer in journal.syncers.drain(..) {
+        syncer.join().unwrap();
+    }
     std::mem::forget(journal);
 }
 
