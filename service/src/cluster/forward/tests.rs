@@ -219,10 +219,7 @@ async fn who_stalls_is_left_once_another_has_the_slot_but_not_before_it_may_have
     );
     assert_eq!(posted(&forward, "{}").await, Outcome::taken(0));
     // It hands over, and answers what is under way.
-    let slots = Slots {
-        takes: AFTER_MOVE / 2,
-        ..Slots::default()
-    };
+    let slots = Slots::slow(AFTER_MOVE / 2);
     let slow = Peer::with(slots, Whose::Here { term: 5 }).await;
     forward.cluster.knows(&[(3, slow.whose())]);
     let (outcome, ()) = tokio::join!(posted(&forward, "{}"), moves(peer.whose()));
@@ -232,10 +229,7 @@ async fn who_stalls_is_left_once_another_has_the_slot_but_not_before_it_may_have
 
 #[tokio::test]
 async fn so_many_posts_are_on_their_way_to_one_and_each_comes_once() {
-    let slots = Slots {
-        takes: Duration::from_millis(20),
-        ..Slots::default()
-    };
+    let slots = Slots::slow(Duration::from_millis(20));
     let peer = Peer::with(slots, Whose::Here { term: 5 }).await;
     let forward = receiver(peer.whose(), secret("of all"));
     let many: Vec<_> = (0..300)

@@ -48,6 +48,14 @@ impl Here for Slots {
 }
 
 impl Slots {
+    /// Which take so long for each post.
+    pub fn slow(takes: Duration) -> Slots {
+        Slots {
+            takes,
+            ..Slots::default()
+        }
+    }
+
     pub fn count(&self) -> usize {
         self.came.lock().unwrap().len()
     }
