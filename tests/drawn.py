@@ -21,7 +21,7 @@ DESCRIBED = "docs/pictures/{}.drawn"
 PICTURES = (
     ("a picture that was changed by hand", "docs/pictures/life.svg", ">stored<", ">kept<", "docs/pictures/life.svg"),
     ("other words beside a picture", "docs/MODEL.md", "![The life of a point.", "![A point.", "docs/MODEL.md"),
-    ("a crate that uses another one", "crates.txt", "service_law: series_id", "service_law: decimals series_id",
+    ("a crate that uses another one", "crates.txt", "gateway_options: decimals clap", "gateway_options: bucket_lanes decimals clap",
      "docs/pictures/crates.svg"),
     ("a picture that no page shows", "docs/MODEL.md", "](pictures/life.svg)", "](life.svg)", "life"),
     ("an arrow between laws that no proof has", DESCRIBED.format("laws"), "arrow proved priming.bottom recovery.top",
