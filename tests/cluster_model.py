@@ -4,13 +4,14 @@
     tests/cluster_model.py
 
 It needs no program. Two instances share slots whose files are in a store. A slot's owner has it under a term. What it writes
-goes to the store by syncs: a sync is all that was written since the last one, in order, under one number. A sender has two
-posts and repeats each until it is answered; a post comes to any instance that takes itself for the owner, or is forwarded
-there. Either instance may take a slot at any time, so an owner that was stopped, or cut off, goes on at any later time. A
-statement that was sent may be executed at any later time, also where its connection is lost, and then its sender repeats it.
-The store commits on its primary, and answers once the standby has it. A restart of the primary shows what the standby does
-not have; where the primary is lost, and the standby takes its place, that is gone. Meanwhile there are checkpoints,
-deliveries to a sink and their acknowledgements, hand-overs, and in two slots a post with a part in each and a quarantine.
+goes to the store by syncs: a sync is all that was written since the last one, in order, under one number; those of several
+slots that are one transaction are done in the same moment. A sender has two posts and repeats each until it is answered; a
+post comes to any instance that takes itself for the owner, or is forwarded there. Either instance may take a slot at any
+time, so an owner that was stopped, or cut off, goes on at any later time. A statement that was sent may be executed at any
+later time, also where its connection is lost, and then its sender repeats it. The store commits on its primary, and answers
+once the standby has it. A restart of the primary shows what the standby does not have; where the primary is lost, and the
+standby takes its place, that is gone. Meanwhile there are checkpoints, deliveries to a sink and their acknowledgements,
+hand-overs, and in two slots a post with a part in each and a quarantine.
 
 In each state, of what the store has on both sides, and the sink:
   - `answered and gone`: what a sender was told is taken is in no file of the slot and not in the sink;

@@ -8,6 +8,7 @@ mod proxy;
 mod server;
 mod sink;
 mod speed;
+mod together;
 mod work;
 
 use server::Server;

@@ -1,5 +1,6 @@
 //! Passes bytes on, stops after so many parts of them, cuts clients off, and brings what it held back to the server late.
 
+use std::collections::BTreeSet;
 use std::io::{Read, Write};
 use std::net::{Shutdown, TcpListener, TcpStream};
 use std::sync::{Arc, Condvar, Mutex};
@@ -20,21 +21,34 @@ struct Gate {
 struct State {
     /// So many parts pass yet; none: all.
     left: Option<u64>,
-    /// Connections up to this one were cut, and what they hold waits until it goes on.
-    cut: usize,
+    /// These connections were cut, and what they hold waits until it goes on.
+    cut: BTreeSet<usize>,
     clients: Vec<TcpStream>,
-    held: u64,
+    /// Of each part that is held, on which connection.
+    held: Vec<usize>,
+}
+
+impl State {
+    fn cut_off(&mut self, connections: impl IntoIterator<Item = usize>) {
+        self.left = None;
+        for connection in connections {
+            if self.cut.insert(connection) {
+                let _ = self.clients[connection].shutdown(Shutdown::Both);
+            }
+        }
+    }
 }
 
 impl Gate {
     fn pass(&self, connection: usize) {
         let mut state = self.state.lock().unwrap();
-        state.held += 1;
+        state.held.push(connection);
         self.changed.notify_all();
-        while state.left == Some(0) || connection < state.cut {
+        while state.left == Some(0) || state.cut.contains(&connection) {
             state = self.changed.wait(state).unwrap();
         }
-        state.held -= 1;
+        let place = state.held.iter().position(|held| *held == connection).unwrap();
+        state.held.swap_remove(place);
         state.left = state.left.map(|left| left - 1);
     }
 }
@@ -77,17 +91,22 @@ impl Proxy {
 
     pub fn holds(&self) -> bool {
         let state = self.gate.state.lock().unwrap();
-        state.held > 0 && (state.left == Some(0) || state.cut > 0)
+        !state.held.is_empty() && (state.left == Some(0) || !state.cut.is_empty())
     }
 
     /// All clients are cut off. Those that come anew are served; what was held back is held on.
     pub fn cut(&self) {
         self.change(|state| {
-            state.left = None;
-            for client in &state.clients[state.cut..] {
-                let _ = client.shutdown(Shutdown::Both);
-            }
-            state.cut = state.clients.len();
+            let all = 0..state.clients.len();
+            state.cut_off(all);
+        });
+    }
+
+    /// The same of those of whom something is held alone.
+    pub fn cut_held(&self) {
+        self.change(|state| {
+            let held = state.held.clone();
+            state.cut_off(held);
         });
     }
 
@@ -95,7 +114,7 @@ impl Proxy {
     pub fn go_on(&self) {
         self.change(|state| {
             state.left = None;
-            state.cut = 0;
+            state.cut.clear();
         });
     }
 

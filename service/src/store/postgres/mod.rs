@@ -30,7 +30,7 @@ pub use state::{Standing, State};
 use crate::cluster::terms::{Instance, Refused, Row};
 use crate::files::drive::Lost;
 use crate::postgres::identity;
-use drive::Writer;
+use drive::{Together, Writer};
 use session::{within, SILENT};
 use shared::Shared;
 use std::collections::BTreeMap;
@@ -40,6 +40,8 @@ use tokio::runtime::{Builder, Runtime};
 
 /// Connections live on these, so that a thread of the service that waits for the store never keeps the store waiting.
 const THREADS: usize = 2;
+/// Short writes of slots go on so many connections to a database, each slot's always on the same one.
+const TOGETHER: usize = 2;
 
 pub struct PostgresStore {
     pub cluster: Cluster,
@@ -57,6 +59,8 @@ struct Database {
     taker: Arc<Shared>,
     /// For beats, and for what is seen behind them: nothing else keeps them waiting.
     beater: Arc<Shared>,
+    /// For short writes of slots.
+    together: Vec<Arc<Together>>,
 }
 
 /// Ends without waiting, from wherever it is dropped.
@@ -169,6 +173,9 @@ impl PostgresStore {
             reader: shared(server),
             taker: shared(server),
             beater: shared(server),
+            together: (0..TOGETHER)
+                .map(|_| Arc::new(Together::start(server, runtime.handle())))
+                .collect(),
         };
         Ok(PostgresStore {
             cluster,
@@ -228,7 +235,8 @@ impl PostgresStore {
     pub fn drive(&self, slot: u16, term: u64) -> Result<Arc<PostgresDrive>, Lost> {
         let database = self.database(slot);
         let server = database.taker.server.clone();
-        let mut writer = Writer::new(server, slot.into(), term as i64, self.counts.clone());
+        let together = database.together[usize::from(slot) / self.databases.len() % TOGETHER].clone();
+        let mut writer = Writer::new(server, slot.into(), term as i64, self.counts.clone(), together);
         let opening = async move {
             let found = writer.open().await?;
             Ok((writer, found))

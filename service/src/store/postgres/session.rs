@@ -28,16 +28,20 @@ const SETTINGS: &str =
 /// Rows of a slot are looked up by their keys, also while the tables are small.
 const PLANS: &str = "set jit = off; set enable_seqscan = off; set plan_cache_mode = 'force_generic_plan'";
 
-/// The fence of each write. It is empty where another has the slot, or another connection is the owner's.
+/// The fence of each write, by slots, terms and links: those that are as these say. Another has the slots that are not there,
+/// or another connection is their owner's.
 macro_rules! mine {
     () => {
         "with mine as (
-        select slot from totxegun_store.slot where slot = $1 and term = $2 and link = $3 for update
+        select slot.slot, owned.write
+        from totxegun_store.slot, unnest($1::int[], $2::bigint[], $3::bigint[]) with ordinality as owned (slot, term, link, write)
+        where slot.slot = owned.slot and slot.term = owned.term and slot.link = owned.link
+        order by slot.slot for update of slot
     )"
     };
 }
 
-/// All of a sync, or a part of it where it is long. Each part of it may be done again.
+/// All of a sync of one slot, or a part of it where it is long. Each part of it may be done again.
 const PUT: &str = concat!(
     mine!(),
     ", gone as (
@@ -54,20 +58,23 @@ const PUT: &str = concat!(
         from mine, unnest($7::bigint[], $8::bigint[], $9::bigint[], $10::int[], $11::bytea[])
             as new (file, number, place, length, bytes)
         on conflict (slot, file, number) do nothing
-    ) select count(*) from mine"
+    ) select write from mine"
 );
 
-/// The same where there are no names and no files that go: as a rule.
+/// The same of several slots, where there are no names and no files that go: as a rule. Each piece says which write it is of.
 const APPEND: &str = concat!(
     mine!(),
     ", put as (
         insert into totxegun_store.piece (slot, file, number, place, length, bytes)
         select mine.slot, new.file, new.number, new.place, new.length, new.bytes
-        from mine, unnest($4::bigint[], $5::bigint[], $6::bigint[], $7::int[], $8::bytea[])
-            as new (file, number, place, length, bytes)
+        from mine join unnest($4::bigint[], $5::bigint[], $6::bigint[], $7::bigint[], $8::int[], $9::bytea[])
+            as new (write, file, number, place, length, bytes) on new.write = mine.write
         on conflict (slot, file, number) do nothing
-    ) select count(*) from mine"
+    ) select write from mine"
 );
+
+const IS_THERE: &str =
+    "select count(*) from totxegun_store.piece where slot = $1 and file = $2 and number = $3";
 
 const PIECES: &str = "select number, length, bytes from totxegun_store.piece
     where slot = $1 and file = $2 and number = any($3::bigint[])";
@@ -125,6 +132,16 @@ impl Session {
             Some(warning) => Err(Doubt::Warned(warning)),
         }
     }
+}
+
+/// Whether a server has a piece: that is asked of each connection before it is believed.
+pub(super) async fn is_there(session: &Session, slot: i32, piece: Option<(i64, i64)>) -> Result<bool, Doubt> {
+    let Some((file, number)) = piece else {
+        return Ok(true);
+    };
+    let key: [&(dyn ToSql + Sync); 3] = [&slot, &file, &number];
+    let found = within(SILENT, session.client.query_one(IS_THERE, &key)).await?;
+    Ok(found.get::<_, i64>(0) == 1)
 }
 
 pub(super) async fn within<T>(

@@ -10,10 +10,12 @@ mod files;
 mod packed;
 #[cfg(test)]
 mod tests;
+mod together;
 mod turns;
 mod writer;
 
 pub(super) use files::Files;
+pub(super) use together::Together;
 pub(super) use writer::Writer;
 
 use super::shared::{Shared, Stored};
@@ -105,7 +107,7 @@ impl PostgresDrive {
 
     fn commit(&self) -> Result<(), Lost> {
         let batch = lock(&self.files).batch();
-        let packed = Packed::of(&batch);
+        let packed = Arc::new(Packed::of(&batch));
         let writer = self.writer.clone();
         self.wait(async move { writer.lock().await.commit(&packed).await })?;
         lock(&self.files).is_there(&batch);

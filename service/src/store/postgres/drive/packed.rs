@@ -8,6 +8,8 @@ use std::io::{self, Read, Write};
 
 /// What one statement has at most, and a piece.
 const MOST: usize = 16 << 20;
+/// What goes together with writes of other slots has no more.
+const SHORT: usize = 64 << 10;
 
 /// It is done by one statement or more, in one transaction.
 pub struct Packed {
@@ -15,6 +17,8 @@ pub struct Packed {
     pub named: Vec<i64>,
     pub names: Vec<String>,
     pub pieces: Vec<Columns>,
+    /// Of all pieces, packed.
+    pub size: usize,
 }
 
 #[derive(Default)]
@@ -30,9 +34,10 @@ pub struct Columns {
 impl Packed {
     pub fn of(batch: &Batch) -> Packed {
         let mut pieces = vec![Columns::default()];
-        let mut size = 0;
+        let (mut all, mut size) = (0, 0);
         for row in &batch.pieces {
             let bytes = pack(&row.bytes);
+            all += bytes.len();
             size += bytes.len();
             if size > MOST {
                 pieces.push(Columns::default());
@@ -47,7 +52,13 @@ impl Packed {
             named: signed(batch.named.iter().map(|(number, _)| *number)),
             names: batch.named.iter().map(|(_, name)| name.clone()).collect(),
             pieces,
+            size: all,
         }
+    }
+
+    /// Whether it may go with those of other slots, and keeps them waiting for no longer than they do it.
+    pub fn is_short(&self) -> bool {
+        self.gone.is_empty() && self.named.is_empty() && self.size <= SHORT
     }
 }
 

@@ -2,13 +2,15 @@
 
 use super::files::{Batch, Files, StoredPiece};
 use super::packed::{Columns, Packed};
+use super::together::{Together, Write};
 use crate::files::drive::Lost;
 use crate::log::RateLimit;
 use crate::postgres::Server;
 use crate::store::postgres::counts::Counts;
 use crate::store::postgres::doubt::{Backoff, Doubt, Next};
-use crate::store::postgres::session::{within, Session, SILENT};
+use crate::store::postgres::session::{is_there, within, Session, SILENT};
 use crate::store::postgres::shared::Stored;
+use std::collections::BTreeSet;
 use std::sync::Arc;
 use std::time::Duration;
 use tokio_postgres::types::ToSql;
@@ -17,8 +19,6 @@ use tokio_postgres::{Error, Row};
 const LINK: &str = "select link from totxegun_store.slot where slot = $1 and term = $2";
 const RAISE: &str =
     "update totxegun_store.slot set link = link + 1 where slot = $1 and term = $2 and link = $3";
-const IS_THERE: &str =
-    "select count(*) from totxegun_store.piece where slot = $1 and file = $2 and number = $3";
 
 const DELIVERED: &str = "select number from totxegun_store.delivered where slot = $1";
 const NAMES: &str = "select file, name from totxegun_store.file where slot = $1";
@@ -41,10 +41,13 @@ pub struct Writer {
     /// File and number of the piece that came to be there last, of a file that still is.
     last: Option<(i64, i64)>,
     counts: Arc<Counts>,
+    together: Arc<Together>,
+    /// Its connection by which the last short write was done.
+    joined: u64,
 }
 
 impl Writer {
-    pub fn new(server: Server, slot: i32, term: i64, counts: Arc<Counts>) -> Writer {
+    pub fn new(server: Server, slot: i32, term: i64, counts: Arc<Counts>, together: Arc<Together>) -> Writer {
         Writer {
             server,
             slot,
@@ -54,6 +57,8 @@ impl Writer {
             session: None,
             last: None,
             counts,
+            together,
+            joined: 0,
         }
     }
 
@@ -71,12 +76,46 @@ impl Writer {
     }
 
     /// Returns once the batch is there without a doubt.
-    pub async fn commit(&mut self, packed: &Packed) -> Result<(), Lost> {
+    pub async fn commit(&mut self, packed: &Arc<Packed>) -> Result<(), Lost> {
+        if !packed.is_short() || !self.join(packed).await {
+            self.commit_alone(packed).await?;
+        }
+        self.note(packed);
+        Ok(())
+    }
+
+    /// Whether it was brought there together with writes of other slots. Where that is not known, the next connection raises
+    /// the link, so that it is not done later.
+    async fn join(&mut self, packed: &Arc<Packed>) -> bool {
+        let write = Write {
+            slot: self.slot,
+            term: self.term,
+            link: self.link,
+            last: self.last,
+            packed: packed.clone(),
+        };
+        let joined = self.together.put(write).await;
+        // Another connection may be one to another server.
+        if !joined.as_ref().is_ok_and(|number| *number == self.joined) {
+            self.session = None;
+        }
+        match joined {
+            Ok(number) => {
+                self.joined = number;
+                Counts::add(&self.counts.commits);
+                return true;
+            }
+            Err(Some(doubt)) => self.tell(&doubt),
+            Err(None) => {}
+        }
+        false
+    }
+
+    async fn commit_alone(&mut self, packed: &Packed) -> Result<(), Lost> {
         let mut backoff = Backoff::default();
         loop {
             match self.try_once(packed).await {
                 Ok(true) => {
-                    self.note(packed);
                     Counts::add(&self.counts.commits);
                     return Ok(());
                 }
@@ -91,7 +130,7 @@ impl Writer {
     pub async fn pieces(&mut self, file: u64, numbers: &[u64]) -> Result<Vec<Stored>, Lost> {
         let nothing = Packed::of(&Batch::default());
         loop {
-            self.commit(&nothing).await?;
+            self.commit_alone(&nothing).await?;
             let Some(session) = &self.session else { continue };
             match session.pieces(self.slot, file, numbers).await {
                 Ok(found) => return Ok(found),
@@ -182,12 +221,8 @@ impl Writer {
     /// Whether the store still has what it said it has. Where it went over to a server that had not got all, that is
     /// gone.
     async fn is_whole(&self, session: &Session, gone: &[i64]) -> Result<bool, Doubt> {
-        let Some((file, number)) = self.last.filter(|(file, _)| !gone.contains(file)) else {
-            return Ok(true);
-        };
-        let key: [&(dyn ToSql + Sync); 3] = [&self.slot, &file, &number];
-        let found = within(SILENT, session.client.query_one(IS_THERE, &key)).await?;
-        let is_there = found.get::<_, i64>(0) == 1;
+        let last = self.last.filter(|(file, _)| !gone.contains(file));
+        let is_there = is_there(session, self.slot, last).await?;
         if !is_there {
             Counts::add(&self.counts.vanished);
             tracing::error!(
@@ -229,10 +264,11 @@ impl Writer {
 
     async fn put_part(&self, session: &Session, packed: &Packed, pieces: &Columns) -> Result<bool, Error> {
         let bytes: Vec<&[u8]> = pieces.bytes.iter().map(|bytes| &bytes[..]).collect();
+        let (slots, terms, links) = (vec![self.slot], vec![self.term], vec![self.link]);
         let values: [&(dyn ToSql + Sync); 11] = [
-            &self.slot,
-            &self.term,
-            &self.link,
+            &slots,
+            &terms,
+            &links,
             &packed.gone,
             &packed.named,
             &packed.names,
@@ -242,24 +278,13 @@ impl Writer {
             &pieces.lengths,
             &bytes,
         ];
-        let row = session.client.query_one(&session.put, &values).await?;
-        Ok(row.get::<_, i64>(0) == 1)
+        let done = session.client.query(&session.put, &values).await?;
+        Ok(!done.is_empty())
     }
 
     async fn append(&self, session: &Session, pieces: &Columns) -> Result<bool, Error> {
-        let bytes: Vec<&[u8]> = pieces.bytes.iter().map(|bytes| &bytes[..]).collect();
-        let values: [&(dyn ToSql + Sync); 8] = [
-            &self.slot,
-            &self.term,
-            &self.link,
-            &pieces.files,
-            &pieces.numbers,
-            &pieces.places,
-            &pieces.lengths,
-            &bytes,
-        ];
-        let row = session.client.query_one(&session.append, &values).await?;
-        Ok(row.get::<_, i64>(0) == 1)
+        let done = append(session, &[(self.slot, self.term, self.link, pieces)]).await?;
+        Ok(!done.is_empty())
     }
 
     fn note(&mut self, packed: &Packed) {
@@ -268,4 +293,41 @@ impl Writer {
         let last = last.and_then(|pieces| Some((*pieces.files.last()?, *pieces.numbers.last()?)));
         self.last = last.or(self.last);
     }
+}
+
+/// Writes pieces of slots, under their terms and links: the places of those that were their owners'.
+pub(super) async fn append(
+    session: &Session,
+    writes: &[(i32, i64, i64, &Columns)],
+) -> Result<BTreeSet<usize>, Error> {
+    let slots: Vec<i32> = writes.iter().map(|write| write.0).collect();
+    let terms: Vec<i64> = writes.iter().map(|write| write.1).collect();
+    let links: Vec<i64> = writes.iter().map(|write| write.2).collect();
+    let mut owners: Vec<i64> = Vec::new();
+    for (owner, (_, _, _, pieces)) in (1..).zip(writes) {
+        owners.resize(owners.len() + pieces.numbers.len(), owner);
+    }
+    let all = |column: fn(&Columns) -> &Vec<i64>| -> Vec<i64> {
+        writes.iter().flat_map(|write| column(write.3)).copied().collect()
+    };
+    let (files, numbers, places) = (
+        all(|pieces| &pieces.files),
+        all(|pieces| &pieces.numbers),
+        all(|pieces| &pieces.places),
+    );
+    let lengths: Vec<i32> = writes
+        .iter()
+        .flat_map(|write| &write.3.lengths)
+        .copied()
+        .collect();
+    let bytes: Vec<&[u8]> = writes
+        .iter()
+        .flat_map(|write| &write.3.bytes)
+        .map(|bytes| &bytes[..])
+        .collect();
+    let values: [&(dyn ToSql + Sync); 9] = [
+        &slots, &terms, &links, &owners, &files, &numbers, &places, &lengths, &bytes,
+    ];
+    let done = session.client.query(&session.append, &values).await?;
+    Ok(done.iter().map(|row| row.get::<_, i64>(0) as usize - 1).collect())
 }

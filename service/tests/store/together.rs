@@ -1,0 +1,134 @@
+//! Short writes of several slots, which are one transaction.
+
+use super::proxy::Proxy;
+use super::server::{wait_until, Server};
+use super::work::{contents, take};
+use super::{make, open};
+use std::path::Path;
+use std::sync::Arc;
+use std::thread::{self, JoinHandle};
+use std::time::Duration;
+use totxegun::files::drive::{is_lost, Drive};
+use totxegun::store::postgres::{Copies, PostgresDrive, PostgresStore};
+
+/// They share a connection.
+const SLOTS: [u16; 4] = [0, 2, 4, 6];
+
+/// From a slot's thread to the one that writes.
+const LONG: Duration = Duration::from_millis(500);
+
+/// A slot with a file.
+#[derive(Clone)]
+struct Owner {
+    drive: Arc<PostgresDrive>,
+    file: u64,
+}
+
+impl Owner {
+    fn of(store: &PostgresStore, slot: u16) -> Owner {
+        let (drive, _) = take(store, slot);
+        let file = drive.create(Path::new("journal/1")).unwrap();
+        drive.sync().unwrap();
+        let owner = Owner { drive, file };
+        owner.write("a").unwrap();
+        owner
+    }
+
+    fn write(&self, text: &str) -> std::io::Result<()> {
+        let end = self.drive.length(self.file)?;
+        self.drive.write_at(self.file, &[text.as_bytes()], end)?;
+        self.drive.sync()
+    }
+
+    /// On a thread of its own, which waits for the store once this returns.
+    fn writes(&self, text: &'static str) -> JoinHandle<std::io::Result<()>> {
+        let owner = self.clone();
+        let writing = thread::spawn(move || owner.write(text));
+        wait_until("it waits", || self.drive.under_way() > Duration::ZERO);
+        writing
+    }
+
+    fn replace_file(&self) {
+        self.drive.remove(Path::new("journal/1")).unwrap();
+        self.drive.create(Path::new("journal/2")).unwrap();
+        self.drive.sync().unwrap();
+    }
+}
+
+#[test]
+fn writes_of_several_slots_are_one_transaction_and_each_is_fenced_by_itself() {
+    let Some(server) = Server::start("") else { return };
+    let proxy = Proxy::start(server.port);
+    make(&[&server.address()]);
+    let store = open(&[&proxy.address()], Copies::One);
+    let direct = open(&[&server.address()], Copies::One);
+    let owners = SLOTS.map(|slot| Owner::of(&store, slot));
+    proxy.stop_after(0);
+    let [text, texts @ ..] = ["b", "c", "d", "e"];
+    let first = owners[0].writes(text);
+    wait_until("the first is on its way", || proxy.holds());
+    let others = owners[1..].iter().zip(texts);
+    let others: Vec<_> = others.map(|(owner, text)| owner.writes(text)).collect();
+    thread::sleep(LONG);
+    let (_taker, found) = take(&direct, SLOTS[2]);
+    proxy.go_on();
+    first.join().unwrap().unwrap();
+    let [second, third, fourth] = others.try_into().unwrap();
+    second.join().unwrap().unwrap();
+    fourth.join().unwrap().unwrap();
+    assert!(is_lost(&third.join().unwrap().unwrap_err()));
+    assert_eq!(found[Path::new("journal/1")], b"a");
+    let last = "select count(distinct made) from (select distinct on (slot) xmin::text as made from totxegun_store.piece
+        where slot in (2, 6) order by slot, number desc) as last";
+    assert_eq!(server.ask(last), "1", "one transaction for both");
+    for (slot, text) in [(SLOTS[0], b"ab"), (SLOTS[1], b"ac"), (SLOTS[3], b"ae")] {
+        assert_eq!(take(&direct, slot).1[Path::new("journal/1")], text, "slot {slot}");
+    }
+    assert_eq!(take(&direct, SLOTS[2]).1, found);
+}
+
+/// Each of its slots does its write again, and changes what it has, before it is done.
+#[test]
+fn what_comes_late_of_a_transaction_of_several_slots_is_done_for_none() {
+    let Some(server) = Server::start("") else { return };
+    let proxy = Proxy::start(server.port);
+    make(&[&server.address()]);
+    let store = open(&[&proxy.address()], Copies::One);
+    let owners = SLOTS.map(|slot| Owner::of(&store, slot));
+    for owner in &owners {
+        // By a connection of its own, which is not cut.
+        owner.drive.create(Path::new("journal/0")).unwrap();
+        owner.drive.sync().unwrap();
+        owner.write("b").unwrap();
+    }
+    let together =
+        "select string_agg(pid::text, ',') from pg_stat_activity where query like '%new.write = mine.write%'
+        and pid != pg_backend_pid()";
+    let together = server.ask(together);
+    proxy.stop_after(0);
+    let first = owners[0].writes("c");
+    wait_until("the first is on its way", || proxy.holds());
+    let others: Vec<_> = owners[1..].iter().map(|owner| owner.writes("c")).collect();
+    thread::sleep(LONG);
+    proxy.stop_after(2); // the first, and its answer
+    first.join().unwrap().unwrap();
+    wait_until("the others are on their way", || proxy.holds());
+    proxy.cut_held();
+    for one in others {
+        one.join().unwrap().unwrap();
+    }
+    for owner in &owners {
+        owner.replace_file();
+    }
+    proxy.go_on();
+    let left = format!("select count(*) from pg_stat_activity where pid in ({together})");
+    wait_until("it is done", || server.ask(&left) == "0");
+    let strays =
+        "select count(*) from totxegun_store.piece where file not in (select file from totxegun_store.file)";
+    assert_eq!(server.ask(strays), "0", "what came late was done");
+    for slot in SLOTS {
+        let (next, found) = take(&store, slot);
+        assert_eq!(found.len(), 2);
+        assert!(contents(&*next) == found);
+    }
+}
