@@ -42,7 +42,7 @@ const FAULTY: u8 = 2;
 const DISK: u8 = 70;
 const MEMORY: u8 = 71;
 
-/// Takes OTLP delta metrics, adds them up, keeps them on disk, and delivers the totals to a sink.
+/// Takes counters and histograms by OTLP, adds them up, keeps them on disk, and delivers the totals to a sink.
 #[derive(Parser)]
 #[command(name = "totxegun", version, max_term_width = 100)]
 struct Line {

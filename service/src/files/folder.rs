@@ -9,8 +9,7 @@
 //!
 //! A folder that was copied, or put back from a copy, has a lock of another inode, or of the same inode and another
 //! birth. Then a new epoch is drawn: what is forwarded from then on has other keys than what the first folder forwarded.
-//! What waits in the outbox keeps its keys, for it has the same bytes. A copy of the whole disk looks as the first one:
-//! there `renew_epoch` is for the operator.
+//! What waits in the outbox keeps its keys, for it has the same bytes. A copy of the whole disk looks as the first one.
 
 mod mark;
 mod sink;

@@ -116,7 +116,7 @@ const REASONS: [(&str, &str); 38] = [
     ),
     (
         "too large",
-        "this ends by itself; where it stays, one request is over the limits of README",
+        "this ends by itself; where it stays, one request is over a limit of OPERATING",
     ),
     ("no memory", "raise --book-memory"),
     (

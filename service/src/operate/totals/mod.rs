@@ -1,5 +1,5 @@
 //! What a SQLite file or a PostgreSQL database has, as a page that Prometheus scrapes: counters since it was made,
-//! exact, and the same after a restart or a renewal, since the sink is what is read.
+//! exact, and the same after a restart, since the sink is what is read.
 
 mod labels;
 mod names;
