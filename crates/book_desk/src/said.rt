@@ -24,7 +24,8 @@ fn push_sum(words: &mut Vec<u64>, point: &Point) -> Result<(), AllocError>
         ++ row_words point.now.series.kind point.now.row) }
 {
     let row = point.row();
-    words.push((row[1] as i64 - row[2] as i64).cast_unsigned())
+    words.push((row[1] as i64 - row[2] as i64).cast_unsigned())?;
+    Ok(())
 }
 
 /// The sum of counts, which has 64 bits.
