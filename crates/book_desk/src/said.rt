@@ -1,15 +1,16 @@
 //! Says points in words, by the numbers of their series.
-ghost use Rattle.std.specs.Prelude.{◌≡◌, ◌++◌, ◌∷◌, ◌≤◌, [], List, sum, IfOk, OnOk};
-ghost use Rattle.metric_events.specs.DataPoint.{DataPoint};
+ghost use Rattle.std.specs.Prelude.{◌≡◌, ◌++◌, ◌∷◌, [], List, IfOk, OnOk};
+ghost use Rattle.std.specs.List.{All};
+ghost use Rattle.metric_events.specs.DataPoint.{DataPoint, IsPoint};
 ghost use Rattle.metric_events.specs.PointFaults.{IsSum, IsHistogram};
-ghost use Rattle.metric_events.specs.Rows.{buckets_of};
-ghost use Rattle.metric_events.specs.declared.limits.TheConstants.{MAX_COUNT};
 ghost use Rattle.book_desk.specs.Learning.{Extends};
 ghost use Rattle.book_desk.specs.Said.{AreSaid, ArePartsSaid};
+ghost use Rattle.book_desk.specs.Splits.{points_in};
 ghost use Rattle.book_desk.specs.inner.WordsOf.{row_words, words_of};
 
 use crate::names::Names;
 use crate::part::Part;
+use bucket_lanes::total;
 use metric_events::point::Point;
 use series_id::Kind;
 use std::alloc::{AllocError, Global};
@@ -28,18 +29,6 @@ fn push_sum(words: &mut Vec<u64>, point: &Point) -> Result<(), AllocError>
     Ok(())
 }
 
-/// The sum of counts, which has 64 bits.
-fn count_of(buckets: &[u64]) -> u64
-    requires { sum buckets.now ≤ MAX_COUNT }
-    ensures { result ≡ sum buckets.now }
-{
-    let mut total = 0u128;
-    for bucket in buckets {
-        total += u128::from(*bucket);
-    }
-    total as u64
-}
-
 /// The words of a histogram's row: its count, whether it has a sum, that sum, and its buckets.
 fn push_histogram(words: &mut Vec<u64>, point: &Point) -> Result<(), AllocError>
     requires { IsHistogram point.now.series.kind }
@@ -48,7 +37,7 @@ fn push_histogram(words: &mut Vec<u64>, point: &Point) -> Result<(), AllocError>
 {
     let row = point.row();
     let buckets = &row[3..];
-    words.push(count_of(buckets))?;
+    words.push(total(buckets) as u64)?;
     words.push(1 - row[1])?;
     words.push(row[2])?;
     words.extend_from_slice(buckets)
@@ -69,16 +58,19 @@ fn push_point(words: &mut Vec<u64>, number: u64, point: &Point) -> Result<(), Al
 
 /// Says one point more.
 fn say(names: &mut Names, words: &mut Vec<u64>, point: &Point) -> Result<(), AllocError>
+    requires { IsPoint point.now }
     ensures said { OnOk result ((ps : List DataPoint) → AreSaid names.old words.old.items ps
         → AreSaid names.new words.new.items (ps ++ point.now ∷ [])) }
     ensures more { Extends names.old names.new }
 {
     let number = names.number_of(point.shared_series())?;
-    push_point(words, number, point)
+    push_point(words, number, point)?;
+    Ok(())
 }
 
 /// Says these points, too.
 fn say_all(names: &mut Names, words: &mut Vec<u64>, points: &[Point]) -> Result<(), AllocError>
+    requires { All IsPoint points.now }
     ensures said { OnOk result ((ps : List DataPoint) → AreSaid names.old words.old.items ps
         → AreSaid names.new words.new.items (ps ++ points.now)) }
     ensures more { Extends names.old names.new }
@@ -87,6 +79,22 @@ fn say_all(names: &mut Names, words: &mut Vec<u64>, points: &[Point]) -> Result<
         say(names, words, &points[i])?;
     }
     Ok(())
+}
+
+/// Says the points of a part, too.
+fn say_part(
+    names: &mut Names,
+    words: &mut Vec<u64>,
+    part: &Option<Part>,
+) -> Result<(), AllocError>
+    ensures said { OnOk result ((ps : List DataPoint) → AreSaid names.old words.old.items ps
+        → AreSaid names.new words.new.items (ps ++ points_in part.now)) }
+    ensures more { Extends names.old names.new }
+{
+    match part {
+        None => Ok(()),
+        Some(part) => say_all(names, words, part.body.points.as_slice()),
+    }
 }
 
 /// The words that say the points of all parts, part after part.
@@ -100,9 +108,7 @@ pub fn words_said(
 {
     let mut words = Vec::with_capacity(alloc, ROOM)?;
     for i in 0..parts.len() {
-        if let Some(part) = &parts[i] {
-            say_all(names, &mut words, part.body.points.as_slice())?;
-        }
+        say_part(names, &mut words, &parts[i])?;
     }
     Ok(words)
 }
