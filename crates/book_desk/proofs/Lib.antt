@@ -14,3 +14,4 @@ pub mod Pending
 pub mod SumSaid
 pub mod HistogramSaid
 pub mod WordsSaid
+pub mod SaidAgain

@@ -17,6 +17,7 @@ mod hold;
 mod home;
 mod index;
 mod name;
+pub mod laws;
 pub mod names;
 mod none;
 pub mod part;
