@@ -7,11 +7,11 @@ use Rattle.metric_events.specs.DataPoint.{DataPoint}
 use Rattle.book_desk.specs.declared.part.Part.{Part}
 use Rattle.book_desk.specs.Splits.{points_in}
 use Rattle.book_desk.specs.Words.{points_of}
-use Rattle.book_desk.specs.inner.Alone.{alone}
 
 -- over the names the words say these points, in this order, and no foreign one
 abbrev pub AreSaid : List Identity → (words : List ℕ) → List DataPoint → Type 0
-AreSaid names words points = points_of names words ≡ Some (alone points)
+AreSaid names words points =
+    points_of names words ≡ Some (record { points = points; foreign = 0; metrics = 0 })
 
 -- they say the points of all parts, part after part
 abbrev pub ArePartsSaid : List Identity → (words : List ℕ) → List (Option Part) → Type 0
