@@ -10,7 +10,6 @@ use Rattle.book_desk.specs.Each.{EachBook}
 use Rattle.book_desk.specs.EndRanges.{ends_of}
 use Rattle.book_desk.specs.Ends.{IsNotEnded}
 use Rattle.book_desk.specs.Holds.{RestsFrom, HoldFails, hold_refusal, is_held_in}
-use Rattle.book_desk.specs.Learning.{IsNotLearnt}
 use Rattle.book_desk.specs.Naming.{IsNamed, IsNotNamed}
 use Rattle.book_desk.specs.Reads.{IsUnread, IsNotPut}
 use Rattle.book_desk.specs.Refusals.{IsNotAdmitted}
@@ -23,11 +22,10 @@ use Rattle.book_desk.specs.declared.desk.EndFault.{EndFault}
 use Rattle.book_desk.specs.declared.desk.TakeAllFault.{TakeAllFault}
 use Rattle.book_desk.specs.declared.end.End.{End}
 use Rattle.book_desk.specs.declared.flushes.TextFault.{TextFault}
-use Rattle.book_desk.specs.declared.names.LearnFault.{LearnFault}
 use Rattle.book_desk.specs.declared.part.Part.{Part}
 use Rattle.book_desk.specs.declared.reader.PostFault.{PostFault}
 use Rattle.book_c.specs.Answers.{plain, admit_answer, post_status, take_status, end_status}
-use Rattle.book_c.specs.Answers.{text_status, hold_status, put_status, learn_status}
+use Rattle.book_c.specs.Answers.{text_status, hold_status, put_status}
 use Rattle.book_c.specs.Slices.{AreAtFront, AreTooMany}
 use Rattle.book_c.specs.declared.answers.Answer.{Answer}
 use Rattle.book_c.specs.declared.statuses.TheConstants.{BAD_SENDER, NO_MEMORY}
@@ -45,11 +43,6 @@ abbrev pub TellsNotPut :
 TellsNotPut names sender words answer parts =
     (e : PutFault) × (answer ≡ plain (put_status e)) × IsNotPut names sender words e
     × (parts ≡ [])
-
--- a series got no number
-abbrev pub TellsNotLearnt : (bytes : List ℕ) → Answer → Type 0
-TellsNotLearnt bytes answer =
-    (e : LearnFault) × (answer ≡ plain (learn_status e)) × IsNotLearnt bytes e
 
 -- the words that say the points of a reader over the names stand at the front of the slice
 abbrev pub TellsSaid :

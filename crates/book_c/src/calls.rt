@@ -6,7 +6,7 @@ ghost use Rattle.book_desk.specs.Holds.{Holds, Releases, hold_refusal, is_held_i
 ghost use Rattle.book_desk.specs.Crossings.{IsCrossing};
 ghost use Rattle.book_desk.specs.EndRanges.{IsRangeOf, ends_of};
 ghost use Rattle.book_desk.specs.Posts.{Keeps, Rests};
-ghost use Rattle.book_desk.specs.Learning.{Learns, Extends};
+ghost use Rattle.book_desk.specs.Naming.{Extends};
 ghost use Rattle.book_desk.specs.Reads.{IsRead, IsPut};
 ghost use Rattle.book_desk.specs.Refusals.{post_refusal};
 ghost use Rattle.book_desk.specs.Takes as takes;
@@ -15,15 +15,15 @@ ghost use Rattle.book_desk.specs.Written.{IsForwarded, IsReported};
 ghost use Rattle.book_c.specs.Answers.{counts_of, written_of, left_of, range_of};
 ghost use Rattle.book_c.specs.Calls.{TellsUnread, TellsNotAdmitted, TellsNotTaken, TellsNotEnded};
 ghost use Rattle.book_c.specs.Calls.{TellsNotForwarded, TellsNotReported, TellsNotPut};
-ghost use Rattle.book_c.specs.Calls.{TellsNotLearnt, TellsNoPoints, TellsNoCrossing};
+ghost use Rattle.book_c.specs.Calls.{TellsNoPoints, TellsNoCrossing};
 ghost use Rattle.book_c.specs.Calls.{TellsNotTakenAlone};
 ghost use Rattle.book_c.specs.Calls.{TellsSaid, TellsNotSaid, TellsNamed, TellsNotNamed};
 ghost use Rattle.book_c.specs.inner.Names as names;
 ghost use Rattle.book_c.specs.Calls.{TellsNotHeld, TellsNotLifted};
 
 use crate::answers::{
-    Answer, admit_answer, end_status, hold_status, learn_status, post_status, put_status,
-    take_status, text_status,
+    Answer, admit_answer, end_status, hold_status, post_status, put_status, take_status,
+    text_status,
 };
 use crate::fronts::copy_front;
 use crate::statuses::{BAD_SENDER, DONE, NO_MEMORY, NONE_CROSSES, NOT_QUARANTINED, NOTHING};
@@ -80,23 +80,6 @@ pub fn put(
     match reader.put(names, sender, words, books, window) {
         Ok(counts) => counted(counts),
         Err(fault) => Answer::plain(put_status(fault)),
-    }
-}
-
-pub fn learn(names: &mut Names, body: &[u8]) -> Answer
-    ensures learnt { result.status ≡ DONE → Learns body.now names.old names.new }
-    ensures number { result.status ≡ DONE → result.number ≡ length names.old }
-    ensures refused { result.status ≢ DONE → TellsNotLearnt body.now result }
-    ensures same { result.status ≢ DONE → names.new ≡ names.old }
-{
-    match names.learn(body) {
-        Ok(number) => Answer {
-            status: DONE,
-            number,
-            at: 0,
-            frontier: 0,
-        },
-        Err(fault) => Answer::plain(learn_status(fault)),
     }
 }
 

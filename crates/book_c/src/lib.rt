@@ -14,7 +14,7 @@ ghost use Rattle.book_desk.specs.EndRanges.{IsRangeOf, ends_of};
 ghost use Rattle.book_desk.specs.Ends.{IsEndedBy};
 ghost use Rattle.book_desk.specs.Holds.{Holds, Releases, hold_refusal, is_held_in};
 ghost use Rattle.book_desk.specs.Posts.{Keeps, Rests};
-ghost use Rattle.book_desk.specs.Learning.{Learns, Extends};
+ghost use Rattle.book_desk.specs.Naming.{Extends};
 ghost use Rattle.book_desk.specs.Reads.{IsRead, IsPut};
 ghost use Rattle.book_desk.specs.Refusals.{post_refusal};
 ghost use Rattle.book_desk.specs.Rounds.{IsClosedAlone};
@@ -23,7 +23,7 @@ ghost use Rattle.book_desk.specs.Written.{IsForwarded, IsReported, all_series};
 ghost use Rattle.book_c.specs.Answers.{counts_of, written_of, left_of, range_of};
 ghost use Rattle.book_c.specs.Calls.{TellsUnread, TellsNotAdmitted, TellsNotTaken, TellsNotEnded};
 ghost use Rattle.book_c.specs.Calls.{TellsNotForwarded, TellsNotReported, TellsNotPut};
-ghost use Rattle.book_c.specs.Calls.{TellsNotLearnt, TellsNoPoints, TellsNoCrossing};
+ghost use Rattle.book_c.specs.Calls.{TellsNoPoints, TellsNoCrossing};
 ghost use Rattle.book_c.specs.Calls.{TellsNotTakenAlone};
 ghost use Rattle.book_c.specs.Calls.{TellsSaid, TellsNotSaid, TellsNamed, TellsNotNamed};
 ghost use Rattle.book_c.specs.Calls.{TellsNotHeld, TellsNotLifted};
@@ -175,25 +175,6 @@ pub extern "C" fn names_free(alloc: Global, names: &mut Handle)
     drop(out_of(alloc, names));
 }
 
-/// Gives the next number to the series of the only point of a request.
-#[unsafe(no_mangle)]
-pub extern "C" fn names_learn(alloc: Global, names: &mut Handle, body: &[u8], out: &mut Answer)
-    requires { HasNames names.old }
-    ensures names { HasNames names.new }
-    ensures learnt { out.new.status ≡ DONE → Learns body.now (names_of names.old.kept)
-        (names_of names.new.kept) }
-    ensures number { out.new.status ≡ DONE → out.new.number ≡ length (names_of names.old.kept) }
-    ensures refused { out.new.status ≢ DONE → TellsNotLearnt body.now out.new }
-    ensures same { out.new.status ≢ DONE → names_of names.new.kept ≡ names_of names.old.kept }
-{
-    let mut kept = out_of(alloc, names);
-    let Kept::Names(it) = &mut *kept else {
-        unreachable!()
-    };
-    *out = calls::learn(it, body);
-    put_back(names, kept);
-}
-
 /// As `reader_read`, of points by number: their series are among the names, and the words say them
 /// in turn.
 #[unsafe(no_mangle)]
@@ -268,7 +249,7 @@ pub extern "C" fn reader_words(
     put_back(reader, kept);
 }
 
-/// Writes a request of the series with this number, by which other names learn it.
+/// Writes a request of one point, of the series with this number.
 #[unsafe(no_mangle)]
 pub extern "C" fn names_text(
     alloc: Global,

@@ -9,7 +9,7 @@ use Rattle.series_id.specs.declared.kinds.Kind.{Kind}
 use Rattle.series_id.specs.declared.kinds.Kind.TheVariants.{Sum, Histogram}
 use Rattle.metric_events.specs.DataPoint.{DataPoint, IsMerged, IsRowOfOne, IsPoint}
 use Rattle.otlp_read.specs.Tallies.{Tally, add_point, nothing}
-use Rattle.book_desk.specs.Learning.{IsNumbered, Extends}
+use Rattle.book_desk.specs.Naming.{IsNumbered, Extends}
 use Rattle.book_desk.specs.declared.part.Part.{Part}
 use Rattle.book_desk.specs.Said.{AreSaid}
 use Rattle.book_desk.specs.Splits.{points_in}

@@ -5,7 +5,6 @@ pub mod EndRanges
 pub mod Ends
 pub mod Holds
 pub mod Homes
-pub mod Learning
 pub mod Naming
 pub mod Posts
 pub mod Reads

@@ -4,7 +4,7 @@ ghost use Rattle.std.specs.List.{All};
 ghost use Rattle.book_desk.specs.inner.Opened.{HasPoints};
 ghost use Rattle.book_desk.specs.inner.Faults as faults;
 ghost use Rattle.book_desk.specs.EndRanges.{IsRangeOf, ends_of};
-ghost use Rattle.book_desk.specs.Learning.{Extends};
+ghost use Rattle.book_desk.specs.Naming.{Extends};
 ghost use Rattle.book_desk.specs.Reads.{IsRead, IsUnread, IsPut, IsNotPut};
 ghost use Rattle.book_desk.specs.Said.{ArePartsSaid};
 

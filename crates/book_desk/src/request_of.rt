@@ -1,7 +1,7 @@
 //! A request that names a series.
 ghost use Rattle.std.specs.Prelude.{◌≡◌, ◌∷◌, [], IfOk, IsTrue};
 ghost use Rattle.metric_events.specs.DataPoint.{DataPoint};
-ghost use Rattle.book_desk.specs.Learning.{IsRequestOf};
+ghost use Rattle.book_desk.specs.Naming.{IsRequestOf};
 ghost use Rattle.book_desk.specs.inner.Alone.{IsAlone};
 
 use delta_book::book::Book;

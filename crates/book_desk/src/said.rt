@@ -3,7 +3,7 @@ ghost use Rattle.std.specs.Prelude.{◌≡◌, ◌++◌, ◌∷◌, [], List, If
 ghost use Rattle.std.specs.List.{All};
 ghost use Rattle.metric_events.specs.DataPoint.{DataPoint, IsPoint};
 ghost use Rattle.metric_events.specs.PointFaults.{IsSum, IsHistogram};
-ghost use Rattle.book_desk.specs.Learning.{Extends};
+ghost use Rattle.book_desk.specs.Naming.{Extends};
 ghost use Rattle.book_desk.specs.Said.{AreSaid, ArePartsSaid};
 ghost use Rattle.book_desk.specs.Splits.{points_in};
 ghost use Rattle.book_desk.specs.inner.WordsOf.{row_words, words_of};

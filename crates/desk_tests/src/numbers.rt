@@ -1,9 +1,9 @@
-//! Points by number: words that are put again make the same sums, and names that are learnt again
-//! are the same series.
+//! Points by number: words that are put again make the same sums, and names that are made of
+//! their requests are of the same series.
 use crate::bodies::range_of;
 use book_desk::desk::{Desk, DeskFault};
 use book_desk::flushes::{Flushes, TextFault};
-use book_desk::names::{LearnFault, Names};
+use book_desk::names::Names;
 use book_desk::reader::{PostFault, Reader};
 use book_desk::window::Window;
 use std::alloc::{AllocError, Global};
@@ -31,7 +31,7 @@ const FORMS: &str = concat!(
 );
 
 /// Reads a post of the sender `A`. As the reader's call, without its contract, and so are the next
-/// six calls: a test reads no more than what they answer.
+/// five calls: a test reads no more than what they answer.
 fn read(reader: &mut Reader, body: &[u8]) -> Result<u64, PostFault> {
     Ok(reader.read(b"A", body, BOOKS, Window::ALL)?.points)
 }
@@ -55,10 +55,6 @@ fn report(desk: &Desk, flushes: &mut Flushes, i: usize) -> Result<usize, TextFau
 
 fn request(names: &Names, number: u64) -> Result<Vec<u8>, TextFault> {
     names.request(number)
-}
-
-fn learn(names: &mut Names, body: &[u8]) -> Result<u64, LearnFault> {
-    names.learn(body)
 }
 
 /// The report of a book.
@@ -134,30 +130,31 @@ fn words_that_are_put_again_make_the_same_sums(rt: HostRuntime) -> Result<(), Fa
     put_again(&rt, alloc, range_of(alloc, (0, 1500), 10)?.as_bytes(), 1500)
 }
 
-/// Other names learn all that these have, in order.
-fn learn_all(rt: &impl Abort, alloc: Global, names: &Names) -> Result<Names, Fail> {
-    let mut others = Names::new(alloc);
+/// Names of all that these have, in order, from their requests.
+fn name_again(rt: &impl Abort, alloc: Global, names: &Names) -> Result<Names, Fail> {
+    let (mut others, mut reader) = (Names::new(alloc), Reader::new(alloc));
     for number in 0..names.len() as u64 {
         let text = request(names, number)?;
-        assert!(rt; learn(&mut others, &text)? == number);
+        assert!(rt; read(&mut reader, &text)? == 1);
+        assert!(rt; words(&reader, &mut others)?.as_slice().first() == Some(&number));
     }
     Ok(others)
 }
 
-/// Names that learn all of these are the same: the post is in the same words, and no name is new.
-fn learn_again(rt: &impl Abort, alloc: Global, body: &[u8]) -> Result<(), Fail> {
+/// By names that were made of their requests the post is in the same words, and no name is new.
+fn says_the_same(rt: &impl Abort, alloc: Global, body: &[u8]) -> Result<(), Fail> {
     let mut names = Names::new(alloc);
     let mut reader = Reader::new(alloc);
     let points = read(&mut reader, body)?;
     let said = words(&reader, &mut names)?;
-    let mut others = learn_all(rt, alloc, &names)?;
+    let mut others = name_again(rt, alloc, &names)?;
     assert!(rt; request(&names, points).err() == Some(TextFault::NoSuch));
     say_same(rt, &reader, &mut others, &said, points)
 }
 
 #[test]
-fn names_that_are_learnt_again_are_the_same_series(rt: HostRuntime) -> Result<(), Fail> {
+fn names_from_requests_are_of_the_same_series(rt: HostRuntime) -> Result<(), Fail> {
     let alloc = rt.alloc();
-    learn_again(&rt, alloc, FORMS.as_bytes())?;
-    learn_again(&rt, alloc, range_of(alloc, (0, 100), 10)?.as_bytes())
+    says_the_same(&rt, alloc, FORMS.as_bytes())?;
+    says_the_same(&rt, alloc, range_of(alloc, (0, 100), 10)?.as_bytes())
 }

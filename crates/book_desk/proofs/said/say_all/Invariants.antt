@@ -1,6 +1,6 @@
 use Rattle.std.proofs.Common.{◌++◌, List, take}
 use Rattle.metric_events.specs.DataPoint.{DataPoint}
-use Rattle.book_desk.specs.Learning.{Extends}
+use Rattle.book_desk.specs.Naming.{Extends}
 use Rattle.book_desk.specs.Said.{AreSaid}
 use Rattle.book_desk.proofs.said.say_all.Given as goal
 

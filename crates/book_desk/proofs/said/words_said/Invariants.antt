@@ -1,5 +1,5 @@
 use Rattle.std.proofs.Common.{take}
-use Rattle.book_desk.specs.Learning.{Extends}
+use Rattle.book_desk.specs.Naming.{Extends}
 use Rattle.book_desk.specs.Said.{ArePartsSaid}
 use Rattle.book_desk.proofs.said.words_said.Given as goal
 
