@@ -38,9 +38,10 @@ TIERS = (
     )),
     ("play, and the service's library", (
         ("play_script", ["play"]),
-        ("book_c", ["desk_new", "names_learn", "reader_read", "reader_put", "reader_ends", "desk_admit", "desk_try",
-                    "desk_crosses", "desk_take", "desk_take_book", "flushes_text", "flushes_copy", "desk_settle",
-                    "desk_drop", "desk_give_back", "desk_quarantine", "desk_lift", "desk_close_round", "desk_report"]),
+        ("book_c", ["desk_new", "names_text", "reader_read", "reader_put", "reader_words", "reader_ends",
+                    "desk_admit", "desk_try", "desk_crosses", "desk_take", "desk_take_book", "flushes_text",
+                    "flushes_copy", "desk_settle", "desk_drop", "desk_give_back", "desk_quarantine", "desk_lift",
+                    "desk_close_round", "desk_report"]),
     )),
     ("rounds, recovery, and the service's machine", (
         ("metric_events", ["closing", "recovery", "priming", "congruence"]),

@@ -18,17 +18,14 @@ use Rattle.book_desk.specs.declared.flushes.Written.{Written}
 use Rattle.book_desk.specs.declared.draft.Counts.{Counts}
 use Rattle.book_desk.specs.declared.by_number.PutFault.{PutFault}
 use Rattle.book_desk.specs.declared.by_number.PutFault.TheVariants as put
-use Rattle.book_desk.specs.declared.names.LearnFault.{LearnFault}
-use Rattle.book_desk.specs.declared.names.LearnFault.TheVariants as learn
 use Rattle.book_desk.specs.declared.reader.PostFault.{PostFault}
 use Rattle.book_desk.specs.declared.reader.PostFault.TheVariants as post
 use Rattle.book_c.specs.declared.answers.Answer.{Answer}
-use Rattle.book_c.specs.declared.statuses.TheConstants.{DONE, QUARANTINED, FULL, OTHER_WRITER}
+use Rattle.book_c.specs.declared.statuses.TheConstants.{QUARANTINED, FULL, OTHER_WRITER}
 use Rattle.book_c.specs.declared.statuses.TheConstants.{OUT_OF_ORDER, TOO_MANY_SERIES, TOO_LARGE}
 use Rattle.book_c.specs.declared.statuses.TheConstants.{NO_MEMORY, BAD_SENDER, NOT_JSON}
 use Rattle.book_c.specs.declared.statuses.TheConstants.{WRONG_SHAPE}
 use Rattle.book_c.specs.declared.statuses.TheConstants.{NOTHING, NO_SUCH, ALREADY, NOT_ENDED}
-use Rattle.book_c.specs.declared.statuses.TheConstants.{NOT_ONE}
 
 -- a status alone
 abbrev pub plain : ℕ → Answer
@@ -59,13 +56,6 @@ abbrev pub put_status : PutFault → ℕ
 put_status put.BadSender = BAD_SENDER
 put_status put.NoSuch = NO_SUCH
 put_status put.NoMemory = NO_MEMORY
-
--- why a series gets no number
-abbrev pub learn_status : LearnFault → ℕ
-learn_status learn.NotJson = NOT_JSON
-learn_status learn.WrongShape = WRONG_SHAPE
-learn_status learn.NotOne = NOT_ONE
-learn_status learn.NoMemory = NO_MEMORY
 
 -- why flushes are not taken
 abbrev pub take_status : TakeAllFault → ℕ

@@ -3,13 +3,12 @@ ghost use Rattle.std.specs.Prelude.{◌≡◌, ◌≢◌};
 ghost use Rattle.book_c.specs.Answers as spec;
 
 use crate::statuses::{
-    ALREADY, BAD_SENDER, FULL, NO_MEMORY, NO_SUCH, NOT_ENDED, NOT_JSON, NOT_ONE, NOTHING,
-    OTHER_WRITER, OUT_OF_ORDER, QUARANTINED, TOO_LARGE, TOO_MANY_SERIES, WRONG_SHAPE,
+    ALREADY, BAD_SENDER, FULL, NO_MEMORY, NO_SUCH, NOT_ENDED, NOT_JSON, NOTHING, OTHER_WRITER,
+    OUT_OF_ORDER, QUARANTINED, TOO_LARGE, TOO_MANY_SERIES, WRONG_SHAPE,
 };
 use book_desk::by_number::PutFault;
 use book_desk::desk::{DeskFault, EndFault, TakeAllFault};
 use book_desk::flushes::TextFault;
-use book_desk::names::LearnFault;
 use book_desk::reader::PostFault;
 use delta_book::faults::{AdmitFault, QuarantineFault, TakeFault};
 
@@ -101,18 +100,6 @@ pub fn put_status(fault: PutFault) -> u32
         PutFault::BadSender => BAD_SENDER,
         PutFault::NoSuch => NO_SUCH,
         PutFault::NoMemory => NO_MEMORY,
-    }
-}
-
-pub fn learn_status(fault: LearnFault) -> u32
-    ensures value { result ≡ spec.learn_status fault }
-    ensures some { result ≢ 0 }
-{
-    match fault {
-        LearnFault::NotJson => NOT_JSON,
-        LearnFault::WrongShape => WRONG_SHAPE,
-        LearnFault::NotOne => NOT_ONE,
-        LearnFault::NoMemory => NO_MEMORY,
     }
 }
 

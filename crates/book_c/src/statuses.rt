@@ -32,7 +32,7 @@ pub const ALREADY: u32 = 13;
 pub const NOT_QUARANTINED: u32 = 14;
 /// The flushes that were taken before are not ended.
 pub const NOT_ENDED: u32 = 15;
-/// The body has not one point alone, of the profile.
-pub const NOT_ONE: u32 = 16;
 /// No book holds something pending that a part goes beyond.
 pub const NONE_CROSSES: u32 = 17;
+/// The slice has no room for that.
+pub const TOO_SHORT: u32 = 18;

@@ -1,12 +1,10 @@
--- The faults of a post by those of its sender's name and of its body, and of a name by its body's.
+-- The faults of a post by those of its sender's name and of its body.
 use Rattle.metric_events.specs.declared.sender_name.NameFault.{NameFault}
 use Rattle.metric_events.specs.declared.sender_name.NameFault.TheVariants as names
 use Rattle.otlp_read.specs.declared.fault.ReadFault.{ReadFault}
 use Rattle.otlp_read.specs.declared.fault.ReadFault.TheVariants as bodies
 use Rattle.book_desk.specs.declared.by_number.PutFault.{PutFault}
 use Rattle.book_desk.specs.declared.by_number.PutFault.TheVariants as put
-use Rattle.book_desk.specs.declared.names.LearnFault.{LearnFault}
-use Rattle.book_desk.specs.declared.names.LearnFault.TheVariants as learn
 use Rattle.book_desk.specs.declared.reader.PostFault.{PostFault}
 use Rattle.book_desk.specs.declared.reader.PostFault.TheVariants as faults
 
@@ -25,9 +23,3 @@ body_fault bodies.NoMemory = faults.NoMemory
 abbrev pub put_fault : NameFault → PutFault
 put_fault names.NoMemory = put.NoMemory
 put_fault fault = put.BadSender
-
--- the fault of a name whose body has this one
-abbrev pub learn_fault : ReadFault → LearnFault
-learn_fault bodies.NotJson = learn.NotJson
-learn_fault (bodies.WrongShape p) = learn.WrongShape
-learn_fault bodies.NoMemory = learn.NoMemory
