@@ -85,7 +85,7 @@ impl IdentityCache {
         attributes: &[&[u8]],
         series: &SharedId,
     )
-        requires stream { (stream_data stream.entry).scope.resource ≡ series.now.resource }
+        requires stream { (stream_data stream).scope.resource ≡ series.now.resource }
         requires attributes { set_said (map (λ b. b.now) attributes.now) ≡ Some series.now.attrs }
     {
         if hash.is_small()
@@ -109,7 +109,7 @@ fn kept_series(
     attributes: &[&[u8]],
     series: &SharedId,
 ) -> Result<KeptSeries, AllocError>
-    requires stream { (stream_data stream.entry).scope.resource ≡ series.now.resource }
+    requires stream { (stream_data stream).scope.resource ≡ series.now.resource }
     requires attributes { set_said (map (λ b. b.now) attributes.now) ≡ Some series.now.attrs }
 {
     let resource = stream.scope.resource.share(alloc)?;
@@ -128,8 +128,8 @@ fn copies(alloc: Global, messages: &[&[u8]]) -> Result<Vec<Vec<u8>>, AllocError>
         ≡ map (λ b. b.now) messages.now) }
 {
     let mut found = Vec::with_capacity(alloc, messages.len())?;
-    for message in messages {
-        found.push(Vec::from_slice(alloc, message)?)?;
+    for i in 0..messages.len() {
+        found.push(Vec::from_slice(alloc, messages[i])?)?;
     }
     Ok(found)
 }

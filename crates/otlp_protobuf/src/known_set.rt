@@ -1,6 +1,7 @@
 //! Attribute sets of resources and scopes, with the bytes that say them.
 
 ghost use Rattle.std.specs.Prelude.{◌≡◌, IfOk, IfSome, IsTrue, Some, option_map};
+ghost use Rattle.std.specs.Option.{ForSome};
 ghost use Rattle.std.specs.Arc.{arc_value};
 ghost use Rattle.otlp_protobuf.specs.Wire.{fields};
 ghost use Rattle.otlp_protobuf.specs.Fields.{contents};
@@ -18,7 +19,7 @@ pub struct KnownSet {
     pub number: u32,
     /// None if there was no memory for them.
     pub bytes: Option<Arc<Vec<u8>, Global>>,
-    ghost is_said: { IfSome bytes (λ b.
+    ghost is_said: { ForSome bytes (λ b.
         set_said (contents number (fields (arc_value b).items)) ≡ Some set) },
 }
 

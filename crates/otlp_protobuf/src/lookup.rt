@@ -23,9 +23,13 @@ pub fn is_series(
         (λ k. series_of (stream_data stream.entry) k (said_list (map (λ b. b.now) attributes.now)))
         (kind_data kind.entry) ≡ Some kept.now.series }
 {
-    are_same(kept.attributes.as_slice(), attributes)
-        && is_in_stream(kept, stream)
-        && kind.is_kind(kept.series.as_series().kind())
+    if !are_same(kept.attributes.as_slice(), attributes) {
+        return false;
+    }
+    if !is_in_stream(kept, stream) {
+        return false;
+    }
+    kind.is_kind(kept.series.as_series().kind())
 }
 
 /// Whether a kept series is one of the stream.
@@ -63,9 +67,15 @@ fn are_same(copies: &[Vec<u8>], messages: &[&[u8]]) -> bool
         return false;
     }
     for i in 0..copies.len() {
-        if copies[i].as_slice() != messages[i] {
+        if !is_copy(&copies[i], messages[i]) {
             return false;
         }
     }
     true
+}
+
+fn is_copy(copy: &Vec<u8>, message: &[u8]) -> bool
+    ensures only { IsTrue result → copy.now.items ≡ message.now }
+{
+    copy.as_slice() == message
 }

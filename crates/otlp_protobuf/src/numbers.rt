@@ -154,15 +154,26 @@ pub fn are_bounds(numbers: Numbers<'_>, bounds: &[i64]) -> bool
         (map double_data (numbers_data numbers.entry)) ≡ Some bounds.now }
 {
     let mut rest = numbers;
-    let mut its = bounds;
+    let mut count: usize = 0;
     while let Some(bits) = rest.next() {
-        let [bound, others @ ..] = its else {
-            return false;
-        };
-        if bound_double(bits) != Some(*bound) {
+        if count >= bounds.len() {
             return false;
         }
-        its = others;
+        if !is_bound(bits, &bounds[count]) {
+            return false;
+        }
+        count += 1;
     }
-    its.is_empty()
+    count >= bounds.len()
+}
+
+/// Whether the number of these bits is this bound.
+fn is_bound(bits: u64, bound: &i64) -> bool
+    ensures only { IsTrue result
+        → signed_in MAX_BOUND MAX_BOUND (double_data bits) ≡ Some bound.now }
+{
+    match bound_double(bits) {
+        Some(found) => found == *bound,
+        None => false,
+    }
 }

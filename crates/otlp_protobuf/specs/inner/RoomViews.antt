@@ -1,5 +1,5 @@
 -- The messages of a list that were put into a room of so many.
-use Rattle.std.specs.Prelude.{◌≡◌, ◌≤◌, ◌×◌, ℕ, ◌++◌, List, map, length, take, Option, Some, None}
+use Rattle.std.specs.Prelude.{◌≡◌, ◌≤◌, ℕ, ◌++◌, List, map, length, take, Option, Some, None}
 use Rattle.std.specs.Borrow.{Bor}
 
 -- the messages at the front of a room
