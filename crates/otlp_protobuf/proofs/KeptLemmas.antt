@@ -21,7 +21,8 @@ use Rattle.otlp_read.specs.Integers.{signed_in}
 use Rattle.otlp_read.specs.Lists.{all_of}
 use Rattle.otlp_read.specs.Streams.{Stream, identity_in, series_in, series_of}
 use Rattle.otlp_protobuf.specs.Wire.{Field, fields}
-use Rattle.otlp_protobuf.specs.Fields.{contents, content_at, gathered, with_first}
+use Rattle.otlp_protobuf.specs.Fields.{contents, content_at, gathered, joined, with_first}
+use Rattle.otlp_protobuf.specs.inner.Parts.{part_with}
 use Rattle.otlp_protobuf.specs.Members.{double_data}
 use Rattle.otlp_protobuf.specs.declared.known_set.KnownSet.{KnownSet}
 use Rattle.otlp_protobuf.specs.inner.KindViews.{bounds_kind}
@@ -95,6 +96,24 @@ kind_again ds bounds within read =
 pub gathered_more : {A : Type 0} (takes : A → Field → A) (a b total : A) (fs : List Field) (f : Field) (rest : List Field)
     → b ≡ takes a f → fs ≡ f ∷ rest → gathered takes a fs ≡ total → gathered takes b rest ≡ total
 gathered_more takes a b total fs f rest taken is so_far = ap (λ x. gathered takes x rest) taken ∙ ap (gathered takes a) (sym is) ∙ so_far
+
+-- ---- messages in parts
+
+part_joined : (found part : Option (List ℕ)) (parts : List (List ℕ)) → joined found (with_first part parts) ≡ joined (joined found (with_first part [])) parts
+part_joined found None parts = refl
+part_joined found (Some b) parts = refl
+
+-- one more field
+pub part_more : (n : ℕ) (a b total : Option (List ℕ)) (fs : List Field) (f : Field) (rest : List Field) → fs ≡ f ∷ rest → b ≡ part_with n a f
+    → joined a (contents n fs) ≡ total → joined b (contents n rest) ≡ total
+unfolding contents
+part_more n a b total fs f rest is put so_far =
+    ap (λ o. joined o (contents n rest)) put ∙ sym (part_joined a (content_at n f) (contents n rest)) ∙ ap (λ xs. joined a (contents n xs)) (sym is) ∙ so_far
+
+-- no field is left
+pub part_done : (n : ℕ) (a total : Option (List ℕ)) (fs : List Field) → fs ≡ [] → joined a (contents n fs) ≡ total → a ≡ total
+unfolding contents
+part_done n a total fs none so_far = ap (λ xs. joined a (contents n xs)) (sym none) ∙ so_far
 
 -- ---- the messages in a room
 

@@ -9,3 +9,4 @@ pub mod PairViews
 pub mod Sets
 pub mod KindViews
 pub mod RoomViews
+pub mod Parts

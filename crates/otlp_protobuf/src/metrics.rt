@@ -17,7 +17,7 @@ ghost use Rattle.otlp_protobuf.specs.inner.PartViews.{part_of, parts_data, sum_p
 
 use crate::fields::Fields;
 use crate::reader::{Object, Reader};
-use crate::scan::{Whole, next_content, whole_at};
+use crate::scan::{Whole, next_content};
 use crate::streams::{PointStream, Scope, histogram_stream, sum_stream};
 use metric_events::point::Point;
 use otlp_read::Reading;
@@ -65,11 +65,19 @@ fn add_metric(out: &mut Reading)
 fn parts_of<'a>(alloc: Global, metric: &'a [u8]) -> Result<Parts<'a>, AllocError>
     ensures { IfOk result (λ ps. parts_data ps ≡ message_parts metric.now) }
 {
-    let gauge = whole_at(alloc, metric, 5)?;
-    let sum = whole_at(alloc, metric, 7)?;
-    let histogram = whole_at(alloc, metric, 9)?;
-    let exponential = whole_at(alloc, metric, 10)?;
-    let summary = whole_at(alloc, metric, 11)?;
+    let mut gauge = Whole::Absent;
+    let mut sum = Whole::Absent;
+    let mut histogram = Whole::Absent;
+    let mut exponential = Whole::Absent;
+    let mut summary = Whole::Absent;
+    let mut rest = Fields::of(metric);
+    while let Some(field) = rest.next() {
+        gauge = gauge.with_field(alloc, 5, field)?;
+        sum = sum.with_field(alloc, 7, field)?;
+        histogram = histogram.with_field(alloc, 9, field)?;
+        exponential = exponential.with_field(alloc, 10, field)?;
+        summary = summary.with_field(alloc, 11, field)?;
+    }
     Ok(Parts {
         gauge,
         sum,

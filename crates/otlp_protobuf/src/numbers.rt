@@ -73,6 +73,7 @@ impl<'a> Numbers<'a> {
     }
 
     /// The next number.
+    #[inline(always)]
     pub fn next(&mut self) -> Option<u64>
         ensures { MatchOption result (numbers_data self.old ≡ [])
             (λ n. numbers_data self.old ≡ n ∷ numbers_data self.new) }
@@ -87,6 +88,7 @@ impl<'a> Numbers<'a> {
     }
 
     /// The first number of the fields behind the one that is under way.
+    #[inline(never)]
     fn next_field(&mut self) -> Option<u64>
         ensures { MatchOption result (numbers self.old.number (fields_data self.old.rest) ≡ [])
             (λ n. numbers self.old.number (fields_data self.old.rest)
@@ -103,6 +105,7 @@ impl<'a> Numbers<'a> {
 }
 
 /// The first of packed numbers, and the others.
+#[inline(always)]
 fn next_packed(bytes: &[u8]) -> Option<(u64, &[u8])>
     ensures { MatchOption result (packed bytes.now ≡ [])
         (λ r. packed bytes.now ≡ r.0 ∷ packed r.1.now) }
@@ -143,6 +146,7 @@ pub fn numbers_in<T: Number>(
         let Some(element) = T::of_bits(bits) else {
             return Ok(None);
         };
+        found.reserve(rest.packed.len() / 8 + 1)?;
         found.push(element)?;
     }
     Ok(Some(found))

@@ -19,7 +19,7 @@ use crate::identity_cache::IdentityCache;
 use crate::kind_ref::KindRef;
 use crate::known_set::KnownSet;
 use crate::point_attributes::PointAttributes;
-use crate::scan::{bits, last, text_at};
+use crate::scan::{bits, last, last_two, text_if};
 use crate::wire::Payload;
 use metric_events::point::Point;
 use series_id::{AttrSet, Kind, SeriesId, SharedId, Text};
@@ -99,8 +99,9 @@ pub fn scope_in<'a>(
         scope.now (option_map (λ k. k.now.set) attributes.entry) }
 {
     let resource = resource?;
-    let name = text_in(text_at(scope, 1))?;
-    let version = text_in(text_at(scope, 2))?;
+    let (name, version) = last_two(scope, 1, 2);
+    let name = text_in(text_if(name))?;
+    let version = text_in(text_if(version))?;
     let attributes = attributes?;
     Some(Scope {
         resource: resource.attributes,
@@ -137,8 +138,9 @@ fn stream_if<'a>(delta: bool, scope: Option<Scope<'a>>, metric: &'a [u8]) -> Opt
         ≡ stream_from (option_map scope_data scope.entry) metric.now delta }
 {
     let scope = scope?;
-    let name = text_in(text_at(metric, 1))?;
-    let unit = text_in(text_at(metric, 3))?;
+    let (name, unit) = last_two(metric, 1, 3);
+    let name = text_in(text_if(name))?;
+    let unit = text_in(text_if(unit))?;
     if delta {
         let hash = scope.hash.with(name.as_bytes()).with(unit.as_bytes());
         Some(Stream {
@@ -173,8 +175,9 @@ pub fn sum_stream<'a>(
     ensures { option_map sum_stream_data result ≡ sum_stream_from
         (option_map scope_data scope.entry) metric.now sum.now }
 {
-    let stream = stream_if(is_delta(last(sum, TEMPORALITY)), scope, metric)?;
-    let monotonic = is_true(last(sum, MONOTONIC));
+    let (temporality, monotonic) = last_two(sum, TEMPORALITY, MONOTONIC);
+    let stream = stream_if(is_delta(temporality), scope, metric)?;
+    let monotonic = is_true(monotonic);
     Some(SumStream { stream, monotonic })
 }
 

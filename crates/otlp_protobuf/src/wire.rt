@@ -2,7 +2,7 @@
 //! (<https://protobuf.dev/programming-guides/encoding/>).
 
 ghost use Rattle.std.specs.Prelude.{◌≡◌, ◌≤◌, ◌^◌, if◌then◌else◌, Ok, Err};
-ghost use Rattle.otlp_protobuf.specs.Wire.{varint, varint_from, weighed, key, taken, plain};
+ghost use Rattle.otlp_protobuf.specs.Wire.{varint, weighed, key, taken, plain};
 ghost use Rattle.otlp_protobuf.specs.Wire.{fixed64, fixed32, counted, group_from, payload_at};
 ghost use Rattle.otlp_protobuf.specs.inner.Views.{Gives, payload_data};
 
@@ -22,25 +22,30 @@ pub enum Payload<'a> {
     Fixed32(u32),
 }
 
-/// The rest of a number, whose next group of bits weighs `unit`.
+/// A number of any length.
+#[inline(never)]
 #[tactic(auto, unfolding(crate::specs::Wire::varint_from))]
-fn varint_from(bytes: &[u8], unit: u64, sum: u64) -> Result<(u64, &[u8]), Malformed>
-    requires { unit ≤ 2 ^ 63 }
-    ensures { Gives (λ r. (r.0, r.1.now)) result (varint_from unit sum bytes.now) }
+fn long_varint(bytes: &[u8]) -> Result<(u64, &[u8]), Malformed>
+    ensures { Gives (λ r. (r.0, r.1.now)) result (varint bytes.now) }
 {
-    let [byte, rest @ ..] = bytes else {
-        return Err(Malformed::Cut);
-    };
-    let Some(value) = weighed(*byte, unit, sum) else {
-        return Err(Malformed::LongNumber);
-    };
-    if *byte < 128 {
-        return Ok((value, rest));
+    let mut rest = bytes;
+    let mut unit: u64 = 1;
+    let mut sum: u64 = 0;
+    while let [byte, after @ ..] = rest {
+        let Some(value) = weighed(*byte, unit, sum) else {
+            return Err(Malformed::LongNumber);
+        };
+        if *byte < 128 {
+            return Ok((value, after));
+        }
+        if unit > LAST_UNIT {
+            return Err(Malformed::LongNumber);
+        }
+        rest = after;
+        unit *= 128;
+        sum = value;
     }
-    if unit > LAST_UNIT {
-        return Err(Malformed::LongNumber);
-    }
-    varint_from(rest, unit * 128, value)
+    Err(Malformed::Cut)
 }
 
 /// The last weight after which another group of bits may come.
@@ -65,7 +70,7 @@ pub fn varint(bytes: &[u8]) -> Result<(u64, &[u8]), Malformed>
     {
         return Ok((number, rest));
     }
-    varint_from(bytes, 1, 0)
+    long_varint(bytes)
 }
 
 /// The key of a field, its number and its wire type, and the bytes after it.
