@@ -20,7 +20,9 @@ use std::alloc::{AllocError, Global};
 const SLOTS: usize = 32_768;
 
 /// The identities of earlier points, with the bytes that said them. A point of the same bytes
-/// shares the identity, and nothing of it is read.
+/// shares the identity, and nothing of it is read. It is looked for first where the point was that
+/// came after the one before it the last time, since a sender's points come in the same order
+/// again; then where its hash says.
 ///
 /// What a body says does not depend on its reader's cache: what a slot holds is compared in full.
 /// It is replaced by a later one that needs its slot. One that more than 4,096 bytes say is not
@@ -28,6 +30,10 @@ const SLOTS: usize = 32_768;
 #[derive(Drop)]
 pub struct IdentityCache {
     slots: Slots<KeptSeries>,
+    /// The slot of the last point.
+    last: usize,
+    /// The slot of the point that came after the one of each slot.
+    next: Vec<u16>,
 }
 
 impl IdentityCache {
@@ -35,12 +41,35 @@ impl IdentityCache {
     pub fn new(alloc: Global) -> IdentityCache {
         IdentityCache {
             slots: Slots::new(alloc),
+            last: 0,
+            next: Vec::new(alloc),
         }
+    }
+
+    /// The series of a stream with this kind and these attributes, if it came after the last one
+    /// before. Takes no memory.
+    pub fn follow(
+        &mut self,
+        stream: Stream<'_>,
+        kind: KindRef<'_>,
+        attributes: &[&[u8]],
+    ) -> Option<SharedId>
+        ensures { IfSome result (λ s. option_and_then
+            (λ k. series_of (stream_data stream.entry) k (said_list (map (λ b. b.now) attributes.now)))
+            (kind_data kind.entry) ≡ Some s) }
+    {
+        if self.last >= self.next.len() {
+            return None;
+        }
+        let slot = usize::from(self.next[self.last]);
+        let series = self.share_at(slot, stream, kind, attributes)?;
+        self.last = slot;
+        Some(series)
     }
 
     /// The series of a stream with this kind and these attributes, if it is kept. Takes no memory.
     pub fn look_up(
-        &self,
+        &mut self,
         hash: ByteHash,
         stream: Stream<'_>,
         kind: KindRef<'_>,
@@ -50,10 +79,26 @@ impl IdentityCache {
             (λ k. series_of (stream_data stream.entry) k (said_list (map (λ b. b.now) attributes.now)))
             (kind_data kind.entry) ≡ Some s) }
     {
-        match self.share_at(hash.slot(SLOTS), stream, kind, attributes) {
-            Some(series) => Some(series),
-            None => self.share_at(hash.other_slot(SLOTS), stream, kind, attributes),
+        let mut slot = hash.slot(SLOTS);
+        let mut found = self.share_at(slot, stream, kind, attributes);
+        if found.is_none() {
+            slot = hash.other_slot(SLOTS);
+            found = self.share_at(slot, stream, kind, attributes);
         }
+        if found.is_some() {
+            self.go_to(slot);
+        }
+        found
+    }
+
+    /// Notes that the point of this slot came after the last one.
+    fn go_to(&mut self, slot: usize) {
+        if self.last < self.next.len()
+            && let Ok(next) = u16::try_from(slot)
+        {
+            self.next[self.last] = next;
+        }
+        self.last = slot;
     }
 
     /// A share of the series in a slot, if it is that of the stream, the kind and the attributes.
@@ -98,6 +143,10 @@ impl IdentityCache {
                 hash.other_slot(SLOTS)
             };
             self.slots.put(alloc, SLOTS, slot, kept);
+            if self.next.is_empty() {
+                let _ = self.next.resize(SLOTS, 0);
+            }
+            self.go_to(slot);
         }
     }
 }

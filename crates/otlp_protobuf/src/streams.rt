@@ -202,6 +202,9 @@ pub fn series_of(
     let Some(messages) = attributes.found else {
         return new_series(alloc, stream, kind, attributes);
     };
+    if let Some(series) = cache.follow(stream, kind, messages) {
+        return Ok(Some(series));
+    }
     let hash = hash_of(stream.hash, messages);
     if let Some(series) = cache.look_up(hash, stream, kind, messages) {
         return Ok(Some(series));
