@@ -8,6 +8,7 @@ ghost use Rattle.otlp_protobuf.specs.inner.KindViews.{kind_data};
 ghost use Rattle.otlp_protobuf.specs.inner.StreamViews.{stream_data};
 
 use crate::byte_hash::ByteHash;
+use crate::followed::{Followed, SLOTS};
 use crate::kept_series::KeptSeries;
 use crate::kind_ref::KindRef;
 use crate::lookup::is_series;
@@ -15,9 +16,6 @@ use crate::slots::Slots;
 use crate::streams::Stream;
 use series_id::SharedId;
 use std::alloc::{AllocError, Global};
-
-/// How many slots a cache has: as many as that of `json_points`.
-const SLOTS: usize = 32_768;
 
 /// The identities of earlier points, with the bytes that said them. A point of the same bytes
 /// shares the identity, and nothing of it is read. It is looked for first where the point was that
@@ -30,10 +28,7 @@ const SLOTS: usize = 32_768;
 #[derive(Drop)]
 pub struct IdentityCache {
     slots: Slots<KeptSeries>,
-    /// The slot of the last point.
-    last: usize,
-    /// The slot of the point that came after the one of each slot.
-    next: Vec<u16>,
+    followed: Followed,
 }
 
 impl IdentityCache {
@@ -41,8 +36,7 @@ impl IdentityCache {
     pub fn new(alloc: Global) -> IdentityCache {
         IdentityCache {
             slots: Slots::new(alloc),
-            last: 0,
-            next: Vec::new(alloc),
+            followed: Followed::new(alloc),
         }
     }
 
@@ -58,12 +52,9 @@ impl IdentityCache {
             (λ k. series_of (stream_data stream.entry) k (said_list (map (λ b. b.now) attributes.now)))
             (kind_data kind.entry) ≡ Some s) }
     {
-        if self.last >= self.next.len() {
-            return None;
-        }
-        let slot = usize::from(self.next[self.last]);
+        let slot = self.followed.next()?;
         let series = self.share_at(slot, stream, kind, attributes)?;
-        self.last = slot;
+        self.followed.go_to(slot);
         Some(series)
     }
 
@@ -86,19 +77,9 @@ impl IdentityCache {
             found = self.share_at(slot, stream, kind, attributes);
         }
         if found.is_some() {
-            self.go_to(slot);
+            self.followed.go_to(slot);
         }
         found
-    }
-
-    /// Notes that the point of this slot came after the last one.
-    fn go_to(&mut self, slot: usize) {
-        if self.last < self.next.len()
-            && let Ok(next) = u16::try_from(slot)
-        {
-            self.next[self.last] = next;
-        }
-        self.last = slot;
     }
 
     /// A share of the series in a slot, if it is that of the stream, the kind and the attributes.
@@ -143,10 +124,7 @@ impl IdentityCache {
                 hash.other_slot(SLOTS)
             };
             self.slots.put(alloc, SLOTS, slot, kept);
-            if self.next.is_empty() {
-                let _ = self.next.resize(SLOTS, 0);
-            }
-            self.go_to(slot);
+            self.followed.go_to_new(slot);
         }
     }
 }

@@ -4,16 +4,19 @@
 
 mod attributes;
 mod byte_hash;
+mod checked_message;
 mod checks;
 mod doubles;
 mod fault;
 mod fields;
+mod followed;
 mod histogram_point;
 mod histograms;
 mod identity_cache;
 mod kept;
 mod kept_series;
 mod kind_ref;
+mod known_messages;
 mod known_set;
 mod lists;
 mod lookup;

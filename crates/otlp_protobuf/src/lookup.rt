@@ -74,7 +74,8 @@ fn are_same(copies: &[Vec<u8>], messages: &[&[u8]]) -> bool
     true
 }
 
-fn is_copy(copy: &Vec<u8>, message: &[u8]) -> bool
+/// Whether a copy is of this message.
+pub fn is_copy(copy: &Vec<u8>, message: &[u8]) -> bool
     ensures only { IsTrue result → copy.now.items ≡ message.now }
 {
     copy.as_slice() == message

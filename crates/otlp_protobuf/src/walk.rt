@@ -32,7 +32,7 @@ use std::alloc::{AllocError, Global};
 pub fn read_request_with(alloc: Global, bytes: &[u8], kept: &mut Kept) -> Result<Reading, ReadFault>
     ensures { Answers bytes.now result }
 {
-    match checked(Message::Request, bytes) {
+    match checked(&mut kept.known, Message::Request, bytes) {
         Err(why) => Err(ReadFault::Malformed(why)),
         Ok(()) => match read_checked(alloc, bytes, kept) {
             Ok(reading) => Ok(reading),
