@@ -1,11 +1,11 @@
 -- Steps of the check of a message.
-use Rattle.std.proofs.Common.{◌≡◌, ◌<◌, ◌≤◌, ℕ, zero, suc, ◌-◌, ◌+◌, ◌==◌, Bool, true, false, List, length, Option, Some, None, Result, Ok, Err, refl, sym, ap, subst, ◌∙◌, arith}
+use Rattle.std.proofs.Common.{◌≡◌, ◌<◌, ◌≤◌, ℕ, zero, suc, ◌-◌, ◌+◌, ◌==◌, Bool, true, false, List, length, Option, Some, None, Result, Ok, Err, refl, sym, ap, ◌∙◌, arith}
 use Rattle.std.specs.Prelude.{if◌then◌else◌, ⊤}
 use Rattle.otlp_protobuf.specs.declared.malformed.Malformed.{Malformed}
 use Rattle.otlp_protobuf.specs.declared.schema.Kind.{Kind}
 use Rattle.otlp_protobuf.specs.declared.malformed.Malformed.TheVariants.{Cut, Deep}
 use Rattle.otlp_protobuf.specs.declared.schema.Message.{Message}
-use Rattle.otlp_protobuf.specs.Wire.{◌>>=◌, Field, Value, field_at}
+use Rattle.otlp_protobuf.specs.Wire.{◌>>=◌, Value, field_at}
 use Rattle.otlp_protobuf.specs.Schema.{kind_of}
 use Rattle.otlp_protobuf.specs.Checks.{nested, plain_checked, value_checked, checked_from}
 
@@ -39,8 +39,8 @@ value_passes : (inner outer : Message → List ℕ → Result ⊤ Malformed) (k 
     → value_checked inner k v ≡ Ok tt → value_checked outer k v ≡ Ok tt
 value_passes inner outer k v on is = by (nested k v) is
   where
-    by : (o : Option (Message × List ℕ)) → ◌≡◌ {A = Result ⊤ Malformed} (elim o [ | None ↦ plain_checked k v | Some m ↦ inner m.0 m.1 ]) (Ok tt)
-        → ◌≡◌ {A = Result ⊤ Malformed} (elim o [ | None ↦ plain_checked k v | Some m ↦ outer m.0 m.1 ]) (Ok tt)
+    by : (o : Option (Message × List ℕ)) → ◌≡◌ {A = Result ⊤ Malformed} (elim o [ None ↦ plain_checked k v | Some m ↦ inner m.0 m.1 ]) (Ok tt)
+        → ◌≡◌ {A = Result ⊤ Malformed} (elim o [ None ↦ plain_checked k v | Some m ↦ outer m.0 m.1 ]) (Ok tt)
     by None is = is
     by (Some m) is = on m.0 m.1 is
 

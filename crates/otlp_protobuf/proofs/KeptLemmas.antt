@@ -20,7 +20,7 @@ use Rattle.otlp_read.specs.Attributes.{attributes_in}
 use Rattle.otlp_read.specs.Integers.{signed_in}
 use Rattle.otlp_read.specs.Lists.{all_of}
 use Rattle.otlp_read.specs.Streams.{Stream, identity_in, series_in, series_of}
-use Rattle.otlp_protobuf.specs.Wire.{Field, fields}
+use Rattle.otlp_protobuf.specs.Wire.{Field}
 use Rattle.otlp_protobuf.specs.Fields.{contents, content_at, gathered, joined, with_first}
 use Rattle.otlp_protobuf.specs.inner.Parts.{part_with}
 use Rattle.otlp_protobuf.specs.Members.{double_data}

@@ -16,11 +16,7 @@ pub const MAX_LEVELS: u32 = 99;
 
 /// Checks a message with all that is in it. What is known of its points' attributes is not checked
 /// again.
-pub fn checked(
-    known: &mut KnownMessages,
-    message: Message,
-    bytes: &[u8],
-) -> Result<(), Malformed>
+pub fn checked(known: &mut KnownMessages, message: Message, bytes: &[u8]) -> Result<(), Malformed>
     ensures { Gives (λ done. done) result (checked message bytes.now) }
 {
     checked_from(known, message, bytes, MAX_LEVELS, bytes.len())

@@ -14,13 +14,9 @@ const BOUNDS: u32 = 7;
 /// The kind of a point's series.
 #[derive(Clone, Copy)]
 pub enum KindRef<'a> {
-    Sum {
-        monotonic: bool,
-    },
+    Sum { monotonic: bool },
     /// A histogram with the bounds of this point.
-    Histogram {
-        point: &'a [u8],
-    },
+    Histogram { point: &'a [u8] },
 }
 
 impl<'a> KindRef<'a> {

@@ -62,14 +62,7 @@ impl KnownMessages {
     }
 
     /// Whether the message in a slot is this one.
-    fn is_at(
-        &self,
-        slot: usize,
-        message: Message,
-        bytes: &[u8],
-        levels: u32,
-        left: usize,
-    ) -> bool
+    fn is_at(&self, slot: usize, message: Message, bytes: &[u8], levels: u32, left: usize) -> bool
         ensures only { IsTrue result → checked_from left levels message bytes.now ≡ Ok tt }
     {
         match (self.slots.at(slot), message) {
@@ -79,14 +72,7 @@ impl KnownMessages {
     }
 
     /// Keeps a message in another one that has passed its check, if it is an attribute of a point.
-    pub fn keep(
-        &mut self,
-        outer: Message,
-        message: Message,
-        bytes: &[u8],
-        levels: u32,
-        left: usize,
-    )
+    pub fn keep(&mut self, outer: Message, message: Message, bytes: &[u8], levels: u32, left: usize)
         requires { checked_from left levels message bytes.now ≡ Ok tt }
     {
         if !is_kept(outer, message, bytes) {

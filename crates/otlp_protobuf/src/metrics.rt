@@ -214,7 +214,11 @@ fn add_histogram(
 }
 
 /// Reads points in order, and adds them.
-fn points<S: PointStream>(reader: &mut Reader<'_>, stream: S, bytes: &[u8]) -> Result<(), AllocError>
+fn points<S: PointStream>(
+    reader: &mut Reader<'_>,
+    stream: S,
+    bytes: &[u8],
+) -> Result<(), AllocError>
     ensures { OnOk result (tally reader.new.out ≡ each_point (S.reads stream)
         (map S.shows (contents 1 (fields bytes.now))) (tally reader.old.out)) }
 {

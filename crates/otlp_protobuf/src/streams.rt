@@ -77,10 +77,7 @@ pub trait PointStream: Copy {
 }
 
 /// The resource with these attributes. `None` if no identity may have them.
-pub fn resource_in<'a>(
-    attributes: Option<&'a KnownSet>,
-    hash: ByteHash,
-) -> Option<Resource<'a>>
+pub fn resource_in<'a>(attributes: Option<&'a KnownSet>, hash: ByteHash) -> Option<Resource<'a>>
     ensures { option_map resource_data result ≡ option_map (λ k. k.now.set) attributes.entry }
 {
     let attributes = attributes?;

@@ -1,4 +1,4 @@
-use Rattle.std.proofs.Common.{◌≡◌, ◌≤◌, map, take, length}
+use Rattle.std.proofs.Common.{◌≡◌, map, take}
 use Rattle.otlp_protobuf.proofs.identity_cache.copies.Given as goal
 
 abbrev pub invariant-loop-i : goal.invariant-loop-i

@@ -1,8 +1,8 @@
-use Rattle.std.proofs.Common.{ℕ, List, Bor, Vec, Global, Some, ap, map, subst, sym, ◌∙◌}
+use Rattle.std.proofs.Common.{ℕ, Vec, Global, Some, ap, map, subst, sym, ◌∙◌}
 use Rattle.series_id.specs.Identity.{Identity}
 use Rattle.series_id.specs.Kinds.{IsKind}
 use Rattle.otlp_protobuf.specs.inner.KindViews.{kind_data}
-use Rattle.otlp_protobuf.specs.inner.Sets.{said_list, set_said}
+use Rattle.otlp_protobuf.specs.inner.Sets.{set_said}
 use Rattle.otlp_protobuf.specs.inner.StreamViews.{stream_data}
 use Rattle.otlp_protobuf.proofs.KeptLemmas.{series_known}
 use Rattle.otlp_protobuf.proofs.lookup.is_series.Goals as goal
