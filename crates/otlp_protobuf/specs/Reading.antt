@@ -1,4 +1,4 @@
--- What the bytes of a request say, and what `read_request` returns.
+-- What the bytes of a request say, and what `read_request_with` returns.
 use Rattle.std.specs.Prelude.{◌≡◌, ℕ, List, Result, Ok, Err, ⊤}
 use Rattle.otlp_read.specs.declared.place.Place.{Place}
 use Rattle.otlp_read.specs.declared.reading.Reading.{Reading}
@@ -16,7 +16,7 @@ use Rattle.otlp_protobuf.specs.Request.{request_message}
 unfoldable pub bytes_reading : List ℕ → Result (Result Tally Place) Malformed
 bytes_reading bytes = checked Request bytes >>= λ _. Ok (reading (request_message bytes))
 
--- what `read_request` returns
+-- what `read_request_with` returns
 abbrev pub Answers : List ℕ → Result Reading ReadFault → Type 0
 Answers bytes (Ok r) = bytes_reading bytes ≡ Ok (Ok (tally r))
 Answers bytes (Err (faults.Malformed why)) = bytes_reading bytes ≡ Err why

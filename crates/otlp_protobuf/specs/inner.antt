@@ -6,3 +6,7 @@ pub mod NumberViews
 pub mod PartViews
 pub mod RefViews
 pub mod PairViews
+pub mod Sets
+pub mod KindViews
+pub mod RoomViews
+pub mod Parts

@@ -6,6 +6,7 @@ ghost use Rattle.otlp_protobuf.specs.Checks.{nested, plain_checked, checked_from
 ghost use Rattle.otlp_protobuf.specs.inner.Views.{Gives, payload_data};
 
 use crate::fields::field_at;
+use crate::known_messages::KnownMessages;
 use crate::malformed::Malformed;
 use crate::schema::{Kind, Message};
 use crate::wire::Payload;
@@ -13,16 +14,23 @@ use crate::wire::Payload;
 /// How many levels of messages may be in a message: protobuf's own readers allow 100 in all.
 pub const MAX_LEVELS: u32 = 99;
 
-/// Checks a message with all that is in it.
-pub fn checked(message: Message, bytes: &[u8]) -> Result<(), Malformed>
+/// Checks a message with all that is in it. What is known of its points' attributes is not checked
+/// again.
+pub fn checked(known: &mut KnownMessages, message: Message, bytes: &[u8]) -> Result<(), Malformed>
     ensures { Gives (λ done. done) result (checked message bytes.now) }
 {
-    checked_from(message, bytes, MAX_LEVELS, bytes.len())
+    checked_from(known, message, bytes, MAX_LEVELS, bytes.len())
 }
 
 /// The same with so many levels of messages below it at most, and so many fields.
 #[tactic(auto, using(crate::proofs::CheckLemmas::check_step))]
-fn checked_from(message: Message, bytes: &[u8], levels: u32, left: usize) -> Result<(), Malformed>
+fn checked_from(
+    known: &mut KnownMessages,
+    message: Message,
+    bytes: &[u8],
+    levels: u32,
+    left: usize,
+) -> Result<(), Malformed>
     ensures { Gives (λ done. done) result (checked_from left levels message bytes.now) }
 {
     let mut rest = bytes;
@@ -42,8 +50,12 @@ fn checked_from(message: Message, bytes: &[u8], levels: u32, left: usize) -> Res
         if levels == 0 {
             return Err(Malformed::Deep);
         }
-        checked_from(inner, content, levels - 1, left)?;
         rest = after;
+        if known.has(message, inner, content, levels - 1, left) {
+            continue;
+        }
+        checked_from(known, inner, content, levels - 1, left)?;
+        known.keep(message, inner, content, levels - 1, left);
     }
     ended(rest)
 }

@@ -17,7 +17,7 @@ ghost use Rattle.otlp_protobuf.specs.inner.PartViews.{part_of, parts_data, sum_p
 
 use crate::fields::Fields;
 use crate::reader::{Object, Reader};
-use crate::scan::{Whole, next_content, whole_at};
+use crate::scan::{Whole, next_content};
 use crate::streams::{PointStream, Scope, histogram_stream, sum_stream};
 use metric_events::point::Point;
 use otlp_read::Reading;
@@ -39,13 +39,13 @@ impl Object for Option<Scope<'_>> {
 
     ghost adds = { λ scope. metric (option_map scope_data scope) };
 
-    fn read(self, reader: &mut Reader, bytes: &[u8]) -> Result<(), AllocError> {
+    fn read(self, reader: &mut Reader<'_>, bytes: &[u8]) -> Result<(), AllocError> {
         metric(reader, self, bytes)
     }
 }
 
 /// Reads a metric of a scope, and adds it to the reading.
-fn metric(reader: &mut Reader, scope: Option<Scope<'_>>, bytes: &[u8]) -> Result<(), AllocError>
+fn metric(reader: &mut Reader<'_>, scope: Option<Scope<'_>>, bytes: &[u8]) -> Result<(), AllocError>
     ensures { OnOk result (metric (option_map scope_data scope.entry) (metric_message bytes.now)
         (tally reader.old.out) ≡ Ok (tally reader.new.out)) }
 {
@@ -65,11 +65,19 @@ fn add_metric(out: &mut Reading)
 fn parts_of<'a>(alloc: Global, metric: &'a [u8]) -> Result<Parts<'a>, AllocError>
     ensures { IfOk result (λ ps. parts_data ps ≡ message_parts metric.now) }
 {
-    let gauge = whole_at(alloc, metric, 5)?;
-    let sum = whole_at(alloc, metric, 7)?;
-    let histogram = whole_at(alloc, metric, 9)?;
-    let exponential = whole_at(alloc, metric, 10)?;
-    let summary = whole_at(alloc, metric, 11)?;
+    let mut gauge = Whole::Absent;
+    let mut sum = Whole::Absent;
+    let mut histogram = Whole::Absent;
+    let mut exponential = Whole::Absent;
+    let mut summary = Whole::Absent;
+    let mut rest = Fields::of(metric);
+    while let Some(field) = rest.next() {
+        gauge = gauge.with_field(alloc, 5, field)?;
+        sum = sum.with_field(alloc, 7, field)?;
+        histogram = histogram.with_field(alloc, 9, field)?;
+        exponential = exponential.with_field(alloc, 10, field)?;
+        summary = summary.with_field(alloc, 11, field)?;
+    }
     Ok(Parts {
         gauge,
         sum,
@@ -82,7 +90,7 @@ fn parts_of<'a>(alloc: Global, metric: &'a [u8]) -> Result<Parts<'a>, AllocError
 /// Adds the points of all data fields.
 #[tactic(auto, unfolding(otlp_read::specs::Metrics::add_parts))]
 fn add_parts(
-    reader: &mut Reader,
+    reader: &mut Reader<'_>,
     scope: Option<Scope<'_>>,
     metric: &[u8],
     parts: &Parts<'_>,
@@ -100,7 +108,7 @@ fn add_parts(
 /// Adds the points of the sum and of the histogram. With two data fields all are foreign.
 #[tactic(auto, unfolding(otlp_read::specs::Metrics::add_profile))]
 fn add_profile(
-    reader: &mut Reader,
+    reader: &mut Reader<'_>,
     scope: Option<Scope<'_>>,
     metric: &[u8],
     parts: &Parts<'_>,
@@ -171,7 +179,7 @@ const POINTS: u32 = 1;
 
 /// Adds the points of a sum.
 fn add_sum(
-    reader: &mut Reader,
+    reader: &mut Reader<'_>,
     scope: Option<Scope<'_>>,
     metric: &[u8],
     part: &Whole<'_>,
@@ -189,7 +197,7 @@ fn add_sum(
 
 /// Adds the points of a histogram.
 fn add_histogram(
-    reader: &mut Reader,
+    reader: &mut Reader<'_>,
     scope: Option<Scope<'_>>,
     metric: &[u8],
     part: &Whole<'_>,
@@ -206,13 +214,17 @@ fn add_histogram(
 }
 
 /// Reads points in order, and adds them.
-fn points<S: PointStream>(reader: &mut Reader, stream: S, bytes: &[u8]) -> Result<(), AllocError>
+fn points<S: PointStream>(
+    reader: &mut Reader<'_>,
+    stream: S,
+    bytes: &[u8],
+) -> Result<(), AllocError>
     ensures { OnOk result (tally reader.new.out ≡ each_point (S.reads stream)
         (map S.shows (contents 1 (fields bytes.now))) (tally reader.old.out)) }
 {
     let mut rest = Fields::of(bytes);
     while let Some(content) = next_content(&mut rest, POINTS) {
-        let point = stream.read(reader.alloc, content)?;
+        let point = stream.read(reader.alloc, reader.cache, content)?;
         add_point(&mut reader.out, point)?;
     }
     Ok(())

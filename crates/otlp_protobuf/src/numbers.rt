@@ -1,6 +1,6 @@
 //! Reads lists of numbers of 8 bytes, packed or not, each in the same way.
 
-ghost use Rattle.std.specs.Prelude.{◌≡◌, ◌∷◌, ℕ, [], IfOk, MatchOption, Option, map, option_map};
+ghost use Rattle.std.specs.Prelude.{◌≡◌, ◌∷◌, ℕ, [], IfOk, IsTrue, MatchOption, Option, Some, map, option_map};
 ghost use Rattle.serde_json.specs.Data.{Data};
 ghost use Rattle.series_id.specs.declared.limits.TheConstants.{MAX_BOUND};
 ghost use Rattle.otlp_read.specs.Integers.{unsigned_64, signed_in};
@@ -73,6 +73,7 @@ impl<'a> Numbers<'a> {
     }
 
     /// The next number.
+    #[inline(always)]
     pub fn next(&mut self) -> Option<u64>
         ensures { MatchOption result (numbers_data self.old ≡ [])
             (λ n. numbers_data self.old ≡ n ∷ numbers_data self.new) }
@@ -87,6 +88,7 @@ impl<'a> Numbers<'a> {
     }
 
     /// The first number of the fields behind the one that is under way.
+    #[inline(never)]
     fn next_field(&mut self) -> Option<u64>
         ensures { MatchOption result (numbers self.old.number (fields_data self.old.rest) ≡ [])
             (λ n. numbers self.old.number (fields_data self.old.rest)
@@ -103,6 +105,7 @@ impl<'a> Numbers<'a> {
 }
 
 /// The first of packed numbers, and the others.
+#[inline(always)]
 fn next_packed(bytes: &[u8]) -> Option<(u64, &[u8])>
     ensures { MatchOption result (packed bytes.now ≡ [])
         (λ r. packed bytes.now ≡ r.0 ∷ packed r.1.now) }
@@ -143,7 +146,38 @@ pub fn numbers_in<T: Number>(
         let Some(element) = T::of_bits(bits) else {
             return Ok(None);
         };
+        found.reserve(rest.packed.len() / 8 + 1)?;
         found.push(element)?;
     }
     Ok(Some(found))
+}
+
+/// Whether the numbers are these bounds.
+pub fn are_bounds(numbers: Numbers<'_>, bounds: &[i64]) -> bool
+    ensures only { IsTrue result → all_of (signed_in MAX_BOUND MAX_BOUND)
+        (map double_data (numbers_data numbers.entry)) ≡ Some bounds.now }
+{
+    let mut rest = numbers;
+    let mut count: usize = 0;
+    while let Some(bits) = rest.next() {
+        if count >= bounds.len() {
+            return false;
+        }
+        if !is_bound(bits, &bounds[count]) {
+            return false;
+        }
+        count += 1;
+    }
+    count >= bounds.len()
+}
+
+/// Whether the number of these bits is this bound.
+fn is_bound(bits: u64, bound: &i64) -> bool
+    ensures only { IsTrue result
+        → signed_in MAX_BOUND MAX_BOUND (double_data bits) ≡ Some bound.now }
+{
+    match bound_double(bits) {
+        Some(found) => found == *bound,
+        None => false,
+    }
 }

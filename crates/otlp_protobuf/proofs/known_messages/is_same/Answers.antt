@@ -1,0 +1,9 @@
+use Rattle.std.proofs.Common.{arith}
+use Rattle.otlp_protobuf.proofs.CheckLemmas.{checked_again}
+use Rattle.otlp_protobuf.proofs.known_messages.is_same.Goals as goal
+
+pub returns : goal.returns
+returns c = record {
+  only = λ same.
+      checked_again c.args.kept.now.left c.args.kept.now.levels c.args.left c.args.levels _ _ _ (omega arith) (omega arith) (c.is_copy.ensures.only same) c.args.kept.now.is_checked;
+}
