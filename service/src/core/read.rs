@@ -5,6 +5,7 @@ use super::readers::{keep, reader};
 use super::refusal::{check, Refused};
 use super::{Across, Core, Names};
 use crate::files::{self, Body, NoNames, Points, Post};
+use bytes::Bytes;
 use std::sync::Arc;
 
 /// A post that is to be read, or was, and is in no book yet. Its reader is another's once this is dropped.
@@ -13,6 +14,8 @@ pub struct Read {
     across: Across,
     /// None until it is read.
     pub(super) reader: Option<Reader>,
+    /// What it is read from, where that is a text: its points by number are in another order.
+    text: Option<Bytes>,
     pub post: Post,
     /// By which its points have numbers, where they have.
     names: Option<Arc<Names>>,
@@ -33,6 +36,10 @@ impl Read {
         names: Option<Arc<Names>>,
         left_out: u64,
     ) -> Read {
+        let text = match &body {
+            Body::Text(text) => Some(text.clone()),
+            Body::Points(_) => None,
+        };
         let post = Post {
             sender,
             foreign: left_out,
@@ -40,6 +47,7 @@ impl Read {
         };
         Read {
             reader: None,
+            text,
             books: core.books,
             across: core.across,
             post,
@@ -55,10 +63,26 @@ impl Read {
     pub fn be_read(&mut self) -> Result<(), Refused> {
         let ends = check(self.again()?.ends()).ok();
         self.ends = ends.map(|ends| (ends.number, ends.at));
+        self.split();
+        Ok(())
+    }
+
+    pub fn text(&self) -> Option<&Bytes> {
+        self.text.as_ref()
+    }
+
+    /// Its points by number: so the journal has them, and not the text that they were read from. These are all that the reader
+    /// has, and those of a series are in their order.
+    pub fn number(&mut self, points: Points, names: Arc<Names>) {
+        self.post.body = Body::Points(points);
+        self.names = Some(names);
+        self.split();
+    }
+
+    fn split(&mut self) {
         if let (Body::Points(points), true) = (&self.post.body, self.is_of_several()) {
             self.stretches = self.across.split(points);
         }
-        Ok(())
     }
 
     /// A reader has a post until the book was asked to take it, whatever that says.
@@ -68,10 +92,10 @@ impl Read {
             none => none.insert(reader().ok_or(Refused::NoMemory)?),
         };
         let (sender, books) = (self.post.sender.as_bytes(), self.books);
-        let answer = match (&self.post.body, &self.names) {
-            (Body::Text(body), _) => reader.read(sender, body, books),
-            (Body::Points(points), Some(names)) => names.put(reader, sender, points.words(), books),
-            (Body::Points(_), None) => return Err(Refused::NoSuch),
+        let answer = match (&self.text, &self.post.body, &self.names) {
+            (Some(text), ..) => reader.read(sender, text, books),
+            (None, Body::Points(points), Some(names)) => names.put(reader, sender, points.words(), books),
+            _ => return Err(Refused::NoSuch),
         };
         let read = check(answer)?;
         self.points = read.number;

@@ -7,7 +7,7 @@
 //! that they have.
 
 use super::Slot;
-use crate::core::{memory_used, Core, Names, Refused};
+use crate::core::{memory_used, Core, Names, Read, Refused};
 use crate::files::Points;
 use crate::otlp::{prepare, Encoding, Learnt, NotNamed, Numbered, Reading, Rounded, Series};
 use bytes::Bytes;
@@ -117,6 +117,14 @@ impl ByNumber {
                 self.points.push_words(point[0], &point[1..]);
             }
         }
+    }
+
+    /// Where no deltas are made of what is cumulative, that is foreign.
+    pub(super) fn without_cumulative(mut self) -> ByNumber {
+        let cumulative = std::mem::take(&mut self.cumulative);
+        self.keep(|place, _| cumulative.binary_search(&place).is_err());
+        self.foreign += cumulative.len() as u64;
+        self
     }
 
     pub(super) fn bytes(&self) -> usize {
@@ -245,6 +253,18 @@ impl Numbers {
             reading: reading.clone(),
         };
         Some(now.by_number(now.read(body, reading)?, source))
+    }
+
+    /// Has a text that was read have its points by number.
+    pub fn number(&self, core: &Core, read: &mut Read) -> Result<(), Refused> {
+        let Some(text) = read.text().cloned() else {
+            return Ok(());
+        };
+        if let Some(by) = self.read_text(core, &text)? {
+            let by = by.without_cumulative();
+            read.number(by.points, by.names);
+        }
+        Ok(())
     }
 
     /// The points of a request in the book's form, also those that are cumulative; none where the book refuses it whole.
