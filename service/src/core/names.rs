@@ -1,21 +1,52 @@
-//! Series by their numbers: the library's names, each with the request that named it.
+//! Series by their numbers: the library's names, each with a request that names it.
 
 use super::book::{self, Answer, Reader};
+use super::readers::with_reader;
 use super::refusal::{check, Refused};
-use crate::files;
+use crate::files::{self, Points};
+use crate::otlp::series::words_of;
 use bytes::Bytes;
-use std::sync::atomic::{AtomicU64, Ordering::Relaxed};
-use std::sync::{Arc, Mutex, MutexGuard, PoisonError, RwLock, RwLockReadGuard};
+use std::sync::atomic::{AtomicBool, AtomicU64, Ordering::Relaxed};
+use std::sync::{Arc, Mutex, MutexGuard, OnceLock, PoisonError, RwLock, RwLockReadGuard};
 
 static GENERATIONS: AtomicU64 = AtomicU64::new(1);
+
+/// Whoever a series is named for: the library wants a sender.
+const ANYBODY: &[u8] = b"-";
+/// So many words say a point of a sum, with its number; of a histogram more.
+const LEAST_WORDS: usize = 4;
+/// Most requests of one point are not longer.
+const TEXT: usize = 1 << 10;
 
 /// Numbers from 0 on, in the order in which series were named. A lock of its own is held while one is named or points
 /// are read by them.
 pub struct Names {
     handle: Mutex<book::Names>,
-    /// By number, a request of one point. It has all that was named, since each is put in under the lock of names.
-    texts: RwLock<Vec<Bytes>>,
+    /// By number. Nobody has points of a number that is not there yet.
+    named: RwLock<Vec<Named>>,
+    /// A series has a number and no request, for want of room or of memory: no other one gets a number.
+    is_closed: AtomicBool,
     generation: u64,
+}
+
+struct Named {
+    /// A request of one point.
+    text: Bytes,
+    /// How many words say a point, with its number; none where the text is not read. Known once it is asked for.
+    words: OnceLock<Option<usize>>,
+}
+
+impl Named {
+    fn of(text: Bytes) -> Named {
+        Named {
+            text,
+            words: OnceLock::new(),
+        }
+    }
+
+    fn words(&self) -> Option<usize> {
+        *self.words.get_or_init(|| words_of(&self.text))
+    }
 }
 
 impl Names {
@@ -23,18 +54,103 @@ impl Names {
         let handle = book::Names::new().ok_or(Refused::NoMemory)?;
         Ok(Arc::new(Names {
             handle: Mutex::new(handle),
-            texts: RwLock::default(),
+            named: RwLock::default(),
+            is_closed: AtomicBool::new(false),
             generation: GENERATIONS.fetch_add(1, Relaxed),
         }))
     }
 
-    /// Gives the next number to the series of a request that has one point, which the book would take: else `NotOne`.
+    /// Whether no series gets a number any more.
+    pub fn are_closed(&self) -> bool {
+        self.is_closed.load(Relaxed)
+    }
+
+    /// The number of the series of a request that has one point, which the book would take: else `NotOne`. It is read by a
+    /// kept reader, so what several have in common is in memory once.
     pub fn learn(&self, request: Bytes) -> Result<u64, Refused> {
-        let mut handle = self.handle();
-        let number = check(handle.learn(&request))?.number;
-        let mut texts = self.texts.write().unwrap_or_else(PoisonError::into_inner);
-        texts.push(request);
-        Ok(number)
+        with_reader(|reader| {
+            let read = check(reader.read(ANYBODY, &request, 1))?;
+            if (read.number, read.at) != (1, 0) {
+                return Err(Refused::NotOne);
+            }
+            let mut handle = self.open()?;
+            let (words, _) = said(reader, &mut handle, 1)?;
+            let number = *words.first().ok_or(Refused::NotOne)?;
+            self.name_those_before(number, &mut handle, |_| true)?;
+            let mut named = self.named.write().unwrap_or_else(PoisonError::into_inner);
+            if number == named.len() as u64 {
+                named.push(Named::of(request));
+            }
+            Ok(number)
+        })
+    }
+
+    /// The points that a reader has by the numbers of their series, so many; `has_room` takes room for the request of each that is
+    /// new. None where one can't be named: from then on no other is.
+    pub(super) fn number(
+        &self,
+        reader: &mut Reader,
+        count: u64,
+        has_room: impl Fn(usize) -> bool,
+    ) -> Option<Points> {
+        let points = self.open().and_then(|mut handle| {
+            let (words, names) = said(reader, &mut handle, count)?;
+            drop(handle);
+            self.name_all(names, has_room)?;
+            self.split(words, count).ok_or(Refused::NoSuch)
+        });
+        self.is_closed.fetch_or(points.is_err(), Relaxed);
+        points.ok()
+    }
+
+    fn open(&self) -> Result<MutexGuard<'_, book::Names>, Refused> {
+        match self.are_closed() {
+            false => Ok(self.handle()),
+            true => Err(Refused::NoMemory),
+        }
+    }
+
+    /// So many have a request from here on. Others read points between two of them.
+    fn name_all(&self, names: u64, has_room: impl Fn(usize) -> bool) -> Result<(), Refused> {
+        while self.count() < names {
+            let mut handle = self.handle();
+            let next = self.count() + 1;
+            self.name_those_before(next.min(names), &mut handle, &has_room)?;
+        }
+        Ok(())
+    }
+
+    fn name_those_before(
+        &self,
+        number: u64,
+        handle: &mut book::Names,
+        has_room: impl Fn(usize) -> bool,
+    ) -> Result<(), Refused> {
+        for next in self.count()..number {
+            let mut text = vec![0; TEXT];
+            check(handle.text(next, &mut text))?;
+            if !has_room(text.len()) {
+                return Err(Refused::NoMemory);
+            }
+            let mut named = self.named.write().unwrap_or_else(PoisonError::into_inner);
+            named.push(Named::of(Bytes::copy_from_slice(&text)));
+        }
+        Ok(())
+    }
+
+    fn count(&self) -> u64 {
+        self.named().len() as u64
+    }
+
+    /// Words of so many points, each by itself.
+    fn split(&self, words: Vec<u64>, count: u64) -> Option<Points> {
+        let (named, mut end) = (self.named(), 0);
+        let mut ends = Vec::with_capacity(usize::try_from(count).ok()?);
+        while let Some(number) = words.get(end) {
+            end += named.get(usize::try_from(*number).ok()?)?.words()?;
+            ends.push(end);
+        }
+        Points::new(words, ends)
     }
 
     pub(super) fn put(&self, reader: &mut Reader, sender: &[u8], words: &[u64], books: usize) -> Answer {
@@ -47,14 +163,21 @@ impl Names {
 
     /// How long the requests of these numbers are, all together.
     pub(super) fn length(&self, numbers: impl Iterator<Item = u64>) -> usize {
-        let texts = self.texts();
-        let lengths = numbers.filter_map(|number| texts.get(usize::try_from(number).ok()?).map(Bytes::len));
+        let named = self.named();
+        let lengths = numbers.filter_map(|number| Some(named.get(usize::try_from(number).ok()?)?.text.len()));
         lengths.sum()
     }
 
-    fn texts(&self) -> RwLockReadGuard<'_, Vec<Bytes>> {
-        self.texts.read().unwrap_or_else(PoisonError::into_inner) // a list is sound at any time
+    fn named(&self) -> RwLockReadGuard<'_, Vec<Named>> {
+        self.named.read().unwrap_or_else(PoisonError::into_inner) // a list is sound at any time
     }
+}
+
+/// The words of the points that a reader has, so many, and how many names there are then.
+fn said(reader: &mut Reader, names: &mut book::Names, count: u64) -> Result<(Vec<u64>, u64), Refused> {
+    let mut words = vec![0; LEAST_WORDS * usize::try_from(count).unwrap_or(0)];
+    let answer = check(reader.words(names, &mut words))?;
+    Ok((words, answer.at))
 }
 
 impl files::Names for Names {
@@ -64,6 +187,10 @@ impl files::Names for Names {
 
     fn text(&self, number: u64) -> Bytes {
         let place = usize::try_from(number).unwrap_or(usize::MAX);
-        self.texts().get(place).cloned().unwrap_or_default()
+        let named = self.named();
+        named
+            .get(place)
+            .map(|named| named.text.clone())
+            .unwrap_or_default()
     }
 }

@@ -67,16 +67,18 @@ impl Read {
         Ok(())
     }
 
-    pub fn text(&self) -> Option<&Bytes> {
-        self.text.as_ref()
-    }
-
-    /// Its points by number: so the journal has them, and not the text that they were read from. These are all that the reader
-    /// has, and those of a series are in their order.
-    pub fn number(&mut self, points: Points, names: Arc<Names>) {
+    /// Has points that were read from a text have numbers by these names: the journal keeps these, and those of a series are in
+    /// their order. `has_room` takes room for the request of each series that is new. False, and the post is as it was, where
+    /// one can't be named.
+    pub fn number(&mut self, names: &Arc<Names>, has_room: impl Fn(usize) -> bool) -> bool {
+        let reader = self.reader.as_mut();
+        let Some(points) = reader.and_then(|reader| names.number(reader, self.points, has_room)) else {
+            return false;
+        };
         self.post.body = Body::Points(points);
-        self.names = Some(names);
+        self.names = Some(names.clone());
         self.split();
+        true
     }
 
     fn split(&mut self) {
@@ -123,7 +125,7 @@ impl Read {
             .map(|(first, last)| (across.stretch(first), across.stretch(last)))
     }
 
-    /// Whether its points are of several stretches. A text of which that is so is to be read by number.
+    /// Whether its points are of several stretches: then it goes into the book by number.
     pub fn is_of_several(&self) -> bool {
         self.first_and_last().is_some_and(|(first, last)| first < last)
     }

@@ -168,8 +168,16 @@ impl Generation {
         })
     }
 
+    fn is_full(&self) -> bool {
+        self.series.is_full() || self.names.are_closed()
+    }
+
     fn is_over(&self, limits: Limits) -> bool {
-        self.series.is_full() && self.began.elapsed() >= limits.kept
+        self.is_full() && self.began.elapsed() >= limits.kept
+    }
+
+    fn number(&self, read: &mut Read) -> bool {
+        !self.is_full() && read.number(&self.names, |text| self.series.take_room(text))
     }
 
     fn read(&self, body: &[u8], reading: &Reading) -> Option<Numbered> {
@@ -255,16 +263,17 @@ impl Numbers {
         Some(now.by_number(now.read(body, reading)?, source))
     }
 
-    /// Has a text that was read have its points by number.
+    /// Has a text that was read have its points by number. It stays a text where there is no room for numbers, but for one of
+    /// several stretches.
     pub fn number(&self, core: &Core, read: &mut Read) -> Result<(), Refused> {
-        let Some(text) = read.text().cloned() else {
+        let now = self.now(core, &self.of_texts);
+        if now.is_some_and(|now| now.number(read)) || !read.is_of_several() {
             return Ok(());
-        };
-        if let Some(by) = self.read_text(core, &text)? {
-            let by = by.without_cumulative();
-            read.number(by.points, by.names);
         }
-        Ok(())
+        match read.number(&Names::new()?, |_| true) {
+            true => Ok(()),
+            false => Err(Refused::NoMemory),
+        }
     }
 
     /// The points of a request in the book's form, also those that are cumulative; none where the book refuses it whole.

@@ -104,10 +104,10 @@ fn only_a_request_of_one_point_names_a_series() {
     let one = Bytes::from(points(&super::names("s", 1), 1, 0));
     assert_eq!(
         (names.learn(one.clone()), names.learn(one.clone())),
-        (Ok(0), Ok(1))
+        (Ok(0), Ok(0))
     );
     use crate::files::Names as _;
-    assert_eq!((names.text(1), names.text(2)), (one, Bytes::new()));
+    assert_eq!((names.text(0), names.text(1)), (one, Bytes::new()));
     assert_ne!(names.generation(), Names::new().unwrap().generation());
 }
 
@@ -179,4 +179,105 @@ fn while_something_is_in_flight_rounds_wait() {
     assert_eq!(closing(&core, &by, 2_101..2_701), []);
     core.lock().settle(flushed).unwrap();
     assert_eq!(closing(&core, &by, 2_701..2_704), [(2_701, 1), (2_702, 1)]);
+}
+
+/// A post that was read from a text, with its points by number or without them.
+fn numbered(core: &Arc<Core>, names: &Arc<Names>, body: &str) -> (Read, bool) {
+    let mut read = core.read("A".into(), body.to_string().into()).unwrap();
+    let is_numbered = read.number(names, |_| true);
+    (read, is_numbered)
+}
+
+fn by_number(read: &Read) -> Vec<Vec<u64>> {
+    let Body::Points(points) = &read.post.body else {
+        panic!("{:?}", read.post)
+    };
+    points.each().map(<[u64]>::to_vec).collect()
+}
+
+#[test]
+fn a_text_has_its_points_by_number() {
+    for series in [1, 80_000] {
+        let (core, by) = (Core::new(series).unwrap(), Names::new().unwrap());
+        let all = names("s", 30);
+        let (mut read, is_numbered) = numbered(&core, &by, &points(&all, 10, 5));
+        assert!(is_numbered);
+        let mut found = by_number(&read);
+        found.sort_unstable();
+        let each = (0..30).map(|number| vec![number, 10, 20, 5]);
+        assert_eq!(found, each.collect::<Vec<_>>());
+        let texts = found
+            .iter()
+            .map(|point| crate::files::Names::text(&*by, point[0]));
+        let series = texts.map(|text| crate::otlp::series::only(&text).unwrap());
+        let mut named: Vec<_> = series.map(|series| series.parts().unwrap().name).collect();
+        named.sort_unstable();
+        let mut wanted = all.clone();
+        wanted.sort_unstable();
+        assert_eq!(named, wanted);
+        core.lock().admit(&mut read).unwrap();
+        // A series keeps its number, and a refusal names a point by its place in the text.
+        let other = points(&[&names("n", 2)[..], &all[..1]].concat(), 15, 1);
+        let (mut read, _) = numbered(&core, &by, &other);
+        let number = by_number(&read).into_iter().find(|point| point[0] < 30).unwrap()[0];
+        let text = crate::files::Names::text(&*by, number);
+        assert_eq!(
+            crate::otlp::series::only(&text).unwrap().parts().unwrap().name,
+            "s0"
+        );
+        let late = Refused::OutOfOrder {
+            point: 2,
+            frontier: 20,
+        };
+        assert_eq!(core.lock().admit(&mut read), Err(late));
+        assert!(taken(&core).values().all(|one| *one == (5, 20)));
+    }
+}
+
+/// It stays a text then, and is taken.
+#[test]
+fn where_a_block_is_refused_a_text_has_no_numbers_and_no_other_has() {
+    let core = Core::new(24_000).unwrap();
+    let all = names("s", 20);
+    let mut blocks = 0;
+    loop {
+        let by = Names::new().unwrap();
+        let mut read = core
+            .read("A".into(), points(&all, 10 + 10 * blocks, 1).into())
+            .unwrap();
+        memory::fail_after(Some(blocks));
+        let is_numbered = read.number(&by, |_| true);
+        let all_were_given = memory::is_to_fail();
+        memory::fail_after(None);
+        assert_eq!(by.are_closed(), !is_numbered, "{blocks}");
+        assert_eq!(matches!(read.post.body, Body::Points(_)), is_numbered, "{blocks}");
+        core.lock().admit(&mut read).unwrap();
+        if all_were_given {
+            assert!(is_numbered);
+            break;
+        }
+        let (_, again) = numbered(&core, &by, &points(&all, 1_000_000, 1));
+        assert_eq!(again, is_numbered, "{blocks}");
+        blocks += 1;
+    }
+    assert!(blocks > 30, "{blocks} blocks");
+    assert_eq!(taken(&core)["s0"].0, blocks as i64 + 1);
+}
+
+#[test]
+fn where_there_is_no_room_for_a_name_no_series_gets_a_number() {
+    let (core, by) = (Core::new(1).unwrap(), Names::new().unwrap());
+    let room = std::cell::Cell::new(2);
+    let two_fit = |_| room.replace(room.get() - 1) > 0;
+    let post = |names: &[String], has_room: &dyn Fn(usize) -> bool| {
+        let mut read = core.read("A".into(), points(names, 10, 1).into()).unwrap();
+        read.number(&by, has_room)
+    };
+    assert!(post(&names("s", 2), &two_fit));
+    assert!(!post(&names("t", 2), &two_fit));
+    assert!(!post(&names("s", 2), &|_| true));
+    let one = Bytes::from(points(&names("u", 1), 1, 0));
+    assert_eq!(by.learn(one), Err(Refused::NoMemory));
+    // Posts that have numbers go on.
+    assert_eq!(put(&core, &by, "A", of([0, 1], 10, 5)), Ok(0));
 }
