@@ -6,7 +6,7 @@ use super::refusal::{check, Refused};
 use crate::files::{self, Points};
 use crate::otlp::series::words_of;
 use bytes::Bytes;
-use std::sync::atomic::{AtomicBool, AtomicU64, Ordering::Relaxed};
+use std::sync::atomic::{AtomicBool, AtomicU64, AtomicUsize, Ordering::Relaxed};
 use std::sync::{Arc, Mutex, MutexGuard, OnceLock, PoisonError, RwLock, RwLockReadGuard};
 
 static GENERATIONS: AtomicU64 = AtomicU64::new(1);
@@ -15,6 +15,7 @@ static GENERATIONS: AtomicU64 = AtomicU64::new(1);
 const ANYBODY: &[u8] = b"-";
 /// So many words say a point of a sum, with its number; of a histogram more.
 const LEAST_WORDS: usize = 4;
+const MOST_MORE: usize = 4 << 10;
 /// Most requests of one point are not longer.
 const TEXT: usize = 1 << 10;
 
@@ -26,6 +27,8 @@ pub struct Names {
     named: RwLock<Vec<Named>>,
     /// A series has a number and no request, for want of room or of memory: no other one gets a number.
     is_closed: AtomicBool,
+    /// How many words the last post had beyond those of sums: so the next one's have room at once.
+    more: AtomicUsize,
     generation: u64,
 }
 
@@ -56,6 +59,7 @@ impl Names {
             handle: Mutex::new(handle),
             named: RwLock::default(),
             is_closed: AtomicBool::new(false),
+            more: AtomicUsize::new(0),
             generation: GENERATIONS.fetch_add(1, Relaxed),
         }))
     }
@@ -74,7 +78,7 @@ impl Names {
                 return Err(Refused::NotOne);
             }
             let mut handle = self.open()?;
-            let (words, _) = said(reader, &mut handle, 1)?;
+            let (words, _) = said(reader, &mut handle, LEAST_WORDS)?;
             let number = *words.first().ok_or(Refused::NotOne)?;
             self.name_those_before(number, &mut handle, |_| true)?;
             let mut named = self.named.write().unwrap_or_else(PoisonError::into_inner);
@@ -90,12 +94,15 @@ impl Names {
     pub(super) fn number(
         &self,
         reader: &mut Reader,
-        count: u64,
+        count: usize,
         has_room: impl Fn(usize) -> bool,
     ) -> Option<Points> {
         let points = self.open().and_then(|mut handle| {
-            let (words, names) = said(reader, &mut handle, count)?;
+            let least = LEAST_WORDS * count;
+            let more = self.more.load(Relaxed).min(MOST_MORE);
+            let (words, names) = said(reader, &mut handle, least + more)?;
             drop(handle);
+            self.more.store(words.len().saturating_sub(least), Relaxed);
             self.name_all(names, has_room)?;
             self.split(words, count).ok_or(Refused::NoSuch)
         });
@@ -143,9 +150,9 @@ impl Names {
     }
 
     /// Words of so many points, each by itself.
-    fn split(&self, words: Vec<u64>, count: u64) -> Option<Points> {
+    fn split(&self, words: Vec<u64>, count: usize) -> Option<Points> {
         let (named, mut end) = (self.named(), 0);
-        let mut ends = Vec::with_capacity(usize::try_from(count).ok()?);
+        let mut ends = Vec::with_capacity(count);
         while let Some(number) = words.get(end) {
             end += named.get(usize::try_from(*number).ok()?)?.words()?;
             ends.push(end);
@@ -173,9 +180,9 @@ impl Names {
     }
 }
 
-/// The words of the points that a reader has, so many, and how many names there are then.
-fn said(reader: &mut Reader, names: &mut book::Names, count: u64) -> Result<(Vec<u64>, u64), Refused> {
-    let mut words = vec![0; LEAST_WORDS * usize::try_from(count).unwrap_or(0)];
+/// The words of the points that a reader has, about so many, and how many names there are then.
+fn said(reader: &mut Reader, names: &mut book::Names, room: usize) -> Result<(Vec<u64>, u64), Refused> {
+    let mut words = vec![0; room];
     let answer = check(reader.words(names, &mut words))?;
     Ok((words, answer.at))
 }

@@ -72,7 +72,8 @@ impl Read {
     /// one can't be named.
     pub fn number(&mut self, names: &Arc<Names>, has_room: impl Fn(usize) -> bool) -> bool {
         let reader = self.reader.as_mut();
-        let Some(points) = reader.and_then(|reader| names.number(reader, self.points, has_room)) else {
+        let Some(points) = reader.and_then(|reader| names.number(reader, self.points as usize, has_room))
+        else {
             return false;
         };
         self.post.body = Body::Points(points);

@@ -131,14 +131,10 @@ fn a_block_that_is_refused_names_nothing_and_reads_nothing() {
     let all = names("s", 20);
     let by = named(&all);
     let one = Bytes::from(points(&names("t", 1), 1, 0));
-    let mut named = 20;
-    let (blocks, ()) = each_block_fails(true, || {
-        let number = by.learn(one.clone())?;
-        assert_eq!(number, named, "what was refused has no number");
-        named += 1;
-        Ok(())
-    });
+    let (blocks, number) = each_block_fails(true, || by.learn(one.clone()));
     assert!(blocks > 5, "{blocks} blocks to name");
+    use crate::files::Names as _;
+    assert_eq!((number, by.text(20), by.text(21)), (20, one, Bytes::new()));
     let read = || core.read_points("A".into(), of(0..21, 10, 5), by.clone(), 0);
     let (blocks, mut read) = each_block_fails(true, read);
     assert!(blocks > 3, "{blocks} blocks to read");
