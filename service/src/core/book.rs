@@ -178,10 +178,12 @@ impl Reader {
     /// The points that it has, as `put` takes them, into a list that is about as long as they are. A series that has no number
     /// among the names gets the next one, and `at` is how many there are then. The reader has its points as before.
     pub fn words(&mut self, names: &mut Names, words: &mut Vec<u64>) -> Answer {
-        // SAFETY: both handles are live and lent for this call alone; the slice and the answer are there through it.
-        written(words, |words, answer| unsafe {
-            reader_words(&mut self.0, &mut names.0, words.as_mut_ptr(), words.len(), answer)
-        })
+        let (reader, names) = (&mut self.0, &mut names.0);
+        let call = |words: &mut [u64], answer: &mut Answer| {
+            // SAFETY: both handles are live and lent for this call alone; the slice and the answer are there through it.
+            unsafe { reader_words(reader, names, words.as_mut_ptr(), words.len(), answer) }
+        };
+        written(words, call)
     }
 
     /// When its points end: `number` is the least of these times, `at` the greatest, in nanoseconds. Another status where it
@@ -208,10 +210,11 @@ impl Names {
 
     /// A request of one point of the series that has this number, into a list that is about as long as that is.
     pub fn text(&mut self, number: u64, text: &mut Vec<u8>) -> Answer {
-        // SAFETY: the handle is live and lent for this call alone; the slice and the answer are there through it.
-        written(text, |text, answer| unsafe {
-            names_text(&mut self.0, number, text.as_mut_ptr(), text.len(), answer)
-        })
+        let call = |text: &mut [u8], answer: &mut Answer| {
+            // SAFETY: the handle is live and lent for this call alone; the slice and the answer are there through it.
+            unsafe { names_text(&mut self.0, number, text.as_mut_ptr(), text.len(), answer) }
+        };
+        written(text, call)
     }
 }
 

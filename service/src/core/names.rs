@@ -3,6 +3,7 @@
 use super::book::{self, Answer, Reader};
 use super::readers::with_reader;
 use super::refusal::{check, Refused};
+use super::texts::Texts;
 use crate::files::{self, Points};
 use crate::otlp::series::words_of;
 use bytes::Bytes;
@@ -23,8 +24,8 @@ const TEXT: usize = 1 << 10;
 /// are read by them.
 pub struct Names {
     handle: Mutex<book::Names>,
-    /// By number. Nobody has points of a number that is not there yet.
-    named: RwLock<Vec<Named>>,
+    /// Nobody has points of a number that is not there yet.
+    named: RwLock<Named>,
     /// A series has a number and no request, for want of room or of memory: no other one gets a number.
     is_closed: AtomicBool,
     /// How many words the last post had beyond those of sums: so the next one's have room at once.
@@ -32,23 +33,37 @@ pub struct Names {
     generation: u64,
 }
 
+/// Of each number a request of one point, and how many words say a point, with its number: known once it is asked for, and 0
+/// where the request is not read.
+#[derive(Default)]
 struct Named {
-    /// A request of one point.
-    text: Bytes,
-    /// How many words say a point, with its number; none where the text is not read. Known once it is asked for.
-    words: OnceLock<Option<usize>>,
+    texts: Texts,
+    words: Vec<OnceLock<u32>>,
 }
 
 impl Named {
-    fn of(text: Bytes) -> Named {
-        Named {
-            text,
-            words: OnceLock::new(),
-        }
+    fn push(&mut self, text: &[u8]) {
+        self.texts.push(text);
+        self.words.push(OnceLock::new());
     }
 
-    fn words(&self) -> Option<usize> {
-        *self.words.get_or_init(|| words_of(&self.text))
+    /// The points of these words, so many.
+    fn split(&self, words: Vec<u64>, count: usize) -> Option<Points> {
+        let (mut ends, mut end) = (Vec::with_capacity(count), 0);
+        while let Some(number) = words.get(end) {
+            end += self.words_of(usize::try_from(*number).ok()?)?;
+            ends.push(end);
+        }
+        Points::new(words, ends)
+    }
+
+    fn words_of(&self, number: usize) -> Option<usize> {
+        let words = || self.texts.get(number).and_then(|text| words_of(&text));
+        let found = *self
+            .words
+            .get(number)?
+            .get_or_init(|| words().unwrap_or(0) as u32);
+        (found > 0).then_some(found as usize)
     }
 }
 
@@ -81,9 +96,8 @@ impl Names {
             let (words, _) = said(reader, &mut handle, LEAST_WORDS)?;
             let number = *words.first().ok_or(Refused::NotOne)?;
             self.name_those_before(number, &mut handle, |_| true)?;
-            let mut named = self.named.write().unwrap_or_else(PoisonError::into_inner);
-            if number == named.len() as u64 {
-                named.push(Named::of(request));
+            if number == self.count() {
+                self.push(&request);
             }
             Ok(number)
         })
@@ -104,7 +118,7 @@ impl Names {
             drop(handle);
             self.more.store(words.len().saturating_sub(least), Relaxed);
             self.name_all(names, has_room)?;
-            self.split(words, count).ok_or(Refused::NoSuch)
+            self.named().split(words, count).ok_or(Refused::NoSuch)
         });
         self.is_closed.fetch_or(points.is_err(), Relaxed);
         points.ok()
@@ -139,25 +153,19 @@ impl Names {
             if !has_room(text.len()) {
                 return Err(Refused::NoMemory);
             }
-            let mut named = self.named.write().unwrap_or_else(PoisonError::into_inner);
-            named.push(Named::of(Bytes::copy_from_slice(&text)));
+            self.push(&text);
         }
         Ok(())
     }
 
     fn count(&self) -> u64 {
-        self.named().len() as u64
+        self.named().texts.count() as u64
     }
 
-    /// Words of so many points, each by itself.
-    fn split(&self, words: Vec<u64>, count: usize) -> Option<Points> {
-        let (named, mut end) = (self.named(), 0);
-        let mut ends = Vec::with_capacity(count);
-        while let Some(number) = words.get(end) {
-            end += named.get(usize::try_from(*number).ok()?)?.words()?;
-            ends.push(end);
-        }
-        Points::new(words, ends)
+    /// With the lock of the handle.
+    fn push(&self, text: &[u8]) {
+        let mut named = self.named.write().unwrap_or_else(PoisonError::into_inner);
+        named.push(text);
     }
 
     pub(super) fn put(&self, reader: &mut Reader, sender: &[u8], words: &[u64], books: usize) -> Answer {
@@ -171,11 +179,11 @@ impl Names {
     /// How long the requests of these numbers are, all together.
     pub(super) fn length(&self, numbers: impl Iterator<Item = u64>) -> usize {
         let named = self.named();
-        let lengths = numbers.filter_map(|number| Some(named.get(usize::try_from(number).ok()?)?.text.len()));
+        let lengths = numbers.filter_map(|number| named.texts.length(usize::try_from(number).ok()?));
         lengths.sum()
     }
 
-    fn named(&self) -> RwLockReadGuard<'_, Vec<Named>> {
+    fn named(&self) -> RwLockReadGuard<'_, Named> {
         self.named.read().unwrap_or_else(PoisonError::into_inner) // a list is sound at any time
     }
 }
@@ -193,11 +201,9 @@ impl files::Names for Names {
     }
 
     fn text(&self, number: u64) -> Bytes {
-        let place = usize::try_from(number).unwrap_or(usize::MAX);
-        let named = self.named();
-        named
-            .get(place)
-            .map(|named| named.text.clone())
-            .unwrap_or_default()
+        let text = usize::try_from(number)
+            .ok()
+            .and_then(|number| self.named().texts.get(number));
+        text.unwrap_or_default().into()
     }
 }

@@ -32,6 +32,7 @@ use super::records::{self, Which};
 use super::segment::{self, Ahead, Dropped, Segment};
 use super::{lock, seconds, Durability, Fault};
 pub use held::Held;
+pub use name_records::shared_ends;
 use named_numbers::NamedNumbers;
 pub use post::{Body, Names, NoNames, OfRun, Points, Post, Replayed};
 use std::collections::{BTreeMap, BTreeSet};

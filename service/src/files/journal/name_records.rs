@@ -21,7 +21,7 @@ impl NameWriter {
     pub fn put(&mut self, out: &mut Vec<u8>, number: u64, text: Bytes) {
         let mut head = Vec::new();
         packed::put_number(&mut head, number);
-        match shared(&self.last, &text) {
+        match shared_ends(&self.last, &text) {
             (0, 0) => records::put(out, NAME, &[&head, &text]),
             (begin, end) => {
                 packed::put_number(&mut head, begin as u64);
@@ -53,7 +53,7 @@ impl NameReader {
 }
 
 /// How many bytes both begin with, and how many both end with behind these.
-fn shared(one: &[u8], other: &[u8]) -> (usize, usize) {
+pub fn shared_ends(one: &[u8], other: &[u8]) -> (usize, usize) {
     let begin = alike(one.iter().zip(other));
     let (one, other) = (&one[begin..], &other[begin..]);
     (begin, alike(one.iter().rev().zip(other.iter().rev())))
