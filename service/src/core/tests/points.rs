@@ -1,6 +1,7 @@
 //! Points by number: what they say, what is refused, and what is read again.
 
 use super::*;
+use std::collections::BTreeSet;
 
 /// Names for these series of sums, in this order.
 pub(super) fn named(all: &[String]) -> Arc<Names> {
@@ -191,6 +192,12 @@ fn by_number(read: &Read) -> Vec<Vec<u64>> {
     points.each().map(<[u64]>::to_vec).collect()
 }
 
+/// The name of the series that has this number.
+fn name_of(names: &Arc<Names>, number: u64) -> String {
+    let text = crate::files::Names::text(&**names, number);
+    crate::otlp::series::only(&text).unwrap().parts().unwrap().name
+}
+
 #[test]
 fn a_text_has_its_points_by_number() {
     for series in [1, 80_000] {
@@ -202,25 +209,14 @@ fn a_text_has_its_points_by_number() {
         found.sort_unstable();
         let each = (0..30).map(|number| vec![number, 10, 20, 5]);
         assert_eq!(found, each.collect::<Vec<_>>());
-        let texts = found
-            .iter()
-            .map(|point| crate::files::Names::text(&*by, point[0]));
-        let series = texts.map(|text| crate::otlp::series::only(&text).unwrap());
-        let mut named: Vec<_> = series.map(|series| series.parts().unwrap().name).collect();
-        named.sort_unstable();
-        let mut wanted = all.clone();
-        wanted.sort_unstable();
-        assert_eq!(named, wanted);
+        let named: BTreeSet<_> = (0..30).map(|number| name_of(&by, number)).collect();
+        assert_eq!(named, all.iter().cloned().collect());
         core.lock().admit(&mut read).unwrap();
         // A series keeps its number, and a refusal names a point by its place in the text.
         let other = points(&[&names("n", 2)[..], &all[..1]].concat(), 15, 1);
         let (mut read, _) = numbered(&core, &by, &other);
-        let number = by_number(&read).into_iter().find(|point| point[0] < 30).unwrap()[0];
-        let text = crate::files::Names::text(&*by, number);
-        assert_eq!(
-            crate::otlp::series::only(&text).unwrap().parts().unwrap().name,
-            "s0"
-        );
+        let known = by_number(&read).into_iter().find(|point| point[0] < 30);
+        assert_eq!(name_of(&by, known.unwrap()[0]), "s0");
         let late = Refused::OutOfOrder {
             point: 2,
             frontier: 20,
@@ -228,6 +224,40 @@ fn a_text_has_its_points_by_number() {
         assert_eq!(core.lock().admit(&mut read), Err(late));
         assert!(taken(&core).values().all(|one| *one == (5, 20)));
     }
+}
+
+/// By posts, and by requests of one point.
+#[test]
+fn series_that_are_named_at_once_have_their_own_names() {
+    let (core, by) = (Core::new(80_000).unwrap(), Names::new().unwrap());
+    let name_some = |thread: usize| {
+        for round in 0..50 {
+            let all = names(&format!("s{}-{round}-", thread / 2), 20);
+            let found: BTreeSet<String> = match thread % 2 {
+                0 => {
+                    let (read, is_numbered) = numbered(&core, &by, &points(&all, 10, 1));
+                    assert!(is_numbered);
+                    by_number(&read)
+                        .iter()
+                        .map(|point| name_of(&by, point[0]))
+                        .collect()
+                }
+                _ => {
+                    let learnt = |name| by.learn(points(std::slice::from_ref(name), 1, 0).into());
+                    all.iter()
+                        .map(|name| name_of(&by, learnt(name).unwrap()))
+                        .collect()
+                }
+            };
+            assert_eq!(found, all.into_iter().collect());
+        }
+    };
+    std::thread::scope(|scope| {
+        for thread in 0..4 {
+            let name_some = &name_some;
+            scope.spawn(move || name_some(thread));
+        }
+    });
 }
 
 /// It stays a text then, and is taken.
