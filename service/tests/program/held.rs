@@ -23,7 +23,11 @@ fn written_and_memory(service: &Service) -> (u64, u64) {
 fn many_points(post: u64) -> String {
     let point = |number: u64| {
         let start = 100 + 10 * (post * POINTS + number);
-        let value = if number % 2 == 0 { 1 << 60 } else { -(1i64 << 60) };
+        let value = if number.is_multiple_of(2) {
+            1 << 60
+        } else {
+            -(1i64 << 60)
+        };
         format!(
             "{{\"asInt\":\"{}\",\"startTimeUnixNano\":\"{start}\",\"timeUnixNano\":\"{}\"}}",
             value + i64::from(number == 0),
@@ -66,10 +70,7 @@ fn posts_of_a_quarantined_sender_cost_a_checkpoint_nothing_and_come_out_whole() 
     flush(&service);
     let (senders, posts, bytes) = held(&service);
     assert_eq!((senders, posts), (1, POSTS));
-    assert!(
-        bytes > POSTS * POINTS * LENGTH && bytes > 4 * LITTLE,
-        "{bytes} bytes"
-    );
+    assert!(bytes > POSTS * POINTS * LENGTH, "{bytes} bytes");
     let before = written_and_memory(&service);
     assert!(before.0 - before_all.0 < bytes + LITTLE, "they are moved once");
     for round in 0..ROUNDS {
