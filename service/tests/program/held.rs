@@ -4,9 +4,9 @@ use crate::support::{points, Place, Service};
 
 const POSTS: u64 = 24;
 /// Of a post, and what one takes in the journal at least.
-const POINTS: u64 = 20_000;
-const LENGTH: u64 = 14;
-const LITTLE: u64 = 1 << 20;
+const POINTS: u64 = 8_000;
+const LENGTH: u64 = 9;
+const LITTLE: u64 = 512 << 10;
 const ROUNDS: u64 = 10;
 
 /// What a process has written so far, and the most memory that it has had, in bytes.
@@ -24,9 +24,9 @@ fn many_points(post: u64) -> String {
     let point = |number: u64| {
         let start = 100 + 10 * (post * POINTS + number);
         let value = if number.is_multiple_of(2) {
-            1 << 60
+            1 << 36
         } else {
-            -(1i64 << 60)
+            -(1i64 << 36)
         };
         format!(
             "{{\"asInt\":\"{}\",\"startTimeUnixNano\":\"{start}\",\"timeUnixNano\":\"{}\"}}",
