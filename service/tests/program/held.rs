@@ -4,9 +4,9 @@ use crate::support::{points, Place, Service};
 
 const POSTS: u64 = 24;
 /// Of a post, and what one takes in the journal at least.
-const POINTS: u64 = 8_000;
+const POINTS: u64 = 16_000;
 const LENGTH: u64 = 9;
-const LITTLE: u64 = 512 << 10;
+const LITTLE: u64 = 1 << 20;
 const ROUNDS: u64 = 10;
 
 /// What a process has written so far, and the most memory that it has had, in bytes.
