@@ -12,6 +12,8 @@ use std::ptr::null_mut;
 pub(super) const MOST_TAKEN: usize = 1000;
 /// What a call says that was out of memory.
 pub(super) const NO_MEMORY: u32 = 7;
+/// What a call says that was given too short a slice: `number` is the length that it needs.
+const TOO_SHORT: u32 = 18;
 
 /// One word, that of the library's own value.
 #[repr(C)]
@@ -56,9 +58,10 @@ extern "C" {
         out: *mut Answer,
     );
     fn reader_ends(reader: *mut Handle, out: *mut Answer);
+    fn reader_words(reader: *mut Handle, names: *mut Handle, words: *mut u64, count: usize, out: *mut Answer);
     fn names_new(out: *mut Handle) -> bool;
     fn names_free(names: *mut Handle);
-    fn names_learn(names: *mut Handle, body: *const u8, length: usize, out: *mut Answer);
+    fn names_text(names: *mut Handle, number: u64, text: *mut u8, length: usize, out: *mut Answer);
     fn desk_new(books: usize, out: *mut Handle) -> bool;
     fn desk_free(desk: *mut Handle);
     fn desk_admit(desk: *mut Handle, reader: *mut Handle, out: *mut Answer);
@@ -107,6 +110,17 @@ fn asked(call: impl FnOnce(&mut Answer)) -> Answer {
         answer.status != NO_MEMORY || memory::refusals() > before,
         "the library says that there is no memory, and was refused none"
     );
+    answer
+}
+
+/// Makes a call that writes to a slice, and once more where it says how long that has to be. `out` is what it has written.
+fn written<T: Clone + Default>(out: &mut Vec<T>, mut call: impl FnMut(&mut [T], &mut Answer)) -> Answer {
+    let mut answer = asked(|answer| call(out, answer));
+    if answer.status == TOO_SHORT {
+        out.resize(usize::try_from(answer.number).unwrap_or(0), T::default());
+        answer = asked(|answer| call(out, answer));
+    }
+    out.truncate(usize::try_from(answer.number).unwrap_or(0));
     answer
 }
 
@@ -161,6 +175,17 @@ impl Reader {
         })
     }
 
+    /// The points that it has, as `put` takes them, into a list that is about as long as they are. A series that has no number
+    /// among the names gets the next one, and `at` is how many there are then. The reader has its points as before.
+    pub fn words(&mut self, names: &mut Names, words: &mut Vec<u64>) -> Answer {
+        let (reader, names) = (&mut self.0, &mut names.0);
+        let call = |words: &mut [u64], answer: &mut Answer| {
+            // SAFETY: both handles are live and lent for this call alone; the slice and the answer are there through it.
+            unsafe { reader_words(reader, names, words.as_mut_ptr(), words.len(), answer) }
+        };
+        written(words, call)
+    }
+
     /// When its points end: `number` is the least of these times, `at` the greatest, in nanoseconds. Another status where it
     /// has no points.
     pub fn ends(&mut self) -> Answer {
@@ -183,10 +208,13 @@ impl Names {
         made(|handle| unsafe { names_new(handle) }).map(Names)
     }
 
-    /// Gives the next number to the series of a request of one point.
-    pub fn learn(&mut self, request: &[u8]) -> Answer {
-        // SAFETY: the handle is live and lent for this call alone; the slice and the answer are there through it.
-        asked(|answer| unsafe { names_learn(&mut self.0, request.as_ptr(), request.len(), answer) })
+    /// A request of one point of the series that has this number, into a list that is about as long as that is.
+    pub fn text(&mut self, number: u64, text: &mut Vec<u8>) -> Answer {
+        let call = |text: &mut [u8], answer: &mut Answer| {
+            // SAFETY: the handle is live and lent for this call alone; the slice and the answer are there through it.
+            unsafe { names_text(&mut self.0, number, text.as_mut_ptr(), text.len(), answer) }
+        };
+        written(text, call)
     }
 }
 

@@ -18,6 +18,7 @@ mod readers;
 mod refusal;
 mod rounds;
 mod stretch;
+mod texts;
 
 pub use flushed::Flushed;
 pub use memory::used as memory_used;

@@ -1,21 +1,70 @@
-//! Series by their numbers: the library's names, each with the request that named it.
+//! Series by their numbers: the library's names, each with a request that names it.
 
 use super::book::{self, Answer, Reader};
+use super::readers::with_reader;
 use super::refusal::{check, Refused};
-use crate::files;
+use super::texts::Texts;
+use crate::files::{self, Points};
+use crate::otlp::series::words_of;
 use bytes::Bytes;
-use std::sync::atomic::{AtomicU64, Ordering::Relaxed};
-use std::sync::{Arc, Mutex, MutexGuard, PoisonError, RwLock, RwLockReadGuard};
+use std::sync::atomic::{AtomicBool, AtomicU64, AtomicUsize, Ordering::Relaxed};
+use std::sync::{Arc, Mutex, MutexGuard, OnceLock, PoisonError, RwLock, RwLockReadGuard};
 
 static GENERATIONS: AtomicU64 = AtomicU64::new(1);
+
+/// Whoever a series is named for: the library wants a sender.
+const ANYBODY: &[u8] = b"-";
+/// So many words say a point of a sum, with its number; of a histogram more.
+const LEAST_WORDS: usize = 4;
+const MOST_MORE: usize = 4 << 10;
+/// Most requests of one point are not longer.
+const TEXT: usize = 1 << 10;
 
 /// Numbers from 0 on, in the order in which series were named. A lock of its own is held while one is named or points
 /// are read by them.
 pub struct Names {
     handle: Mutex<book::Names>,
-    /// By number, a request of one point. It has all that was named, since each is put in under the lock of names.
-    texts: RwLock<Vec<Bytes>>,
+    /// Nobody has points of a number that is not there yet.
+    named: RwLock<Named>,
+    /// A series has a number and no request, for want of room or of memory: no other one gets a number.
+    is_closed: AtomicBool,
+    /// How many words the last post had beyond those of sums: so the next one's have room at once.
+    more: AtomicUsize,
     generation: u64,
+}
+
+/// Of each number a request of one point, and how many words say a point, with its number: known once it is asked for, and 0
+/// where the request is not read.
+#[derive(Default)]
+struct Named {
+    texts: Texts,
+    words: Vec<OnceLock<u32>>,
+}
+
+impl Named {
+    fn push(&mut self, text: &[u8]) {
+        self.texts.push(text);
+        self.words.push(OnceLock::new());
+    }
+
+    /// The points of these words, so many.
+    fn split(&self, words: Vec<u64>, count: usize) -> Option<Points> {
+        let (mut ends, mut end) = (Vec::with_capacity(count), 0);
+        while let Some(number) = words.get(end) {
+            end += self.words_of(usize::try_from(*number).ok()?)?;
+            ends.push(end);
+        }
+        Points::new(words, ends)
+    }
+
+    fn words_of(&self, number: usize) -> Option<usize> {
+        let words = || self.texts.get(number).and_then(|text| words_of(&text));
+        let found = *self
+            .words
+            .get(number)?
+            .get_or_init(|| words().unwrap_or(0) as u32);
+        (found > 0).then_some(found as usize)
+    }
 }
 
 impl Names {
@@ -23,18 +72,100 @@ impl Names {
         let handle = book::Names::new().ok_or(Refused::NoMemory)?;
         Ok(Arc::new(Names {
             handle: Mutex::new(handle),
-            texts: RwLock::default(),
+            named: RwLock::default(),
+            is_closed: AtomicBool::new(false),
+            more: AtomicUsize::new(0),
             generation: GENERATIONS.fetch_add(1, Relaxed),
         }))
     }
 
-    /// Gives the next number to the series of a request that has one point, which the book would take: else `NotOne`.
+    /// Whether no series gets a number any more.
+    pub fn are_closed(&self) -> bool {
+        self.is_closed.load(Relaxed)
+    }
+
+    /// The number of the series of a request that has one point, which the book would take: else `NotOne`. It is read by a
+    /// kept reader, so what several have in common is in memory once.
     pub fn learn(&self, request: Bytes) -> Result<u64, Refused> {
-        let mut handle = self.handle();
-        let number = check(handle.learn(&request))?.number;
-        let mut texts = self.texts.write().unwrap_or_else(PoisonError::into_inner);
-        texts.push(request);
-        Ok(number)
+        with_reader(|reader| {
+            let read = check(reader.read(ANYBODY, &request, 1))?;
+            if (read.number, read.at) != (1, 0) {
+                return Err(Refused::NotOne);
+            }
+            let mut handle = self.open()?;
+            let (words, _) = said(reader, &mut handle, LEAST_WORDS)?;
+            let number = *words.first().ok_or(Refused::NotOne)?;
+            self.name_those_before(number, &mut handle, |_| true)?;
+            if number == self.count() {
+                self.push(&request);
+            }
+            Ok(number)
+        })
+    }
+
+    /// The points that a reader has by the numbers of their series, so many; `has_room` takes room for the request of each that is
+    /// new. None where one can't be named: from then on no other is.
+    pub(super) fn number(
+        &self,
+        reader: &mut Reader,
+        count: usize,
+        has_room: impl Fn(usize) -> bool,
+    ) -> Option<Points> {
+        let points = self.open().and_then(|mut handle| {
+            let least = LEAST_WORDS * count;
+            let more = self.more.load(Relaxed).min(MOST_MORE);
+            let (words, names) = said(reader, &mut handle, least + more)?;
+            drop(handle);
+            self.more.store(words.len().saturating_sub(least), Relaxed);
+            self.name_all(names, has_room)?;
+            self.named().split(words, count).ok_or(Refused::NoSuch)
+        });
+        self.is_closed.fetch_or(points.is_err(), Relaxed);
+        points.ok()
+    }
+
+    fn open(&self) -> Result<MutexGuard<'_, book::Names>, Refused> {
+        match self.are_closed() {
+            false => Ok(self.handle()),
+            true => Err(Refused::NoMemory),
+        }
+    }
+
+    /// So many have a request from here on. Others read points between two of them.
+    fn name_all(&self, names: u64, has_room: impl Fn(usize) -> bool) -> Result<(), Refused> {
+        while self.count() < names {
+            let mut handle = self.handle();
+            let next = self.count() + 1;
+            self.name_those_before(next.min(names), &mut handle, &has_room)?;
+        }
+        Ok(())
+    }
+
+    fn name_those_before(
+        &self,
+        number: u64,
+        handle: &mut book::Names,
+        has_room: impl Fn(usize) -> bool,
+    ) -> Result<(), Refused> {
+        for next in self.count()..number {
+            let mut text = vec![0; TEXT];
+            check(handle.text(next, &mut text))?;
+            if !has_room(text.len()) {
+                return Err(Refused::NoMemory);
+            }
+            self.push(&text);
+        }
+        Ok(())
+    }
+
+    fn count(&self) -> u64 {
+        self.named().texts.count() as u64
+    }
+
+    /// With the lock of the handle.
+    fn push(&self, text: &[u8]) {
+        let mut named = self.named.write().unwrap_or_else(PoisonError::into_inner);
+        named.push(text);
     }
 
     pub(super) fn put(&self, reader: &mut Reader, sender: &[u8], words: &[u64], books: usize) -> Answer {
@@ -47,14 +178,21 @@ impl Names {
 
     /// How long the requests of these numbers are, all together.
     pub(super) fn length(&self, numbers: impl Iterator<Item = u64>) -> usize {
-        let texts = self.texts();
-        let lengths = numbers.filter_map(|number| texts.get(usize::try_from(number).ok()?).map(Bytes::len));
+        let named = self.named();
+        let lengths = numbers.filter_map(|number| named.texts.length(usize::try_from(number).ok()?));
         lengths.sum()
     }
 
-    fn texts(&self) -> RwLockReadGuard<'_, Vec<Bytes>> {
-        self.texts.read().unwrap_or_else(PoisonError::into_inner) // a list is sound at any time
+    fn named(&self) -> RwLockReadGuard<'_, Named> {
+        self.named.read().unwrap_or_else(PoisonError::into_inner) // a list is sound at any time
     }
+}
+
+/// The words of the points that a reader has, about so many, and how many names there are then.
+fn said(reader: &mut Reader, names: &mut book::Names, room: usize) -> Result<(Vec<u64>, u64), Refused> {
+    let mut words = vec![0; room];
+    let answer = check(reader.words(names, &mut words))?;
+    Ok((words, answer.at))
 }
 
 impl files::Names for Names {
@@ -63,7 +201,9 @@ impl files::Names for Names {
     }
 
     fn text(&self, number: u64) -> Bytes {
-        let place = usize::try_from(number).unwrap_or(usize::MAX);
-        self.texts().get(place).cloned().unwrap_or_default()
+        let text = usize::try_from(number)
+            .ok()
+            .and_then(|number| self.named().texts.get(number));
+        text.unwrap_or_default().into()
     }
 }

@@ -5,6 +5,7 @@ use super::readers::{keep, reader};
 use super::refusal::{check, Refused};
 use super::{Across, Core, Names};
 use crate::files::{self, Body, NoNames, Points, Post};
+use bytes::Bytes;
 use std::sync::Arc;
 
 /// A post that is to be read, or was, and is in no book yet. Its reader is another's once this is dropped.
@@ -13,6 +14,8 @@ pub struct Read {
     across: Across,
     /// None until it is read.
     pub(super) reader: Option<Reader>,
+    /// What it is read from, where that is a text: its points by number are in another order.
+    text: Option<Bytes>,
     pub post: Post,
     /// By which its points have numbers, where they have.
     names: Option<Arc<Names>>,
@@ -33,6 +36,10 @@ impl Read {
         names: Option<Arc<Names>>,
         left_out: u64,
     ) -> Read {
+        let text = match &body {
+            Body::Text(text) => Some(text.clone()),
+            Body::Points(_) => None,
+        };
         let post = Post {
             sender,
             foreign: left_out,
@@ -40,6 +47,7 @@ impl Read {
         };
         Read {
             reader: None,
+            text,
             books: core.books,
             across: core.across,
             post,
@@ -55,10 +63,29 @@ impl Read {
     pub fn be_read(&mut self) -> Result<(), Refused> {
         let ends = check(self.again()?.ends()).ok();
         self.ends = ends.map(|ends| (ends.number, ends.at));
+        self.split();
+        Ok(())
+    }
+
+    /// Has points that were read from a text have numbers by these names: the journal keeps these, and those of a series are in
+    /// their order. `has_room` takes room for the request of each series that is new. False, and the post is as it was, where
+    /// one can't be named.
+    pub fn number(&mut self, names: &Arc<Names>, has_room: impl Fn(usize) -> bool) -> bool {
+        let reader = self.reader.as_mut();
+        let Some(points) = reader.and_then(|reader| names.number(reader, self.points as usize, has_room))
+        else {
+            return false;
+        };
+        self.post.body = Body::Points(points);
+        self.names = Some(names.clone());
+        self.split();
+        true
+    }
+
+    fn split(&mut self) {
         if let (Body::Points(points), true) = (&self.post.body, self.is_of_several()) {
             self.stretches = self.across.split(points);
         }
-        Ok(())
     }
 
     /// A reader has a post until the book was asked to take it, whatever that says.
@@ -68,10 +95,10 @@ impl Read {
             none => none.insert(reader().ok_or(Refused::NoMemory)?),
         };
         let (sender, books) = (self.post.sender.as_bytes(), self.books);
-        let answer = match (&self.post.body, &self.names) {
-            (Body::Text(body), _) => reader.read(sender, body, books),
-            (Body::Points(points), Some(names)) => names.put(reader, sender, points.words(), books),
-            (Body::Points(_), None) => return Err(Refused::NoSuch),
+        let answer = match (&self.text, &self.post.body, &self.names) {
+            (Some(text), ..) => reader.read(sender, text, books),
+            (None, Body::Points(points), Some(names)) => names.put(reader, sender, points.words(), books),
+            _ => return Err(Refused::NoSuch),
         };
         let read = check(answer)?;
         self.points = read.number;
@@ -99,7 +126,7 @@ impl Read {
             .map(|(first, last)| (across.stretch(first), across.stretch(last)))
     }
 
-    /// Whether its points are of several stretches. A text of which that is so is to be read by number.
+    /// Whether its points are of several stretches: then it goes into the book by number.
     pub fn is_of_several(&self) -> bool {
         self.first_and_last().is_some_and(|(first, last)| first < last)
     }

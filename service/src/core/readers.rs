@@ -2,6 +2,7 @@
 //! that it knows them at once: so few are kept, and none that nobody has used for a while.
 
 use super::book::Reader;
+use super::Refused;
 use std::sync::atomic::{AtomicU64, Ordering::Relaxed};
 use std::sync::{Arc, Mutex, MutexGuard, PoisonError, Weak};
 use std::time::{Duration, Instant};
@@ -44,6 +45,14 @@ pub(super) fn reader() -> Option<Reader> {
     let kept = OWN.try_with(|own| locked(own).pop()).ok().flatten();
     let kept = kept.or_else(|| locked(&SPARE).pop());
     kept.map(|kept| kept.reader).or_else(Reader::new)
+}
+
+/// Does something by a reader that is kept.
+pub(super) fn with_reader<T>(work: impl FnOnce(&mut Reader) -> Result<T, Refused>) -> Result<T, Refused> {
+    let mut reader = reader().ok_or(Refused::NoMemory)?;
+    let done = work(&mut reader);
+    keep(reader);
+    done
 }
 
 pub(super) fn keep(reader: Reader) {

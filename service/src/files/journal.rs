@@ -7,14 +7,16 @@
 //! | 19 name | number, JSON: a request of one point, whose series has the number in this file from here on |
 //! | 20 points | as a post, but its body is points, and packed as its numbers are (`packed`) |
 //! | 21 runs | the same of points some of which were made of cumulative ones: ahead of them is what their runs are (`packed::runs`) |
+//! | 22 name after another | number, how many bytes its request begins with of the name before in this file, with how many it ends behind these, what is between |
 //!
-//! A name is written with the first points of a segment that need it, by the same write.
+//! Numbers of 19 and 22 are packed. A name is written with the first points of a segment that need it, by the same write.
 //!
 //! A record is written in place, under one short lock, so that the order in the file is the order of the calls. One
 //! thread syncs, once for all that wait; nobody who must wait for the disk holds the lock of those who write.
 
 mod earlier_segment;
 mod held;
+mod name_records;
 mod named_numbers;
 mod open;
 mod packed;
@@ -30,6 +32,7 @@ use super::records::{self, Which};
 use super::segment::{self, Ahead, Dropped, Segment};
 use super::{lock, seconds, Durability, Fault};
 pub use held::Held;
+pub use name_records::shared_ends;
 use named_numbers::NamedNumbers;
 pub use post::{Body, Names, NoNames, OfRun, Points, Post, Replayed};
 use std::collections::{BTreeMap, BTreeSet};
@@ -45,6 +48,7 @@ const HELD: u8 = records::OWN + 2;
 const NAME: u8 = records::OWN + 3;
 const POINTS: u8 = records::OWN + 4;
 const RUNS: u8 = records::OWN + 5;
+const NAME_AFTER: u8 = records::OWN + 6;
 
 /// A place in the journal: all that was appended before it.
 #[derive(Clone, Copy, Debug, PartialEq, Eq, PartialOrd, Ord)]

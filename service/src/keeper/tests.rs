@@ -102,6 +102,19 @@ fn point(name: &str, number: u64) -> String {
     )
 }
 
+/// One of a series that takes so many bytes in the journal, since it has little in common with others.
+fn long_point(series: usize, length: usize) -> String {
+    let digits = |at: usize| format!("{:016x}", (at as u64 + 1).wrapping_mul(0x9e37_79b9_7f4a_7c15));
+    let attribute = |(key, at): (usize, usize)| {
+        let value: String = (at..at + 250).map(digits).collect();
+        format!(r#"{{"key":"k{key}","value":{{"stringValue":"{value}"}}}}"#)
+    };
+    let firsts = (series * length..).step_by(250).take(length / 4_000);
+    let attributes: Vec<String> = firsts.enumerate().map(attribute).collect();
+    let attributes = format!("\"attributes\":[{}],\"asInt\"", attributes.join(","));
+    point(&format!("n{series}"), 1).replace("\"asInt\"", &attributes)
+}
+
 /// A keeper that orders nothing by itself.
 pub(crate) fn settings() -> Settings {
     Settings {
@@ -224,7 +237,7 @@ async fn nothing_is_taken_after_the_last_checkpoint() {
 #[tokio::test(flavor = "multi_thread")]
 async fn posts_that_come_at_once_leave_the_room_that_is_kept_for_commits() {
     const KEPT: u64 = 256 << 20;
-    const LENGTH: usize = 100_000;
+    const LENGTH: usize = 12_000;
     const FIT: usize = 10;
     let room = (FIT * LENGTH) as u64;
     let place = tempfile::tempdir().unwrap();
@@ -234,7 +247,7 @@ async fn posts_that_come_at_once_leave_the_room_that_is_kept_for_commits() {
     let written = move || std::fs::metadata(&path).map_or(0, |file| file.len());
     let free = move || (KEPT + room).saturating_sub(written());
     let run = Run::begin_in(folder.in_room(free), settings()).await;
-    let bodies = (0..40).map(|number| point(&format!("n{number}"), 1) + &" ".repeat(LENGTH));
+    let bodies = (0..40).map(|number| long_point(number, LENGTH));
     let mut taken = 0;
     for outcome in run.post_at_once(bodies.collect(), FIT) {
         match outcome.refusal() {

@@ -73,6 +73,17 @@ impl Series {
         self.is_full.load(Relaxed)
     }
 
+    /// Takes room for a series that is known elsewhere, by a name of so many bytes: whether there is so much.
+    pub fn take_room(&self, name: usize) -> bool {
+        let taken = self
+            .levels
+            .write()
+            .unwrap_or_else(PoisonError::into_inner)
+            .take_room(&[], name);
+        self.is_full.fetch_or(taken.is_err(), Relaxed);
+        taken.is_ok()
+    }
+
     /// The points of a request; none where it is to be read otherwise, which says nothing of it. What is not known yet
     /// is given to `learn` as a request of one point: none where it can't be named now.
     pub fn read(

@@ -7,7 +7,7 @@
 //! that they have.
 
 use super::Slot;
-use crate::core::{memory_used, Core, Names, Refused};
+use crate::core::{memory_used, Core, Names, Read, Refused};
 use crate::files::Points;
 use crate::otlp::{prepare, Encoding, Learnt, NotNamed, Numbered, Reading, Rounded, Series};
 use bytes::Bytes;
@@ -119,6 +119,14 @@ impl ByNumber {
         }
     }
 
+    /// Where no deltas are made of what is cumulative, that is foreign.
+    pub(super) fn without_cumulative(mut self) -> ByNumber {
+        let cumulative = std::mem::take(&mut self.cumulative);
+        self.keep(|place, _| cumulative.binary_search(&place).is_err());
+        self.foreign += cumulative.len() as u64;
+        self
+    }
+
     pub(super) fn bytes(&self) -> usize {
         let words = self.points.words().len() + self.points.count();
         2 * size_of::<u64>() * words + self.source.length() // a list that grows has room for twice what it has
@@ -160,8 +168,16 @@ impl Generation {
         })
     }
 
+    fn is_full(&self) -> bool {
+        self.series.is_full() || self.names.are_closed()
+    }
+
     fn is_over(&self, limits: Limits) -> bool {
-        self.series.is_full() && self.began.elapsed() >= limits.kept
+        self.is_full() && self.began.elapsed() >= limits.kept
+    }
+
+    fn number(&self, read: &mut Read) -> bool {
+        !self.is_full() && read.number(&self.names, |text| self.series.take_room(text))
     }
 
     fn read(&self, body: &[u8], reading: &Reading) -> Option<Numbered> {
@@ -245,6 +261,19 @@ impl Numbers {
             reading: reading.clone(),
         };
         Some(now.by_number(now.read(body, reading)?, source))
+    }
+
+    /// Has a text that was read have its points by number. It stays a text where there is no room for numbers, but for one of
+    /// several stretches.
+    pub fn number(&self, core: &Core, read: &mut Read) -> Result<(), Refused> {
+        let now = self.now(core, &self.of_texts);
+        if now.is_some_and(|now| now.number(read)) || !read.is_of_several() {
+            return Ok(());
+        }
+        match read.number(&Names::new()?, |_| true) {
+            true => Ok(()),
+            false => Err(Refused::NoMemory),
+        }
     }
 
     /// The points of a request in the book's form, also those that are cumulative; none where the book refuses it whole.

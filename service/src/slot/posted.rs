@@ -112,21 +112,16 @@ fn read_text(
     sender: String,
     body: Bytes,
 ) -> Result<Posted, Refused> {
-    let read = core.read(sender.clone(), body.clone())?;
+    let mut read = core.read(sender.clone(), body.clone())?;
     let is_within = read
         .ends()
         .is_none_or(|(first, last)| window.has_all(first, last));
-    if is_within && !read.is_of_several() {
-        return Ok(Posted::whole(read));
+    if is_within {
+        numbers.number(core, &mut read)?;
+        return fits(Posted::whole(read));
     }
     match numbers.read_text(core, &body)? {
-        Some(mut by) => {
-            // Where no deltas are made of them, they are foreign.
-            let cumulative = std::mem::take(&mut by.cumulative);
-            by.keep(|place, _| cumulative.binary_search(&place).is_err());
-            by.foreign += cumulative.len() as u64;
-            fits(read_points(core, window, sender, by)?)
-        }
+        Some(by) => fits(read_points(core, window, sender, by.without_cumulative())?),
         None => Ok(Posted::whole(read)),
     }
 }

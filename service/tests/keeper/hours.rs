@@ -1,7 +1,7 @@
 //! Hours are kept apart, over checkpoints, quarantines, kills and starts: by hour the sums are those of the posts.
 
 use crate::numbered::{points, post_by_number, Chance};
-use crate::support::{all, message, sums, Place, Run};
+use crate::support::{all, message, sums, text, Place, Run};
 use std::collections::{BTreeMap, BTreeSet};
 use std::sync::Arc;
 use std::time::{Duration, SystemTime, UNIX_EPOCH};
@@ -80,7 +80,10 @@ impl Model {
     async fn post(&mut self, run: &Run, chance: &mut Chance, reading: &Arc<Reading>) {
         let sender = format!("s{}", chance.below(SENDERS));
         let post = self.draw(&sender, chance);
-        let outcome = post_by_number(run, &sender, points(&post), reading).await;
+        let outcome = match chance.below(2) {
+            0 => post_by_number(run, &sender, points(&post), reading).await,
+            _ => run.slot.post(sender.clone(), text(&post)).await,
+        };
         if self.quarantined.contains(&sender) {
             assert_eq!(message(&outcome), (403, "quarantined"));
             return;

@@ -1,11 +1,13 @@
-//! Posts by number and as texts, over checkpoints, quarantines, kills and starts.
+//! Posts of both encodings, over checkpoints, quarantines, kills and starts: the journal has them by number, and what an earlier
+//! version has written as a text goes on.
 
-use crate::support::{all, message, point, Place, Run};
+use crate::support::{all, message, point, text, Place, Run};
 use bytes::Bytes;
 use std::collections::{BTreeMap, BTreeSet};
 use std::sync::Arc;
-use totxegun::files::Body;
+use totxegun::files::{Body, Durability, Folder, NoNames, Post, Replayed};
 use totxegun::keeper::{Done, Order};
+use totxegun::otlp::series::only;
 use totxegun::otlp::{Outcome, Reading};
 
 const SENDERS: u64 = 4;
@@ -61,7 +63,7 @@ struct Model {
     /// Of each series where it ends, and its sum.
     series: BTreeMap<String, (u64, i64)>,
     quarantined: BTreeSet<String>,
-    by_number: usize,
+    in_protobuf: usize,
 }
 
 impl Model {
@@ -73,30 +75,24 @@ impl Model {
             let (last, _) = self.series.get(&name).copied().unwrap_or((10, 0));
             post.push((name, last, last + 1 + chance.below(9), chance.below(50) as i64));
         }
-        let by_number = chance.below(3) > 0;
-        let outcome = match by_number {
+        let in_protobuf = chance.below(2) > 0;
+        let outcome = match in_protobuf {
             true => post_by_number(run, &sender, points(&post), reading).await,
-            false => {
-                post.truncate(1);
-                let (name, start, end, value) = &post[0];
-                run.slot
-                    .post(sender.clone(), point(name, *start, *end, *value))
-                    .await
-            }
+            false => run.slot.post(sender.clone(), text(&post)).await,
         };
         if self.quarantined.contains(&sender) {
             assert_eq!(message(&outcome), (403, "quarantined"));
             return;
         }
         assert_eq!(outcome, all(), "{post:?}");
-        self.by_number += usize::from(by_number);
+        self.in_protobuf += usize::from(in_protobuf);
         for (name, _, end, value) in post {
             let of_it = self.series.entry(name).or_insert((0, 0));
             *of_it = (end, of_it.1 + value);
         }
     }
 
-    /// What was taken is not taken again, in neither form.
+    /// What was taken is not taken again, in neither encoding.
     async fn repeats_are_refused(&self, run: &Run, reading: &Arc<Reading>) {
         for (name, (end, _)) in &self.series {
             let sender = name.split('-').next().unwrap();
@@ -124,7 +120,7 @@ impl Model {
 }
 
 #[tokio::test(flavor = "multi_thread")]
-async fn what_was_taken_by_number_or_as_a_text_is_forwarded_once() {
+async fn what_was_taken_in_both_encodings_is_forwarded_once() {
     for seed in 0..6 {
         let (place, mut chance, mut model) = (Place::new(), Chance(seed), Model::default());
         let mut reading = Arc::new(Reading::default());
@@ -148,7 +144,11 @@ async fn what_was_taken_by_number_or_as_a_text_is_forwarded_once() {
         for sender in model.quarantined.clone() {
             model.change_quarantine(&run, sender).await;
         }
-        assert!(model.by_number > 10, "seed {seed}");
+        assert!(
+            (6..34).contains(&model.in_protobuf),
+            "seed {seed}: {}",
+            model.in_protobuf
+        );
         for kind in ["reading", "replay", "owner"] {
             assert_eq!(run.metrics.faults.with_label_values(&[kind]).get(), 0, "{kind}");
         }
@@ -163,28 +163,109 @@ async fn what_was_taken_by_number_or_as_a_text_is_forwarded_once() {
     }
 }
 
-/// The journal has them by number: a text would be read as it is.
-#[tokio::test(flavor = "multi_thread")]
-async fn points_of_a_post_in_protobuf_are_in_the_journal_by_number() {
-    let place = Place::new();
-    let run = place.run().await;
-    let reading = Arc::new(Reading::default());
-    let body = points(&[("a".into(), 10, 20, 5), ("b".into(), 10, 20, -6)]);
-    assert_eq!(post_by_number(&run, "A", body, &reading).await, all());
-    run.abort().await;
-    let folder = totxegun::files::Folder::open(&place.data(), totxegun::files::Durability::Process);
-    let (journal, outbox) = folder.unwrap().slot(0).unwrap();
+/// What the journal has that is in no group.
+fn in_journal(place: &Place) -> Vec<Replayed> {
+    let (journal, outbox) = folder(place).slot(0).unwrap();
     let mut found = Vec::new();
     let posts = journal.posts(outbox.journal(), u64::MAX, |read| {
         found.push(read);
         true
     });
     posts.unwrap();
-    let [read] = &found[..] else { panic!("{found:?}") };
-    let Body::Points(points) = &read.post.body else {
-        panic!("{read:?}")
+    found
+}
+
+fn folder(place: &Place) -> Folder {
+    Folder::open(&place.data(), Durability::Process).unwrap()
+}
+
+/// A text would be read as it is.
+#[tokio::test(flavor = "multi_thread")]
+async fn points_of_both_encodings_are_in_the_journal_by_number() {
+    let place = Place::new();
+    let run = place.run().await;
+    let reading = Arc::new(Reading::default());
+    let series = |start, values: [i64; 2]| {
+        let point = |(name, value): (&str, i64)| (name.to_string(), start, start + 10, value);
+        ["a", "b"].into_iter().zip(values).map(point).collect::<Vec<_>>()
     };
-    assert_eq!(points.words(), [0, 10, 20, 5, 1, 10, 20, -6i64 as u64]);
-    let name = String::from_utf8(read.named[1].1.to_vec()).unwrap();
-    assert!(read.named[1].0 == 1 && name.contains(r#""name":"b""#), "{name}");
+    let body = points(&series(10, [5, -6]));
+    assert_eq!(post_by_number(&run, "A", body, &reading).await, all());
+    let mut more = series(20, [7, 8]);
+    more.push(("c".into(), 20, 30, 9));
+    assert_eq!(run.slot.post("A".into(), text(&more)).await, all());
+    run.abort().await;
+    let found = in_journal(&place);
+    let named = |read: &Replayed| {
+        let name = |(number, text): &(u64, Bytes)| (*number, only(text).unwrap().parts().unwrap().name);
+        read.named.iter().map(name).collect::<Vec<_>>()
+    };
+    let words = found.iter().map(|read| match &read.post.body {
+        Body::Points(points) => points.each().map(<[u64]>::to_vec).collect(),
+        Body::Text(_) => panic!("{read:?}"),
+    });
+    let words: Vec<BTreeSet<Vec<u64>>> = words.collect(); // of a text it is book by book
+    assert_eq!(
+        words[0],
+        [[0, 10, 20, 5], [1, 10, 20, -6i64 as u64]].map(Vec::from).into()
+    );
+    // The series of the text have the numbers that they had.
+    assert_eq!(
+        words[1],
+        [[0, 20, 30, 7], [1, 20, 30, 8], [2, 20, 30, 9]]
+            .map(Vec::from)
+            .into()
+    );
+    let name = |number, name: &str| (number, name.to_string());
+    assert_eq!(named(&found[0]), [name(0, "a"), name(1, "b")]);
+    assert_eq!(named(&found[1]), [name(2, "c")]);
+}
+
+/// It had each post in JSON as its text.
+#[tokio::test(flavor = "multi_thread")]
+async fn texts_that_an_earlier_version_has_written_go_on() {
+    let (place, mut sums) = (Place::new(), BTreeMap::<String, i64>::new());
+    let mut chance = Chance(7);
+    for start in 0..12 {
+        if start % 3 == 0 {
+            place.run().await.abort().await;
+            let (journal, _outbox) = folder(&place).slot(0).unwrap();
+            let post = Post {
+                sender: "A".into(),
+                foreign: 0,
+                body: Body::Text(text(&drawn(&mut chance, start, &mut sums))),
+            };
+            journal.append(&post, &NoNames);
+            continue;
+        }
+        let run = place.run().await;
+        let post = text(&drawn(&mut chance, start, &mut sums));
+        let repeat = run.slot.post("A".into(), post.clone()).await;
+        assert_eq!(repeat, all());
+        let repeat = run.slot.post("A".into(), post).await;
+        assert!(
+            message(&repeat).1.starts_with("out of order: point 0"),
+            "{repeat:?}"
+        );
+        match start {
+            7 => assert!(run.checkpoint().await > 0),
+            _ => run.abort().await,
+        }
+    }
+    let run = place.run().await;
+    assert_eq!(run.metrics.faults.with_label_values(&["replay"]).get(), 0);
+    let taken = run.stop().await.into_iter();
+    let taken = taken.map(|(name, (sum, _))| (name, sum));
+    assert_eq!(taken.collect::<BTreeMap<_, _>>(), sums);
+}
+
+/// Points of some series, behind all before.
+fn drawn(chance: &mut Chance, number: u64, sums: &mut BTreeMap<String, i64>) -> Vec<(String, u64, u64, i64)> {
+    let first = chance.below(4);
+    let points = (first..first + 2).map(|series| {
+        let (name, value) = (format!("t{series}"), chance.below(90) as i64);
+        *sums.entry(name.clone()).or_default() += value;
+        (name, 10 + 10 * number, 20 + 10 * number, value)
+    });
+    points.collect()
 }

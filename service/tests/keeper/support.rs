@@ -198,10 +198,21 @@ fn in_protobuf(body: &[u8]) -> Option<Bytes> {
 
 /// A body of one point.
 pub fn point(name: &str, start: u64, end: u64, value: i64) -> Bytes {
+    text(&[(name.into(), start, end, value)])
+}
+
+/// A body of points, each of its series.
+pub fn text(points: &[(String, u64, u64, i64)]) -> Bytes {
+    let metric = |(name, start, end, value): &(String, u64, u64, i64)| {
+        format!(
+            "{{\"name\":\"{name}\",\"sum\":{{\"aggregationTemporality\":1,\"dataPoints\":[{{\"asInt\":\"{value}\",\
+             \"startTimeUnixNano\":\"{start}\",\"timeUnixNano\":\"{end}\"}}]}}}}"
+        )
+    };
+    let metrics: Vec<String> = points.iter().map(metric).collect();
     format!(
-        "{{\"resourceMetrics\":[{{\"scopeMetrics\":[{{\"metrics\":[{{\"name\":\"{name}\",\"sum\":{{\
-         \"aggregationTemporality\":1,\"dataPoints\":[{{\"asInt\":\"{value}\",\
-         \"startTimeUnixNano\":\"{start}\",\"timeUnixNano\":\"{end}\"}}]}}}}]}}]}}]}}"
+        "{{\"resourceMetrics\":[{{\"scopeMetrics\":[{{\"metrics\":[{}]}}]}}]}}",
+        metrics.join(",")
     )
     .into()
 }

@@ -1,6 +1,7 @@
 //! Points by number: what they say, what is refused, and what is read again.
 
 use super::*;
+use std::collections::BTreeSet;
 
 /// Names for these series of sums, in this order.
 pub(super) fn named(all: &[String]) -> Arc<Names> {
@@ -104,10 +105,10 @@ fn only_a_request_of_one_point_names_a_series() {
     let one = Bytes::from(points(&super::names("s", 1), 1, 0));
     assert_eq!(
         (names.learn(one.clone()), names.learn(one.clone())),
-        (Ok(0), Ok(1))
+        (Ok(0), Ok(0))
     );
     use crate::files::Names as _;
-    assert_eq!((names.text(1), names.text(2)), (one, Bytes::new()));
+    assert_eq!((names.text(0), names.text(1)), (one, Bytes::new()));
     assert_ne!(names.generation(), Names::new().unwrap().generation());
 }
 
@@ -131,14 +132,10 @@ fn a_block_that_is_refused_names_nothing_and_reads_nothing() {
     let all = names("s", 20);
     let by = named(&all);
     let one = Bytes::from(points(&names("t", 1), 1, 0));
-    let mut named = 20;
-    let (blocks, ()) = each_block_fails(true, || {
-        let number = by.learn(one.clone())?;
-        assert_eq!(number, named, "what was refused has no number");
-        named += 1;
-        Ok(())
-    });
+    let (blocks, number) = each_block_fails(true, || by.learn(one.clone()));
     assert!(blocks > 5, "{blocks} blocks to name");
+    use crate::files::Names as _;
+    assert_eq!((number, by.text(20), by.text(21)), (20, one, Bytes::new()));
     let read = || core.read_points("A".into(), of(0..21, 10, 5), by.clone(), 0);
     let (blocks, mut read) = each_block_fails(true, read);
     assert!(blocks > 3, "{blocks} blocks to read");
@@ -179,4 +176,134 @@ fn while_something_is_in_flight_rounds_wait() {
     assert_eq!(closing(&core, &by, 2_101..2_701), []);
     core.lock().settle(flushed).unwrap();
     assert_eq!(closing(&core, &by, 2_701..2_704), [(2_701, 1), (2_702, 1)]);
+}
+
+/// A post that was read from a text, with its points by number or without them.
+fn numbered(core: &Arc<Core>, names: &Arc<Names>, body: &str) -> (Read, bool) {
+    let mut read = core.read("A".into(), body.to_string().into()).unwrap();
+    let is_numbered = read.number(names, |_| true);
+    (read, is_numbered)
+}
+
+fn by_number(read: &Read) -> Vec<Vec<u64>> {
+    let Body::Points(points) = &read.post.body else {
+        panic!("{:?}", read.post)
+    };
+    points.each().map(<[u64]>::to_vec).collect()
+}
+
+/// The name of the series that has this number.
+fn name_of(names: &Arc<Names>, number: u64) -> String {
+    let text = crate::files::Names::text(&**names, number);
+    crate::otlp::series::only(&text).unwrap().parts().unwrap().name
+}
+
+#[test]
+fn a_text_has_its_points_by_number() {
+    for series in [1, 80_000] {
+        let (core, by) = (Core::new(series).unwrap(), Names::new().unwrap());
+        let all = names("s", 30);
+        let (mut read, is_numbered) = numbered(&core, &by, &points(&all, 10, 5));
+        assert!(is_numbered);
+        let mut found = by_number(&read);
+        found.sort_unstable();
+        let each = (0..30).map(|number| vec![number, 10, 20, 5]);
+        assert_eq!(found, each.collect::<Vec<_>>());
+        let named: BTreeSet<_> = (0..30).map(|number| name_of(&by, number)).collect();
+        assert_eq!(named, all.iter().cloned().collect());
+        core.lock().admit(&mut read).unwrap();
+        // A series keeps its number, and a refusal names a point by its place in the text.
+        let other = points(&[&names("n", 2)[..], &all[..1]].concat(), 15, 1);
+        let (mut read, _) = numbered(&core, &by, &other);
+        let known = by_number(&read).into_iter().find(|point| point[0] < 30);
+        assert_eq!(name_of(&by, known.unwrap()[0]), "s0");
+        let late = Refused::OutOfOrder {
+            point: 2,
+            frontier: 20,
+        };
+        assert_eq!(core.lock().admit(&mut read), Err(late));
+        assert!(taken(&core).values().all(|one| *one == (5, 20)));
+    }
+}
+
+/// By posts, and by requests of one point.
+#[test]
+fn series_that_are_named_at_once_have_their_own_names() {
+    let (core, by) = (Core::new(80_000).unwrap(), Names::new().unwrap());
+    let name_some = |thread: usize| {
+        for round in 0..50 {
+            let all = names(&format!("s{}-{round}-", thread / 2), 20);
+            let found: BTreeSet<String> = match thread % 2 {
+                0 => {
+                    let (read, is_numbered) = numbered(&core, &by, &points(&all, 10, 1));
+                    assert!(is_numbered);
+                    by_number(&read)
+                        .iter()
+                        .map(|point| name_of(&by, point[0]))
+                        .collect()
+                }
+                _ => {
+                    let learnt = |name| by.learn(points(std::slice::from_ref(name), 1, 0).into());
+                    all.iter()
+                        .map(|name| name_of(&by, learnt(name).unwrap()))
+                        .collect()
+                }
+            };
+            assert_eq!(found, all.into_iter().collect());
+        }
+    };
+    std::thread::scope(|scope| {
+        for thread in 0..4 {
+            let name_some = &name_some;
+            scope.spawn(move || name_some(thread));
+        }
+    });
+}
+
+/// It stays a text then, and is taken.
+#[test]
+fn where_a_block_is_refused_a_text_has_no_numbers_and_no_other_has() {
+    let core = Core::new(24_000).unwrap();
+    let all = names("s", 20);
+    let mut blocks = 0;
+    loop {
+        let by = Names::new().unwrap();
+        let mut read = core
+            .read("A".into(), points(&all, 10 + 10 * blocks, 1).into())
+            .unwrap();
+        memory::fail_after(Some(blocks));
+        let is_numbered = read.number(&by, |_| true);
+        let all_were_given = memory::is_to_fail();
+        memory::fail_after(None);
+        assert_eq!(by.are_closed(), !is_numbered, "{blocks}");
+        assert_eq!(matches!(read.post.body, Body::Points(_)), is_numbered, "{blocks}");
+        core.lock().admit(&mut read).unwrap();
+        if all_were_given {
+            assert!(is_numbered);
+            break;
+        }
+        let (_, again) = numbered(&core, &by, &points(&all, 1_000_000, 1));
+        assert_eq!(again, is_numbered, "{blocks}");
+        blocks += 1;
+    }
+    assert!(blocks > 30, "{blocks} blocks");
+    assert_eq!(taken(&core)["s0"].0, blocks as i64 + 1);
+}
+
+#[test]
+fn where_there_is_no_room_for_a_name_no_series_gets_a_number() {
+    let (core, by) = (Core::new(1).unwrap(), Names::new().unwrap());
+    let room = std::cell::Cell::new(2);
+    let two_fit = |_| room.replace(room.get() - 1) > 0;
+    let post = |names: &[String], has_room: &dyn Fn(usize) -> bool| {
+        let mut read = core.read("A".into(), points(names, 10, 1).into()).unwrap();
+        read.number(&by, has_room)
+    };
+    assert!(post(&names("s", 2), &two_fit));
+    assert!(!post(&names("t", 2), &two_fit));
+    assert!(!post(&names("s", 2), &|_| true));
+    let one = Bytes::from(points(&names("u", 1), 1, 0));
+    assert_eq!(by.learn(one), Err(Refused::NoMemory));
+    // Posts that have numbers go on.
+    assert_eq!(put(&core, &by, "A", of([0, 1], 10, 5)), Ok(0));
 }

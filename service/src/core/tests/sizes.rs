@@ -93,21 +93,30 @@ fn the_longest_texts_are_read() {
     }
 }
 
+/// Numbers for all series of a request: how many there are then.
+fn numbered(numbers: &mut Numbers, reader: &mut Reader, series: &[String]) -> usize {
+    number(reader.read(b"A", request(series, 1, 1).as_bytes(), BOOKS));
+    let mut words = Vec::new();
+    let answer = check(reader.words(numbers, &mut words)).unwrap();
+    assert_eq!(words.len(), 4 * series.len());
+    answer.at as usize
+}
+
 #[test]
-fn so_many_names_are_learnt() {
-    let mut numbers = Numbers::new().unwrap();
-    for (wanted, name) in names("s", MOST).iter().enumerate() {
-        let request = request(std::slice::from_ref(name), 1, 1);
-        assert_eq!(number(numbers.learn(request.as_bytes())), wanted);
+fn so_many_series_get_numbers_and_have_names() {
+    let (mut numbers, mut reader) = (Numbers::new().unwrap(), Reader::new().unwrap());
+    for (some, before) in names("s", MOST).chunks(1_000).zip((0..).step_by(1_000)) {
+        assert_eq!(numbered(&mut numbers, &mut reader, some), before + 1_000);
+    }
+    for name in [0, MOST - 1] {
+        assert!(number(numbers.text(name as u64, &mut Vec::new())) > 100);
     }
 }
 
 #[test]
 fn many_points_are_read_by_number() {
     let (mut numbers, mut reader) = (Numbers::new().unwrap(), Reader::new().unwrap());
-    for name in names("s", 1_000) {
-        number(numbers.learn(request(&[name], 1, 1).as_bytes()));
-    }
+    assert_eq!(numbered(&mut numbers, &mut reader, &names("s", 1_000)), 1_000);
     let of_all = (0..MANY).flat_map(|point| [point % 1_000, 10 + point, 11 + point, 1]);
     let of_one = (0..MANY).flat_map(|point| [7, 10 + point, 11 + point, 1]);
     let of_each = (0..1_000).flat_map(|series| [series, 10, 20, 1]);

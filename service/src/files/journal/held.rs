@@ -5,7 +5,7 @@
 //! posts are replayed, in one record: a move before a commit that does not come counts for nothing, since the segments
 //! still have these posts, and a sender whose points were flushed is in the next segment's record no more.
 
-use super::named_numbers::put_name;
+use super::name_records::NameWriter;
 use super::record::{self, Posts};
 use super::{lock, Journal, Post, Replayed, Shared, HELD};
 use crate::files::disk::{io_fault, Disk, File};
@@ -231,6 +231,7 @@ struct Writer {
     waiting: Vec<u8>,
     /// What numbers stand for in what this one wrote.
     said: HashMap<u64, Bytes>,
+    names: NameWriter,
 }
 
 impl<'a> Moving<'a> {
@@ -290,6 +291,7 @@ impl<'a> Moving<'a> {
             at,
             waiting,
             said: HashMap::new(),
+            names: NameWriter::default(),
         })
     }
 
@@ -318,7 +320,7 @@ impl Writer {
                 continue; // what is read has names for all
             };
             if self.said.get(&number) != Some(text) {
-                put_name(&mut self.waiting, number, text);
+                self.names.put(&mut self.waiting, number, text.clone());
                 self.said.insert(number, text.clone());
             }
         }

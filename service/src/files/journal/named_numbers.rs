@@ -1,14 +1,14 @@
 //! Which names a segment has said.
 
+use super::name_records::NameWriter;
 use super::post::{Names, Points};
-use super::{packed, NAME};
-use crate::files::records;
 
 /// The numbers that a segment has named: a bit each, so an eighth of a byte of each name that there is.
 #[derive(Default)]
 pub(super) struct NamedNumbers {
     generation: u64,
     numbers: Vec<u64>,
+    writer: NameWriter,
 }
 
 impl NamedNumbers {
@@ -21,7 +21,7 @@ impl NamedNumbers {
         let mut records = Vec::new();
         for number in points.numbers() {
             if self.is_new(number) {
-                put_name(&mut records, number, &names.text(number));
+                self.writer.put(&mut records, number, names.text(number));
             }
         }
         records
@@ -37,13 +37,6 @@ impl NamedNumbers {
         self.numbers[place] |= bit;
         was & bit == 0
     }
-}
-
-/// Appends the record by which a file says a name.
-pub(super) fn put_name(out: &mut Vec<u8>, number: u64, text: &[u8]) {
-    let mut head = Vec::new();
-    packed::put_number(&mut head, number);
-    records::put(out, NAME, &[&head, text]);
 }
 
 #[cfg(test)]

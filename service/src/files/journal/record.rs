@@ -1,7 +1,8 @@
 //! Posts as records, and records as posts.
 
+use super::name_records::NameReader;
 use super::post::{Body, Points, Post, Replayed};
-use super::{packed, COPY, NAME, POINTS, POST, RUNS};
+use super::{packed, COPY, NAME, NAME_AFTER, POINTS, POST, RUNS};
 use crate::files::{records, torn_tail};
 use bytes::Bytes;
 use std::collections::HashSet;
@@ -51,6 +52,7 @@ pub(super) struct Posts {
     /// Said since the last post.
     named: Vec<(u64, Bytes)>,
     known: HashSet<u64>,
+    names: NameReader,
 }
 
 impl Posts {
@@ -58,11 +60,10 @@ impl Posts {
     pub fn read(&mut self, kind: u8, bytes: Vec<u8>) -> Result<Option<(u64, Replayed)>, &'static str> {
         let bytes = Bytes::from(bytes);
         let (since, post) = match kind {
-            NAME => {
-                let mut text = &bytes[..];
-                let number = packed::take_number(&mut text).ok_or(NO_POST)?;
-                self.known.insert(number);
-                self.named.push((number, bytes.slice_ref(text)));
+            NAME | NAME_AFTER => {
+                let name = self.names.read(kind, &bytes).ok_or(NO_POST)?;
+                self.known.insert(name.0);
+                self.named.push(name);
                 return Ok(None);
             }
             POST | COPY => text(bytes).ok_or(NO_POST)?,

@@ -63,6 +63,14 @@ pub fn only(text: &[u8]) -> Option<SeriesKey> {
     series.next().filter(|_| series.next().is_none())
 }
 
+/// How many words say a point of the series of such a request, with its number.
+pub fn words_of(text: &[u8]) -> Option<usize> {
+    let document = Document::parse(text).ok()?;
+    let mut words = None;
+    visit(&document, |seen| words = Some(1 + seen.words.len()))?;
+    words
+}
+
 impl Posted {
     fn add(&mut self, key: &str, end: u64) {
         match self.series.get_mut(key) {

@@ -54,16 +54,19 @@ impl Both {
 
     /// What both forward: it is the same to the byte, and so is their report.
     fn flush(&self) -> usize {
-        let [slow, fast] = [&self.slow, &self.fast].map(|core| {
-            let mut flushed = core.lock().take_all().unwrap();
-            let texts = flushed.texts().unwrap();
-            core.lock().settle(flushed).unwrap();
-            (texts, String::from_utf8(core.lock().report().unwrap()).unwrap())
-        });
+        let [slow, fast] = [&self.slow, &self.fast].map(flushed);
         assert_eq!(fast.1, slow.1);
         assert_eq!(fast.0, slow.0);
         fast.0.len()
     }
+}
+
+/// The requests of all that is taken, and a report behind that.
+fn flushed(core: &Arc<Core>) -> (Vec<Vec<u8>>, String) {
+    let mut flushed = core.lock().take_all().unwrap();
+    let texts = flushed.texts().unwrap();
+    core.lock().settle(flushed).unwrap();
+    (texts, String::from_utf8(core.lock().report().unwrap()).unwrap())
 }
 
 /// How many points are foreign, or why it was refused.
@@ -162,6 +165,108 @@ fn admitted_as_it_is(core: &Arc<Core>, sender: &str, by: ByNumber) -> Result<u64
     admitted.map_err(|refused| refused.to_string())
 }
 
+/// Each request in JSON, or protobuf that is written as such, as the library reads it, by number, and as a start reads what the
+/// journal has of it then.
+#[test]
+fn what_a_text_goes_by_is_what_it_says() {
+    let reading = Arc::new(Reading::default());
+    let of_protobuf = posts_of_test(21, 1_500).into_iter().flat_map(|body| {
+        let prepared = prepare(Encoding::Protobuf, body.into(), &reading);
+        prepared.map(|prepared| prepared.body)
+    });
+    let (mut both, again) = (
+        Both::new(Reading::default()),
+        Core::apart(20_000, Across::None).unwrap(),
+    );
+    let start = Names::new().unwrap();
+    for (number, text) in of_protobuf
+        .chain(requests_of_test(2_000).into_iter().flatten())
+        .enumerate()
+    {
+        let sender = ["A", "B"][number / 7 % 2];
+        let as_text = both.slow.read(sender.into(), text.clone());
+        let slow = as_text.and_then(|mut read| both.slow.lock().admit(&mut read).map(|()| read.post.foreign));
+        let fast = read(&both.fast, &both.numbers, sender, text.clone().into());
+        let fast = fast.and_then(|mut read| both.fast.lock().admit(&mut read).map(|()| read));
+        assert_eq!(
+            fast.as_ref().map(|read| read.post.foreign),
+            slow.as_ref().copied(),
+            "{text:?}"
+        );
+        if let Ok(fast) = fast {
+            let mut replayed = replayed(&again, &start, &fast);
+            assert_eq!(again.lock().admit(&mut replayed), Ok(()), "{text:?}");
+            assert_eq!(replayed.post.foreign, fast.post.foreign);
+            (both.taken, both.foreign) = (both.taken + 1, both.foreign + fast.post.foreign);
+        }
+        if number % 100 == 99 {
+            let [slow, fast, again] = [&both.slow, &both.fast, &again].map(|core| flushed(core).0);
+            assert!(slow == fast && slow == again);
+        }
+    }
+    assert!(
+        both.taken > 2_000 && both.foreign > 2_000,
+        "{} {}",
+        both.taken,
+        both.foreign
+    );
+}
+
+/// By names that a start has made of those that the journal has.
+fn replayed(core: &Arc<Core>, start: &Arc<Names>, read: &Read) -> Read {
+    let mut own = Points::default();
+    for point in by_number(read).unwrap().each() {
+        let number = start.learn(read.names().text(point[0])).unwrap();
+        own.push_words(number, &point[1..]);
+    }
+    let sender = read.post.sender.clone();
+    core.read_points(sender, own, start.clone(), read.post.foreign)
+        .unwrap()
+}
+
+/// Where there is no room for its series a text stays one, but where it is of several hours.
+#[test]
+fn a_text_stays_one_where_there_is_no_room_for_its_series() {
+    const HOUR: u64 = 3_600_000_000_000;
+    let point = |end: u64| {
+        format!(
+            r#"{{"asInt":"5","startTimeUnixNano":"{}","timeUnixNano":"{end}"}}"#,
+            end - 1
+        )
+    };
+    let text = |ends: &[u64]| {
+        let points: Vec<String> = ends.iter().map(|end| point(*end)).collect();
+        let sum = format!(
+            r#"{{"aggregationTemporality":1,"dataPoints":[{}]}}"#,
+            points.join(",")
+        );
+        format!(r#"{{"resourceMetrics":[{{"scopeMetrics":[{{"metrics":[{{"name":"a","sum":{sum}}}]}}]}}]}}"#)
+    };
+    let core = Core::new(1).unwrap();
+    for (bytes, one_hour, two_hours) in [(0, 0, 2), (1 << 10, 1, 2)] {
+        let limits = Limits {
+            bytes,
+            kept: Duration::from_secs(60),
+        };
+        let numbers = Numbers {
+            limits,
+            ..Numbers::default()
+        };
+        for (ends, wanted) in [
+            (&[5][..], one_hour),
+            (&[5, HOUR + 5], two_hours),
+            (&[7], one_hour),
+        ] {
+            let read = read(&core, &numbers, "A", Bytes::from(text(ends)).into()).unwrap();
+            assert_eq!(
+                by_number(&read).map_or(0, Points::count),
+                wanted,
+                "{bytes} bytes, {ends:?}"
+            );
+        }
+    }
+}
+
 /// Where there is room for few series a text has numbers of its own.
 #[test]
 fn a_text_has_numbers_also_where_there_is_no_room_for_them() {
@@ -189,7 +294,7 @@ fn a_text_has_numbers_also_where_there_is_no_room_for_them() {
 #[test]
 fn a_post_asks_for_the_room_that_it_takes_in_the_journal() {
     const HEAD: u64 = 80; // of its record, and the mark ahead of it
-    const NAME: u64 = 12; // the record of one, beside its text
+    const NAME: u64 = 16; // the record of one, beside its text
     let place = tempfile::tempdir().unwrap();
     let folder = Folder::open(place.path(), Durability::Process).unwrap();
     let (journal, _) = folder.slot(0).unwrap();
@@ -197,18 +302,22 @@ fn a_post_asks_for_the_room_that_it_takes_in_the_journal() {
     let written = || std::fs::metadata(&segment).unwrap().len();
     let (reading, mut by) = (Arc::new(Reading::default()), [0; 2]);
     for body in posts_of_test(10, 300).into_iter().map(Bytes::from) {
-        // Numbers of its own: so the journal says all its names.
-        let (core, numbers) = (Core::new(1).unwrap(), Numbers::default());
+        // Numbers of their own: so the journal says all their names.
+        let (core, numbers, own) = (Core::new(1).unwrap(), Numbers::default(), Numbers::default());
         let text = prepare(Encoding::Protobuf, body.clone(), &reading).map(|prepared| prepared.body.into());
-        let by_number = numbers.read(&core, &body, &reading).map(Request::Numbered);
-        let requests = [by_number, text.ok()].into_iter().flatten();
-        for read in requests.flat_map(|request| read(&core, &numbers, "A", request)) {
+        let by_number = own.read(&core, &body, &reading).map(Request::Numbered);
+        let requests = [(false, by_number), (true, text.ok())].into_iter();
+        let requests = requests.filter_map(|(is_text, request)| Some((is_text, request?)));
+        for (is_text, request) in requests {
+            let Ok(read) = read(&core, &numbers, "A", request) else {
+                continue;
+            };
             let names: HashSet<u64> = read.post.numbers().collect();
             let (before, asked) = (written(), read.bytes() as u64);
             journal.append(&read.post, read.names());
             let (took, heads) = (written() - before, HEAD + NAME * names.len() as u64);
             assert!(took <= asked + heads, "{took} > {asked} + {heads}: {body:02x?}");
-            by[usize::from(names.is_empty())] += 1;
+            by[usize::from(is_text)] += u64::from(!names.is_empty());
         }
     }
     assert!(by.iter().all(|number| *number >= 50), "{by:?}");
