@@ -36,6 +36,7 @@ pub enum Refused {
     NotQuarantined,
     #[error("not ended")]
     NotEnded,
+    /// Of a request that is to name a series.
     #[error("not one point")]
     NotOne,
     /// What its series have pending ends in an earlier hour, and is being written: it is asked again behind that.
@@ -53,7 +54,7 @@ pub enum Refused {
 }
 
 /// By their numbers: what has no place or frontier stands here with none.
-const BY_NUMBER: [Option<Refused>; 17] = [
+const BY_NUMBER: [Option<Refused>; 16] = [
     None,
     Some(Refused::Quarantined),
     Some(Refused::Full),
@@ -73,7 +74,6 @@ const BY_NUMBER: [Option<Refused>; 17] = [
     Some(Refused::AlreadyQuarantined),
     Some(Refused::NotQuarantined),
     Some(Refused::NotEnded),
-    Some(Refused::NotOne),
 ];
 
 /// What a call says where it did what it was asked.
