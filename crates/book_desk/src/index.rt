@@ -8,27 +8,35 @@ use std::alloc::{AllocError, Global};
 const FREE: usize = usize::MAX;
 /// How many places there are at first.
 const FIRST_PLACES: usize = 64;
+/// At how many places a name is looked for. A name that finds all of these taken is not entered, so
+/// whoever makes keys meet gets more numbers, and takes no more time.
+pub const MOST_PLACES: usize = 32;
 
-/// Numbers of names, in places that follow from their hashes: where one is taken, the next one is
-/// tried. A hint: whoever asks compares the name that is there, and no contract says what it has.
+/// Numbers of names, in places that follow from their keys. Half of all are free, so of names whose
+/// keys differ one in some billions finds no place. A hint: whoever asks compares the name that is
+/// there, and no contract says what it has.
 #[derive(Drop)]
 pub struct Index {
     alloc: Global,
     places: Vec<usize>,
 }
 
-/// The place that is so many steps behind that of a hash.
-fn place_of(hash: u64, step: usize, places: usize) -> usize
+/// The place of a key after so many steps, whose length follows from the key.
+fn place_of(key: u64, step: usize, places: usize) -> usize
     requires { 0 < places }
     ensures { result < places }
 {
-    (hash.wrapping_add(step as u64) % places as u64) as usize
+    let way = (step as u64).wrapping_mul(key >> 32 | 1);
+    (key.wrapping_add(way) % places as u64) as usize
 }
 
-/// Puts a number into the first place that is free.
-fn put_in(places: &mut [usize], hash: u64, number: usize) {
-    for step in 0..places.len() {
-        let place = place_of(hash, step, places.len());
+/// Puts a number into the first of its places that is free.
+fn put_in(places: &mut [usize], key: u64, number: usize) {
+    if places.is_empty() {
+        return;
+    }
+    for step in 0..MOST_PLACES {
+        let place = place_of(key, step, places.len());
         if places[place] == FREE {
             places[place] = number;
             return;
@@ -45,18 +53,13 @@ impl Index {
         }
     }
 
-    /// How many places there are.
-    pub fn places(&self) -> usize {
-        self.places.len()
-    }
-
-    /// What is in the place that is so many steps behind that of a hash.
-    pub fn at(&self, hash: u64, step: usize) -> usize {
+    /// What is in the place of a key after so many steps.
+    pub fn at(&self, key: u64, step: usize) -> usize {
         let places = self.places.as_slice();
         if places.is_empty() {
             return FREE;
         }
-        places[place_of(hash, step, places.len())]
+        places[place_of(key, step, places.len())]
     }
 
     /// Makes room for one more name than these, so that half of the places are free.
@@ -71,14 +74,14 @@ impl Index {
             count.saturating_mul(2).max(FIRST_PLACES),
         )?;
         for i in 0..names.len() {
-            put_in(&mut places, names[i].hash(), i);
+            put_in(&mut places, names[i].key(), i);
         }
         self.places = places;
         Ok(())
     }
 
     /// Enters a number.
-    pub fn put(&mut self, hash: u64, number: usize) {
-        put_in(&mut self.places, hash, number);
+    pub fn put(&mut self, key: u64, number: usize) {
+        put_in(&mut self.places, key, number);
     }
 }

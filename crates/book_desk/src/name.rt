@@ -1,18 +1,20 @@
 //! A series that has a number.
-ghost use Rattle.std.specs.Prelude.{◌≡◌, ◌<◌, ◌↔◌, IfOk, IsTrue};
+ghost use Rattle.std.specs.Prelude.{◌≡◌, ◌<◌, IfOk};
 ghost use Rattle.book_desk.specs.Homes as homes;
 
 use crate::home::hash;
+use crate::key::key_of;
 use series_id::SharedId;
 use std::alloc::AllocError;
 use std::marker::Model;
 
-/// The identity of a series, and its hash, so that its book is found without its texts. Contracts
-/// see the identity.
+/// The identity of a series, and hashes by which its book, and its number, are found without its
+/// texts. Contracts see the identity.
 #[derive(Drop)]
 pub struct Name {
     series: SharedId,
     hash: u64,
+    key: u64,
 }
 
 impl Model for Name {
@@ -33,8 +35,9 @@ impl Name {
         ensures { IfOk result (λ name. name ≡ series.now) }
     {
         let hash = hash(series.as_series());
+        let key = key_of(series.as_series());
         let series = series.share()?;
-        Ok(Name { series, hash })
+        Ok(Name { series, hash, key })
     }
 
     /// The series.
@@ -44,19 +47,9 @@ impl Name {
         &self.series
     }
 
-    /// The hash of the series.
-    pub fn hash(&self) -> u64
-        ensures { result ≡ homes.hash self.now }
-    {
-        self.hash
-    }
-
-    /// Whether it is the name of this series, which has this hash.
-    pub fn is_of(&self, series: &SharedId, hash: u64) -> bool
-        requires { hash ≡ homes.hash series.now }
-        ensures { IsTrue result ↔ (self.now ≡ series.now) }
-    {
-        self.hash == hash && self.series.is_same(series)
+    /// A hash of all that identifies the series.
+    pub fn key(&self) -> u64 {
+        self.key
     }
 
     /// The book of the series, of so many.

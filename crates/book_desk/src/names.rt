@@ -1,7 +1,7 @@
 //! Series that have numbers, so that a post need not say what identifies them.
 use crate::flushes::TextFault;
-use crate::home::hash;
-use crate::index::Index;
+use crate::index::{Index, MOST_PLACES};
+use crate::key::key_of;
 use crate::name::Name;
 use crate::request_of::request_of;
 use series_id::SharedId;
@@ -28,7 +28,6 @@ impl Model for Names {
 impl Names {
     ghost use Rattle.std.specs.Prelude.{◌≡◌, ◌++◌, ◌∷◌, [], Some, length, option_map, slice_get};
     ghost use Rattle.std.specs.Prelude.{IfOk, IfErr, IfSome, OnOk, OnErr};
-    ghost use Rattle.book_desk.specs.Homes as homes;
     ghost use Rattle.book_desk.specs.Naming.{IsNumbered, IsNamed, IsNotNamed};
 
     /// No names. Takes no memory.
@@ -57,23 +56,22 @@ impl Names {
     {
         self.index.reserve(&self.names)?;
         let number = self.names.len();
-        let hash = name.hash();
+        let key = name.key();
         self.names.push(name)?;
-        self.index.put(hash, number);
+        self.index.put(key, number);
         Ok(number as u64)
     }
 
-    /// A number of this series, which has this hash, if the index has one.
-    fn find(&self, series: &SharedId, hash: u64) -> Option<u64>
-        requires { hash ≡ homes.hash series.now }
+    /// A number of this series, which has this key, if the index has one.
+    fn find(&self, series: &SharedId, key: u64) -> Option<u64>
         ensures { IfSome result (λ n. slice_get self.now n ≡ Some series.now) }
     {
-        for step in 0..self.index.places() {
-            let number = self.index.at(hash, step) as u64;
+        for step in 0..MOST_PLACES {
+            let number = self.index.at(key, step) as u64;
             let Some(name) = self.get(number) else {
                 return None;
             };
-            if name.is_of(series, hash) {
+            if name.key() == key && name.series().is_same(series) {
                 return Some(number);
             }
         }
@@ -87,8 +85,8 @@ impl Names {
         ensures numbered { IfOk result (IsNumbered series.now self.old self.new) }
         ensures same { OnErr result (self.new ≡ self.old) }
     {
-        let hash = hash(series.as_series());
-        if let Some(number) = self.find(series, hash) {
+        let key = key_of(series.as_series());
+        if let Some(number) = self.find(series, key) {
             return Ok(number);
         }
         self.push(Name::of(series)?)
