@@ -49,7 +49,8 @@ impl IdentityCache {
         attributes: &[&[u8]],
     ) -> Option<SharedId>
         ensures { IfSome result (λ s. option_and_then
-            (λ k. series_of (stream_data stream.entry) k (said_list (map (λ b. b.now) attributes.now)))
+            (λ k. series_of (stream_data stream.entry) k
+            (said_list (map (λ b. b.now) attributes.now)))
             (kind_data kind.entry) ≡ Some s) }
     {
         let slot = self.followed.next()?;
@@ -67,7 +68,8 @@ impl IdentityCache {
         attributes: &[&[u8]],
     ) -> Option<SharedId>
         ensures { IfSome result (λ s. option_and_then
-            (λ k. series_of (stream_data stream.entry) k (said_list (map (λ b. b.now) attributes.now)))
+            (λ k. series_of (stream_data stream.entry) k
+            (said_list (map (λ b. b.now) attributes.now)))
             (kind_data kind.entry) ≡ Some s) }
     {
         let mut slot = hash.slot(SLOTS);
@@ -91,7 +93,8 @@ impl IdentityCache {
         attributes: &[&[u8]],
     ) -> Option<SharedId>
         ensures { IfSome result (λ s. option_and_then
-            (λ k. series_of (stream_data stream.entry) k (said_list (map (λ b. b.now) attributes.now)))
+            (λ k. series_of (stream_data stream.entry) k
+            (said_list (map (λ b. b.now) attributes.now)))
             (kind_data kind.entry) ≡ Some s) }
     {
         let kept = self.slots.at(slot)?;

@@ -5,8 +5,8 @@ use crate::known_messages::KnownMessages;
 use crate::set_cache::SetCache;
 use std::alloc::Global;
 
-/// The identities, resources, scopes and attributes that were read. One reader has one, for as long as it runs.
-/// What a body says does not depend on it.
+/// The identities, resources, scopes and attributes that were read. One reader has one, for as long
+/// as it runs. What a body says does not depend on it.
 #[derive(Drop)]
 pub struct Kept {
     pub(crate) cache: IdentityCache,

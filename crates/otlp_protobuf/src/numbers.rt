@@ -1,6 +1,7 @@
 //! Reads lists of numbers of 8 bytes, packed or not, each in the same way.
 
-ghost use Rattle.std.specs.Prelude.{◌≡◌, ◌∷◌, ℕ, [], IfOk, IsTrue, MatchOption, Option, Some, map, option_map};
+ghost use Rattle.std.specs.Prelude.{◌≡◌, ◌∷◌, ℕ, [], IfOk, IsTrue, MatchOption, Option, Some};
+ghost use Rattle.std.specs.Prelude.{map, option_map};
 ghost use Rattle.serde_json.specs.Data.{Data};
 ghost use Rattle.series_id.specs.declared.limits.TheConstants.{MAX_BOUND};
 ghost use Rattle.otlp_read.specs.Integers.{unsigned_64, signed_in};

@@ -1,6 +1,7 @@
 //! Finds fields of a message by their numbers, in its bytes.
 
-ghost use Rattle.std.specs.Prelude.{◌≡◌, ◌∷◌, ◌++◌, [], ℕ, List, option_and_then, option_map, IfOk, MatchOption, None, Some};
+ghost use Rattle.std.specs.Prelude.{◌≡◌, ◌∷◌, ◌++◌, [], ℕ, List, IfOk, MatchOption, None, Some};
+ghost use Rattle.std.specs.Prelude.{option_and_then, option_map};
 ghost use Rattle.otlp_protobuf.specs.Wire.{Field as FieldData, fields};
 ghost use Rattle.otlp_protobuf.specs.Fields.{gathered, newer, last, bits, content, if_text};
 ghost use Rattle.otlp_protobuf.specs.Fields.{text_of, text_at, content_at, contents, so_far};
