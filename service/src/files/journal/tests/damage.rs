@@ -106,7 +106,7 @@ fn a_later_version_and_a_missing_segment_are_refused_by_name() {
     records::put(
         &mut later,
         records::HEADER,
-        &[b"totxegun", &4u16.to_le_bytes(), b"what comes"],
+        &[b"totxegun", &5u16.to_le_bytes(), b"what comes"],
     );
     std::fs::write(&path, &later).unwrap();
     let fault = open_on(&Disk::default(), folder.path(), Durability::Process)
@@ -114,7 +114,7 @@ fn a_later_version_and_a_missing_segment_are_refused_by_name() {
         .unwrap()
         .to_string();
     assert!(
-        fault.contains("format version 4, and this totxegun reads up to 3"),
+        fault.contains("format version 5, and this totxegun reads up to 4"),
         "{fault}"
     );
     std::fs::write(&path, &sound).unwrap();

@@ -120,14 +120,14 @@ fn points_without_a_name_are_refused_by_name() {
 
 /// An earlier totxegun looks at this number, and says that it is a later one's.
 #[test]
-fn a_journal_that_may_have_runs_is_of_version_3() {
+fn a_journal_that_may_have_names_after_another_is_of_version_4() {
     let folder = tempfile::tempdir().unwrap();
     kill(open(folder.path()));
     let found = bytes(&segment::path(folder.path(), 1));
     let header = &found[records::MARK_LENGTHS[1]..];
     assert_eq!(
         header[8..19],
-        [1, b't', b'o', b't', b'x', b'e', b'g', b'u', b'n', 3, 0]
+        [1, b't', b'o', b't', b'x', b'e', b'g', b'u', b'n', 4, 0]
     );
 }
 
