@@ -162,7 +162,9 @@ impl Cluster {
     /// As where it ends: it hands over what it has.
     #[cfg(test)]
     pub(crate) fn leave(&self) {
-        self.databases.iter().for_each(|database| database.owners().leave());
+        self.databases
+            .iter()
+            .for_each(|database| database.owners().leave());
     }
 
     /// Says who has which slot, where that is new. It is found under the lock of what is said, so the last word is the latest.

@@ -231,7 +231,10 @@ fn a_question_to_a_silent_server_ends_soon_and_the_next_one_is_asked_anew() {
         let begun = Instant::now();
         assert!(!question(&store));
         let took = begun.elapsed();
-        assert!(took > Duration::from_secs(4) && took < Duration::from_secs(12), "{took:?}");
+        assert!(
+            took > Duration::from_secs(4) && took < Duration::from_secs(12),
+            "{took:?}"
+        );
         proxy.go_on();
         wait_until("it is answered", || question(&store));
     }

@@ -1,8 +1,10 @@
 //! Instances that share slots: what an operator asks at one of them is done in all slots, or it is said in which it is not.
 
+mod ready;
+
 use super::*;
 use crate::cluster::terms::{Doing, Instance, Refused, Row, Seen};
-use crate::cluster::{Answers, Asks, Cluster, Forwarded as Brought, Whose, NO_STORE};
+use crate::cluster::{Answers, Asks, Cluster, Forwarded as Brought, Whose};
 use crate::metrics::OfCluster;
 use crate::operate::Databases;
 use crate::store::postgres::Copies;
@@ -393,31 +395,4 @@ async fn series_are_found_in_all_slots_and_forgotten_where_they_are() {
     both.net.mood("b", Mood::Refuses);
     let (status, why) = both.a.ask("POST", "/forget?series=m&all&anyway").await;
     assert!(status == 503 && why.contains("not slot 1"), "{status} {why}");
-}
-
-/// A balancer would take it out else, for as long as its journals take to read.
-#[tokio::test]
-async fn an_instance_is_ready_while_it_takes_posts_of_any_slot() {
-    let both = Both::new().await;
-    let ready = || both.a.ask("GET", "/ready");
-    assert_eq!(ready().await, (200, "ready\n".into()));
-    for slot in [0, 2] {
-        both.a.desk.units.get(slot).unwrap().slot.stop();
-    }
-    assert_eq!(ready().await.0, 200, "it brings those of slot 1 to their instance");
-    let (here, of_a) = (Whose::Here { term: 1 }, &both.clusters[0]);
-    of_a.knows(&[(0, here.clone()), (1, Whose::Nobody), (2, here.clone())]);
-    let (status, why) = ready().await;
-    assert!(status == 503 && why.contains("stopping"), "{status} {why}");
-    both.b.units.hand_over(1).await.unwrap();
-    both.a.open(1).await;
-    of_a.knows(&[(0, here.clone()), (1, here.clone()), (2, here)]);
-    assert_eq!(ready().await.0, 200, "those of one of its own");
-    of_a.leave();
-    let (status, why) = ready().await;
-    assert!(status == 503 && why.contains("stopping"), "{status} {why}");
-    let (new, _) = instance("c", &folder(), &both.net);
-    new.open(0).await;
-    let (status, why) = new.ask("GET", "/ready").await;
-    assert!(status == 503 && why.contains(NO_STORE), "before its first beat: {status} {why}");
 }

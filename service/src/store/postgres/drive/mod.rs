@@ -1,7 +1,7 @@
 //! The files of a slot in a PostgreSQL.
 //!
 //! What is done is queued in memory; a sync brings all of it to the store in one transaction that locks the slot's row
-//! under the owner's term. What is queued is as much as the door lets in: posts are refused once a sync has waited for a
+//! under the owner's term: what there is once that begins, which may be behind one that is under way. What is queued is as much as the door lets in: posts are refused once a sync has waited for a
 //! second (`under_way`), whatever it waits for, a full disk of the server's among it.
 
 mod cache;
@@ -31,8 +31,9 @@ use std::io;
 use std::path::Path;
 use std::sync::{mpsc, Arc, Mutex, MutexGuard, PoisonError};
 use std::time::Duration;
+use together::Seat;
 use tokio::runtime::Handle;
-use tokio::sync::watch;
+use tokio::sync::{watch, OwnedMutexGuard};
 use turns::Turns;
 
 pub struct PostgresDrive {
@@ -42,10 +43,18 @@ pub struct PostgresDrive {
     files: Mutex<Files>,
     cache: Mutex<Cache>,
     turns: Turns,
+    together: Arc<Together>,
     writer: Arc<tokio::sync::Mutex<Writer>>,
     reader: Arc<Shared>,
     runtime: Handle,
     lost: watch::Sender<bool>,
+}
+
+/// Who may write now.
+struct Aboard {
+    writer: OwnedMutexGuard<Writer>,
+    /// Where it may go together with others.
+    seat: Option<Seat>,
 }
 
 fn lock<T>(mutex: &Mutex<T>) -> MutexGuard<'_, T> {
@@ -62,6 +71,7 @@ impl PostgresDrive {
             files: Mutex::new(files),
             cache: Mutex::default(),
             turns: Turns::default(),
+            together: writer.together.clone(),
             writer: Arc::new(tokio::sync::Mutex::new(writer)),
             reader,
             runtime,
@@ -105,11 +115,24 @@ impl PostgresDrive {
         told.recv().unwrap_or(Err(Lost)) // the store has ended
     }
 
-    fn commit(&self) -> Result<(), Lost> {
+    /// Waits until what there is may be written.
+    fn board(&self) -> Result<Aboard, Lost> {
+        let (writer, is_long) = (self.writer.clone(), lock(&self.files).is_long());
+        self.wait(async move {
+            let writer = writer.lock_owned().await;
+            let seat = match is_long {
+                true => None,
+                false => writer.together.board().await,
+            };
+            Ok(Aboard { writer, seat })
+        })
+    }
+
+    fn commit(&self, aboard: Aboard) -> Result<(), Lost> {
         let batch = lock(&self.files).batch();
         let packed = Arc::new(Packed::of(&batch));
-        let writer = self.writer.clone();
-        self.wait(async move { writer.lock().await.commit(&packed).await })?;
+        let Aboard { mut writer, seat } = aboard;
+        self.wait(async move { writer.commit(&packed, seat).await })?;
         lock(&self.files).is_there(&batch);
         let mut cache = lock(&self.cache);
         for piece in batch.pieces {
@@ -220,7 +243,9 @@ impl Drive for PostgresDrive {
     }
 
     fn sync(&self) -> io::Result<()> {
-        self.turns.ended(|| self.commit()).map_err(|Lost| lost())
+        self.together.come();
+        let done = self.turns.ended(|| self.board(), |aboard| self.commit(aboard));
+        done.map_err(|Lost| lost())
     }
 
     fn under_way(&self) -> Duration {

@@ -1,15 +1,18 @@
 //! Short writes of several slots, which one transaction brings to a database: a commit costs its servers more than what it
 //! brings.
 //!
-//! One is on its way at a time, and what is asked for meanwhile goes with the next one. It writes for each slot by itself,
-//! where that one's row says so. Where it is not known whether it was done, each of its slots does its own write again, on a
-//! connection of its own, under another link.
+//! One is on its way at a time, and who asks meanwhile has a seat in the next one. What a slot brings is what it has once that
+//! begins. It writes for each slot by itself, where that one's row says so. Where it is not known whether it was done, each of its
+//! slots does its own write again, on a connection of its own, under another link.
+
+mod comers;
 
 use super::packed::{Columns, Packed};
 use super::writer::append;
 use crate::postgres::Server;
 use crate::store::postgres::doubt::{Doubt, Next};
 use crate::store::postgres::session::{is_there, within, Session, SILENT};
+use comers::{Comers, Departures};
 use std::collections::BTreeSet;
 use std::sync::Arc;
 use tokio::runtime::Handle;
@@ -22,7 +25,13 @@ const MOST: usize = 1 << 20;
 const PATIENCE: &str = "set lock_timeout = '1s'";
 
 /// Who writes for the slots that ask.
-pub struct Together(UnboundedSender<Asked>);
+pub struct Together {
+    ask: UnboundedSender<oneshot::Sender<Seat>>,
+    comers: Arc<Comers>,
+}
+
+/// A place in a transaction that waits for what it brings.
+pub struct Seat(oneshot::Sender<Brought>);
 
 /// A slot's write.
 pub struct Write {
@@ -40,7 +49,7 @@ impl Write {
     }
 }
 
-struct Asked {
+struct Brought {
     write: Write,
     answer: oneshot::Sender<Answer>,
 }
@@ -54,43 +63,78 @@ struct Line {
     number: u64,
     /// Slots that were found whole on this connection.
     whole: BTreeSet<i32>,
+    departures: Departures,
 }
 
 impl Together {
     pub fn start(server: &Server, runtime: &Handle) -> Together {
         let (ask, asked) = unbounded_channel();
+        let comers = Arc::<Comers>::default();
         let line = Line {
             server: server.clone(),
             session: None,
             number: 0,
             whole: BTreeSet::new(),
+            departures: Departures::of(&comers),
         };
         runtime.spawn(line.run(asked));
-        Together(ask)
+        Together { ask, comers }
     }
 
-    pub async fn put(&self, write: Write) -> Answer {
+    /// Somebody waits for what was written so far.
+    pub fn come(&self) {
+        self.comers.come();
+    }
+
+    /// A seat, once the transaction begins; none where nobody takes it.
+    pub async fn board(&self) -> Option<Seat> {
+        let (seat, seated) = oneshot::channel();
+        let _ = self.ask.send(seat); // where nobody takes it, nobody answers
+        seated.await.ok()
+    }
+}
+
+impl Seat {
+    pub async fn put(self, write: Write) -> Answer {
         let (answer, answered) = oneshot::channel();
-        let _ = self.0.send(Asked { write, answer }); // where nobody takes it, nobody answers
+        let _ = self.0.send(Brought { write, answer });
         answered.await.unwrap_or(Err(None))
     }
 }
 
+/// What those bring who have a seat now. Who needs none lets go of it.
+async fn boarded(all: Vec<oneshot::Sender<Seat>>) -> Vec<Brought> {
+    let seated = |one: oneshot::Sender<Seat>| {
+        let (bring, brought) = oneshot::channel();
+        one.send(Seat(bring)).ok().map(|()| brought)
+    };
+    let coming: Vec<_> = all.into_iter().filter_map(seated).collect();
+    let mut all = Vec::new();
+    for brought in coming {
+        all.extend(brought.await.ok());
+    }
+    all
+}
+
 impl Line {
-    async fn run(mut self, mut asked: UnboundedReceiver<Asked>) {
+    async fn run(mut self, mut asked: UnboundedReceiver<oneshot::Sender<Seat>>) {
         while let Some(first) = asked.recv().await {
-            let mut size = first.write.packed.size;
+            self.departures.wait().await;
             let mut all = vec![first];
-            while size < MOST {
-                let Ok(next) = asked.try_recv() else { break };
-                size += next.write.packed.size;
+            while let Ok(next) = asked.try_recv() {
                 all.push(next);
             }
-            self.put(all).await;
+            self.departures.begin();
+            let mut all = boarded(all).await;
+            while !all.is_empty() {
+                let some = all.drain(..count_of(&all)).collect();
+                self.put(some).await;
+            }
+            self.departures.end();
         }
     }
 
-    async fn put(&mut self, mut all: Vec<Asked>) {
+    async fn put(&mut self, mut all: Vec<Brought>) {
         let answer: Box<dyn Fn(usize) -> Answer> = match self.try_put(&mut all).await {
             Ok(done) => {
                 let number = self.number;
@@ -107,11 +151,14 @@ impl Line {
     }
 
     /// The places of those that are there.
-    async fn try_put(&mut self, all: &mut Vec<Asked>) -> Result<BTreeSet<usize>, Doubt> {
+    async fn try_put(&mut self, all: &mut Vec<Brought>) -> Result<BTreeSet<usize>, Doubt> {
         let session = self.connected().await?;
         self.keep_whole(&session, all).await?;
         let writes: Vec<_> = all.iter().map(|one| one.write.row()).collect();
-        let done = session.written(append(&session, &writes)).await;
+        // No write comes here twice.
+        let done = session
+            .written(append(&session, &session.append_new, &writes))
+            .await;
         if done.as_ref().err().is_none_or(|doubt| doubt.next() == Next::Same) {
             self.session = Some(session);
         }
@@ -131,7 +178,7 @@ impl Line {
     }
 
     /// Leaves those out of which the server has lost something: they are told so by a connection of their own.
-    async fn keep_whole(&mut self, session: &Session, all: &mut Vec<Asked>) -> Result<(), Doubt> {
+    async fn keep_whole(&mut self, session: &Session, all: &mut Vec<Brought>) -> Result<(), Doubt> {
         for place in (0..all.len()).rev() {
             let Write { slot, last, .. } = all[place].write;
             if self.whole.contains(&slot) || is_there(session, slot, last).await? {
@@ -142,4 +189,14 @@ impl Line {
         }
         Ok(())
     }
+}
+
+/// How many of these, from the first on, are one transaction: at least one.
+fn count_of(all: &[Brought]) -> usize {
+    let sizes = all.iter().scan(0, |size, one| {
+        let before = *size;
+        *size += one.write.packed.size;
+        (before < MOST).then_some(())
+    });
+    sizes.count()
 }
