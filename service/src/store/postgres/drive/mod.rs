@@ -33,7 +33,7 @@ use std::sync::{mpsc, Arc, Mutex, MutexGuard, PoisonError};
 use std::time::Duration;
 use together::Seat;
 use tokio::runtime::Handle;
-use tokio::sync::{watch, OwnedMutexGuard};
+use tokio::sync::watch;
 use turns::Turns;
 
 pub struct PostgresDrive {
@@ -44,17 +44,12 @@ pub struct PostgresDrive {
     cache: Mutex<Cache>,
     turns: Turns,
     together: Arc<Together>,
+    /// For the sync that comes next.
+    seat: Mutex<Option<Seat>>,
     writer: Arc<tokio::sync::Mutex<Writer>>,
     reader: Arc<Shared>,
     runtime: Handle,
     lost: watch::Sender<bool>,
-}
-
-/// Who may write now.
-struct Aboard {
-    writer: OwnedMutexGuard<Writer>,
-    /// Where it may go together with others.
-    seat: Option<Seat>,
 }
 
 fn lock<T>(mutex: &Mutex<T>) -> MutexGuard<'_, T> {
@@ -72,6 +67,7 @@ impl PostgresDrive {
             cache: Mutex::default(),
             turns: Turns::default(),
             together: writer.together.clone(),
+            seat: Mutex::default(),
             writer: Arc::new(tokio::sync::Mutex::new(writer)),
             reader,
             runtime,
@@ -92,6 +88,12 @@ impl PostgresDrive {
     pub fn lose(&self) {
         self.turns.lose();
         self.lost.send_replace(true);
+        self.leave();
+    }
+
+    /// Others that write together wait for nothing of this slot: it has one seat at a time, and none while it waits.
+    fn leave(&self) {
+        drop(lock(&self.seat).take());
     }
 
     fn check(&self) -> io::Result<()> {
@@ -115,24 +117,27 @@ impl PostgresDrive {
         told.recv().unwrap_or(Err(Lost)) // the store has ended
     }
 
-    /// Waits until what there is may be written.
-    fn board(&self) -> Result<Aboard, Lost> {
-        let (writer, is_long) = (self.writer.clone(), lock(&self.files).is_long());
-        self.wait(async move {
-            let writer = writer.lock_owned().await;
-            let seat = match is_long {
-                true => None,
-                false => writer.together.board().await,
-            };
-            Ok(Aboard { writer, seat })
-        })
+    /// Waits until what there is may be written: with others, or where it is long or nobody takes it so, alone.
+    fn come_aboard(&self) -> Result<Option<Seat>, Lost> {
+        if lock(&self.files).is_long() {
+            return Ok(None);
+        }
+        let together = self.together.clone();
+        self.wait(async move { Ok(together.board().await) })
     }
 
-    fn commit(&self, aboard: Aboard) -> Result<(), Lost> {
+    fn commit(&self, seat: Option<Seat>) -> Result<(), Lost> {
         let batch = lock(&self.files).batch();
         let packed = Arc::new(Packed::of(&batch));
-        let Aboard { mut writer, seat } = aboard;
-        self.wait(async move { writer.commit(&packed, seat).await })?;
+        let writer = self.writer.clone();
+        self.wait(async move {
+            let (mut writer, seat) = match writer.clone().try_lock_owned() {
+                Ok(writer) => (writer, seat),
+                // Others are not kept waiting for who reads by it.
+                Err(_) => (writer.lock_owned().await, None),
+            };
+            writer.commit(&packed, seat).await
+        })?;
         lock(&self.files).is_there(&batch);
         let mut cache = lock(&self.cache);
         for piece in batch.pieces {
@@ -229,6 +234,8 @@ impl Drive for PostgresDrive {
             files.write(file, part, next)?;
             next += part.len() as u64;
         }
+        drop(files);
+        self.together.come();
         Ok(())
     }
 
@@ -242,10 +249,25 @@ impl Drive for PostgresDrive {
         lock(&self.files).remove(name)
     }
 
+    fn board(&self) {
+        if let Ok(seat) = self.turns.waited(|| self.come_aboard()) {
+            *lock(&self.seat) = seat;
+        }
+        if self.turns.check().is_err() {
+            self.leave();
+        }
+    }
+
     fn sync(&self) -> io::Result<()> {
-        self.together.come();
-        let done = self.turns.ended(|| self.board(), |aboard| self.commit(aboard));
-        done.map_err(|Lost| lost())
+        let board = || match lock(&self.seat).take() {
+            None => self.come_aboard(),
+            seat => Ok(seat),
+        };
+        let done = self.turns.ended(board, |seat| self.commit(seat), || self.leave());
+        done.map_err(|Lost| {
+            self.leave();
+            lost()
+        })
     }
 
     fn under_way(&self) -> Duration {

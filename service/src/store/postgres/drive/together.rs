@@ -81,7 +81,7 @@ impl Together {
         Together { ask, comers }
     }
 
-    /// Somebody waits for what was written so far.
+    /// Something was written, and somebody waits for it as a rule.
     pub fn come(&self) {
         self.comers.come();
     }

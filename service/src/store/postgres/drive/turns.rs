@@ -27,33 +27,43 @@ impl Turns {
     }
 
     /// Returns once a turn has ended that began after this call: by this thread or another. Who takes it comes aboard first,
-    /// which may take a while, and then it begins.
+    /// which may take a while, and then it begins. Who waits for another's turn leaves what it has.
     pub fn ended<S>(
         &self,
         board: impl Fn() -> Result<S, Lost>,
         turn: impl Fn(S) -> Result<(), Lost>,
+        leave: impl Fn(),
     ) -> Result<(), Lost> {
+        self.waited(|| {
+            let mut state = self.state();
+            let wanted = state.begun + 1;
+            loop {
+                if state.is_lost {
+                    return Err(Lost);
+                }
+                if state.ended >= wanted {
+                    return Ok(());
+                }
+                if state.is_busy {
+                    leave();
+                    state = self.changed.wait(state).unwrap_or_else(PoisonError::into_inner);
+                } else {
+                    state = self.take_turn(state, &board, &turn);
+                }
+            }
+        })
+    }
+
+    /// Does what waits for the store, as is seen meanwhile.
+    pub fn waited<T>(&self, work: impl FnOnce() -> T) -> T {
         let began = Instant::now();
+        self.state().waiting.push(began);
+        let done = work();
         let mut state = self.state();
-        state.waiting.push(began);
-        let wanted = state.begun + 1;
-        let ended = loop {
-            if state.is_lost {
-                break Err(Lost);
-            }
-            if state.ended >= wanted {
-                break Ok(());
-            }
-            if state.is_busy {
-                state = self.changed.wait(state).unwrap_or_else(PoisonError::into_inner);
-            } else {
-                state = self.take_turn(state, &board, &turn);
-            }
-        };
         if let Some(place) = state.waiting.iter().position(|other| *other == began) {
             state.waiting.swap_remove(place);
         }
-        ended
+        done
     }
 
     fn take_turn<'a, S>(
@@ -124,7 +134,7 @@ mod tests {
                     count.fetch_add(1, SeqCst);
                     goes.lock().unwrap().recv().map_err(|_| Lost)
                 };
-                turns.ended(|| Ok(()), turn)
+                turns.ended(|| Ok(()), turn, || ())
             })
         };
         let until = |waiting: usize| {
@@ -166,7 +176,7 @@ mod tests {
         };
         thread::scope(|scope| {
             for _ in 0..8 {
-                scope.spawn(|| turns.ended(|| Ok(()), turn).unwrap());
+                scope.spawn(|| turns.ended(|| Ok(()), turn, || ()).unwrap());
             }
         });
         assert_eq!(most.load(SeqCst), 1);
@@ -181,10 +191,11 @@ mod tests {
             let (turns, count, goes) = (turns.clone(), count.clone(), goes.clone());
             thread::spawn(move || {
                 let board = || goes.lock().unwrap().recv().map_err(|_| Lost);
-                turns.ended(board, |()| {
+                let turn = |()| {
                     count.fetch_add(1, SeqCst);
                     Ok(())
-                })
+                };
+                turns.ended(board, turn, || ())
             })
         };
         let all = [come(), come(), come()];

@@ -2,6 +2,7 @@
 //! answered, these come again at once, and else would wait for the next one while it is under way.
 
 use crate::work::blocking;
+use std::sync::atomic::{AtomicU64, Ordering::SeqCst};
 use std::sync::{Arc, Condvar, Mutex, MutexGuard, PoisonError};
 use std::time::{Duration, Instant};
 
@@ -13,15 +14,11 @@ const LONGEST: Duration = Duration::from_millis(2);
 /// Of all slots that write together.
 #[derive(Default)]
 pub struct Comers {
-    state: Mutex<State>,
-    all_are_there: Condvar,
-}
-
-#[derive(Default)]
-struct State {
-    came: u64,
+    came: AtomicU64,
     /// Once so many have come somebody goes on.
-    awaited: u64,
+    awaited: AtomicU64,
+    waiting: Mutex<()>,
+    all_are_there: Condvar,
 }
 
 /// When writes begin.
@@ -36,29 +33,31 @@ pub struct Departures {
 }
 
 impl Comers {
-    fn state(&self) -> MutexGuard<'_, State> {
-        self.state.lock().unwrap_or_else(PoisonError::into_inner) // two numbers are sound at any time
-    }
-
+    /// It costs who posts nothing, as a rule.
     pub fn come(&self) {
-        let mut state = self.state();
-        state.came += 1;
-        if state.came == state.awaited {
+        if self.came.fetch_add(1, SeqCst) + 1 == self.awaited.load(SeqCst) {
+            let _waits = self.waiting();
             self.all_are_there.notify_one();
         }
     }
 
     fn came(&self) -> u64 {
-        self.state().came
+        self.came.load(SeqCst)
+    }
+
+    fn waiting(&self) -> MutexGuard<'_, ()> {
+        self.waiting.lock().unwrap_or_else(PoisonError::into_inner) // it guards nothing
     }
 
     /// Waits until so many have come in all, or it is so late.
     fn wait(&self, awaited: u64, late: Instant) {
-        let mut state = self.state();
-        state.awaited = awaited;
+        self.awaited.store(awaited, SeqCst);
         let left = late.saturating_duration_since(Instant::now());
-        let lacks_some = |state: &mut State| state.came < awaited;
-        drop(self.all_are_there.wait_timeout_while(state, left, lacks_some));
+        let lacks_some = |_: &mut ()| self.came() < awaited;
+        drop(
+            self.all_are_there
+                .wait_timeout_while(self.waiting(), left, lacks_some),
+        );
     }
 }
 
