@@ -259,9 +259,9 @@ impl Drive for PostgresDrive {
     }
 
     fn sync(&self) -> io::Result<()> {
-        let board = || match lock(&self.seat).take() {
-            None => self.come_aboard(),
-            seat => Ok(seat),
+        let board = || {
+            let seat = lock(&self.seat).take();
+            seat.map_or_else(|| self.come_aboard(), |seat| Ok(Some(seat)))
         };
         let done = self.turns.ended(board, |seat| self.commit(seat), || self.leave());
         done.map_err(|Lost| {
