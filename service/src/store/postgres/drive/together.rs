@@ -14,6 +14,7 @@ use crate::store::postgres::doubt::{Doubt, Next};
 use crate::store::postgres::session::{is_there, within, Session, SILENT};
 use comers::{Comers, Departures};
 use std::collections::BTreeSet;
+use std::sync::atomic::{AtomicBool, Ordering::Relaxed};
 use std::sync::Arc;
 use tokio::runtime::Handle;
 use tokio::sync::mpsc::{unbounded_channel, UnboundedReceiver, UnboundedSender};
@@ -28,6 +29,7 @@ const PATIENCE: &str = "set lock_timeout = '1s'";
 pub struct Together {
     ask: UnboundedSender<oneshot::Sender<Seat>>,
     comers: Arc<Comers>,
+    is_suspect: Arc<AtomicBool>,
 }
 
 /// A place in a transaction that waits for what it brings.
@@ -64,21 +66,32 @@ struct Line {
     /// Slots that were found whole on this connection.
     whole: BTreeSet<i32>,
     departures: Departures,
+    is_suspect: Arc<AtomicBool>,
 }
 
 impl Together {
     pub fn start(server: &Server, runtime: &Handle) -> Together {
         let (ask, asked) = unbounded_channel();
-        let comers = Arc::<Comers>::default();
+        let (comers, is_suspect) = (Arc::<Comers>::default(), Arc::<AtomicBool>::default());
         let line = Line {
             server: server.clone(),
             session: None,
             number: 0,
             whole: BTreeSet::new(),
             departures: Departures::of(&comers),
+            is_suspect: is_suspect.clone(),
         };
         runtime.spawn(line.run(asked));
-        Together { ask, comers }
+        Together {
+            ask,
+            comers,
+            is_suspect,
+        }
+    }
+
+    /// Another connection was of no use any more: this one may be to the same server, and is made anew ahead of the next write.
+    pub fn suspect(&self) {
+        self.is_suspect.store(true, Relaxed);
     }
 
     /// Something was written, and somebody waits for it as a rule.
@@ -167,7 +180,9 @@ impl Line {
 
     /// Taken out: one that was left half-way is closed.
     async fn connected(&mut self) -> Result<Session, Doubt> {
-        if let Some(session) = self.session.take().filter(|session| !session.client.is_closed()) {
+        let is_suspect = self.is_suspect.swap(false, Relaxed);
+        let is_sound = |session: &Session| !is_suspect && !session.client.is_closed();
+        if let Some(session) = self.session.take().filter(is_sound) {
             return Ok(session);
         }
         self.number += 1;

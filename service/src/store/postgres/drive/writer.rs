@@ -124,7 +124,12 @@ impl Writer {
                     return Ok(());
                 }
                 Ok(false) => return Err(self.fenced()),
-                Err(doubt) => self.tell(&doubt),
+                Err(doubt) => {
+                    if doubt.next() == Next::Another {
+                        self.together.suspect();
+                    }
+                    self.tell(&doubt);
+                }
             }
             backoff.wait().await;
         }
