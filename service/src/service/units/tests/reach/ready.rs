@@ -28,11 +28,19 @@ async fn an_instance_is_ready_while_it_takes_posts_of_any_slot() {
     of_a.leave();
     let (status, why) = ready().await;
     assert!(status == 503 && why.contains("stopping"), "{status} {why}");
-    let (new, _) = instance("c", &folder(), &both.net);
-    new.open(0).await;
+    let (new, of_new) = instance("c", &folder(), &both.net);
     let (status, why) = new.ask("GET", "/ready").await;
     assert!(
         status == 503 && why.contains(NO_STORE),
         "before its first beat: {status} {why}"
     );
+    of_new.knows(&[(0, Whose::Nobody), (1, Whose::Nobody)]);
+    let (status, why) = new.ask("GET", "/ready").await;
+    assert!(
+        status == 503 && why.contains(NO_OWNER),
+        "before its first slot: {status} {why}"
+    );
+    new.open(0).await;
+    of_new.knows(&[(0, Whose::Here { term: 1 }), (1, Whose::Nobody)]);
+    assert_eq!(new.ask("GET", "/ready").await.0, 200);
 }
