@@ -128,7 +128,7 @@ impl<T: Terms + 'static, U: Units + 'static> Beats<T, U> {
             tracing::error!("another process beats under this instance's name: give each its own --instance");
         }
         steps.into_iter().for_each(|step| self.begin(step));
-        self.work.cluster.publish();
+        self.work.publish();
     }
 
     async fn look(&mut self) {
@@ -136,7 +136,7 @@ impl<T: Terms + 'static, U: Units + 'static> Beats<T, U> {
             Ok(rows) => self.work.database().owners().look(rows),
             Err(silence) => tell(&silence),
         }
-        self.work.cluster.publish();
+        self.work.publish();
         sleep(LOOKS).await;
     }
 
@@ -187,6 +187,11 @@ impl<T, U> Work<T, U> {
 }
 
 impl<T: Terms, U: Units> Work<T, U> {
+    fn publish(&self) {
+        self.database().fill(self.units.filling());
+        self.cluster.publish();
+    }
+
     /// What follows from it.
     async fn does(&self, step: Step) -> Option<Step> {
         match step {
@@ -224,11 +229,11 @@ impl<T: Terms, U: Units> Work<T, U> {
             Err(Unopened::Lost) => self.cluster.lost(slot, term),
             Err(Unopened::Fault(reason)) => self.cluster.failed(slot, term, &reason),
         }
-        self.cluster.publish();
+        self.publish();
     }
 
     async fn hand_over(&self, slot: u16, term: u64) -> Option<Step> {
-        self.cluster.publish(); // it is nobody's from here on
+        self.publish(); // it is nobody's from here on
         self.units.hand_over(slot, term).await;
         self.release(slot, term).await;
         self.cluster.counts.handed_over();

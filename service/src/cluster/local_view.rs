@@ -7,7 +7,7 @@ use super::owners::{Owners, Whose};
 use super::status::{Counts, Status, Unserved};
 use super::terms::Silence;
 use crate::log::shown;
-use std::collections::BTreeMap;
+use std::collections::{BTreeMap, BTreeSet};
 use std::sync::{Arc, Mutex, MutexGuard, PoisonError};
 use std::time::Duration;
 use tokio::sync::{watch, Notify};
@@ -159,6 +159,14 @@ impl Cluster {
         self.databases[0].owners().beat(seen);
     }
 
+    /// As where it ends: it hands over what it has.
+    #[cfg(test)]
+    pub(crate) fn leave(&self) {
+        self.databases
+            .iter()
+            .for_each(|database| database.owners().leave());
+    }
+
     /// Says who has which slot, where that is new. It is found under the lock of what is said, so the last word is the latest.
     pub(super) fn publish(&self) {
         self.places.send_if_modified(|said| {
@@ -226,19 +234,28 @@ impl Database {
         self.is_stalled().then_some(why)
     }
 
+    /// It is changed whole under the lock.
+    fn unserved(&self) -> MutexGuard<'_, Unserved> {
+        self.unserved.lock().unwrap_or_else(PoisonError::into_inner)
+    }
+
+    /// These take no posts yet, though they are open here.
+    pub fn fill(&self, slots: BTreeSet<u16>) {
+        self.unserved().filling = slots;
+    }
+
     fn whose(&self) -> BTreeMap<u16, Whose> {
         let (places, slots) = {
             let owners = self.owners();
             (owners.whose(), owners.slots())
         };
-        let mut unserved = self.unserved.lock().unwrap_or_else(PoisonError::into_inner); // it is changed whole
-        unserved.note(&slots, Instant::now());
+        self.unserved().note(&slots, Instant::now());
         places
     }
 
     fn add_to(&self, status: &mut Status) {
         let owners = self.owners();
-        let unserved = self.unserved.lock().unwrap_or_else(PoisonError::into_inner);
+        let unserved = self.unserved();
         status.name = owners.name().into();
         status.slots.extend(owners.slots());
         status.has_namesake |= owners.has_namesake();

@@ -1,7 +1,7 @@
 //! What is shown of an instance among others.
 
 use super::owners::Refusal;
-use std::collections::{BTreeMap, HashSet};
+use std::collections::{BTreeMap, BTreeSet, HashSet};
 use std::sync::atomic::{AtomicU64, Ordering::Relaxed};
 use std::time::Duration;
 use tokio::time::Instant;
@@ -91,24 +91,28 @@ pub struct OwnedSlot {
 
 /// Since when slots are served by nobody.
 #[derive(Default)]
-pub(super) struct Unserved(BTreeMap<u16, Instant>);
+pub(super) struct Unserved {
+    since: BTreeMap<u16, Instant>,
+    /// Those of this instance whose books are being filled.
+    pub filling: BTreeSet<u16>,
+}
 
 impl Unserved {
     pub fn note(&mut self, slots: &[OwnedSlot], now: Instant) {
-        let unserved = slots.iter().filter(|slot| !slot.is_served);
-        let unserved: HashSet<u16> = unserved.map(|slot| slot.slot).collect();
-        self.0.retain(|slot, _| unserved.contains(slot));
+        let is_unserved = |slot: &&OwnedSlot| !slot.is_served || self.filling.contains(&slot.slot);
+        let unserved: HashSet<u16> = slots.iter().filter(is_unserved).map(|slot| slot.slot).collect();
+        self.since.retain(|slot, _| unserved.contains(slot));
         for slot in unserved {
-            self.0.entry(slot).or_insert(now);
+            self.since.entry(slot).or_insert(now);
         }
     }
 
     pub fn count(&self) -> usize {
-        self.0.len()
+        self.since.len()
     }
 
     pub fn longest(&self, now: Instant) -> Duration {
-        let since = self.0.values().min();
+        let since = self.since.values().min();
         since.map_or(Duration::ZERO, |since| now.saturating_duration_since(*since))
     }
 }
@@ -179,5 +183,12 @@ mod tests {
         assert_eq!((unserved.count(), longest(&unserved, 31)), (1, 11));
         unserved.note(&slots(&[false, true, true]), at(40));
         assert_eq!(longest(&unserved, 41), 1);
+        // It is open, and its journal is read.
+        unserved.filling = [0].into();
+        unserved.note(&slots(&[true, true, true]), at(50));
+        assert_eq!((unserved.count(), longest(&unserved, 75)), (1, 35));
+        unserved.filling.clear();
+        unserved.note(&slots(&[true, true, true]), at(80));
+        assert_eq!(unserved.count(), 0);
     }
 }

@@ -1,6 +1,6 @@
 //! What the cluster asks of the store, and of the slots of this process.
 
-use std::collections::BTreeMap;
+use std::collections::{BTreeMap, BTreeSet};
 use std::future::Future;
 use std::pin::Pin;
 
@@ -86,4 +86,6 @@ pub trait Units: Send + Sync {
     fn hand_over(&self, slot: u16, term: u64) -> Doing<'_, ()>;
     /// Ends a slot that another has: nothing more of it is answered, delivered or written.
     fn drop_lost(&self, slot: u16, term: u64) -> Doing<'_, ()>;
+    /// Those that are open, and whose books are being filled: their posts are answered 503 until then.
+    fn filling(&self) -> BTreeSet<u16>;
 }

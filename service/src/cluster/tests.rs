@@ -8,7 +8,7 @@ use crate::intake::connections::serve;
 use crate::intake::Limits;
 use crate::otlp::{Encoding, Original, Outcome};
 use bytes::Bytes;
-use std::collections::{BTreeMap, HashMap};
+use std::collections::{BTreeMap, BTreeSet, HashMap};
 use std::sync::atomic::{AtomicBool, AtomicUsize, Ordering::SeqCst};
 use std::sync::{Arc, Mutex};
 use std::time::Duration;
@@ -118,6 +118,10 @@ impl Units for Slots {
 
     fn drop_lost(&self, slot: u16, term: u64) -> Doing<'_, ()> {
         Box::pin(async move { self.close(slot, term) })
+    }
+
+    fn filling(&self) -> BTreeSet<u16> {
+        BTreeSet::new()
     }
 }
 

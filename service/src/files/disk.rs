@@ -300,6 +300,13 @@ impl Disk {
         })
     }
 
+    /// Of a drive, once a sync may begin, which follows at once.
+    pub fn board(&self) {
+        if let Place::Drive(owned) = &self.place {
+            owned.board();
+        }
+    }
+
     /// Makes a folder's names durable; of a drive all that was done.
     pub fn sync_folder(&self, path: &Path) -> Result<(), Fault> {
         self.call(Call::SyncFolder, path, || match &self.place {

@@ -3,6 +3,7 @@
 use super::reach::{Answer, Command, ENDING};
 use super::{reply, Desk, JSON, TEXT};
 use crate::cluster::NO_STORE;
+use crate::slot::NO_OWNER;
 use hyper::{Body, Response};
 use serde_json::json;
 use std::sync::Arc;
@@ -21,8 +22,13 @@ impl Desk {
         if cluster.leaves() {
             return Some(ENDING);
         }
-        let here = self.units.unavailable(|slot| cluster.is_stalled_for(slot));
-        here.filter(|_| !cluster.has_others())
+        if cluster.has_others() {
+            return None;
+        }
+        match self.units.is_empty() {
+            true => Some(NO_OWNER),
+            false => self.units.unavailable(|slot| cluster.is_stalled_for(slot)),
+        }
     }
 
     /// Has each slot carry out an order, wherever it is.

@@ -60,6 +60,12 @@ impl Units {
         here.values().cloned().collect()
     }
 
+    /// Whether none is here.
+    pub fn is_empty(&self) -> bool {
+        let here = self.here.read().unwrap_or_else(PoisonError::into_inner);
+        here.is_empty()
+    }
+
     /// How many slots there are, here and elsewhere.
     pub fn slots(&self) -> u16 {
         self.slots

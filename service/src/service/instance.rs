@@ -14,12 +14,12 @@ use crate::intake::Intake;
 use crate::metrics::{Metrics, OfCluster};
 use crate::operate::{Databases, Desk, Others};
 use crate::post_reports::Reported;
-use crate::slot::{Slot, Slots};
+use crate::slot::{Phase, Slot, Slots};
 use crate::store::postgres::{Copies, Member, PostgresDrive, PostgresStore, Server};
 use crate::tls;
 use crate::work::blocking;
 use anyhow::{anyhow, Context};
-use std::collections::BTreeMap;
+use std::collections::{BTreeMap, BTreeSet};
 use std::sync::{Arc, Mutex, MutexGuard, PoisonError};
 use tokio::sync::watch;
 use tokio::task::JoinHandle;
@@ -253,6 +253,12 @@ impl terms::Units for Instance {
             self.forget(slot);
             self.units.lose(slot);
         })
+    }
+
+    fn filling(&self) -> BTreeSet<u16> {
+        let units = self.units.at_work.units().all();
+        let filling = units.iter().filter(|unit| unit.slot.phase() == Phase::Recovering);
+        filling.map(|unit| unit.slot.number()).collect()
     }
 }
 

@@ -27,20 +27,25 @@ use target::To;
 /// Slots of a store that are filled side by side: each has a connection.
 const SIDE_BY_SIDE: usize = 16;
 
+/// It says all by itself.
 #[derive(Debug, thiserror::Error)]
-pub enum MoveFault {
-    #[error("{0}")]
-    Store(#[from] StoreFault),
-    #[error("{0}")]
-    Folder(#[from] FolderFault),
-    #[error("{0}")]
-    Fault(#[from] Fault),
-    #[error("{0}")]
-    Refused(String),
+#[error("{0}")]
+pub struct MoveFault(String);
+
+macro_rules! from {
+    ($($fault:ty),*) => {
+        $(impl std::convert::From<$fault> for MoveFault {
+            fn from(fault: $fault) -> MoveFault {
+                MoveFault(fault.to_string())
+            }
+        })*
+    };
 }
 
+from!(StoreFault, FolderFault, Fault);
+
 fn refused<T>(why: impl Into<String>) -> Result<T, MoveFault> {
-    Err(MoveFault::Refused(why.into()))
+    Err(MoveFault(why.into()))
 }
 
 /// What was moved.

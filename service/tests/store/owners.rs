@@ -8,9 +8,10 @@ use std::path::Path;
 use std::sync::atomic::Ordering::SeqCst;
 use std::sync::{Arc, Mutex};
 use std::thread;
+use std::time::{Duration, Instant};
 use totxegun::cluster::terms::Refused;
 use totxegun::files::drive::Drive;
-use totxegun::store::postgres::Copies;
+use totxegun::store::postgres::{Copies, PostgresStore};
 
 /// Works until the slot is lost or so many rounds are done, and says what it has said yes to.
 fn works(mut work: Work, most: u64, said: Arc<Mutex<Contents>>) -> thread::JoinHandle<Work> {
@@ -209,4 +210,32 @@ fn beats_go_up_and_a_slot_is_given_away() {
     let slot = wait(store.slots(0)).unwrap().swap_remove(1);
     assert_eq!((slot.term, &slot.owner[..]), (1, ""));
     assert!(store.drive(1, 0).is_err(), "it has another term");
+}
+
+/// Whose beats wait for longer is gone for the others, and a page of an operator is not shown meanwhile.
+#[test]
+fn a_question_to_a_silent_server_ends_soon_and_the_next_one_is_asked_anew() {
+    let Some(server) = Server::start("") else { return };
+    let proxy = Proxy::start(server.port);
+    make(&[&server.address()]);
+    let store = open(&[&proxy.address()], Copies::One);
+    type Question = fn(&PostgresStore) -> bool;
+    let questions: [Question; 3] = [
+        |store| wait(store.slots(0)).is_ok(),
+        |store| wait(store.instances(0)).is_ok(),
+        |store| wait(store.copies(0)).is_ok(),
+    ];
+    for question in questions {
+        assert!(question(&store), "it has a connection");
+        proxy.stop_after(0);
+        let begun = Instant::now();
+        assert!(!question(&store));
+        let took = begun.elapsed();
+        assert!(
+            took > Duration::from_secs(4) && took < Duration::from_secs(12),
+            "{took:?}"
+        );
+        proxy.go_on();
+        wait_until("it is answered", || question(&store));
+    }
 }

@@ -7,7 +7,7 @@ use super::{make, open};
 use std::path::Path;
 use std::sync::Arc;
 use std::thread::{self, JoinHandle};
-use std::time::Duration;
+use std::time::{Duration, Instant};
 use totxegun::files::drive::{is_lost, Drive};
 use totxegun::store::postgres::{Copies, PostgresDrive, PostgresStore};
 
@@ -53,6 +53,38 @@ impl Owner {
         self.drive.create(Path::new("journal/2")).unwrap();
         self.drive.sync().unwrap();
     }
+}
+
+/// As the journal's thread and the outbox do it: neither keeps the other waiting, nor other slots.
+#[test]
+fn who_comes_aboard_and_who_syncs_meanwhile_both_go_on() {
+    let Some(server) = Server::start("") else { return };
+    make(&[&server.address()]);
+    let store = open(&[&server.address()], Copies::One);
+    let owners = SLOTS.map(|slot| Owner::of(&store, slot));
+    let until = Instant::now() + 4 * LONG;
+    let works = |owner: &Owner, boards: bool| {
+        let owner = owner.clone();
+        thread::spawn(move || {
+            while Instant::now() < until {
+                owner.drive.write_at(owner.file, &[b"x"], 0).unwrap();
+                if boards {
+                    owner.drive.board();
+                }
+                owner.drive.sync().unwrap();
+            }
+        })
+    };
+    let all: Vec<_> = owners
+        .iter()
+        .flat_map(|owner| [works(owner, true), works(owner, true), works(owner, false)])
+        .collect();
+    wait_until("all are done", || all.iter().all(JoinHandle::is_finished));
+    all.into_iter().for_each(|one| one.join().unwrap());
+    // One that comes aboard and is lost before it syncs is not waited for.
+    owners[0].drive.board();
+    owners[0].drive.lose();
+    owners[1].write("y").unwrap();
 }
 
 #[test]

@@ -3,7 +3,7 @@ mod databases;
 use super::*;
 use crate::cluster::owners::Whose;
 use crate::cluster::terms::{Doing, Instance, Refused, Row, Seen, Stay};
-use std::collections::BTreeMap;
+use std::collections::{BTreeMap, BTreeSet};
 use std::sync::atomic::{AtomicBool, Ordering::SeqCst};
 use std::sync::Mutex;
 use tokio::time::timeout;
@@ -133,17 +133,20 @@ impl Terms for Of {
     }
 }
 
-/// What was asked of the slots, in order.
+/// What was asked of the slots, in order, and of which of them the books are being filled.
 #[derive(Default)]
-struct Told(Mutex<Vec<(u16, String)>>);
+struct Told {
+    asked: Mutex<Vec<(u16, String)>>,
+    filling: Mutex<BTreeSet<u16>>,
+}
 
 impl Told {
     fn note(&self, slot: u16, what: String) {
-        self.0.lock().unwrap().push((slot, what));
+        self.asked.lock().unwrap().push((slot, what));
     }
 
     fn of(&self, slot: u16) -> Vec<String> {
-        let told = self.0.lock().unwrap();
+        let told = self.asked.lock().unwrap();
         told.iter()
             .filter(|(of, _)| *of == slot)
             .map(|(_, what)| what.clone())
@@ -171,6 +174,10 @@ impl Units for Told {
 
     fn drop_lost(&self, slot: u16, term: u64) -> Doing<'_, ()> {
         Box::pin(async move { self.note(slot, format!("drop {term}")) })
+    }
+
+    fn filling(&self) -> BTreeSet<u16> {
+        self.filling.lock().unwrap().clone()
     }
 }
 
@@ -297,4 +304,18 @@ async fn a_slot_that_was_lost_is_dropped_before_it_is_opened_again() {
         "{told:?}"
     );
     assert_eq!(a.cluster.status().counted.lost, 2);
+}
+
+/// Else nobody would hear of one that is read for long: it has an owner, and its posts get 503.
+#[tokio::test(flavor = "multi_thread", worker_threads = 2)]
+async fn a_slot_is_served_by_nobody_until_its_book_is_filled() {
+    let store = Store::new();
+    let a = start(&store, "a");
+    a.told.filling.lock().unwrap().insert(3);
+    until(|| (0..SLOTS).all(|slot| a.cluster.whose(slot) == Whose::Here { term: 1 })).await;
+    until(|| a.cluster.status().longest_without_owner > BEAT * 3).await;
+    assert_eq!(a.cluster.status().without_owner, 1);
+    a.told.filling.lock().unwrap().clear();
+    until(|| a.cluster.status().without_owner == 0).await;
+    assert_eq!(a.cluster.status().longest_without_owner, Duration::ZERO);
 }

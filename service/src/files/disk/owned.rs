@@ -53,6 +53,12 @@ impl Owned {
         Ok(done)
     }
 
+    pub fn board(&self) {
+        if !self.is_lost() {
+            self.drive.board();
+        }
+    }
+
     pub fn sync(&self) -> io::Result<()> {
         let (made, began) = (self.made.load(SeqCst), Instant::now());
         self.call(|drive| drive.sync())?;

@@ -90,6 +90,7 @@ impl Shared {
 
     /// The same, for who has the journal alone.
     pub(super) fn try_sync(&self) -> Result<(), Fault> {
+        self.disk.board();
         let (ended, file, path, number, at, length, named, ticket) = {
             let mut place = lock(&self.place);
             let ended = std::mem::take(&mut place.ended);

@@ -176,7 +176,8 @@ impl Service {
             former: Vec::new(),
         };
         self.units.open(files).await.unwrap();
-        while !self.desk.units.are_ready() {
+        let is_ready = |unit: Arc<operate::Unit>| unit.slot.is_ready();
+        while !self.desk.units.get(number).is_some_and(is_ready) {
             tokio::time::sleep(Duration::from_millis(1)).await;
         }
     }

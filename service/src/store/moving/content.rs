@@ -35,10 +35,9 @@ pub struct Content {
 impl From {
     /// Its files as a start would leave them: the owner of each series is known.
     fn opened(number: u16, journal: Journal, outbox: Outbox) -> Result<From, MoveFault> {
-        let no_book = |why| MoveFault::Refused(format!("there is no book: {why}"));
+        let no_book = |why| MoveFault(format!("there is no book: {why}"));
         let core = Core::new(1).map_err(no_book)?;
-        let metrics =
-            Metrics::new().map_err(|why| MoveFault::Refused(format!("there are no metrics: {why}")))?;
+        let metrics = Metrics::new().map_err(|why| MoveFault(format!("there are no metrics: {why}")))?;
         let slot = Slot::new(number, journal, Arc::new(outbox), Arc::new(metrics), core);
         keeper::settle(&slot)?;
         Ok(From {
@@ -65,7 +64,7 @@ impl Content {
     pub fn of_folder(folder: &Folder) -> Result<Content, MoveFault> {
         let slots = folder.slots();
         if slots == 1 {
-            move_held(folder).map_err(|ended| MoveFault::Refused(ended.to_string()))?;
+            move_held(folder).map_err(|ended| MoveFault(ended.to_string()))?;
         }
         let mut content = Content::default();
         let mut numbers: BTreeSet<u16> = folder.slots_with_files()?.into_iter().collect();
@@ -108,7 +107,9 @@ impl Content {
         }
         self.quarantined.extend(from.outbox.quarantined());
         let since = from.outbox.since();
-        self.since.made = self.since.made.max(since.made);
+        // All slots are one service, which began with the first: who moves may be the first to open another. 0 is not known.
+        let made = [self.since.made, since.made].into_iter().filter(|made| *made > 0);
+        self.since.made = made.min().unwrap_or_default();
         self.since.forgotten = self.since.forgotten.max(since.forgotten);
     }
 
@@ -132,5 +133,46 @@ impl Content {
             quarantined: self.quarantined.clone(),
             since: self.since,
         }
+    }
+}
+
+#[cfg(test)]
+mod tests {
+    use super::*;
+    use crate::files::Durability;
+
+    fn from(number: u16, since: Since) -> From {
+        let place = tempfile::tempdir().unwrap();
+        let folder = Folder::open(place.path(), Durability::Process).unwrap();
+        let outbox = folder.outbox(number).unwrap();
+        let (next, series, quarantined) = (1, Vec::new(), BTreeSet::new());
+        let beginning = Beginning {
+            next,
+            series,
+            quarantined,
+            since,
+        };
+        outbox.begin_with(beginning).unwrap();
+        From {
+            number,
+            outbox: Arc::new(outbox),
+            journal: None,
+        }
+    }
+
+    /// Else what began since then, and posts for the first time behind the move, would count from its first point on alone.
+    #[test]
+    fn runs_count_from_their_start_that_began_since_the_first_slot_was_taken() {
+        let since = |made, forgotten| Since { made, forgotten };
+        let mut content = Content::default();
+        for (number, since) in [
+            (3, since(70, 5)),
+            (1, since(40, 9)),
+            (2, since(900, 0)),
+            (0, since(0, 2)),
+        ] {
+            content.with(from(number, since));
+        }
+        assert_eq!(content.beginning(0, 1).since, since(40, 9));
     }
 }

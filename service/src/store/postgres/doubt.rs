@@ -15,7 +15,7 @@ pub enum Doubt {
     #[error("the server warns: {0}")]
     Warned(String),
     #[error("{}", shown(.0))]
-    Said(#[from] Error),
+    Said(Error),
     #[error("{0}")]
     NotConnected(String),
     /// The same, and it will be so until somebody changes something.
@@ -101,6 +101,12 @@ fn passes(code: &str) -> bool {
 fn after(code: &str) -> Next {
     let fits = SAID.iter().find(|(begin, _, _)| code.starts_with(begin));
     fits.map_or(Another, |(_, next, _)| *next)
+}
+
+impl From<Error> for Doubt {
+    fn from(error: Error) -> Doubt {
+        Doubt::Said(error)
+    }
 }
 
 impl From<NotConnected> for Doubt {

@@ -1,4 +1,4 @@
-//! Why a store can't be used, and what to do about it.
+//! Why a store can't be used, and what to do about it. A fault says all by itself: it has no cause that would be said once more.
 
 use super::doubt::Doubt;
 
@@ -6,10 +6,10 @@ use super::doubt::Doubt;
 pub enum StoreFault {
     #[error("no store's address is given")]
     Nowhere,
-    #[error("{0}")]
+    #[error(transparent)]
     Doubt(#[from] Doubt),
-    #[error("{server}: {source}")]
-    Server { server: String, source: Doubt },
+    #[error("{server}: {doubt}")]
+    Server { server: String, doubt: Doubt },
     #[error("{0} has no store: make one with `totxegun store init`, or correct the address")]
     None(String),
     #[error("{0} has a store already: it is used as it is, or dropped by `drop schema totxegun_store cascade`, with all in it")]
@@ -39,22 +39,53 @@ pub enum StoreFault {
     #[error("{server} can lose what it said is durable: {why}. Say --store-copies 1 to do so all the same")]
     Copies { server: String, why: String },
     #[error("the system has no thread or no random bytes for the store: {0}")]
-    System(#[from] std::io::Error),
+    System(std::io::Error),
+}
+
+impl From<std::io::Error> for StoreFault {
+    fn from(error: std::io::Error) -> StoreFault {
+        StoreFault::System(error)
+    }
 }
 
 impl StoreFault {
     /// Whether it may be otherwise later, without anybody's help.
     pub fn may_pass(&self) -> bool {
         match self {
-            StoreFault::Doubt(source) | StoreFault::Server { source, .. } => source.may_pass(),
+            StoreFault::Doubt(doubt) | StoreFault::Server { doubt, .. } => doubt.may_pass(),
             _ => false,
         }
     }
 
-    pub(super) fn of(server: impl ToString, source: impl Into<Doubt>) -> StoreFault {
+    pub(super) fn of(server: impl ToString, doubt: impl Into<Doubt>) -> StoreFault {
         StoreFault::Server {
             server: server.to_string(),
-            source: source.into(),
+            doubt: doubt.into(),
+        }
+    }
+}
+
+#[cfg(test)]
+mod tests {
+    use super::*;
+    use std::io::Error;
+
+    #[test]
+    fn where_all_causes_are_said_each_is_said_once() {
+        let refused = || Doubt::NotConnected("u@h:1/d: refused".into());
+        for (fault, said) in [
+            (StoreFault::Doubt(refused()), "u@h:1/d: refused"),
+            (
+                StoreFault::of("u@h:1/d", Doubt::Refused("no".into())),
+                "u@h:1/d: no",
+            ),
+            (
+                StoreFault::from(Error::other("none")),
+                "the system has no thread or no random bytes for the store: none",
+            ),
+        ] {
+            let shown = anyhow::Error::from(fault).context("it can't be used");
+            assert_eq!(format!("{shown:#}"), format!("it can't be used: {said}"));
         }
     }
 }

@@ -62,16 +62,26 @@ const PUT: &str = concat!(
 );
 
 /// The same of several slots, where there are no names and no files that go: as a rule. Each piece says which write it is of.
-const APPEND: &str = concat!(
-    mine!(),
-    ", put as (
+macro_rules! append {
+    () => {
+        concat!(
+            mine!(),
+            ", put as (
         insert into totxegun_store.piece (slot, file, number, place, length, bytes)
         select mine.slot, new.file, new.number, new.place, new.length, new.bytes
         from mine join unnest($4::bigint[], $5::bigint[], $6::bigint[], $7::bigint[], $8::int[], $9::bytea[])
-            as new (write, file, number, place, length, bytes) on new.write = mine.write
-        on conflict (slot, file, number) do nothing
-    ) select write from mine"
+            as new (write, file, number, place, length, bytes) on new.write = mine.write"
+        )
+    };
+}
+
+/// It may be done again.
+const APPEND: &str = concat!(
+    append!(),
+    " on conflict (slot, file, number) do nothing) select write from mine"
 );
+/// Of pieces that were never sent before. A server that need not look for them first writes a tenth less.
+const APPEND_NEW: &str = concat!(append!(), ") select write from mine");
 
 const IS_THERE: &str =
     "select count(*) from totxegun_store.piece where slot = $1 and file = $2 and number = $3";
@@ -83,6 +93,7 @@ pub(super) struct Session {
     pub client: Client,
     pub put: Statement,
     pub append: Statement,
+    pub append_new: Statement,
     pieces: Statement,
     driver: Driver,
     /// One write at a time: whose warning it is must be known.
@@ -95,14 +106,16 @@ impl Session {
         let preparing = async {
             let put = client.prepare(PUT).await?;
             let append = client.prepare(APPEND).await?;
+            let append_new = client.prepare(APPEND_NEW).await?;
             let pieces = client.prepare(PIECES).await?;
-            Ok::<_, Error>((put, append, pieces))
+            Ok::<_, Error>((put, append, append_new, pieces))
         };
-        let (put, append, pieces) = within(CONNECT, preparing).await?;
+        let (put, append, append_new, pieces) = within(CONNECT, preparing).await?;
         Ok(Session {
             client,
             put,
             append,
+            append_new,
             pieces,
             driver,
             writing: Mutex::new(()),

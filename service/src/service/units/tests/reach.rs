@@ -1,5 +1,7 @@
 //! Instances that share slots: what an operator asks at one of them is done in all slots, or it is said in which it is not.
 
+mod ready;
+
 use super::*;
 use crate::cluster::terms::{Doing, Instance, Refused, Row, Seen};
 use crate::cluster::{Answers, Asks, Cluster, Forwarded as Brought, Whose};

@@ -1,7 +1,7 @@
 //! The files of a slot in a PostgreSQL.
 //!
 //! What is done is queued in memory; a sync brings all of it to the store in one transaction that locks the slot's row
-//! under the owner's term. What is queued is as much as the door lets in: posts are refused once a sync has waited for a
+//! under the owner's term: what there is once that begins, which may be behind one that is under way. What is queued is as much as the door lets in: posts are refused once a sync has waited for a
 //! second (`under_way`), whatever it waits for, a full disk of the server's among it.
 
 mod cache;
@@ -31,6 +31,7 @@ use std::io;
 use std::path::Path;
 use std::sync::{mpsc, Arc, Mutex, MutexGuard, PoisonError};
 use std::time::Duration;
+use together::Seat;
 use tokio::runtime::Handle;
 use tokio::sync::watch;
 use turns::Turns;
@@ -42,6 +43,9 @@ pub struct PostgresDrive {
     files: Mutex<Files>,
     cache: Mutex<Cache>,
     turns: Turns,
+    together: Arc<Together>,
+    /// For the sync that comes next.
+    seat: Mutex<Option<Seat>>,
     writer: Arc<tokio::sync::Mutex<Writer>>,
     reader: Arc<Shared>,
     runtime: Handle,
@@ -62,6 +66,8 @@ impl PostgresDrive {
             files: Mutex::new(files),
             cache: Mutex::default(),
             turns: Turns::default(),
+            together: writer.together.clone(),
+            seat: Mutex::default(),
             writer: Arc::new(tokio::sync::Mutex::new(writer)),
             reader,
             runtime,
@@ -82,6 +88,12 @@ impl PostgresDrive {
     pub fn lose(&self) {
         self.turns.lose();
         self.lost.send_replace(true);
+        self.leave();
+    }
+
+    /// Others that write together wait for nothing of this slot: it has one seat at a time, and none while it waits.
+    fn leave(&self) {
+        drop(lock(&self.seat).take());
     }
 
     fn check(&self) -> io::Result<()> {
@@ -105,11 +117,27 @@ impl PostgresDrive {
         told.recv().unwrap_or(Err(Lost)) // the store has ended
     }
 
-    fn commit(&self) -> Result<(), Lost> {
+    /// Waits until what there is may be written: with others, or where it is long or nobody takes it so, alone.
+    fn come_aboard(&self) -> Result<Option<Seat>, Lost> {
+        if lock(&self.files).is_long() {
+            return Ok(None);
+        }
+        let together = self.together.clone();
+        self.wait(async move { Ok(together.board().await) })
+    }
+
+    fn commit(&self, seat: Option<Seat>) -> Result<(), Lost> {
         let batch = lock(&self.files).batch();
         let packed = Arc::new(Packed::of(&batch));
         let writer = self.writer.clone();
-        self.wait(async move { writer.lock().await.commit(&packed).await })?;
+        self.wait(async move {
+            let (mut writer, seat) = match writer.clone().try_lock_owned() {
+                Ok(writer) => (writer, seat),
+                // Others are not kept waiting for who reads by it.
+                Err(_) => (writer.lock_owned().await, None),
+            };
+            writer.commit(&packed, seat).await
+        })?;
         lock(&self.files).is_there(&batch);
         let mut cache = lock(&self.cache);
         for piece in batch.pieces {
@@ -206,6 +234,8 @@ impl Drive for PostgresDrive {
             files.write(file, part, next)?;
             next += part.len() as u64;
         }
+        drop(files);
+        self.together.come();
         Ok(())
     }
 
@@ -219,8 +249,25 @@ impl Drive for PostgresDrive {
         lock(&self.files).remove(name)
     }
 
+    fn board(&self) {
+        if let Ok(seat) = self.turns.waited(|| self.come_aboard()) {
+            *lock(&self.seat) = seat;
+        }
+        if self.turns.check().is_err() {
+            self.leave();
+        }
+    }
+
     fn sync(&self) -> io::Result<()> {
-        self.turns.ended(|| self.commit()).map_err(|Lost| lost())
+        let board = || {
+            let seat = lock(&self.seat).take();
+            seat.map_or_else(|| self.come_aboard(), |seat| Ok(Some(seat)))
+        };
+        let done = self.turns.ended(board, |seat| self.commit(seat), || self.leave());
+        done.map_err(|Lost| {
+            self.leave();
+            lost()
+        })
     }
 
     fn under_way(&self) -> Duration {

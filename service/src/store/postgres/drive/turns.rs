@@ -26,49 +26,73 @@ impl Turns {
         self.state.lock().unwrap_or_else(PoisonError::into_inner)
     }
 
-    /// Returns once a turn has ended that began after this call: by this thread or another.
-    pub fn ended(&self, turn: impl Fn() -> Result<(), Lost>) -> Result<(), Lost> {
+    /// Returns once a turn has ended that began after this call: by this thread or another. Who takes it comes aboard first,
+    /// which may take a while, and then it begins. Who waits for another's turn leaves what it has.
+    pub fn ended<S>(
+        &self,
+        board: impl Fn() -> Result<S, Lost>,
+        turn: impl Fn(S) -> Result<(), Lost>,
+        leave: impl Fn(),
+    ) -> Result<(), Lost> {
+        self.waited(|| {
+            let mut state = self.state();
+            let wanted = state.begun + 1;
+            loop {
+                if state.is_lost {
+                    return Err(Lost);
+                }
+                if state.ended >= wanted {
+                    return Ok(());
+                }
+                if state.is_busy {
+                    leave();
+                    state = self.changed.wait(state).unwrap_or_else(PoisonError::into_inner);
+                } else {
+                    state = self.take_turn(state, &board, &turn);
+                }
+            }
+        })
+    }
+
+    /// Does what waits for the store, as is seen meanwhile.
+    pub fn waited<T>(&self, work: impl FnOnce() -> T) -> T {
         let began = Instant::now();
+        self.state().waiting.push(began);
+        let done = work();
         let mut state = self.state();
-        state.waiting.push(began);
-        let wanted = state.begun + 1;
-        let ended = loop {
-            if state.is_lost {
-                break Err(Lost);
-            }
-            if state.ended >= wanted {
-                break Ok(());
-            }
-            if state.is_busy {
-                state = self.changed.wait(state).unwrap_or_else(PoisonError::into_inner);
-            } else {
-                state = self.take_turn(state, &turn);
-            }
-        };
         if let Some(place) = state.waiting.iter().position(|other| *other == began) {
             state.waiting.swap_remove(place);
         }
-        ended
+        done
     }
 
-    fn take_turn<'a>(
+    fn take_turn<'a, S>(
         &'a self,
         mut state: MutexGuard<'a, State>,
-        turn: impl Fn() -> Result<(), Lost>,
+        board: impl Fn() -> Result<S, Lost>,
+        turn: impl Fn(S) -> Result<(), Lost>,
     ) -> MutexGuard<'a, State> {
         state.is_busy = true;
-        state.begun += 1;
-        let number = state.begun;
         drop(state);
-        let done = turn();
+        let done = board().and_then(|aboard| {
+            let number = self.begin();
+            turn(aboard).map(|()| number)
+        });
         let mut state = self.state();
         state.is_busy = false;
         match done {
-            Ok(()) => state.ended = number,
+            Ok(number) => state.ended = number,
             Err(Lost) => state.is_lost = true,
         }
         self.changed.notify_all();
         state
+    }
+
+    /// Who comes from here on waits for the next one.
+    fn begin(&self) -> u64 {
+        let mut state = self.state();
+        state.begun += 1;
+        state.begun
     }
 
     pub fn lose(&self) {
@@ -106,10 +130,11 @@ mod tests {
         let come = || {
             let (turns, count, goes) = (turns.clone(), count.clone(), goes.clone());
             thread::spawn(move || {
-                turns.ended(|| {
+                let turn = |()| {
                     count.fetch_add(1, SeqCst);
                     goes.lock().unwrap().recv().map_err(|_| Lost)
-                })
+                };
+                turns.ended(|| Ok(()), turn, || ())
             })
         };
         let until = |waiting: usize| {
@@ -143,7 +168,7 @@ mod tests {
     #[test]
     fn one_turn_is_under_way_at_a_time() {
         let (turns, now, most) = (Turns::default(), AtomicU32::new(0), AtomicU32::new(0));
-        let turn = || {
+        let turn = |()| {
             most.fetch_max(now.fetch_add(1, SeqCst) + 1, SeqCst);
             thread::sleep(Duration::from_millis(20));
             now.fetch_sub(1, SeqCst);
@@ -151,9 +176,38 @@ mod tests {
         };
         thread::scope(|scope| {
             for _ in 0..8 {
-                scope.spawn(|| turns.ended(turn).unwrap());
+                scope.spawn(|| turns.ended(|| Ok(()), turn, || ()).unwrap());
             }
         });
         assert_eq!(most.load(SeqCst), 1);
+    }
+
+    #[test]
+    fn who_comes_before_a_turn_begins_is_in_it() {
+        let (turns, count) = (Arc::<Turns>::default(), Arc::<AtomicU32>::default());
+        let (go, goes) = mpsc::channel::<()>();
+        let goes = Arc::new(Mutex::new(goes));
+        let come = || {
+            let (turns, count, goes) = (turns.clone(), count.clone(), goes.clone());
+            thread::spawn(move || {
+                let board = || goes.lock().unwrap().recv().map_err(|_| Lost);
+                let turn = |()| {
+                    count.fetch_add(1, SeqCst);
+                    Ok(())
+                };
+                turns.ended(board, turn, || ())
+            })
+        };
+        let all = [come(), come(), come()];
+        while turns.state().waiting.len() < 3 {
+            thread::sleep(Duration::from_millis(1));
+        }
+        go.send(()).unwrap();
+        for one in all {
+            one.join().unwrap().unwrap();
+        }
+        assert_eq!(count.load(SeqCst), 1);
+        drop(go);
+        assert!(come().join().unwrap().is_err(), "it never comes aboard");
     }
 }

@@ -2,7 +2,7 @@
 
 use super::files::{Batch, Files, StoredPiece};
 use super::packed::{Columns, Packed};
-use super::together::{Together, Write};
+use super::together::{Seat, Together, Write};
 use crate::files::drive::Lost;
 use crate::log::RateLimit;
 use crate::postgres::Server;
@@ -14,7 +14,7 @@ use std::collections::BTreeSet;
 use std::sync::Arc;
 use std::time::Duration;
 use tokio_postgres::types::ToSql;
-use tokio_postgres::{Error, Row};
+use tokio_postgres::{Error, Row, Statement};
 
 const LINK: &str = "select link from totxegun_store.slot where slot = $1 and term = $2";
 const RAISE: &str =
@@ -41,7 +41,7 @@ pub struct Writer {
     /// File and number of the piece that came to be there last, of a file that still is.
     last: Option<(i64, i64)>,
     counts: Arc<Counts>,
-    together: Arc<Together>,
+    pub together: Arc<Together>,
     /// Its connection by which the last short write was done.
     joined: u64,
 }
@@ -75,9 +75,13 @@ impl Writer {
         }
     }
 
-    /// Returns once the batch is there without a doubt.
-    pub async fn commit(&mut self, packed: &Arc<Packed>) -> Result<(), Lost> {
-        if !packed.is_short() || !self.join(packed).await {
+    /// Returns once the batch is there without a doubt. It goes with others where it has a seat and is short.
+    pub async fn commit(&mut self, packed: &Arc<Packed>, seat: Option<Seat>) -> Result<(), Lost> {
+        let is_there = match seat.filter(|_| packed.is_short()) {
+            Some(seat) => self.join(packed, seat).await,
+            None => false,
+        };
+        if !is_there {
             self.commit_alone(packed).await?;
         }
         self.note(packed);
@@ -86,7 +90,7 @@ impl Writer {
 
     /// Whether it was brought there together with writes of other slots. Where that is not known, the next connection raises
     /// the link, so that it is not done later.
-    async fn join(&mut self, packed: &Arc<Packed>) -> bool {
+    async fn join(&mut self, packed: &Arc<Packed>, seat: Seat) -> bool {
         let write = Write {
             slot: self.slot,
             term: self.term,
@@ -94,7 +98,7 @@ impl Writer {
             last: self.last,
             packed: packed.clone(),
         };
-        let joined = self.together.put(write).await;
+        let joined = seat.put(write).await;
         // Another connection may be one to another server.
         if !joined.as_ref().is_ok_and(|number| *number == self.joined) {
             self.session = None;
@@ -120,7 +124,12 @@ impl Writer {
                     return Ok(());
                 }
                 Ok(false) => return Err(self.fenced()),
-                Err(doubt) => self.tell(&doubt),
+                Err(doubt) => {
+                    if doubt.next() == Next::Another {
+                        self.together.suspect();
+                    }
+                    self.tell(&doubt);
+                }
             }
             backoff.wait().await;
         }
@@ -283,7 +292,8 @@ impl Writer {
     }
 
     async fn append(&self, session: &Session, pieces: &Columns) -> Result<bool, Error> {
-        let done = append(session, &[(self.slot, self.term, self.link, pieces)]).await?;
+        let write = (self.slot, self.term, self.link, pieces);
+        let done = append(session, &session.append, &[write]).await?;
         Ok(!done.is_empty())
     }
 
@@ -295,9 +305,10 @@ impl Writer {
     }
 }
 
-/// Writes pieces of slots, under their terms and links: the places of those that were their owners'.
+/// Writes pieces of slots by a statement, under their terms and links: the places of those that were their owners'.
 pub(super) async fn append(
     session: &Session,
+    statement: &Statement,
     writes: &[(i32, i64, i64, &Columns)],
 ) -> Result<BTreeSet<usize>, Error> {
     let slots: Vec<i32> = writes.iter().map(|write| write.0).collect();
@@ -328,6 +339,6 @@ pub(super) async fn append(
     let values: [&(dyn ToSql + Sync); 9] = [
         &slots, &terms, &links, &owners, &files, &numbers, &places, &lengths, &bytes,
     ];
-    let done = session.client.query(&session.append, &values).await?;
+    let done = session.client.query(statement, &values).await?;
     Ok(done.iter().map(|row| row.get::<_, i64>(0) as usize - 1).collect())
 }

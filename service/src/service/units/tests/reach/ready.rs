@@ -1,0 +1,46 @@
+//! Whether an instance among others takes posts.
+
+use super::*;
+use crate::cluster::NO_STORE;
+
+/// A balancer would take it out else, for as long as its journals take to read.
+#[tokio::test]
+async fn an_instance_is_ready_while_it_takes_posts_of_any_slot() {
+    let both = Both::new().await;
+    let ready = || both.a.ask("GET", "/ready");
+    assert_eq!(ready().await, (200, "ready\n".into()));
+    for slot in [0, 2] {
+        both.a.desk.units.get(slot).unwrap().slot.stop();
+    }
+    assert_eq!(
+        ready().await.0,
+        200,
+        "it brings those of slot 1 to their instance"
+    );
+    let (here, of_a) = (Whose::Here { term: 1 }, &both.clusters[0]);
+    of_a.knows(&[(0, here.clone()), (1, Whose::Nobody), (2, here.clone())]);
+    let (status, why) = ready().await;
+    assert!(status == 503 && why.contains("stopping"), "{status} {why}");
+    both.b.units.hand_over(1).await.unwrap();
+    both.a.open(1).await;
+    of_a.knows(&[(0, here.clone()), (1, here.clone()), (2, here)]);
+    assert_eq!(ready().await.0, 200, "those of one of its own");
+    of_a.leave();
+    let (status, why) = ready().await;
+    assert!(status == 503 && why.contains("stopping"), "{status} {why}");
+    let (new, of_new) = instance("c", &folder(), &both.net);
+    let (status, why) = new.ask("GET", "/ready").await;
+    assert!(
+        status == 503 && why.contains(NO_STORE),
+        "before its first beat: {status} {why}"
+    );
+    of_new.knows(&[(0, Whose::Nobody), (1, Whose::Nobody)]);
+    let (status, why) = new.ask("GET", "/ready").await;
+    assert!(
+        status == 503 && why.contains(NO_OWNER),
+        "before its first slot: {status} {why}"
+    );
+    new.open(0).await;
+    of_new.knows(&[(0, Whose::Here { term: 1 }), (1, Whose::Nobody)]);
+    assert_eq!(new.ask("GET", "/ready").await.0, 200);
+}
