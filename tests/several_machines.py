@@ -36,6 +36,7 @@ import signal
 import subprocess
 import sys
 import tempfile
+import threading
 import time
 
 from testing.checks import Checks
@@ -109,6 +110,8 @@ class Instance(Service):
         self.machine, self.clock, self.programs = machine, clock, programs
         self.place = self.words.index(programs[0])
         self.is_wanted, self.starts = False, 0
+        # One thread starts it for what befell it, and another where it has ended.
+        self.starting = threading.Lock()
 
     def begin(self, chance):
         """In either version."""
@@ -117,9 +120,10 @@ class Instance(Service):
         self.go_on()
 
     def go_on(self):
-        if self.is_wanted and not self.is_running():
-            self.starts += 1
-            self.start(self.clock.environment())
+        with self.starting:
+            if self.is_wanted and not self.is_running():
+                self.starts += 1
+                self.start(self.clock.environment())
 
     def vanish(self, with_folder):
         self.is_wanted = False
