@@ -143,8 +143,7 @@ mod tests {
             (400, "already quarantined"),
             (400, "not quarantined"),
             (503, "not ended"),
-            (503, "not one point"),
-            (503, "the book answered 17, which is no answer"),
+            (503, "the book answered 16, which is no answer"),
         ];
         for (status, (http, text)) in (1..).zip(wanted) {
             assert_eq!(said(status), Err((http, text.to_string())), "{status}");
