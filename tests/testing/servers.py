@@ -62,9 +62,9 @@ class Server:
 
     def be_standby_of(self, primary: Server) -> None:
         """The primary waits for it from now on."""
-        subprocess.run(["rm", "-rf", f"{self.folder}/data"], check=True)
         place = f"host={primary.host} port={primary.port} user=postgres application_name=standby"
-        self.run("pg_basebackup", "-d", place, "-R", "-X", "stream", "-c", "fast", "-D", f"{self.folder}/data")
+        if not wait_until(lambda: self.is_copy_of(place), LIMIT):
+            raise RuntimeError("the standby can't be made")
         self.append("postgresql.conf", NAMED)
         self.start()
         if primary.ask("show synchronous_standby_names") == "":
@@ -72,6 +72,14 @@ class Server:
             primary.ask("select pg_reload_conf()")
         if not wait_until(primary.has_standby, LIMIT):
             raise RuntimeError("the standby has not come")
+
+    def is_copy_of(self, place: str) -> bool:
+        """Where the machine has much to do the primary may end the connection: then it is not."""
+        subprocess.run(["rm", "-rf", f"{self.folder}/data"], check=True)
+        with contextlib.suppress(RuntimeError):
+            self.run("pg_basebackup", "-d", place, "-R", "-X", "stream", "-c", "fast", "-D", f"{self.folder}/data")
+            return True
+        return False
 
     def has_standby(self) -> bool:
         return self.ask("select count(*) from pg_stat_replication where sync_state in ('sync', 'quorum')") == "1"
