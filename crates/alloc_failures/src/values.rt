@@ -9,6 +9,7 @@ use delta_book::totals::row_of;
 use http_edge::{Decoder, HttpFault, Request, read_message};
 use metric_events::row::Row;
 use metric_events::series_list::SeriesList;
+use otlp_protobuf::Kept;
 use otlp_read::{IdentityCache, ReadFault, Reading, read_request, read_request_with};
 use out_texts::{put_number, put_row, put_series_name, status_text, success_text, turn_text};
 use series_cell::cell::Cell;
@@ -148,7 +149,17 @@ fn readings(alloc: Global, body: &[u8]) -> Result<String, AllocError> {
 }
 
 fn of_protobuf(alloc: Global, body: &[u8]) -> Result<String, AllocError> {
-    match otlp_protobuf::read_request(alloc, body) {
+    let mut kept = Kept::new(alloc);
+    let first = of_protobuf_with(alloc, body, &mut kept)?;
+    let again = of_protobuf_with(alloc, body, &mut kept)?;
+    if first.as_str() != again.as_str() {
+        return String::from_str(alloc, "another reading");
+    }
+    Ok(first)
+}
+
+fn of_protobuf_with(alloc: Global, body: &[u8], kept: &mut Kept) -> Result<String, AllocError> {
+    match otlp_protobuf::read_request_with(alloc, body, kept) {
         Ok(found) => reading(alloc, Ok(found)),
         Err(otlp_protobuf::ReadFault::NoMemory) => Err(AllocError),
         Err(otlp_protobuf::ReadFault::Malformed(_)) => String::from_str(alloc, "malformed"),

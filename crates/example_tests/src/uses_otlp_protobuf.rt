@@ -1,4 +1,4 @@
-use otlp_protobuf::read_request;
+use otlp_protobuf::{Kept, read_request_with};
 use std::test::Fail;
 
 /// A point of the counter `a` from 10 to 20 nanoseconds, of value 5.
@@ -9,7 +9,8 @@ const BODY: &[u8] = &[
 
 #[test]
 fn reads_a_request(rt: HostRuntime) -> Result<(), Fail> {
-    let reading = read_request(rt.alloc(), BODY)?;
+    let mut kept = Kept::new(rt.alloc());
+    let reading = read_request_with(rt.alloc(), BODY, &mut kept)?;
     assert!(rt; reading.points.as_slice().len() == 1);
     assert!(rt; (reading.foreign, reading.metrics) == (0, 1));
     Ok(())

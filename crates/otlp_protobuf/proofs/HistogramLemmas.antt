@@ -1,5 +1,5 @@
 -- A histogram's point, from its fields, its lists and its series.
-use Rattle.std.proofs.Common.{◌≡◌, ℕ, List, Option, Some, None, option_map, refl}
+use Rattle.std.proofs.Common.{◌≡◌, ℕ, List, Option, Some, None, option_map, refl, ap, sym, subst, ◌∙◌}
 use Rattle.std.specs.Prelude.{ℤ, codes, option_and_then}
 use Rattle.std.specs.Result.{result_ok}
 use Rattle.serde_json.specs.Data.{Data}
@@ -16,12 +16,15 @@ use Rattle.otlp_read.specs.Integers.{unsigned_64, signed_in}
 use Rattle.otlp_read.specs.Lists.{all_of, list_in}
 use Rattle.otlp_read.specs.Rules.{unless}
 use Rattle.otlp_read.specs.Streams.{Stream, series_of}
-use Rattle.otlp_read.proofs.PointLemmas.{kind_of_histogram}
+use Rattle.otlp_read.proofs.PointLemmas.{kind_of_histogram, kind_of_known}
 use Rattle.otlp_protobuf.specs.declared.histogram_point.HistogramPoint.{HistogramPoint}
 use Rattle.otlp_protobuf.specs.Doubles.{whole_double}
 use Rattle.otlp_protobuf.specs.Members.{or_null, unsigned_data, number_data, double_data, list_data}
-use Rattle.otlp_protobuf.specs.Points.{histogram_point_data}
+use Rattle.otlp_protobuf.specs.Points.{take_histogram, no_histogram, histogram_point_of, histogram_point_data}
+use Rattle.otlp_protobuf.specs.Wire.{fields}
+use Rattle.otlp_protobuf.specs.Fields.{gathered}
 use Rattle.otlp_protobuf.specs.inner.HistogramViews.{histogram_fields_of}
+use Rattle.otlp_protobuf.specs.inner.KindViews.{bounds_kind}
 use Rattle.otlp_protobuf.proofs.PointLemmas.{unsigned_shown}
 use Rattle.otlp_protobuf.proofs.ValueLemmas.{list_read}
 
@@ -70,10 +73,6 @@ unfolding histogram_fields
 histogram_fields_are p buckets bounds attributes =
     rw (start_of p buckets bounds attributes, end_of p buckets bounds attributes, count_of p buckets bounds attributes, total_of p buckets bounds attributes, flags_of p buckets bounds attributes) refl
 
--- the kind that bounds make
-abbrev pub bounds_kind : List Data → Option Kind
-bounds_kind bounds = option_and_then (λ found. result_ok (histogram_of found)) (all_of (signed_in MAX_BOUND MAX_BOUND) bounds)
-
 pub kind_is : (p : HistogramPoint) (buckets bounds attributes : List Data) → kind_in (histogram_point_data p buckets bounds attributes) ≡ bounds_kind bounds
 unfolding kind_in
 kind_is p buckets bounds attributes =
@@ -86,34 +85,79 @@ pub no_fields : (stream : Stream) (p : HistogramPoint) (buckets bounds attribute
 unfolding histogram_point
 no_fields stream p buckets bounds attributes read = rw (← read) refl
 
-pub no_kind : (stream : Stream) (p : HistogramPoint) (buckets bounds attributes : List Data) (f : HistogramFields) → Some f ≡ histogram_fields (histogram_point_data p buckets bounds attributes)
+no_kind : (stream : Stream) (p : HistogramPoint) (buckets bounds attributes : List Data) (f : HistogramFields) → Some f ≡ histogram_fields (histogram_point_data p buckets bounds attributes)
     → None ≡ bounds_kind bounds → None ≡ histogram_point stream (histogram_point_data p buckets bounds attributes)
 unfolding histogram_point
 no_kind stream p buckets bounds attributes f read kind = rw (← read, kind_is p buckets bounds attributes, ← kind) refl
 
-pub no_buckets : (stream : Stream) (p : HistogramPoint) (buckets bounds attributes : List Data) (f : HistogramFields) (k : Kind) → Some f ≡ histogram_fields (histogram_point_data p buckets bounds attributes)
+no_buckets_of_kind : (stream : Stream) (p : HistogramPoint) (buckets bounds attributes : List Data) (f : HistogramFields) (k : Kind) → Some f ≡ histogram_fields (histogram_point_data p buckets bounds attributes)
     → Some k ≡ bounds_kind bounds → None ≡ all_of unsigned_64 buckets → None ≡ histogram_point stream (histogram_point_data p buckets bounds attributes)
 unfolding histogram_point
-no_buckets stream p buckets bounds attributes f k read kind none =
+no_buckets_of_kind stream p buckets bounds attributes f k read kind none =
     rw (← read, kind_is p buckets bounds attributes, ← kind, buckets_are p buckets bounds attributes, ← none) refl
 
-pub no_series : (stream : Stream) (p : HistogramPoint) (buckets bounds attributes : List Data) (f : HistogramFields) (k : Kind) (bs : List ℕ) → Some f ≡ histogram_fields (histogram_point_data p buckets bounds attributes)
+no_series_of_kind : (stream : Stream) (p : HistogramPoint) (buckets bounds attributes : List Data) (f : HistogramFields) (k : Kind) (bs : List ℕ) → Some f ≡ histogram_fields (histogram_point_data p buckets bounds attributes)
     → Some k ≡ bounds_kind bounds → Some bs ≡ all_of unsigned_64 buckets → None ≡ series_of stream k (Some (list_data attributes)) → None ≡ histogram_point stream (histogram_point_data p buckets bounds attributes)
 unfolding histogram_point
-no_series stream p buckets bounds attributes f k bs read kind counts none =
+no_series_of_kind stream p buckets bounds attributes f k bs read kind counts none =
     rw (← read, kind_is p buckets bounds attributes, ← kind, buckets_are p buckets bounds attributes, ← counts, attributes_of p buckets bounds attributes, ← none) refl
 
-pub has_series : (stream : Stream) (p : HistogramPoint) (buckets bounds attributes : List Data) (f : HistogramFields) (k : Kind) (bs : List ℕ) (s : Identity) (r : Option DataPoint) → Some f ≡ histogram_fields (histogram_point_data p buckets bounds attributes)
+has_series_of_kind : (stream : Stream) (p : HistogramPoint) (buckets bounds attributes : List Data) (f : HistogramFields) (k : Kind) (bs : List ℕ) (s : Identity) (r : Option DataPoint) → Some f ≡ histogram_fields (histogram_point_data p buckets bounds attributes)
     → Some k ≡ bounds_kind bounds → Some bs ≡ all_of unsigned_64 buckets → Some s ≡ series_of stream k (Some (list_data attributes))
     → r ≡ unless (histogram_fault s.kind f.start f.end f.count f.total bs) (point_of_histogram s f.start f.end f.count f.total bs) → r ≡ histogram_point stream (histogram_point_data p buckets bounds attributes)
 unfolding histogram_point
-has_series stream p buckets bounds attributes f k bs s r read kind counts known is =
+has_series_of_kind stream p buckets bounds attributes f k bs s r read kind counts known is =
     rw (← read, kind_is p buckets bounds attributes, ← kind, buckets_are p buckets bounds attributes, ← counts, attributes_of p buckets bounds attributes, ← known) is
 
 -- that kind is a histogram's
-pub kind_is_histogram : (bounds : List Data) (k : Kind) → bounds_kind bounds ≡ Some k → IsHistogram k
+kind_is_histogram : (bounds : List Data) (k : Kind) → bounds_kind bounds ≡ Some k → IsHistogram k
 kind_is_histogram bounds k h = by_bounds (all_of (signed_in MAX_BOUND MAX_BOUND) bounds) h
   where
     by_bounds : (found : Option (List ℤ)) → option_and_then (λ bs. result_ok (histogram_of bs)) found ≡ Some k → IsHistogram k
     by_bounds None h = absurd cc
     by_bounds (Some bs) h = kind_of_histogram bs k h
+
+-- ---- of a kind that may be none
+
+-- the fields that were read are those of the point
+pub fields_said : (bytes : List ℕ) (nothing p : HistogramPoint) (o : Option HistogramFields) (buckets bounds attributes : List Data) → nothing ≡ no_histogram
+    → p ≡ gathered take_histogram nothing (fields bytes) → o ≡ histogram_fields_of p → o ≡ histogram_fields (histogram_point_data (histogram_point_of bytes) buckets bounds attributes)
+fields_said bytes nothing p o buckets bounds attributes none said read =
+    read ∙ ap histogram_fields_of (said ∙ ap (λ n. gathered take_histogram n (fields bytes)) none) ∙ sym (histogram_fields_are (histogram_point_of bytes) buckets bounds attributes)
+
+pub no_buckets : (stream : Stream) (p : HistogramPoint) (buckets bounds attributes : List Data) (f : HistogramFields) → Some f ≡ histogram_fields (histogram_point_data p buckets bounds attributes)
+    → None ≡ all_of unsigned_64 buckets → None ≡ histogram_point stream (histogram_point_data p buckets bounds attributes)
+no_buckets stream p buckets bounds attributes f read none = by_kind (bounds_kind bounds) refl
+  where
+    by_kind : (kind : Option Kind) → kind ≡ bounds_kind bounds → None ≡ histogram_point stream (histogram_point_data p buckets bounds attributes)
+    by_kind None is = no_kind stream p buckets bounds attributes f read is
+    by_kind (Some k) is = no_buckets_of_kind stream p buckets bounds attributes f k read is none
+
+pub no_series : (stream : Stream) (p : HistogramPoint) (buckets bounds attributes : List Data) (f : HistogramFields) (bs : List ℕ) → Some f ≡ histogram_fields (histogram_point_data p buckets bounds attributes)
+    → Some bs ≡ all_of unsigned_64 buckets → None ≡ option_and_then (λ k. series_of stream k (Some (list_data attributes))) (bounds_kind bounds)
+    → None ≡ histogram_point stream (histogram_point_data p buckets bounds attributes)
+no_series stream p buckets bounds attributes f bs read counts none = by_kind (bounds_kind bounds) refl none
+  where
+    by_kind : (kind : Option Kind) → kind ≡ bounds_kind bounds → None ≡ option_and_then (λ k. series_of stream k (Some (list_data attributes))) kind
+        → None ≡ histogram_point stream (histogram_point_data p buckets bounds attributes)
+    by_kind None is none = no_kind stream p buckets bounds attributes f read is
+    by_kind (Some k) is none = no_series_of_kind stream p buckets bounds attributes f k bs read is counts none
+
+pub has_series : (stream : Stream) (p : HistogramPoint) (buckets bounds attributes : List Data) (f : HistogramFields) (bs : List ℕ) (s : Identity) (r : Option DataPoint)
+    → Some f ≡ histogram_fields (histogram_point_data p buckets bounds attributes) → Some bs ≡ all_of unsigned_64 buckets
+    → Some s ≡ option_and_then (λ k. series_of stream k (Some (list_data attributes))) (bounds_kind bounds)
+    → r ≡ unless (histogram_fault s.kind f.start f.end f.count f.total bs) (point_of_histogram s f.start f.end f.count f.total bs) → r ≡ histogram_point stream (histogram_point_data p buckets bounds attributes)
+has_series stream p buckets bounds attributes f bs s r read counts known is = by_kind (bounds_kind bounds) refl known
+  where
+    by_kind : (kind : Option Kind) → kind ≡ bounds_kind bounds → Some s ≡ option_and_then (λ k. series_of stream k (Some (list_data attributes))) kind
+        → r ≡ histogram_point stream (histogram_point_data p buckets bounds attributes)
+    by_kind None kind known = absurd cc
+    by_kind (Some k) kind known = has_series_of_kind stream p buckets bounds attributes f k bs s r read kind counts known is
+
+-- the series is a histogram
+pub series_is_histogram : (stream : Stream) (found : Option Data) (bounds : List Data) (s : Identity) → Some s ≡ option_and_then (λ k. series_of stream k found) (bounds_kind bounds) → IsHistogram s.kind
+series_is_histogram stream found bounds s known = by_kind (bounds_kind bounds) refl known
+  where
+    by_kind : (kind : Option Kind) → bounds_kind bounds ≡ kind → Some s ≡ option_and_then (λ k. series_of stream k found) kind → IsHistogram s.kind
+    by_kind None kind known = absurd cc
+    by_kind (Some k) kind known = subst IsHistogram (kind_of_known stream k found s (sym known)) (kind_is_histogram bounds k kind)

@@ -11,3 +11,4 @@ pub mod HistogramLemmas
 pub mod StreamLemmas
 pub mod LoopLemmas
 pub mod RequestLemmas
+pub mod KeptLemmas

@@ -1,5 +1,5 @@
 -- A sum's point, from its fields and its series.
-use Rattle.std.proofs.Common.{◌≡◌, List, Option, Some, None, refl}
+use Rattle.std.proofs.Common.{◌≡◌, ℕ, List, Option, Some, None, refl, ap, sym, ◌∙◌}
 use Rattle.std.specs.Prelude.{codes}
 use Rattle.serde_json.specs.Data.{Data}
 use Rattle.series_id.specs.Identity.{Identity}
@@ -13,7 +13,17 @@ use Rattle.otlp_read.specs.Streams.{SumStream, series_of}
 use Rattle.otlp_read.specs.Sums.{SumFields, sum_fields, sum_point}
 use Rattle.otlp_protobuf.specs.declared.number_point.NumberPoint.{NumberPoint}
 use Rattle.otlp_protobuf.specs.Members.{list_data}
-use Rattle.otlp_protobuf.specs.Points.{number_point_data}
+use Rattle.otlp_protobuf.specs.Wire.{fields}
+use Rattle.otlp_protobuf.specs.Fields.{gathered}
+use Rattle.otlp_protobuf.specs.Points.{take_number, no_number, number_point_of, number_point_data}
+use Rattle.otlp_protobuf.specs.inner.SumViews.{sum_fields_of}
+use Rattle.otlp_protobuf.proofs.PointLemmas.{sum_fields_are}
+
+-- the fields that were read are those of the point
+pub fields_said : (bytes : List ℕ) (nothing p : NumberPoint) (o : Option SumFields) (attributes : List Data) → nothing ≡ no_number → p ≡ gathered take_number nothing (fields bytes)
+    → o ≡ sum_fields_of p → o ≡ sum_fields (number_point_data (number_point_of bytes) attributes)
+fields_said bytes nothing p o attributes none said read =
+    read ∙ ap sum_fields_of (said ∙ ap (λ n. gathered take_number n (fields bytes)) none) ∙ sym (sum_fields_are (number_point_of bytes) attributes)
 
 attributes_of : (p : NumberPoint) (attributes : List Data) → field (codes "attributes") (number_point_data p attributes) ≡ Some (list_data attributes)
 unfolding field number_point_data

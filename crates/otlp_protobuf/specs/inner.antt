@@ -6,3 +6,6 @@ pub mod NumberViews
 pub mod PartViews
 pub mod RefViews
 pub mod PairViews
+pub mod Sets
+pub mod KindViews
+pub mod RoomViews

@@ -15,6 +15,7 @@ pub struct Field<'a> {
 }
 
 /// The field at the front, and the bytes after it.
+#[inline(always)]
 #[tactic(auto, unfolding(crate::specs::Wire::field_at))]
 pub fn field_at(bytes: &[u8]) -> Result<(Field<'_>, &[u8]), Malformed>
     ensures { Gives (λ r. (field_data r.0, r.1.now)) result (field_at bytes.now) }
@@ -44,6 +45,7 @@ impl<'a> Fields<'a> {
     }
 
     /// The next field.
+    #[inline(always)]
     #[tactic(auto, using(crate::proofs::WireLemmas::fields_step, crate::proofs::WireLemmas::no_fields))]
     pub fn next(&mut self) -> Option<Field<'a>>
         ensures { MatchOption result (fields_data self.old ≡ [])

@@ -1,10 +1,10 @@
 //! What the bytes of a histogram's point say (`HistogramDataPoint`).
 
 ghost use Rattle.std.specs.Prelude.{◌≡◌};
-ghost use Rattle.otlp_protobuf.specs.Points.{take_histogram, histogram_point_of};
+ghost use Rattle.otlp_protobuf.specs.Points.{take_histogram, no_histogram};
 
 use crate::fields::Field;
-use crate::scan::{Gathered, bits, gather};
+use crate::scan::{Gathered, bits};
 
 /// A point without its buckets, bounds and attributes: times in nanoseconds, its count, the bits of
 /// its sum, and its flags.
@@ -18,18 +18,17 @@ pub struct HistogramPoint {
 }
 
 impl HistogramPoint {
-    /// What a point says.
-    pub fn of(bytes: &[u8]) -> HistogramPoint
-        ensures { result ≡ histogram_point_of bytes.now }
+    /// A point that says nothing.
+    pub fn new() -> HistogramPoint
+        ensures { result ≡ no_histogram }
     {
-        let nothing = HistogramPoint {
+        HistogramPoint {
             start: None,
             end: None,
             count: None,
             total: None,
             flags: None,
-        };
-        gather(nothing, bytes)
+        }
     }
 }
 

@@ -21,17 +21,18 @@ ghost use Rattle.otlp_protobuf.specs.inner.StreamViews.{stream_data};
 
 use crate::doubles::unsigned_double;
 use crate::histogram_point::HistogramPoint;
+use crate::identity_cache::IdentityCache;
+use crate::kind_ref::KindRef;
 use crate::numbers::numbers_in;
+use crate::point_attributes::{MOST_ATTRIBUTES, PointAttributes};
 use crate::point_fields::{flags_fit, nanos_in};
+use crate::scan::gather_with;
 use crate::streams::{PointStream, Stream, series_of};
 use metric_events::point::{Point, PointFault};
-use series_id::Kind;
 use std::alloc::{AllocError, Global};
 
-/// The numbers of a point's lists.
+/// The numbers of a point's buckets and attributes.
 const BUCKETS: u32 = 6;
-
-const BOUNDS: u32 = 7;
 
 const ATTRIBUTES: u32 = 9;
 
@@ -66,8 +67,8 @@ fn total_in(found: Option<u64>) -> Option<Option<u64>>
     }
 }
 
-/// The fields of a point with these values.
-fn fields_of(point: HistogramPoint) -> Option<HistogramFields>
+/// The fields of a point; `None` if the point is foreign for one of them.
+fn histogram_fields(point: HistogramPoint) -> Option<HistogramFields>
     ensures { option_map histogram_fields_data result ≡ histogram_fields_of point }
 {
     let start = nanos_in(point.start)?;
@@ -86,37 +87,21 @@ fn fields_of(point: HistogramPoint) -> Option<HistogramFields>
     }
 }
 
-/// The fields of a point; `None` if the point is foreign for one of them.
-fn histogram_fields(bytes: &[u8]) -> Option<HistogramFields>
-    ensures { (buckets bounds attributes : List Data) → option_map histogram_fields_data result
-        ≡ histogram_fields (histogram_point_data (histogram_point_of bytes.now) buckets bounds
-        attributes) }
-{
-    fields_of(HistogramPoint::of(bytes))
-}
-
-/// The kind of a histogram with the bounds of this point; `None` if they are no bounds.
-fn kind_of(alloc: Global, bytes: &[u8]) -> Result<Option<Kind>, AllocError>
-    ensures { IfOk result (λ o. o ≡ option_and_then (λ found. result_ok (histogram_of found))
-        (all_of (signed_in MAX_BOUND MAX_BOUND) (map double_data (numbers 7
-        (fields bytes.now))))) }
-{
-    let Some(found) = numbers_in(alloc, bytes, BOUNDS)? else {
-        return Ok(None);
-    };
-    Ok(Kind::histogram(found).ok())
-}
-
 /// In no stream, every point is foreign.
 impl PointStream for Option<Stream<'_>> {
     ghost shows = { point_shown };
 
     ghost reads = { λ stream. histogram_point_in (option_map stream_data stream) };
 
-    fn read(self, alloc: Global, bytes: &[u8]) -> Result<Option<Point>, AllocError> {
+    fn read(
+        self,
+        alloc: Global,
+        cache: &mut IdentityCache,
+        bytes: &[u8],
+    ) -> Result<Option<Point>, AllocError> {
         match self {
             None => Ok(None),
-            Some(stream) => histogram_point(alloc, stream, bytes),
+            Some(stream) => histogram_point(alloc, cache, stream, bytes),
         }
     }
 }
@@ -124,22 +109,24 @@ impl PointStream for Option<Stream<'_>> {
 /// Reads a point of a histogram in a stream; `None` if it is foreign.
 fn histogram_point(
     alloc: Global,
+    cache: &mut IdentityCache,
     stream: Stream<'_>,
     bytes: &[u8],
 ) -> Result<Option<Point>, AllocError>
     ensures { IfOk result (λ o. o
         ≡ histogram_point (stream_data stream.entry) (point_shown bytes.now)) }
 {
-    let Some(fields) = histogram_fields(bytes) else {
-        return Ok(None);
-    };
-    let Some(kind) = kind_of(alloc, bytes)? else {
+    let mut room: [&[u8]; MOST_ATTRIBUTES] = [&[]; MOST_ATTRIBUTES];
+    let (point, count) = gather_with(HistogramPoint::new(), bytes, ATTRIBUTES, &mut room);
+    let Some(fields) = histogram_fields(point) else {
         return Ok(None);
     };
     let Some(buckets) = numbers_in(alloc, bytes, BUCKETS)? else {
         return Ok(None);
     };
-    let Some(series) = series_of(alloc, stream, kind, bytes, ATTRIBUTES)? else {
+    let kind = KindRef::Histogram { point: bytes };
+    let attributes = PointAttributes::of(bytes, ATTRIBUTES, &room, count);
+    let Some(series) = series_of(alloc, cache, stream, kind, attributes)? else {
         return Ok(None);
     };
     let HistogramFields {

@@ -3,22 +3,32 @@
 #![tactic(auto)]
 
 mod attributes;
+mod byte_hash;
 mod checks;
 mod doubles;
 mod fault;
 mod fields;
 mod histogram_point;
 mod histograms;
+mod identity_cache;
+mod kept;
+mod kept_series;
+mod kind_ref;
+mod known_set;
 mod lists;
+mod lookup;
 mod malformed;
 mod metrics;
 mod number_point;
 mod numbers;
+mod point_attributes;
 mod point_fields;
 mod reader;
 mod scalar_ref;
 mod scan;
 mod schema;
+mod set_cache;
+mod slots;
 mod streams;
 mod sums;
 mod values;
@@ -26,5 +36,6 @@ mod walk;
 mod wire;
 
 pub use fault::ReadFault;
+pub use kept::Kept;
 pub use malformed::Malformed;
-pub use walk::read_request;
+pub use walk::read_request_with;

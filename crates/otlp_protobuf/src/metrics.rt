@@ -39,13 +39,13 @@ impl Object for Option<Scope<'_>> {
 
     ghost adds = { λ scope. metric (option_map scope_data scope) };
 
-    fn read(self, reader: &mut Reader, bytes: &[u8]) -> Result<(), AllocError> {
+    fn read(self, reader: &mut Reader<'_>, bytes: &[u8]) -> Result<(), AllocError> {
         metric(reader, self, bytes)
     }
 }
 
 /// Reads a metric of a scope, and adds it to the reading.
-fn metric(reader: &mut Reader, scope: Option<Scope<'_>>, bytes: &[u8]) -> Result<(), AllocError>
+fn metric(reader: &mut Reader<'_>, scope: Option<Scope<'_>>, bytes: &[u8]) -> Result<(), AllocError>
     ensures { OnOk result (metric (option_map scope_data scope.entry) (metric_message bytes.now)
         (tally reader.old.out) ≡ Ok (tally reader.new.out)) }
 {
@@ -82,7 +82,7 @@ fn parts_of<'a>(alloc: Global, metric: &'a [u8]) -> Result<Parts<'a>, AllocError
 /// Adds the points of all data fields.
 #[tactic(auto, unfolding(otlp_read::specs::Metrics::add_parts))]
 fn add_parts(
-    reader: &mut Reader,
+    reader: &mut Reader<'_>,
     scope: Option<Scope<'_>>,
     metric: &[u8],
     parts: &Parts<'_>,
@@ -100,7 +100,7 @@ fn add_parts(
 /// Adds the points of the sum and of the histogram. With two data fields all are foreign.
 #[tactic(auto, unfolding(otlp_read::specs::Metrics::add_profile))]
 fn add_profile(
-    reader: &mut Reader,
+    reader: &mut Reader<'_>,
     scope: Option<Scope<'_>>,
     metric: &[u8],
     parts: &Parts<'_>,
@@ -171,7 +171,7 @@ const POINTS: u32 = 1;
 
 /// Adds the points of a sum.
 fn add_sum(
-    reader: &mut Reader,
+    reader: &mut Reader<'_>,
     scope: Option<Scope<'_>>,
     metric: &[u8],
     part: &Whole<'_>,
@@ -189,7 +189,7 @@ fn add_sum(
 
 /// Adds the points of a histogram.
 fn add_histogram(
-    reader: &mut Reader,
+    reader: &mut Reader<'_>,
     scope: Option<Scope<'_>>,
     metric: &[u8],
     part: &Whole<'_>,
@@ -206,13 +206,13 @@ fn add_histogram(
 }
 
 /// Reads points in order, and adds them.
-fn points<S: PointStream>(reader: &mut Reader, stream: S, bytes: &[u8]) -> Result<(), AllocError>
+fn points<S: PointStream>(reader: &mut Reader<'_>, stream: S, bytes: &[u8]) -> Result<(), AllocError>
     ensures { OnOk result (tally reader.new.out ≡ each_point (S.reads stream)
         (map S.shows (contents 1 (fields bytes.now))) (tally reader.old.out)) }
 {
     let mut rest = Fields::of(bytes);
     while let Some(content) = next_content(&mut rest, POINTS) {
-        let point = stream.read(reader.alloc, content)?;
+        let point = stream.read(reader.alloc, reader.cache, content)?;
         add_point(&mut reader.out, point)?;
     }
     Ok(())

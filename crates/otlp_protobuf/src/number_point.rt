@@ -1,10 +1,10 @@
 //! What the bytes of a sum's point say (`NumberDataPoint`).
 
 ghost use Rattle.std.specs.Prelude.{◌≡◌};
-ghost use Rattle.otlp_protobuf.specs.Points.{take_number, number_point_of};
+ghost use Rattle.otlp_protobuf.specs.Points.{take_number, no_number};
 
 use crate::fields::Field;
-use crate::scan::{Gathered, bits, gather};
+use crate::scan::{Gathered, bits};
 
 /// A point without its attributes: times in nanoseconds, the bits of its double, its whole number,
 /// and its flags.
@@ -18,18 +18,17 @@ pub struct NumberPoint {
 }
 
 impl NumberPoint {
-    /// What a point says.
-    pub fn of(bytes: &[u8]) -> NumberPoint
-        ensures { result ≡ number_point_of bytes.now }
+    /// A point that says nothing.
+    pub fn new() -> NumberPoint
+        ensures { result ≡ no_number }
     {
-        let nothing = NumberPoint {
+        NumberPoint {
             start: None,
             end: None,
             double: None,
             int: None,
             flags: None,
-        };
-        gather(nothing, bytes)
+        }
     }
 }
 

@@ -1,6 +1,6 @@
 //! Reads lists of numbers of 8 bytes, packed or not, each in the same way.
 
-ghost use Rattle.std.specs.Prelude.{◌≡◌, ◌∷◌, ℕ, [], IfOk, MatchOption, Option, map, option_map};
+ghost use Rattle.std.specs.Prelude.{◌≡◌, ◌∷◌, ℕ, [], IfOk, IsTrue, MatchOption, Option, Some, map, option_map};
 ghost use Rattle.serde_json.specs.Data.{Data};
 ghost use Rattle.series_id.specs.declared.limits.TheConstants.{MAX_BOUND};
 ghost use Rattle.otlp_read.specs.Integers.{unsigned_64, signed_in};
@@ -146,4 +146,34 @@ pub fn numbers_in<T: Number>(
         found.push(element)?;
     }
     Ok(Some(found))
+}
+
+/// Whether the numbers are these bounds.
+pub fn are_bounds(numbers: Numbers<'_>, bounds: &[i64]) -> bool
+    ensures only { IsTrue result → all_of (signed_in MAX_BOUND MAX_BOUND)
+        (map double_data (numbers_data numbers.entry)) ≡ Some bounds.now }
+{
+    let mut rest = numbers;
+    let mut count: usize = 0;
+    while let Some(bits) = rest.next() {
+        if count >= bounds.len() {
+            return false;
+        }
+        if !is_bound(bits, &bounds[count]) {
+            return false;
+        }
+        count += 1;
+    }
+    count >= bounds.len()
+}
+
+/// Whether the number of these bits is this bound.
+fn is_bound(bits: u64, bound: &i64) -> bool
+    ensures only { IsTrue result
+        → signed_in MAX_BOUND MAX_BOUND (double_data bits) ≡ Some bound.now }
+{
+    match bound_double(bits) {
+        Some(found) => found == *bound,
+        None => false,
+    }
 }

@@ -9,14 +9,18 @@ ghost use Rattle.otlp_protobuf.specs.Wire.{fields};
 ghost use Rattle.otlp_protobuf.specs.Fields.{contents};
 
 use crate::fields::Fields;
+use crate::identity_cache::IdentityCache;
 use crate::scan::next_content;
+use crate::set_cache::SetCache;
 use otlp_read::Reading;
 use std::alloc::{AllocError, Global};
 
-/// A reader of a request: its memory, and what it has read so far.
+/// A reader of a request: its memory, its caches, and what it has read so far.
 #[derive(Drop)]
-pub struct Reader {
+pub struct Reader<'c> {
     pub alloc: Global,
+    pub cache: &'c mut IdentityCache,
+    pub sets: &'c mut SetCache,
     pub out: Reading,
 }
 
@@ -29,14 +33,14 @@ pub trait Object: Copy {
     ghost adds: { Self → Data → Tally → Result Tally Place };
 
     /// Reads a message.
-    fn read(self, reader: &mut Reader, bytes: &[u8]) -> Result<(), AllocError>
+    fn read(self, reader: &mut Reader<'_>, bytes: &[u8]) -> Result<(), AllocError>
         ensures { OnOk result (adds self (shows bytes.now) (tally reader.old.out)
             ≡ Ok (tally reader.new.out)) };
 }
 
 /// Reads the messages of the list of this number in order.
 pub fn each<O: Object>(
-    reader: &mut Reader,
+    reader: &mut Reader<'_>,
     above: O,
     bytes: &[u8],
     number: u32,

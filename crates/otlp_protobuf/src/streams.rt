@@ -1,14 +1,12 @@
 //! Reads the parts of an identity: resource, scope and metric, and with a point's kind and
 //! attributes its series.
 
-ghost use Rattle.std.specs.Prelude.{◌≡◌, IfOk, List, ℕ, Option, Some, map, option_map};
+ghost use Rattle.std.specs.Prelude.{◌≡◌, IfOk, List, ℕ, Option, option_and_then, option_map};
 ghost use Rattle.serde_json.specs.Data.{Data};
 ghost use Rattle.metric_events.specs.DataPoint.{DataPoint};
 ghost use Rattle.otlp_read.specs.Streams.{series_in, series_of};
-ghost use Rattle.otlp_protobuf.specs.Wire.{fields};
-ghost use Rattle.otlp_protobuf.specs.Fields.{contents};
-ghost use Rattle.otlp_protobuf.specs.Members.{list_data};
-ghost use Rattle.otlp_protobuf.specs.Values.{key_value};
+ghost use Rattle.otlp_protobuf.specs.inner.Sets.{said_list};
+ghost use Rattle.otlp_protobuf.specs.inner.KindViews.{attributes_data, kind_data};
 ghost use Rattle.otlp_protobuf.specs.inner.Views.{payload_data};
 ghost use Rattle.otlp_protobuf.specs.inner.StreamViews.{delta_from, histogram_stream_from};
 ghost use Rattle.otlp_protobuf.specs.inner.StreamViews.{resource_data, scope_data, scope_from};
@@ -16,33 +14,41 @@ ghost use Rattle.otlp_protobuf.specs.inner.StreamViews.{stream_data, stream_from
 ghost use Rattle.otlp_protobuf.specs.inner.StreamViews.{sum_stream_from, truth_from};
 
 use crate::attributes::{attributes_in, text_in};
+use crate::byte_hash::ByteHash;
+use crate::identity_cache::IdentityCache;
+use crate::kind_ref::KindRef;
+use crate::known_set::KnownSet;
+use crate::point_attributes::PointAttributes;
 use crate::scan::{bits, last, text_at};
 use crate::wire::Payload;
 use metric_events::point::Point;
 use series_id::{AttrSet, Kind, SeriesId, SharedId, Text};
 use std::alloc::{AllocError, Global};
 
-/// A resource's attributes.
+/// A resource's attributes, and the hash of its bytes.
 #[derive(Clone, Copy)]
 pub struct Resource<'a> {
-    pub attributes: &'a AttrSet,
+    pub attributes: &'a KnownSet,
+    pub hash: ByteHash,
 }
 
-/// The resource's attributes, and the scope.
+/// The resource's attributes, the scope, and the hash of the bytes of both.
 #[derive(Clone, Copy)]
 pub struct Scope<'a> {
-    pub resource: &'a AttrSet,
+    pub resource: &'a KnownSet,
     pub name: &'a str,
     pub version: &'a str,
     pub attributes: &'a AttrSet,
+    pub hash: ByteHash,
 }
 
-/// A metric of a scope.
+/// A metric of a scope, and the hash of both.
 #[derive(Clone, Copy)]
 pub struct Stream<'a> {
     pub scope: Scope<'a>,
     pub name: &'a str,
     pub unit: &'a str,
+    pub hash: ByteHash,
 }
 
 /// A stream of sums, and whether they are monotonic.
@@ -61,16 +67,24 @@ pub trait PointStream: Copy {
     ghost reads: { Self → Data → Option DataPoint };
 
     /// Reads a point; `None` if it is foreign.
-    fn read(self, alloc: Global, bytes: &[u8]) -> Result<Option<Point>, AllocError>
+    fn read(
+        self,
+        alloc: Global,
+        cache: &mut IdentityCache,
+        bytes: &[u8],
+    ) -> Result<Option<Point>, AllocError>
         ensures { IfOk result (λ o. o ≡ reads self (shows bytes.now)) };
 }
 
 /// The resource with these attributes. `None` if no identity may have them.
-pub fn resource_in<'a>(attributes: Option<&'a AttrSet>) -> Option<Resource<'a>>
-    ensures { option_map resource_data result ≡ option_map (λ s. s.now) attributes.entry }
+pub fn resource_in<'a>(
+    attributes: Option<&'a KnownSet>,
+    hash: ByteHash,
+) -> Option<Resource<'a>>
+    ensures { option_map resource_data result ≡ option_map (λ k. k.now.set) attributes.entry }
 {
     let attributes = attributes?;
-    Some(Resource { attributes })
+    Some(Resource { attributes, hash })
 }
 
 /// The scope of a resource, with its own attributes. `None` if one of its parts may be in no
@@ -78,10 +92,11 @@ pub fn resource_in<'a>(attributes: Option<&'a AttrSet>) -> Option<Resource<'a>>
 pub fn scope_in<'a>(
     resource: Option<Resource<'a>>,
     scope: &'a [u8],
-    attributes: Option<&'a AttrSet>,
+    attributes: Option<&'a KnownSet>,
+    hash: ByteHash,
 ) -> Option<Scope<'a>>
     ensures { option_map scope_data result ≡ scope_from (option_map resource_data resource.entry)
-        scope.now (option_map (λ s. s.now) attributes.entry) }
+        scope.now (option_map (λ k. k.now.set) attributes.entry) }
 {
     let resource = resource?;
     let name = text_in(text_at(scope, 1))?;
@@ -91,7 +106,8 @@ pub fn scope_in<'a>(
         resource: resource.attributes,
         name,
         version,
-        attributes,
+        attributes: &attributes.set,
+        hash,
     })
 }
 
@@ -124,7 +140,13 @@ fn stream_if<'a>(delta: bool, scope: Option<Scope<'a>>, metric: &'a [u8]) -> Opt
     let name = text_in(text_at(metric, 1))?;
     let unit = text_in(text_at(metric, 3))?;
     if delta {
-        Some(Stream { scope, name, unit })
+        let hash = scope.hash.with(name.as_bytes()).with(unit.as_bytes());
+        Some(Stream {
+            scope,
+            name,
+            unit,
+            hash,
+        })
     } else {
         None
     }
@@ -161,20 +183,58 @@ const TEMPORALITY: u32 = 2;
 
 const MONOTONIC: u32 = 3;
 
-/// The series of a stream with this kind and the attributes of this number. `None` if no series may
-/// have them.
-#[tactic(auto, unfolding(otlp_read::specs::Streams::series_of))]
+/// The series of a stream with this kind and these attributes. One that is kept is shared. `None`
+/// if no series may have them.
 pub fn series_of(
     alloc: Global,
+    cache: &mut IdentityCache,
     stream: Stream<'_>,
-    kind: Kind,
-    bytes: &[u8],
-    number: u32,
+    kind: KindRef<'_>,
+    attributes: PointAttributes<'_, '_>,
 ) -> Result<Option<SharedId>, AllocError>
-    ensures { IfOk result (λ o. o ≡ series_of (stream_data stream.entry) kind (Some (list_data
-        (map key_value (contents number (fields bytes.now)))))) }
+    ensures { IfOk result (λ o. o ≡ option_and_then
+        (λ k. series_of (stream_data stream.entry) k (said_list (attributes_data attributes.entry)))
+        (kind_data kind.entry)) }
 {
-    let Some(attributes) = attributes_in(alloc, bytes, number)? else {
+    let Some(messages) = attributes.found else {
+        return new_series(alloc, stream, kind, attributes);
+    };
+    let hash = hash_of(stream.hash, messages);
+    if let Some(series) = cache.look_up(hash, stream, kind, messages) {
+        return Ok(Some(series));
+    }
+    let Some(series) = new_series(alloc, stream, kind, attributes)? else {
+        return Ok(None);
+    };
+    cache.keep(alloc, hash, stream, messages, &series);
+    Ok(Some(series))
+}
+
+/// The hash of a stream with the messages of a point's attributes.
+fn hash_of(stream: ByteHash, messages: &[&[u8]]) -> ByteHash {
+    let mut hash = stream;
+    for message in messages {
+        hash = hash.with(message);
+    }
+    hash
+}
+
+/// The same, made anew.
+#[tactic(auto, unfolding(otlp_read::specs::Streams::series_of))]
+fn new_series(
+    alloc: Global,
+    stream: Stream<'_>,
+    kind: KindRef<'_>,
+    attributes: PointAttributes<'_, '_>,
+) -> Result<Option<SharedId>, AllocError>
+    ensures { IfOk result (λ o. o ≡ option_and_then
+        (λ k. series_of (stream_data stream.entry) k (said_list (attributes_data attributes.entry)))
+        (kind_data kind.entry)) }
+{
+    let Some(kind) = kind.to_kind(alloc)? else {
+        return Ok(None);
+    };
+    let Some(attributes) = attributes_in(alloc, attributes.bytes, attributes.number)? else {
         return Ok(None);
     };
     let Some(series) = series_in(alloc, stream, kind, attributes)? else {
@@ -193,7 +253,7 @@ fn series_in(
 ) -> Result<Option<SeriesId>, AllocError>
     ensures { IfOk result (λ o. o ≡ series_in (stream_data stream.entry) kind attributes) }
 {
-    let resource = stream.scope.resource.copy(alloc)?;
+    let resource = stream.scope.resource.set.copy(alloc)?;
     let scope_name = text(alloc, stream.scope.name)?;
     let scope_version = text(alloc, stream.scope.version)?;
     let scope_attrs = stream.scope.attributes.copy(alloc)?;

@@ -8,11 +8,14 @@ ghost use Rattle.otlp_protobuf.specs.Points.{number_point, number_point_of, numb
 ghost use Rattle.otlp_protobuf.specs.inner.StreamViews.{sum_stream_data};
 ghost use Rattle.otlp_protobuf.specs.inner.SumViews.{sum_fields_data, sum_fields_of};
 
+use crate::identity_cache::IdentityCache;
+use crate::kind_ref::KindRef;
 use crate::number_point::NumberPoint;
+use crate::point_attributes::{MOST_ATTRIBUTES, PointAttributes};
 use crate::point_fields::{flags_fit, nanos_in};
+use crate::scan::gather_with;
 use crate::streams::{PointStream, SumStream, series_of};
 use metric_events::point::Point;
-use series_id::Kind;
 use std::alloc::{AllocError, Global};
 
 /// The number of a point's attributes.
@@ -36,8 +39,8 @@ fn number_in(found: Option<i64>) -> Option<i64>
     }
 }
 
-/// The fields of a point with these values.
-fn fields_of(point: NumberPoint) -> Option<SumFields>
+/// The fields of a point; `None` if the point is foreign for one of them.
+fn sum_fields(point: NumberPoint) -> Option<SumFields>
     ensures { option_map sum_fields_data result ≡ sum_fields_of point }
 {
     let start = nanos_in(point.start)?;
@@ -50,40 +53,45 @@ fn fields_of(point: NumberPoint) -> Option<SumFields>
     }
 }
 
-/// The fields of a point; `None` if the point is foreign for one of them.
-fn sum_fields(bytes: &[u8]) -> Option<SumFields>
-    ensures { (attributes : List Data) → option_map sum_fields_data result
-        ≡ sum_fields (number_point_data (number_point_of bytes.now) attributes) }
-{
-    fields_of(NumberPoint::of(bytes))
-}
-
 /// In no stream, every point is foreign.
 impl PointStream for Option<SumStream<'_>> {
     ghost shows = { number_point };
 
     ghost reads = { λ sum. sum_point_in (option_map sum_stream_data sum) };
 
-    fn read(self, alloc: Global, bytes: &[u8]) -> Result<Option<Point>, AllocError> {
+    fn read(
+        self,
+        alloc: Global,
+        cache: &mut IdentityCache,
+        bytes: &[u8],
+    ) -> Result<Option<Point>, AllocError> {
         match self {
             None => Ok(None),
-            Some(sum) => sum_point(alloc, sum, bytes),
+            Some(sum) => sum_point(alloc, cache, sum, bytes),
         }
     }
 }
 
 /// Reads a point of a sum in a stream; `None` if it is foreign.
-fn sum_point(alloc: Global, sum: SumStream<'_>, bytes: &[u8]) -> Result<Option<Point>, AllocError>
+fn sum_point(
+    alloc: Global,
+    cache: &mut IdentityCache,
+    sum: SumStream<'_>,
+    bytes: &[u8],
+) -> Result<Option<Point>, AllocError>
     ensures { IfOk result (λ o. o
         ≡ sum_point (sum_stream_data sum.entry) (number_point bytes.now)) }
 {
-    let Some(fields) = sum_fields(bytes) else {
+    let mut room: [&[u8]; MOST_ATTRIBUTES] = [&[]; MOST_ATTRIBUTES];
+    let (point, count) = gather_with(NumberPoint::new(), bytes, ATTRIBUTES, &mut room);
+    let Some(fields) = sum_fields(point) else {
         return Ok(None);
     };
-    let kind = Kind::Sum {
+    let kind = KindRef::Sum {
         monotonic: sum.monotonic,
     };
-    let Some(series) = series_of(alloc, sum.stream, kind, bytes, ATTRIBUTES)? else {
+    let attributes = PointAttributes::of(bytes, ATTRIBUTES, &room, count);
+    let Some(series) = series_of(alloc, cache, sum.stream, kind, attributes)? else {
         return Ok(None);
     };
     let point = Point::shared_sum(series, fields.start, fields.end, fields.value);

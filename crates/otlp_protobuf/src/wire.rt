@@ -53,14 +53,23 @@ fn weighed(byte: u8, unit: u64, sum: u64) -> Option<u64>
     u64::from(byte % 128).checked_mul(unit)?.checked_add(sum)
 }
 
-/// A number of at most 64 bits, and the bytes after it.
+/// A number of at most 64 bits, and the bytes after it. Most have one byte.
+#[inline(always)]
+#[tactic(auto, unfolding(crate::specs::Wire::varint_from))]
 pub fn varint(bytes: &[u8]) -> Result<(u64, &[u8]), Malformed>
     ensures { Gives (λ r. (r.0, r.1.now)) result (varint bytes.now) }
 {
+    if let [byte, rest @ ..] = bytes
+        && *byte < 128
+        && let Some(number) = weighed(*byte, 1, 0)
+    {
+        return Ok((number, rest));
+    }
     varint_from(bytes, 1, 0)
 }
 
 /// The key of a field, its number and its wire type, and the bytes after it.
+#[inline(always)]
 #[tactic(auto, unfolding(crate::specs::Wire::key))]
 pub fn key(bytes: &[u8]) -> Result<(u32, &[u8]), Malformed>
     ensures { Gives (λ r. (r.0, r.1.now)) result (key bytes.now) }
@@ -76,6 +85,7 @@ pub fn key(bytes: &[u8]) -> Result<(u32, &[u8]), Malformed>
 }
 
 /// So many bytes, and those after them.
+#[inline(always)]
 pub fn taken(count: u64, bytes: &[u8]) -> Result<(&[u8], &[u8]), Malformed>
     ensures { Gives (λ r. (r.0.now, r.1.now)) result (taken count bytes.now) }
 {
@@ -86,6 +96,7 @@ pub fn taken(count: u64, bytes: &[u8]) -> Result<(&[u8], &[u8]), Malformed>
 }
 
 /// A number of 8 bytes, and the bytes after it.
+#[inline(always)]
 pub fn fixed64(bytes: &[u8]) -> Result<(u64, &[u8]), Malformed>
     ensures { Gives (λ r. (r.0, r.1.now)) result (fixed64 bytes.now) }
 {
@@ -114,6 +125,7 @@ pub fn fixed32(bytes: &[u8]) -> Result<(u32, &[u8]), Malformed>
 }
 
 /// The bytes of a field that says how many they are, and the bytes after them.
+#[inline(always)]
 #[tactic(auto, unfolding(crate::specs::Wire::counted))]
 pub fn counted(bytes: &[u8]) -> Result<(&[u8], &[u8]), Malformed>
     ensures { Gives (λ r. (r.0.now, r.1.now)) result (counted bytes.now) }
@@ -123,6 +135,7 @@ pub fn counted(bytes: &[u8]) -> Result<(&[u8], &[u8]), Malformed>
 }
 
 /// What comes after a key that begins and ends no group, and the bytes after it.
+#[inline(always)]
 #[tactic(auto, unfolding(crate::specs::Wire::plain))]
 fn plain(key: u32, bytes: &[u8]) -> Result<(Payload<'_>, &[u8]), Malformed>
     ensures { Gives (λ r. (payload_data r.0, r.1.now)) result (plain key bytes.now) }
@@ -150,6 +163,7 @@ fn plain(key: u32, bytes: &[u8]) -> Result<(Payload<'_>, &[u8]), Malformed>
 
 /// Passes over what is in a group of this number, at most `left` fields and groups, and over its
 /// end: the bytes after it. So many more groups may be nested in it.
+#[inline(never)]
 #[tactic(auto, using(crate::proofs::WireLemmas::group_step))]
 fn group(bytes: &[u8], number: u32, levels: u32, left: usize) -> Result<&[u8], Malformed>
     ensures { Gives (λ r. r.now) result (group_from left levels number bytes.now) }
@@ -192,6 +206,7 @@ fn ended(is_own: bool, after: &[u8]) -> Result<&[u8], Malformed>
 }
 
 /// What comes after a key, and the bytes after it.
+#[inline(always)]
 #[tactic(auto, unfolding(crate::specs::Wire::payload_at))]
 pub fn payload_at(key: u32, bytes: &[u8]) -> Result<(Payload<'_>, &[u8]), Malformed>
     ensures { Gives (λ r. (payload_data r.0, r.1.now)) result (payload_at key bytes.now) }

@@ -1,14 +1,16 @@
 //! Reads a body in both encodings, and makes bodies in both.
 
-use otlp_read::Reading;
+use otlp_protobuf::{Kept, read_request_with};
+use otlp_read::{Reading, read_request};
 use std::alloc::{AllocError, Global};
 
-/// Whether both encodings read alike.
-pub fn are_alike(alloc: Global, bytes: &[u8], text: &[u8]) -> bool {
-    let message = otlp_protobuf::read_request(alloc, bytes);
-    let json = otlp_read::read_request(alloc, text);
-    match (message, json) {
-        (Ok(message), Ok(json)) => are_same(&message, &json),
+/// Whether both encodings read alike, whatever is kept, and once more when that is kept.
+pub fn are_alike(alloc: Global, kept: &mut Kept, bytes: &[u8], text: &[u8]) -> bool {
+    let first = read_request_with(alloc, bytes, kept);
+    let again = read_request_with(alloc, bytes, kept);
+    let json = read_request(alloc, text);
+    match (first, again, json) {
+        (Ok(first), Ok(again), Ok(json)) => are_same(&first, &json) && are_same(&again, &json),
         _ => false,
     }
 }

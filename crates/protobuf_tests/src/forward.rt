@@ -9,7 +9,7 @@ use delta_book::book::Book;
 use metric_events::batch::Batch;
 use metric_events::limits::MAX_TAKEN;
 use metric_events::sender_name::SenderName;
-use otlp_protobuf::read_request;
+use otlp_protobuf::{Kept, read_request_with};
 use out_texts::request_text;
 use std::alloc::Global;
 
@@ -19,7 +19,7 @@ pub fn forward(alloc: Global, book: &mut Book, sender: SenderName, bytes: &[u8])
     ensures { IfSome result (λ text. IsForwarded (history book.old) (history book.new) sender
         bytes.now text.items) }
 {
-    let Ok(reading) = read_request(alloc, bytes) else {
+    let Ok(reading) = read_request_with(alloc, bytes, &mut Kept::new(alloc)) else {
         return None;
     };
     let points = reading.points;

@@ -1,6 +1,6 @@
 //! Which bytes are a request. They were encoded by hand, after the guide of protobuf's encoding.
 
-use otlp_protobuf::{Malformed, ReadFault, read_request};
+use otlp_protobuf::{Kept, Malformed, ReadFault, read_request_with};
 use std::alloc::Global;
 use std::test::Fail;
 
@@ -53,7 +53,7 @@ const OTHERS: &[(&[u8], Malformed)] = &[
 
 /// Why bytes are no request, if they are none.
 fn fault_of(alloc: Global, bytes: &[u8]) -> Option<ReadFault> {
-    match read_request(alloc, bytes) {
+    match read_request_with(alloc, bytes, &mut Kept::new(alloc)) {
         Ok(_) => None,
         Err(fault) => Some(fault),
     }

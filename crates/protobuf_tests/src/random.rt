@@ -2,6 +2,7 @@
 ghost use Rattle.std.specs.Prelude.{◌<◌};
 
 use crate::bodies::{Body, are_alike};
+use otlp_protobuf::Kept;
 use std::alloc::Global;
 use std::test::Fail;
 
@@ -294,10 +295,11 @@ fn random_requests_are_read_as_their_json(rt: HostRuntime) -> Result<(), Fail> {
     let alloc = rt.alloc();
     let chance = Chance { state: 7 };
     let mut maker = Maker { alloc, chance };
+    let mut kept = Kept::new(alloc);
     for _ in 0..REQUESTS {
         let body = maker.request()?;
         let text = format!(in alloc; "{{{}}}", body.text)?;
-        assert!(rt; are_alike(alloc, body.bytes.as_slice(), text.as_bytes()));
+        assert!(rt; are_alike(alloc, &mut kept, body.bytes.as_slice(), text.as_bytes()));
     }
     Ok(())
 }

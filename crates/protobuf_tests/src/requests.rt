@@ -2,6 +2,7 @@
 //! protobuf's encoding.
 
 use crate::bodies::are_alike;
+use otlp_protobuf::Kept;
 use std::test::Fail;
 
 /// Requests, and their JSON mapping.
@@ -138,8 +139,9 @@ const REQUESTS: &[(&[u8], &str)] = &[
 
 #[test]
 fn requests_are_read_as_their_json(rt: HostRuntime) -> Result<(), Fail> {
+    let mut kept = Kept::new(rt.alloc());
     for (bytes, text) in REQUESTS {
-        assert!(rt; are_alike(rt.alloc(), bytes, text.as_bytes()));
+        assert!(rt; are_alike(rt.alloc(), &mut kept, bytes, text.as_bytes()));
     }
     Ok(())
 }

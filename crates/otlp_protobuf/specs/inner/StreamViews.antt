@@ -14,11 +14,11 @@ use Rattle.otlp_read.specs.Lists.{◌>>=◌}
 use Rattle.otlp_read.specs.Streams.{Scope, Stream, SumStream}
 
 abbrev pub resource_data : BorrowedResource → List Attribute
-resource_data r = r.attributes.now
+resource_data r = r.attributes.now.set
 
 abbrev pub scope_data : BorrowedScope → Scope
 scope_data s = record {
-  resource = s.resource.now;
+  resource = s.resource.now.set;
   name = s.name.now;
   version = s.version.now;
   attributes = s.attributes.now;

@@ -1,0 +1,127 @@
+-- A series that is kept, and one that is made anew.
+use Rattle.std.proofs.Common.{◌≡◌, ℕ, ◌+◌, ◌<◌, ◌≤◌, cond, true, false, List, [], ◌∷◌, ◌++◌, map, take, drop, set, get_or, length, Option, Some, None, Ok, Err, refl, ap, sym, subst, ◌∙◌, append_assoc, arith}
+use Rattle.std.specs.Prelude.{ℤ, option_and_then, option_map}
+use Rattle.std.specs.Borrow.{Bor}
+use Rattle.std.specs.Result.{result_ok}
+use Rattle.std.proofs.Math.ListN.{length-set}
+use Rattle.std.proofs.lemmas.List.{at_drop_all, drop_more, take_more_set, map-append}
+use Rattle.serde_json.specs.Data.{Data}
+use Rattle.series_id.specs.declared.attributes.Attribute.{Attribute}
+use Rattle.series_id.specs.declared.faults.IdFault.TheVariants.{TextTooLong}
+use Rattle.series_id.specs.declared.kinds.Kind.{Kind}
+use Rattle.series_id.specs.declared.kinds.Kind.TheVariants.{Histogram}
+use Rattle.series_id.specs.declared.limits.TheConstants.{MAX_BOUND}
+use Rattle.series_id.specs.Bounds.{IsBounds}
+use Rattle.series_id.specs.Ascending.{histogram_of}
+use Rattle.series_id.specs.Checks.{checked_identity, has_long_text}
+use Rattle.series_id.specs.Identity.{Identity, IsIdentity}
+use Rattle.series_id.proofs.Again.{bounds_again, identity_again}
+use Rattle.otlp_read.specs.Attributes.{attributes_in}
+use Rattle.otlp_read.specs.Integers.{signed_in}
+use Rattle.otlp_read.specs.Lists.{all_of}
+use Rattle.otlp_read.specs.Streams.{Stream, identity_in, series_in, series_of}
+use Rattle.otlp_protobuf.specs.Wire.{Field, fields}
+use Rattle.otlp_protobuf.specs.Fields.{contents, content_at, gathered, with_first}
+use Rattle.otlp_protobuf.specs.Members.{double_data}
+use Rattle.otlp_protobuf.specs.declared.known_set.KnownSet.{KnownSet}
+use Rattle.otlp_protobuf.specs.inner.KindViews.{bounds_kind}
+use Rattle.otlp_protobuf.specs.inner.RoomViews.{front, IsInRoom}
+
+-- ---- series
+
+-- an identity of the stream is the series of its kind and its attributes there
+pub series_known : (stream : Stream) (kind : Option Kind) (found : Option Data) (x : Identity) → IsIdentity x → identity_in stream x.kind x.attrs ≡ x
+    → kind ≡ Some x.kind → attributes_in found ≡ Some x.attrs → option_and_then (λ k. series_of stream k found) kind ≡ Some x
+unfolding series_of series_in
+series_known stream kind found x whole within same are =
+    ap (option_and_then (λ k. option_and_then (series_in stream k) (attributes_in found))) same
+    ∙ ap (option_and_then (series_in stream x.kind)) are
+    ∙ ap (λ y. result_ok (checked_identity y)) within
+    ∙ ap result_ok (identity_again x whole)
+
+checked_is : (x s : Identity) → result_ok (checked_identity x) ≡ Some s → x ≡ s
+checked_is x s h =
+    elim (has_long_text x) as (λ b. result_ok (cond b (Err TextTooLong) (Ok x)) ≡ Some s → x ≡ s) [
+      | true ↦ λ e. cc
+      | false ↦ λ e. cc
+    ] h
+
+-- what is kept of a series: its resource is the stream's, and its attributes are those of the list
+pub record HasParts (stream : Stream) (found : Option Data) (x : Identity) : Type 0 where
+  pub resource : stream.scope.resource ≡ x.resource
+  pub attributes : attributes_in found ≡ Some x.attrs
+
+pub series_parts : (stream : Stream) (kind : Option Kind) (found : Option Data) (x : Identity) → option_and_then (λ k. series_of stream k found) kind ≡ Some x → HasParts stream found x
+unfolding series_of series_in
+series_parts stream None found x is = absurd cc
+series_parts stream (Some k) found x is = from_set (attributes_in found) refl is
+  where
+    from_set : (set : Option (List Attribute)) → attributes_in found ≡ set → option_and_then (series_in stream k) set ≡ Some x → HasParts stream found x
+    from_set None said is = absurd cc
+    from_set (Some attributes) said is =
+        let same : identity_in stream k attributes ≡ x = checked_is (identity_in stream k attributes) x is in
+        record { resource = ap (λ (y : Identity). y.resource) same; attributes = said ∙ ap (λ (y : Identity). Some y.attrs) same }
+
+-- ---- bounds
+
+-- one more of the numbers is a bound
+pub bounds_more : (ns : List ℕ) (n : ℕ) (rest ms : List ℕ) (bounds : List ℤ) (i : ℕ) (b : ℤ) → i < length bounds
+    → ns ≡ n ∷ rest → signed_in MAX_BOUND MAX_BOUND (double_data n) ≡ Some (get_or bounds i b)
+    → (all_of (signed_in MAX_BOUND MAX_BOUND) (map double_data ns) ≡ Some (drop i bounds) → all_of (signed_in MAX_BOUND MAX_BOUND) (map double_data ms) ≡ Some bounds)
+    → all_of (signed_in MAX_BOUND MAX_BOUND) (map double_data rest) ≡ Some (drop (i + 1) bounds) → all_of (signed_in MAX_BOUND MAX_BOUND) (map double_data ms) ≡ Some bounds
+unfolding all_of
+bounds_more ns n rest ms bounds i b within is read before after =
+    before (ap (λ xs. all_of (signed_in MAX_BOUND MAX_BOUND) (map double_data xs)) is
+    ∙ ap (option_and_then (λ y. option_and_then (λ xs. Some (y ∷ xs)) (all_of (signed_in MAX_BOUND MAX_BOUND) (map double_data rest)))) read
+    ∙ ap (option_and_then (λ xs. Some (get_or bounds i b ∷ xs))) after
+    ∙ ap (λ xs. Some xs) (sym (drop_more bounds i b within)))
+
+-- none is left
+pub bounds_done : (ns ms : List ℕ) (bounds : List ℤ) (i : ℕ) → ns ≡ [] → length bounds ≤ i
+    → (all_of (signed_in MAX_BOUND MAX_BOUND) (map double_data ns) ≡ Some (drop i bounds) → all_of (signed_in MAX_BOUND MAX_BOUND) (map double_data ms) ≡ Some bounds)
+    → all_of (signed_in MAX_BOUND MAX_BOUND) (map double_data ms) ≡ Some bounds
+unfolding all_of
+bounds_done ns ms bounds i none past before =
+    before (ap (λ xs. all_of (signed_in MAX_BOUND MAX_BOUND) (map double_data xs)) none ∙ sym (at_drop_all (λ xs. Some xs) bounds i past))
+
+-- bounds within their limits are those of their kind
+pub kind_again : (ds : List Data) (bounds : List ℤ) → IsBounds bounds → all_of (signed_in MAX_BOUND MAX_BOUND) ds ≡ Some bounds → bounds_kind ds ≡ Some (Histogram bounds)
+kind_again ds bounds within read =
+    ap (option_and_then (λ found. result_ok (histogram_of found))) read ∙ ap result_ok (bounds_again bounds within)
+
+-- ---- fields
+
+-- one more of the fields is taken
+pub gathered_more : {A : Type 0} (takes : A → Field → A) (a b total : A) (fs : List Field) (f : Field) (rest : List Field)
+    → b ≡ takes a f → fs ≡ f ∷ rest → gathered takes a fs ≡ total → gathered takes b rest ≡ total
+gathered_more takes a b total fs f rest taken is so_far = ap (λ x. gathered takes x rest) taken ∙ ap (gathered takes a) (sym is) ∙ so_far
+
+-- ---- the messages in a room
+
+-- one more is in the room
+pub room_more : (n : ℕ) (room : List (Bor (List ℕ))) (b : Bor (List ℕ)) (after all : List (List ℕ)) → n < length room
+    → IsInRoom (Some n) room (b.now ∷ after) all → IsInRoom (Some (n + 1)) (set room n b) after all
+room_more n room b after all fits is = (
+  omega (arith, length-set {A = Bor (List ℕ)}),
+  ap (λ xs. xs ++ after) (ap (map (λ (c : Bor (List ℕ)). c.now)) (take_more_set room n b fits) ∙ map-append (λ (c : Bor (List ℕ)). c.now) (take n room) (b ∷ []))
+      ∙ append_assoc (front n room) (b.now ∷ []) after ∙ is.1,
+)
+
+-- a field of a message, and those after it
+pub room_field : (n : ℕ) (count : Option ℕ) (room : List (Bor (List ℕ))) (fs : List Field) (f : Field) (rest : List Field) (first : Option (List ℕ)) (all : List (List ℕ))
+    → fs ≡ f ∷ rest → first ≡ content_at n f → IsInRoom count room (contents n fs) all → IsInRoom count room (with_first first (contents n rest)) all
+unfolding contents
+room_field n count room fs f rest first all is content in_room =
+    subst (λ ms. IsInRoom count room ms all) (ap (contents n) is ∙ ap (λ o. with_first o (contents n rest)) (sym content)) in_room
+
+-- no field is left
+pub room_done : (n : ℕ) (count : Option ℕ) (room : List (Bor (List ℕ))) (fs : List Field) (all : List (List ℕ)) → fs ≡ []
+    → IsInRoom count room (contents n fs) all → IsInRoom count room [] all
+unfolding contents
+room_done n count room fs all is in_room = subst (λ ms. IsInRoom count room ms all) (ap (contents n) is) in_room
+
+-- ---- a set that may be none
+
+pub sets_of : (r : Option (Bor KnownSet)) (o : Option KnownSet) → option_map (λ k. k.now) r ≡ o → option_map (λ k. k.now.set) r ≡ option_map (λ k. k.set) o
+sets_of None o is = ap (option_map (λ (k : KnownSet). k.set)) is
+sets_of (Some k) o is = ap (option_map (λ (k : KnownSet). k.set)) is
