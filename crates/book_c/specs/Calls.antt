@@ -11,8 +11,10 @@ use Rattle.book_desk.specs.EndRanges.{ends_of}
 use Rattle.book_desk.specs.Ends.{IsNotEnded}
 use Rattle.book_desk.specs.Holds.{RestsFrom, HoldFails, hold_refusal, is_held_in}
 use Rattle.book_desk.specs.Learning.{IsNotLearnt}
+use Rattle.book_desk.specs.Naming.{IsNamed, IsNotNamed}
 use Rattle.book_desk.specs.Reads.{IsUnread, IsNotPut}
 use Rattle.book_desk.specs.Refusals.{IsNotAdmitted}
+use Rattle.book_desk.specs.Said.{ArePartsSaid}
 use Rattle.book_desk.specs.Takes.{IsNotTaken, IsNotTakenAlone}
 use Rattle.book_desk.specs.Written.{IsNotForwarded, IsNotReported}
 use Rattle.book_desk.specs.declared.by_number.PutFault.{PutFault}
@@ -26,10 +28,11 @@ use Rattle.book_desk.specs.declared.part.Part.{Part}
 use Rattle.book_desk.specs.declared.reader.PostFault.{PostFault}
 use Rattle.book_c.specs.Answers.{plain, admit_answer, post_status, take_status, end_status}
 use Rattle.book_c.specs.Answers.{text_status, hold_status, put_status, learn_status}
+use Rattle.book_c.specs.Slices.{AreAtFront, AreTooMany}
 use Rattle.book_c.specs.declared.answers.Answer.{Answer}
 use Rattle.book_c.specs.declared.statuses.TheConstants.{BAD_SENDER, NO_MEMORY}
 use Rattle.book_c.specs.declared.statuses.TheConstants.{NOT_QUARANTINED, NOTHING}
-use Rattle.book_c.specs.declared.statuses.TheConstants.{NONE_CROSSES}
+use Rattle.book_c.specs.declared.statuses.TheConstants.{NONE_CROSSES, TOO_SHORT}
 
 -- a post was not read, and the reader has nothing
 abbrev pub TellsUnread : (sender bytes : List ℕ) → Answer → List (Option Part) → Type 0
@@ -47,6 +50,32 @@ TellsNotPut names sender words answer parts =
 abbrev pub TellsNotLearnt : (bytes : List ℕ) → Answer → Type 0
 TellsNotLearnt bytes answer =
     (e : LearnFault) × (answer ≡ plain (learn_status e)) × IsNotLearnt bytes e
+
+-- the words that say the points of a reader over the names stand at the front of the slice
+abbrev pub TellsSaid :
+    List Identity → (old new : List ℕ) → List (Option Part) → (number : ℕ) → Type 0
+TellsSaid names old new parts number =
+    (words : List ℕ) × ArePartsSaid names words parts × AreAtFront words old new number
+
+-- the slice is too short for them, or memory ran out
+abbrev pub TellsNotSaid : List Identity → (old : List ℕ) → List (Option Part) → Answer → Type 0
+TellsNotSaid names old parts answer =
+    ((answer.status ≡ TOO_SHORT) × (words : List ℕ) × ArePartsSaid names words parts
+    × AreTooMany words old answer.number)
+    ⊎ (answer ≡ plain NO_MEMORY)
+
+-- a request of the series with this number stands at the front of the slice
+abbrev pub TellsNamed :
+    List Identity → (number : ℕ) → (old new : List ℕ) → (bytes : ℕ) → Type 0
+TellsNamed names number old new bytes =
+    (text : List ℕ) × IsNamed names number text × AreAtFront text old new bytes
+
+-- the slice is too short for it; or it is not written
+abbrev pub TellsNotNamed : List Identity → (number : ℕ) → (old : List ℕ) → Answer → Type 0
+TellsNotNamed names number old answer =
+    ((answer.status ≡ TOO_SHORT) × (text : List ℕ) × IsNamed names number text
+    × AreTooMany text old answer.number)
+    ⊎ ((e : TextFault) × (answer ≡ plain (text_status e)) × IsNotNamed names number e)
 
 -- a post was not admitted
 abbrev pub TellsNotAdmitted : (old new : List Journal) → List (Option Part) → Answer → Type 0

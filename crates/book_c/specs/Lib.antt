@@ -1,4 +1,5 @@
 pub mod Answers
 pub mod Calls
 pub mod Kinds
+pub mod Slices
 pub mod inner

@@ -6,7 +6,7 @@ ghost use Rattle.book_desk.specs.Holds.{Holds, Releases, hold_refusal, is_held_i
 ghost use Rattle.book_desk.specs.Crossings.{IsCrossing};
 ghost use Rattle.book_desk.specs.EndRanges.{IsRangeOf, ends_of};
 ghost use Rattle.book_desk.specs.Posts.{Keeps, Rests};
-ghost use Rattle.book_desk.specs.Learning.{Learns};
+ghost use Rattle.book_desk.specs.Learning.{Learns, Extends};
 ghost use Rattle.book_desk.specs.Reads.{IsRead, IsPut};
 ghost use Rattle.book_desk.specs.Refusals.{post_refusal};
 ghost use Rattle.book_desk.specs.Takes as takes;
@@ -17,6 +17,7 @@ ghost use Rattle.book_c.specs.Calls.{TellsUnread, TellsNotAdmitted, TellsNotTake
 ghost use Rattle.book_c.specs.Calls.{TellsNotForwarded, TellsNotReported, TellsNotPut};
 ghost use Rattle.book_c.specs.Calls.{TellsNotLearnt, TellsNoPoints, TellsNoCrossing};
 ghost use Rattle.book_c.specs.Calls.{TellsNotTakenAlone};
+ghost use Rattle.book_c.specs.Calls.{TellsSaid, TellsNotSaid, TellsNamed, TellsNotNamed};
 ghost use Rattle.book_c.specs.inner.Names as names;
 ghost use Rattle.book_c.specs.Calls.{TellsNotHeld, TellsNotLifted};
 
@@ -24,6 +25,7 @@ use crate::answers::{
     Answer, admit_answer, end_status, hold_status, learn_status, post_status, put_status,
     take_status, text_status,
 };
+use crate::fronts::copy_front;
 use crate::statuses::{BAD_SENDER, DONE, NO_MEMORY, NONE_CROSSES, NOT_QUARANTINED, NOTHING};
 use book_desk::desk::Desk;
 use book_desk::draft::Counts;
@@ -95,6 +97,45 @@ pub fn learn(names: &mut Names, body: &[u8]) -> Answer
             frontier: 0,
         },
         Err(fault) => Answer::plain(learn_status(fault)),
+    }
+}
+
+/// Words for the points that the reader has, and how many names there are then.
+pub fn words(reader: &Reader, names: &mut Names, out: &mut [u64]) -> Answer
+    ensures said { result.status ≡ DONE → TellsSaid names.new out.old out.new reader.now
+        result.number }
+    ensures refused { result.status ≢ DONE → TellsNotSaid names.new out.old reader.now result }
+    ensures left { result.status ≢ DONE → out.new ≡ out.old }
+    ensures count { result.status ≢ NO_MEMORY → result.at ≡ length names.new }
+    ensures more { Extends names.old names.new }
+{
+    let Ok(words) = reader.words(names) else {
+        return Answer::plain(NO_MEMORY);
+    };
+    Answer {
+        status: copy_front(&words, out),
+        number: words.len() as u64,
+        at: names.len() as u64,
+        frontier: 0,
+    }
+}
+
+/// A request of the series with this number.
+pub fn name(names: &Names, number: u64, out: &mut [u8]) -> Answer
+    ensures named { result.status ≡ DONE → TellsNamed names.now number out.old out.new
+        result.number }
+    ensures refused { result.status ≢ DONE → TellsNotNamed names.now number out.old result }
+    ensures left { result.status ≢ DONE → out.new ≡ out.old }
+{
+    let text = match names.request(number) {
+        Ok(text) => text,
+        Err(fault) => return Answer::plain(text_status(fault)),
+    };
+    Answer {
+        status: copy_front(&text, out),
+        number: text.len() as u64,
+        at: 0,
+        frontier: 0,
     }
 }
 

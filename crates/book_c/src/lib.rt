@@ -14,7 +14,7 @@ ghost use Rattle.book_desk.specs.EndRanges.{IsRangeOf, ends_of};
 ghost use Rattle.book_desk.specs.Ends.{IsEndedBy};
 ghost use Rattle.book_desk.specs.Holds.{Holds, Releases, hold_refusal, is_held_in};
 ghost use Rattle.book_desk.specs.Posts.{Keeps, Rests};
-ghost use Rattle.book_desk.specs.Learning.{Learns};
+ghost use Rattle.book_desk.specs.Learning.{Learns, Extends};
 ghost use Rattle.book_desk.specs.Reads.{IsRead, IsPut};
 ghost use Rattle.book_desk.specs.Refusals.{post_refusal};
 ghost use Rattle.book_desk.specs.Rounds.{IsClosedAlone};
@@ -25,12 +25,14 @@ ghost use Rattle.book_c.specs.Calls.{TellsUnread, TellsNotAdmitted, TellsNotTake
 ghost use Rattle.book_c.specs.Calls.{TellsNotForwarded, TellsNotReported, TellsNotPut};
 ghost use Rattle.book_c.specs.Calls.{TellsNotLearnt, TellsNoPoints, TellsNoCrossing};
 ghost use Rattle.book_c.specs.Calls.{TellsNotTakenAlone};
+ghost use Rattle.book_c.specs.Calls.{TellsSaid, TellsNotSaid, TellsNamed, TellsNotNamed};
 ghost use Rattle.book_c.specs.Calls.{TellsNotHeld, TellsNotLifted};
 ghost use Rattle.book_c.specs.Kinds.{HasReader, HasDesk, HasFlushes, HasNames};
 ghost use Rattle.book_c.specs.Kinds.{parts_of, books_of, flushes_of, text_of, names_of};
 
 mod answers;
 mod calls;
+mod fronts;
 mod handle;
 mod kept;
 mod statuses;
@@ -46,7 +48,7 @@ use handle::Handle;
 use handle::parts::Parts;
 use kept::Kept;
 use metric_events::limits::MAX_TAKEN;
-use statuses::DONE;
+use statuses::{DONE, NO_MEMORY};
 use std::alloc::{AllocError, Global};
 use std::mem;
 
@@ -228,6 +230,68 @@ pub extern "C" fn reader_put(
     *out = calls::put(it, them, sender, words, books, Window { from, until });
     put_back(names, known);
     put_back(reader, kept);
+}
+
+/// Says the points that the reader has in words, as `reader_put` takes them: each with a number of
+/// its series among the names, where a series without one gets the next one.
+#[unsafe(no_mangle)]
+pub extern "C" fn reader_words(
+    alloc: Global,
+    reader: &mut Handle,
+    names: &mut Handle,
+    words: &mut [u64],
+    out: &mut Answer,
+)
+    requires reader { HasReader reader.old }
+    requires names { HasNames names.old }
+    ensures reader { HasReader reader.new }
+    ensures names { HasNames names.new }
+    ensures said { out.new.status ≡ DONE → TellsSaid (names_of names.new.kept) words.old words.new
+        (parts_of reader.old.kept) out.new.number }
+    ensures refused { out.new.status ≢ DONE → TellsNotSaid (names_of names.new.kept) words.old
+        (parts_of reader.old.kept) out.new }
+    ensures left { out.new.status ≢ DONE → words.new ≡ words.old }
+    ensures count { out.new.status ≢ NO_MEMORY → out.new.at ≡ length (names_of names.new.kept) }
+    ensures more { Extends (names_of names.old.kept) (names_of names.new.kept) }
+    ensures same { reader.new.kept ≡ reader.old.kept }
+{
+    let kept = out_of(alloc, reader);
+    let mut known = out_of(alloc, names);
+    let Kept::Reader(it) = &*kept else {
+        unreachable!()
+    };
+    let Kept::Names(them) = &mut *known else {
+        unreachable!()
+    };
+    *out = calls::words(it, them, words);
+    put_back(names, known);
+    put_back(reader, kept);
+}
+
+/// Writes a request of the series with this number, by which other names learn it.
+#[unsafe(no_mangle)]
+pub extern "C" fn names_text(
+    alloc: Global,
+    names: &mut Handle,
+    number: u64,
+    text: &mut [u8],
+    out: &mut Answer,
+)
+    requires { HasNames names.old }
+    ensures names { HasNames names.new }
+    ensures named { out.new.status ≡ DONE → TellsNamed (names_of names.old.kept) number text.old
+        text.new out.new.number }
+    ensures refused { out.new.status ≢ DONE → TellsNotNamed (names_of names.old.kept) number
+        text.old out.new }
+    ensures left { out.new.status ≢ DONE → text.new ≡ text.old }
+    ensures same { names.new.kept ≡ names.old.kept }
+{
+    let known = out_of(alloc, names);
+    let Kept::Names(it) = &*known else {
+        unreachable!()
+    };
+    *out = calls::name(it, number, text);
+    put_back(names, known);
 }
 
 /// Makes a desk of so many books. True where there was memory.

@@ -36,3 +36,5 @@ pub const NOT_ENDED: u32 = 15;
 pub const NOT_ONE: u32 = 16;
 /// No book holds something pending that a part goes beyond.
 pub const NONE_CROSSES: u32 = 17;
+/// The slice has no room for that.
+pub const TOO_SHORT: u32 = 18;

@@ -11,3 +11,7 @@ pub mod Drafted
 pub mod Crossings
 pub mod EndRanges
 pub mod Pending
+pub mod SumSaid
+pub mod HistogramSaid
+pub mod WordsSaid
+pub mod SaidAgain

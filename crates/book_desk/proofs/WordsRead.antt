@@ -24,14 +24,14 @@ stopped names (suc k) [] t l = refl
 stopped names (suc k) (w ∷ ws) t l = stopped names k ws t (omega arith)
 
 -- what a point and the words after it say
-abbrev after : List Identity → List ℕ → Tally → Identity → Option Tally
+abbrev pub after : List Identity → List ℕ → Tally → Identity → Option Tally
 after names ws t series = said names (width series.kind) ws (add_point (point_said series (take (width series.kind) ws)) t)
 
 first : (names : List Identity) (number : ℕ) (ws : List ℕ) (t : Tally) → said names 0 (number ∷ ws) t ≡ option_and_then (after names ws t) (slice_get names number)
 unfolding said
 first names number ws t = refl
 
-found : (names : List Identity) (number : ℕ) (ws : List ℕ) (t : Tally) (series : Identity) → slice_get names number ≡ Some series → said names 0 (number ∷ ws) t ≡ after names ws t series
+pub found : (names : List Identity) (number : ℕ) (ws : List ℕ) (t : Tally) (series : Identity) → slice_get names number ≡ Some series → said names 0 (number ∷ ws) t ≡ after names ws t series
 found names number ws t series e = first names number ws t ∙ ap (option_and_then (after names ws t)) e
 
 next_of : (names : List Identity) (number n : ℕ) (ws : List ℕ) (t : Tally) (series : Identity) (point : Option DataPoint) → slice_get names number ≡ Some series → n ≡ width series.kind → n ≤ length ws → point ≡ point_said series (take n ws) → said names 0 (number ∷ ws) t ≡ said names 0 (drop n ws) (add_point point t)
@@ -47,9 +47,12 @@ said_next names n d [] t series point m e w l p = absurd (omega arith)
 said_next names n d (number ∷ ws) t series point m e w l p = next_of names number n ws t series point e w l p ∙ ap (λ (k : ℕ). said names 0 (drop k (number ∷ ws)) (add_point point t)) (sym (add-one n))
 
 -- its number has no name
+pub none : (names : List Identity) (number : ℕ) (ws : List ℕ) (t : Tally) → slice_get names number ≡ None → said names 0 (number ∷ ws) t ≡ None
+none names number ws t e = first names number ws t ∙ ap (option_and_then (after names ws t)) e
+
 pub said_none : (names : List Identity) (d : ℕ) (left : List ℕ) (t : Tally) → 0 < length left → slice_get names (get_or left 0 d) ≡ None → said names 0 left t ≡ None
 said_none names d [] t m e = absurd (omega arith)
-said_none names d (number ∷ ws) t m e = first names number ws t ∙ ap (option_and_then (after names ws t)) e
+said_none names d (number ∷ ws) t m e = none names number ws t e
 
 -- the words end within it
 pub said_short : (names : List Identity) (n d : ℕ) (left : List ℕ) (t : Tally) (series : Identity) → 0 < length left → slice_get names (get_or left 0 d) ≡ Some series → n ≡ width series.kind → length (drop 1 left) < n → said names 0 left t ≡ None

@@ -6,10 +6,12 @@ pub mod Ends
 pub mod Holds
 pub mod Homes
 pub mod Learning
+pub mod Naming
 pub mod Posts
 pub mod Reads
 pub mod Refusals
 pub mod Rounds
+pub mod Said
 pub mod Splits
 pub mod Takes
 pub mod Windows

@@ -3,3 +3,4 @@ pub mod EndRanges
 pub mod Faults
 pub mod Opened
 pub mod Returned
+pub mod WordsOf

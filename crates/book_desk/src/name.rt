@@ -1,5 +1,5 @@
 //! A series that has a number.
-ghost use Rattle.std.specs.Prelude.{◌≡◌, ◌<◌, IfOk};
+ghost use Rattle.std.specs.Prelude.{◌≡◌, ◌<◌, ◌↔◌, IfOk, IsTrue};
 ghost use Rattle.book_desk.specs.Homes as homes;
 
 use crate::home::hash;
@@ -42,6 +42,21 @@ impl Name {
         ensures { result.now ≡ self.now }
     {
         &self.series
+    }
+
+    /// The hash of the series.
+    pub fn hash(&self) -> u64
+        ensures { result ≡ homes.hash self.now }
+    {
+        self.hash
+    }
+
+    /// Whether it is the name of this series, which has this hash.
+    pub fn is_of(&self, series: &SharedId, hash: u64) -> bool
+        requires { hash ≡ homes.hash series.now }
+        ensures { IsTrue result ↔ (self.now ≡ series.now) }
+    {
+        self.hash == hash && self.series.is_same(series)
     }
 
     /// The book of the series, of so many.

@@ -4,7 +4,9 @@ ghost use Rattle.std.specs.List.{All};
 ghost use Rattle.book_desk.specs.inner.Opened.{HasPoints};
 ghost use Rattle.book_desk.specs.inner.Faults as faults;
 ghost use Rattle.book_desk.specs.EndRanges.{IsRangeOf, ends_of};
+ghost use Rattle.book_desk.specs.Learning.{Extends};
 ghost use Rattle.book_desk.specs.Reads.{IsRead, IsUnread, IsPut, IsNotPut};
+ghost use Rattle.book_desk.specs.Said.{ArePartsSaid};
 
 use crate::by_number::{PutFault, draft_said};
 use crate::draft::Counts;
@@ -12,11 +14,12 @@ use crate::draft_of::draft_of;
 use crate::end_range::{EndRange, end_range};
 use crate::names::Names;
 use crate::part::Part;
+use crate::said::words_said;
 use crate::window::Window;
 use json_points::{Kept, read_request_with};
 use metric_events::sender_name::{NameFault, SenderName};
 use otlp_read::ReadFault;
-use std::alloc::Global;
+use std::alloc::{AllocError, Global};
 use std::marker::Model;
 use std::mem;
 
@@ -166,6 +169,15 @@ impl Reader {
         ensures none { IfNone result (ends_of self.now ≡ []) }
     {
         end_range(&self.parts)
+    }
+
+    /// The words that say the points that it has, part after part, as `put` takes them. A series
+    /// that has no number gets the next one, and keeps it also if memory runs out.
+    pub fn words(&self, names: &mut Names) -> Result<Vec<u64>, AllocError>
+        ensures said { IfOk result (λ words. ArePartsSaid names.new words.items self.now) }
+        ensures more { Extends names.old names.new }
+    {
+        words_said(self.alloc, self.parts(), names)
     }
 
     /// The parts.

@@ -1,5 +1,6 @@
 //! Bodies with points of numbered series.
 use std::alloc::{AllocError, Global};
+use std::test::Fail;
 
 /// Appends a data point of the sum `a`, of this series: value 1, over ten nanoseconds.
 fn put_point(alloc: Global, body: &mut String, series: u64, start: u64) -> Result<(), AllocError> {
@@ -24,4 +25,13 @@ pub fn body_of(alloc: Global, points: &[(u64, u64)]) -> Result<String, AllocErro
     }
     body.push_str("]}}]}]}]}")?;
     Ok(body)
+}
+
+/// A body with a point of each of these series, all from one start.
+pub fn range_of(alloc: Global, series: (u64, u64), start: u64) -> Result<String, Fail> {
+    let mut points = Vec::new(alloc);
+    for i in series.0..series.1 {
+        points.push((i, start))?;
+    }
+    Ok(body_of(alloc, &points)?)
 }

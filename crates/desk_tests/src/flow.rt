@@ -1,7 +1,7 @@
 //! One post through many books, from its bytes to the bytes that are forwarded.
 ghost use Rattle.std.specs.Prelude.{◌<◌};
 
-use crate::bodies::body_of;
+use crate::bodies::{body_of, range_of};
 use book_desk::desk::{Desk, DeskFault, EndFault, TakeAllFault};
 use book_desk::end::End;
 use book_desk::flushes::{Flushes, TextFault, Written};
@@ -53,15 +53,6 @@ fn release(desk: &mut Desk, sender: &SenderName) -> bool {
 
 fn close_round(desk: &mut Desk, book: usize, entries: usize) -> bool {
     desk.close_round(book, entries)
-}
-
-/// A body with a point of each of these series, all from one start.
-fn range_of(alloc: Global, series: (u64, u64), start: u64) -> Result<String, Fail> {
-    let mut points = Vec::new(alloc);
-    for i in series.0..series.1 {
-        points.push((i, start))?;
-    }
-    Ok(body_of(alloc, &points)?)
 }
 
 /// Reads a post of these series: how many points it has.
