@@ -25,7 +25,7 @@ use Rattle.book_desk.specs.declared.reader.PostFault.TheVariants as post
 use Rattle.book_desk.specs.declared.reader.BytesFault.{BytesFault}
 use Rattle.book_desk.specs.declared.reader.BytesFault.TheVariants as bytes
 use Rattle.book_c.specs.declared.answers.Answer.{Answer}
-use Rattle.book_c.specs.declared.statuses.TheConstants.{DONE, QUARANTINED, FULL, OTHER_WRITER}
+use Rattle.book_c.specs.declared.statuses.TheConstants.{QUARANTINED, FULL, OTHER_WRITER}
 use Rattle.book_c.specs.declared.statuses.TheConstants.{OUT_OF_ORDER, TOO_MANY_SERIES, TOO_LARGE}
 use Rattle.book_c.specs.declared.statuses.TheConstants.{NO_MEMORY, BAD_SENDER, NOT_JSON}
 use Rattle.book_c.specs.declared.statuses.TheConstants.{WRONG_SHAPE}

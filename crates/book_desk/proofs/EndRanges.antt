@@ -1,5 +1,5 @@
 -- The range of ends, one end and one part after the other.
-use Rattle.std.proofs.Common.{◌≡◌, ℕ, ◌<◌, ◌≤◌, List, [], ◌∷◌, ◌++◌, Option, Some, None, IfSome, IfNone, map, min, max, refl, sym, subst, ap, ◌∙◌, arith, zero, suc, get_or, length, append_assoc, inl, inr, ◌⊎◌}
+use Rattle.std.proofs.Common.{◌≡◌, ℕ, ◌<◌, ◌≤◌, List, [], ◌∷◌, ◌++◌, Option, Some, None, IfSome, IfNone, map, min, max, refl, sym, subst, ap, ◌∙◌, arith, zero, suc, append_assoc, inl, inr, ◌⊎◌}
 use Rattle.std.specs.Prelude.{fold}
 use Rattle.std.specs.List.{All, Contains, flat_map}
 use Rattle.std.proofs.lemmas.List.{append-nil, map-append}

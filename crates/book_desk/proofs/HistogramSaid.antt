@@ -1,5 +1,5 @@
 -- The words of a histogram's point say it.
-use Rattle.std.proofs.Common.{◌≡◌, ℕ, ℤ, suc, ◌+◌, ◌-◌, ◌≤◌, Bool, true, false, leb, List, [], ◌∷◌, length, sum, Option, Some, None, refl, sym, ap, ◌∙◌, arith}
+use Rattle.std.proofs.Common.{◌≡◌, ℕ, ℤ, ◌+◌, ◌-◌, ◌≤◌, true, false, leb, List, [], ◌∷◌, length, sum, Option, Some, None, refl, sym, ap, ◌∙◌, arith}
 use Rattle.std.proofs.lemmas.Bool.{leb-true, le-ltb, and_parts, eq-eqb}
 use Rattle.series_id.specs.Identity.{row_length}
 use Rattle.series_id.specs.declared.kinds.Kind.{Kind}

@@ -1,12 +1,11 @@
 -- What the cells of a book say of what it holds pending of a series.
-use Rattle.std.proofs.Common.{◌≡◌, ℕ, ◌<◌, Bool, true, false, List, [], ◌∷◌, Option, Some, None, map, filter, length, get_or, refl, sym, subst, ap, ◌∙◌, ◌||◌, arith, zero, suc}
+use Rattle.std.proofs.Common.{◌≡◌, ℕ, ◌<◌, Bool, true, false, List, [], ◌∷◌, None, map, filter, length, get_or, refl, sym, subst, ap, ◌∙◌, ◌||◌, arith, zero, suc}
 use Rattle.std.specs.List.{list_any}
 use Rattle.series_id.specs.Identity.{Identity}
-use Rattle.metric_events.specs.Interval.{Interval}
 use Rattle.metric_events.specs.Points.{points, is_home, is_among}
 use Rattle.metric_events.specs.Running.{held_senders}
 use Rattle.metric_events.specs.Series.{is_of, of_series, series_in_order, is_ascending, hull}
-use Rattle.metric_events.specs.Standing.{stands, series_standing, standing, all_series, SeriesStanding}
+use Rattle.metric_events.specs.Standing.{stands, series_standing, standing}
 use Rattle.metric_events.specs.declared.accepted.Accepted.{Accepted}
 use Rattle.metric_events.proofs.InOrder.{series_ascend}
 use Rattle.metric_events.proofs.SeriesOnce.{among_in_order}

@@ -1,5 +1,5 @@
 -- When the points of a post end.
-use Rattle.std.specs.Prelude.{◌≡◌, ℕ, ◌≤◌, List, map, Option}
+use Rattle.std.specs.Prelude.{ℕ, ◌≤◌, List, map, Option}
 use Rattle.std.specs.List.{All, Contains, flat_map}
 use Rattle.metric_events.specs.DataPoint.{DataPoint}
 use Rattle.book_desk.specs.declared.end_range.EndRange.{EndRange}

@@ -65,7 +65,11 @@ impl Index {
         if names.len() < count / 2 {
             return Ok(());
         }
-        let mut places = Vec::from_elem(self.alloc, FREE, count.saturating_mul(2).max(FIRST_PLACES))?;
+        let mut places = Vec::from_elem(
+            self.alloc,
+            FREE,
+            count.saturating_mul(2).max(FIRST_PLACES),
+        )?;
         for i in 0..names.len() {
             put_in(&mut places, names[i].hash(), i);
         }

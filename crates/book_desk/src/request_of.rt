@@ -31,7 +31,9 @@ fn flush_of(alloc: Global, point: Point) -> Result<Flush, AllocError> {
     points.push(point)?;
     let sender = SenderName::new(alloc, b"A").map_err(|_| AllocError)?;
     let mut book = Book::new(alloc)?;
-    let _ = book.admit(0, Batch { sender, points }).map_err(|_| AllocError)?;
+    let _ = book
+        .admit(0, Batch { sender, points })
+        .map_err(|_| AllocError)?;
     let flush = book.take(0, 1).map_err(|_| AllocError)?;
     flush.ok_or(AllocError)
 }

@@ -82,11 +82,7 @@ fn say_all(names: &mut Names, words: &mut Vec<u64>, points: &[Point]) -> Result<
 }
 
 /// Says the points of a part, too.
-fn say_part(
-    names: &mut Names,
-    words: &mut Vec<u64>,
-    part: &Option<Part>,
-) -> Result<(), AllocError>
+fn say_part(names: &mut Names, words: &mut Vec<u64>, part: &Option<Part>) -> Result<(), AllocError>
     ensures said { OnOk result ((ps : List DataPoint) → AreSaid names.old words.old.items ps
         → AreSaid names.new words.new.items (ps ++ points_in part.now)) }
     ensures more { Extends names.old names.new }

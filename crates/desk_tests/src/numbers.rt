@@ -87,20 +87,43 @@ fn desk_of(alloc: Global, reader: &mut Reader) -> Result<Desk, Fail> {
     Ok(desk)
 }
 
+/// What the reader has is said in these words, by these names.
+fn say_same(
+    rt: &impl Abort,
+    reader: &Reader,
+    names: &mut Names,
+    said: &[u64],
+    points: u64,
+) -> Result<(), Fail> {
+    assert!(rt; words(reader, names)?.as_slice() == said);
+    assert!(rt; names.len() as u64 == points);
+    Ok(())
+}
+
+/// The words are put, and say the same; what is admitted then is the same.
+fn put_same(
+    rt: &impl Abort,
+    alloc: Global,
+    names: &mut Names,
+    said: &[u64],
+    points: u64,
+    expected: &Desk,
+) -> Result<(), Fail> {
+    let mut again = Reader::new(alloc);
+    assert!(rt; put(&mut again, names, said) == Some((points, 0)));
+    say_same(rt, &again, names, said, points)?;
+    compare(rt, alloc, &desk_of(alloc, &mut again)?, expected)
+}
+
 /// A post of so many points, read as JSON and put by number.
 fn put_again(rt: &impl Abort, alloc: Global, body: &[u8], points: u64) -> Result<(), Fail> {
     let mut names = Names::new(alloc);
     let mut reader = Reader::new(alloc);
     assert!(rt; read(&mut reader, body)? == points);
     let said = words(&reader, &mut names)?;
-    assert!(rt; names.len() as u64 == points);
-    assert!(rt; words(&reader, &mut names)?.as_slice() == said.as_slice());
-    assert!(rt; names.len() as u64 == points);
-    let mut again = Reader::new(alloc);
-    assert!(rt; put(&mut again, &names, &said) == Some((points, 0)));
-    assert!(rt; words(&again, &mut names)?.as_slice() == said.as_slice());
+    say_same(rt, &reader, &mut names, &said, points)?;
     let expected = desk_of(alloc, &mut reader)?;
-    compare(rt, alloc, &desk_of(alloc, &mut again)?, &expected)
+    put_same(rt, alloc, &mut names, &said, points, &expected)
 }
 
 // Each form of point comes back by number; 1,500 series get 1,500 numbers, and keep them.
@@ -128,10 +151,8 @@ fn learn_again(rt: &impl Abort, alloc: Global, body: &[u8]) -> Result<(), Fail> 
     let points = read(&mut reader, body)?;
     let said = words(&reader, &mut names)?;
     let mut others = learn_all(rt, alloc, &names)?;
-    assert!(rt; words(&reader, &mut others)?.as_slice() == said.as_slice());
-    assert!(rt; others.len() as u64 == points);
     assert!(rt; request(&names, points).err() == Some(TextFault::NoSuch));
-    Ok(())
+    say_same(rt, &reader, &mut others, &said, points)
 }
 
 #[test]

@@ -2,6 +2,7 @@ use crate::bodies::ONE_POINT;
 use book_desk::desk::Desk;
 use book_desk::end::End;
 use book_desk::flushes::Flushes;
+use book_desk::names::Names;
 use book_desk::reader::Reader;
 use book_desk::window::Window;
 use std::test::Fail;
@@ -13,6 +14,9 @@ fn a_post_goes_through_four_books(rt: HostRuntime) -> Result<(), Fail> {
     let mut desk = Desk::new(alloc, 4)?;
     let counts = reader.read(b"A", ONE_POINT.as_bytes(), 4, Window::ALL)?;
     assert!(rt; (counts.points, counts.foreign) == (1, 0));
+    let mut names = Names::new(alloc);
+    assert!(rt; reader.words(&mut names)?.len() == 4);
+    assert!(rt; names.len() == 1);
     desk.admit(&mut reader)?;
     let mut flushes = Flushes::new(alloc);
     assert!(rt; desk.take(&mut flushes, 1000)? == 1);

@@ -1,5 +1,5 @@
 -- The range of ends, one end after the other.
-use Rattle.std.specs.Prelude.{ℕ, List, Option, Some, None, min, max, fold}
+use Rattle.std.specs.Prelude.{ℕ, Option, Some, None, min, max, fold}
 use Rattle.metric_events.specs.DataPoint.{DataPoint}
 use Rattle.book_desk.specs.declared.end_range.EndRange.{EndRange}
 use Rattle.book_desk.specs.declared.part.Part.{Part}

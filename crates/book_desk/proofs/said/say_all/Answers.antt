@@ -12,8 +12,8 @@ loop-i-preserved c =
     let e : take c.loop-i.i all ++ c.index-points-i.result ∷ [] ≡ take (c.loop-i.i + 1) all = ap (λ (p : DataPoint). take c.loop-i.i all ++ p ∷ []) c.index-points-i.is ∙ sym (take_more all c.loop-i.i c.index-points-i.result l) in
     record {
       said = λ ps s.
-      subst (λ (qs : List DataPoint). AreSaid c.say.new.names c.say.new.words.items qs)
-      (append_assoc ps (take c.loop-i.i all) (c.index-points-i.result ∷ []) ∙ ap (λ (qs : List DataPoint). ps ++ qs) e)
-      (c.in_ok-say.ensures.said (ps ++ take c.loop-i.i all) (c.loop-i.invariant.said ps s));
+          subst (λ (qs : List DataPoint). AreSaid c.say.new.names c.say.new.words.items qs)
+          (append_assoc ps (take c.loop-i.i all) (c.index-points-i.result ∷ []) ∙ ap (λ (qs : List DataPoint). ps ++ qs) e)
+          (c.in_ok-say.ensures.said (ps ++ take c.loop-i.i all) (c.loop-i.invariant.said ps s));
       more = extends_more _ _ _ c.loop-i.invariant.more c.say.ensures.more;
     }

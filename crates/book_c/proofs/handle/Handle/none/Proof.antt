@@ -35,8 +35,6 @@ use denote.Struct.Struct.{within}
 use denote.Struct.Owning.{shape, to}
 use types.Run.{lit}
 use lib.Dec.{lit<}
-use Rattle.std.proofs.Common.{arith}
-use Rattle.std.specs.Prelude.{None}
 use mir.Val.{has_ty}
 use Rattle.core.proofs.alloc.Calls.{α}
 use Rattle.std_alloc.proofs.ResultValues.{and_tt}

@@ -1,7 +1,6 @@
-use Rattle.std.proofs.Common.{◌≡◌, ◌∙◌, ◌<◌, List, Option, ap, arith, length, get_or, sym}
-use Rattle.std.proofs.lemmas.Grind.{common_steps}
+use Rattle.std.proofs.Common.{◌∙◌, ◌<◌, List, Option, ap, arith, length, get_or, sym}
 use Rattle.book_desk.specs.declared.part.Part.{Part}
-use Rattle.book_desk.proofs.Crossings.{none_more, crossing}
+use Rattle.book_desk.proofs.Crossings.{crossing}
 use Rattle.book_desk.proofs.desk.Desk.crosses.Goals as goal
 
 pub returns-then-crosses-clause-crossing : goal.returns-then-crosses-clause-crossing

@@ -1,4 +1,4 @@
-use Rattle.std.proofs.Common.{◌≡◌, ◌∙◌, List, Option, ap, None}
+use Rattle.std.proofs.Common.{◌∙◌, List, Option, ap, None}
 use Rattle.std.specs.Prelude.{fold}
 use Rattle.book_desk.specs.declared.part.Part.{Part}
 use Rattle.book_desk.specs.inner.EndRanges.{with_part}
