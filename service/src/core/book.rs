@@ -1,36 +1,25 @@
-//! The proved book, linked into this program. All `unsafe` code of the service is in this file, and in `blocks`.
+//! The proved book, linked into this program. All `unsafe` code of the service is in this file.
 //!
 //! What the library was proved to do holds while its caller does what stands here beside each call: one call of a
 //! handle at a time (`&mut self`), and only of one that was made and not freed yet (`Drop`); slices as they are; numbers
 //! in the ranges that the contracts have; declarations as `crates/book_c/src/lib.rt` and `answers.rt` have them; and
-//! memory that nobody else writes to, which it gets from `blocks`.
+//! memory that nobody else writes to, which it gets by the three functions at the end.
 
-mod blocks;
+mod answer;
 
-use super::memory;
+use super::memory::{self, Tried};
+use answer::{asked, written};
 use std::ptr::null_mut;
+
+pub(super) use answer::{Answer, NO_MEMORY};
 
 /// The most series of each book that one flush takes.
 pub(super) const MOST_TAKEN: usize = 1000;
-/// What a call says that was out of memory.
-pub(super) const NO_MEMORY: u32 = 7;
-/// What a call says that was given too short a slice: `number` is the length that it needs.
-const TOO_SHORT: u32 = 18;
 
 /// One word, that of the library's own value.
 #[repr(C)]
 struct Handle {
     at: *mut u8,
-}
-
-/// What a call says. Which number means what stands beside each call.
-#[repr(C)]
-#[derive(Clone, Copy, Debug, Default, PartialEq, Eq)]
-pub(super) struct Answer {
-    pub status: u32,
-    pub number: u64,
-    pub at: u64,
-    pub frontier: u64,
 }
 
 extern "C" {
@@ -101,30 +90,6 @@ unsafe impl Send for Names {}
 unsafe impl Send for Desk {}
 // SAFETY: as above.
 unsafe impl Send for Flushes {}
-
-/// Makes a call that answers. A build for tests looks at each answer of no memory: no contract can say that a block was
-/// refused in that call.
-fn asked(call: impl FnOnce(&mut Answer)) -> Answer {
-    let before = memory::refusals();
-    let mut answer = Answer::default();
-    call(&mut answer);
-    debug_assert!(
-        answer.status != NO_MEMORY || memory::refusals() > before,
-        "the library says that there is no memory, and was refused none"
-    );
-    answer
-}
-
-/// Makes a call that writes to a slice, and once more where it says how long that has to be. `out` is what it has written.
-fn written<T: Clone + Default>(out: &mut Vec<T>, mut call: impl FnMut(&mut [T], &mut Answer)) -> Answer {
-    let mut answer = asked(|answer| call(out, answer));
-    if answer.status == TOO_SHORT {
-        out.resize(usize::try_from(answer.number).unwrap_or(0), T::default());
-        answer = asked(|answer| call(out, answer));
-    }
-    out.truncate(usize::try_from(answer.number).unwrap_or(0));
-    answer
-}
 
 /// The handle that a call has made, or none where there is no memory.
 fn made(call: impl FnOnce(&mut Handle) -> bool) -> Option<Handle> {
@@ -373,4 +338,53 @@ pub(super) fn given_back() -> usize {
     let is_known = unsafe { number_of(c"tcmalloc.pageheap_unmapped_bytes".as_ptr(), &mut bytes) };
     assert_eq!(is_known, 1, "tcmalloc has this number");
     bytes
+}
+
+/// The length that the allocator gave a block, which counts.
+fn length_of(at: *mut libc::c_void) -> usize {
+    // SAFETY: `at` came from malloc or realloc and was not freed.
+    unsafe { libc::malloc_usable_size(at) }
+}
+
+/// A block of so many bytes, aligned to at most 16, as malloc aligns all. One of no bytes has an address of its own.
+#[no_mangle]
+extern "C" fn rattle_alloc(bytes: usize, align: usize) -> Tried {
+    // SAFETY: any number may be asked for.
+    let at = unsafe { libc::malloc(if bytes == 0 { align } else { bytes }) };
+    if at.is_null() {
+        return Tried::not();
+    }
+    if memory::take(length_of(at)) {
+        return Tried::of(at);
+    }
+    // SAFETY: it came from malloc just now, and nobody has it.
+    unsafe { libc::free(at) };
+    Tried::not()
+}
+
+/// Another length for a block, whose first bytes stay. Where that fails the block is as it was.
+#[no_mangle]
+extern "C" fn rattle_realloc(at: *mut u8, _kept: usize, bytes: usize, align: usize) -> Tried {
+    let (at, bytes) = (at.cast(), if bytes == 0 { align } else { bytes });
+    let before = length_of(at);
+    let more = bytes.saturating_sub(before);
+    if more > 0 && !memory::take(more) {
+        return Tried::not();
+    }
+    // SAFETY: the library gives what it has from these functions, and not freed.
+    let moved = unsafe { libc::realloc(at, bytes) };
+    if moved.is_null() {
+        memory::give(more);
+        return Tried::not();
+    }
+    memory::correct(before + more, length_of(moved));
+    Tried::of(moved)
+}
+
+#[no_mangle]
+extern "C" fn rattle_dealloc(at: *mut u8) {
+    let at = at.cast();
+    memory::give(length_of(at));
+    // SAFETY: the library gives what it has from these functions, once.
+    unsafe { libc::free(at) };
 }
