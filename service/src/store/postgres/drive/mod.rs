@@ -1,8 +1,9 @@
 //! The files of a slot in a PostgreSQL.
 //!
 //! What is done is queued in memory; a sync brings all of it to the store in one transaction that locks the slot's row
-//! under the owner's term: what there is once that begins, which may be behind one that is under way. What is queued is as much as the door lets in: posts are refused once a sync has waited for a
-//! second (`under_way`), whatever it waits for, a full disk of the server's among it.
+//! under the owner's term: what there is once that begins, which may be after one that is under way. What is queued is as
+//! much as the door lets in: posts are refused once a sync has waited for a second (`under_way`), whatever it waits for, a
+//! full disk of the server's among it.
 
 mod cache;
 mod extents;
