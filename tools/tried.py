@@ -3,7 +3,7 @@
 
     tools/tried.py [WORD]
 
-With a word only those whose name or head has it.
+With a word only those whose name or head has it; with `tools`, `bench` or `demo` the commands of that folder.
 """
 import glob
 import os
@@ -18,6 +18,8 @@ from tooling.heads import commands, first_paragraph, head_of
 
 RUST_HEAD = re.compile(r"(?://!.*\n)+")
 TEST = re.compile(r"#\[(?:tokio::)?test\b")
+# The folders with commands that try nothing.
+OTHERS = ("tools", "bench", "demo")
 # A file of the service that has tests alone.
 OF_TESTS = re.compile(r"service/tests/|/tests/|tests\.rs$")
 
@@ -27,8 +29,8 @@ def of_rust(path: str) -> str:
     return first_paragraph(re.sub(r"^//! ?", "", head[0], flags=re.MULTILINE)) if head else ""
 
 
-def scripts() -> Iterator[tuple[str, str]]:
-    for path in commands("tests"):
+def scripts(folder: str) -> Iterator[tuple[str, str]]:
+    for path in commands(folder):
         yield path, head_of(path)
 
 
@@ -47,9 +49,11 @@ def of_service() -> Iterator[tuple[str, str]]:
 def main(words: list[str]) -> int | str:
     if len(words) > 1:
         return __doc__
-    for path, head in [*scripts(), *crates(), *of_service()]:
+    is_folder = bool(words) and words[0] in OTHERS
+    listed = scripts(words[0]) if is_folder else [*scripts("tests"), *crates(), *of_service()]
+    for path, head in listed:
         name = os.path.relpath(path, ROOT)
-        if not words or words[0] in name or words[0] in head:
+        if is_folder or not words or words[0] in name or words[0] in head:
             print(textwrap.fill(f"{name}: {head}", 118, subsequent_indent="    "))
     return 0
 
