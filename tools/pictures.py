@@ -54,19 +54,11 @@ class Description:
         self.alt = " ".join(self.all_of("alt"))
         self.notes = dict(it.split(" ", 1) for it in self.all_of("note"))
         self.crates = shown_crates() if "crates" in self.lines else None
-        if self.crates:
-            self.alt += " " + "; ".join(self.told(it) for it in reversed(self.crates)) + "."
         self.arrows: set[tuple[str, str, str]] = set()
         self.steps: dict[str, Any] = {}
 
     def all_of(self, word: str) -> list[str]:
         return [it.partition(" ")[2] for it in self.lines if it.startswith(f"{word} ")]
-
-    def told(self, crate: Crate) -> str:
-        """A crate in words."""
-        note = self.notes.get(crate.name)
-        below = ", ".join(it.name for it in direct(crate)) or "no other"
-        return f"{crate.name}{f' ({note})' if note else ''} on {below}"
 
     def draw(self) -> str:
         width, height = map(int, self.all_of("size")[0].split())
