@@ -23,7 +23,7 @@ from collections.abc import Iterable, Iterator, Sequence
 from tooling.crates import ROOT, read_crates
 from tooling.files import text_of
 
-# The contracts that docs/MODEL.md begins with, by tiers: what a tier is, and of each crate the functions, or a file of
+# The top contracts by tiers: what a tier is, and of each crate the functions, or a file of
 # definitions. One who reads a tier has read those before it.
 TIERS = (
     ("the store", (
