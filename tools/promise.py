@@ -281,7 +281,7 @@ class Promise:
             if file in seen:
                 return
             seen.add(file)
-            lower = {below.file for it in wanted[file] for below in self.needed(file.names, it.code, file)}
+            lower = {below.file for it in wanted[file] for below in self.needed(file.names, it.code, file) if below.file in wanted}
             for it in sorted(lower, key=lambda it: it.module):
                 add(it)
             ordered.append(file)
