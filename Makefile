@@ -49,7 +49,7 @@ edits: ## tries all wrong code: LIST=1 lists it
 	@tools/edits.py $(if $(LIST),--list) $(NAME)
 
 # By the heads of the tests themselves.
-tried: ## lists each test with what it tries: NAME=word
+tried: ## lists each test with what it tries: NAME=word; or the commands of NAME=tools, bench, demo
 	@tools/tried.py $(NAME)
 
 # A minute or two each: a test has to find what is wrong with each.
