@@ -11,7 +11,6 @@ use Rattle.std.proofs.lemmas.Nat.{from_le_bytes-to_le_bytes_8}
 use Rattle.series_id.specs.declared.scalars.Scalar.{Scalar}
 use Rattle.series_id.specs.declared.scalars.Scalar.TheVariants.{Empty, Truth, Int, Text}
 use Rattle.series_id.specs.declared.values.AttrValue.TheVariants.{One, Many}
-use Rattle.series_id.specs.declared.attributes.Attribute.{Attribute}
 use Rattle.series_id.specs.declared.kinds.Kind.TheVariants.{Sum, Histogram}
 use Rattle.series_id.specs.declared.limits.TheConstants.{MAX_TEXT}
 use Rattle.series_id.specs.Texts.{IsText}
