@@ -4,7 +4,7 @@ use Rattle.std.specs.Prelude.{IsTrue, ◌↔◌}
 use Rattle.std.specs.Bool.{Decides}
 use Rattle.series_id.specs.Identity.{Identity, IsIdentity}
 use Rattle.series_id.specs.Order.{same_series}
-use Rattle.series_id.specs.Written.{written}
+use Rattle.series_id.specs.inner.Written.{written}
 use Rattle.series_id.proofs.Order.{same_series-decides}
 use Rattle.series_id.proofs.Telling.{written_tells}
 

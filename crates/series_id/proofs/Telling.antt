@@ -19,7 +19,7 @@ use Rattle.series_id.specs.Attributes.{IsAttribute, IsAttrSet}
 use Rattle.series_id.specs.Bounds.{IsBound}
 use Rattle.series_id.specs.Kinds.{IsKind}
 use Rattle.series_id.specs.Identity.{Identity, IsIdentity}
-use Rattle.series_id.specs.Written.{length_bytes, text_bytes, int_bytes, scalar_bytes, value_bytes, attribute_bytes, set_bytes, kind_bytes, written}
+use Rattle.series_id.specs.inner.Written.{length_bytes, text_bytes, int_bytes, scalar_bytes, value_bytes, attribute_bytes, set_bytes, kind_bytes, written}
 
 -- bytes that tell what is written, and where they end
 abbrev Tells : {X : Type 0} → (X → Type 0) → (X → List ℕ) → Type 0

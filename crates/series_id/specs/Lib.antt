@@ -12,5 +12,4 @@ pub mod Order
 pub mod Sharing
 pub mod Totals
 pub mod SeriesLaws
-pub mod Written
 pub mod inner

@@ -26,7 +26,7 @@ impl Model for SharedId {
 
     ghost view = { λ s. (arc_value s.kept).series };
 
-    ghost use Rattle.series_id.specs.Written.{written};
+    ghost use Rattle.series_id.specs.inner.Written.{written};
     ghost use Rattle.std.specs.Prelude.{◌≡◌};
 
     ghost invariant = { λ s. IsIdentity (arc_value s.kept).series

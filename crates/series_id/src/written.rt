@@ -2,7 +2,7 @@
 
 ghost use Rattle.std.specs.Prelude.{◌≡◌, ◌++◌, ◌∷◌, ◌%◌, [], IfOk, OnOk};
 ghost use Rattle.std.specs.List.{flat_map};
-ghost use Rattle.series_id.specs.Written as spec;
+ghost use Rattle.series_id.specs.inner.Written as spec;
 
 use crate::attributes::{AttrSet, Attribute};
 use crate::kinds::Kind;
@@ -24,7 +24,7 @@ fn write_byte(out: &mut Vec<u8>, byte: u8) -> Result<(), AllocError>
 }
 
 /// Writes the length of a text.
-#[tactic(auto, unfolding(crate::specs::Written::length_bytes))]
+#[tactic(auto, unfolding(crate::specs::inner::Written::length_bytes))]
 fn write_length(out: &mut Vec<u8>, length: usize) -> Result<(), AllocError>
     ensures { OnOk result (out.new.items ≡ out.old.items ++ spec.length_bytes length) }
 {
@@ -36,7 +36,7 @@ fn write_length(out: &mut Vec<u8>, length: usize) -> Result<(), AllocError>
 }
 
 /// Writes a text.
-#[tactic(auto, unfolding(crate::specs::Written::text_bytes))]
+#[tactic(auto, unfolding(crate::specs::inner::Written::text_bytes))]
 fn write_text(out: &mut Vec<u8>, text: &Text) -> Result<(), AllocError>
     ensures { OnOk result (out.new.items ≡ out.old.items ++ spec.text_bytes text.now) }
 {
@@ -45,7 +45,7 @@ fn write_text(out: &mut Vec<u8>, text: &Text) -> Result<(), AllocError>
 }
 
 /// Writes an integer.
-#[tactic(auto, unfolding(crate::specs::Written::int_bytes))]
+#[tactic(auto, unfolding(crate::specs::inner::Written::int_bytes))]
 fn write_int(out: &mut Vec<u8>, number: i64) -> Result<(), AllocError>
     ensures { OnOk result (out.new.items ≡ out.old.items ++ spec.int_bytes number) }
 {
@@ -69,7 +69,7 @@ fn write_marked_int(out: &mut Vec<u8>, mark: u8, number: i64) -> Result<(), Allo
 }
 
 /// Writes a scalar.
-#[tactic(auto, unfolding(crate::specs::Written::scalar_bytes))]
+#[tactic(auto, unfolding(crate::specs::inner::Written::scalar_bytes))]
 fn write_scalar(out: &mut Vec<u8>, value: &Scalar) -> Result<(), AllocError>
     ensures { OnOk result (out.new.items ≡ out.old.items ++ spec.scalar_bytes value.now) }
 {
@@ -102,7 +102,7 @@ fn write_count(out: &mut Vec<u8>, count: usize) -> Result<(), AllocError>
 }
 
 /// Writes a value.
-#[tactic(auto, unfolding(crate::specs::Written::value_bytes))]
+#[tactic(auto, unfolding(crate::specs::inner::Written::value_bytes))]
 fn write_value(out: &mut Vec<u8>, value: &AttrValue) -> Result<(), AllocError>
     ensures { OnOk result (out.new.items ≡ out.old.items ++ spec.value_bytes value.now) }
 {
@@ -117,7 +117,7 @@ fn write_value(out: &mut Vec<u8>, value: &AttrValue) -> Result<(), AllocError>
 }
 
 /// Writes an attribute.
-#[tactic(auto, unfolding(crate::specs::Written::attribute_bytes))]
+#[tactic(auto, unfolding(crate::specs::inner::Written::attribute_bytes))]
 fn write_attribute(out: &mut Vec<u8>, attribute: &Attribute) -> Result<(), AllocError>
     ensures { OnOk result (out.new.items ≡ out.old.items
         ++ spec.attribute_bytes attribute.now) }
@@ -139,7 +139,7 @@ fn write_attributes(out: &mut Vec<u8>, pairs: &[Attribute]) -> Result<(), AllocE
 }
 
 /// Writes a set.
-#[tactic(auto, unfolding(crate::specs::Written::set_bytes))]
+#[tactic(auto, unfolding(crate::specs::inner::Written::set_bytes))]
 fn write_set(out: &mut Vec<u8>, set: &AttrSet) -> Result<(), AllocError>
     ensures { OnOk result (out.new.items ≡ out.old.items ++ spec.set_bytes set.now) }
 {
@@ -159,7 +159,7 @@ fn write_bounds(out: &mut Vec<u8>, bounds: &[i64]) -> Result<(), AllocError>
 }
 
 /// Writes a kind.
-#[tactic(auto, unfolding(crate::specs::Written::kind_bytes))]
+#[tactic(auto, unfolding(crate::specs::inner::Written::kind_bytes))]
 fn write_kind(out: &mut Vec<u8>, kind: &Kind) -> Result<(), AllocError>
     ensures { OnOk result (out.new.items ≡ out.old.items ++ spec.kind_bytes kind.now) }
 {
@@ -175,7 +175,7 @@ fn write_kind(out: &mut Vec<u8>, kind: &Kind) -> Result<(), AllocError>
 }
 
 /// Writes an identity.
-#[tactic(auto, unfolding(crate::specs::Written::written))]
+#[tactic(auto, unfolding(crate::specs::inner::Written::written))]
 fn write_series(out: &mut Vec<u8>, series: &SeriesId) -> Result<(), AllocError>
     ensures { OnOk result (out.new.items ≡ out.old.items ++ spec.written series.now) }
 {

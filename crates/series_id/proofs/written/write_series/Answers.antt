@@ -1,5 +1,5 @@
 use Rattle.std.proofs.Common.{rules, append_assoc}
-use Rattle.series_id.specs.Written.{written}
+use Rattle.series_id.specs.inner.Written.{written}
 use Rattle.series_id.proofs.written.write_series.Goals as goal
 
 pub returns : goal.returns
