@@ -37,7 +37,7 @@ pub fn find_cell(cells: &[Cell], series: &SharedId) -> Option<usize>
         × IdAt cells.now i series.now) }
 {
     let hint = series.place();
-    if hint < cells.len() && series.as_series().is_same(cells[hint].id()) {
+    if hint < cells.len() && series.is_same(cells[hint].shared_id()) {
         return Some(hint);
     }
     match search(cells, series.as_series()) {

@@ -74,7 +74,7 @@ impl Index {
             count.saturating_mul(2).max(FIRST_PLACES),
         )?;
         for i in 0..names.len() {
-            put_in(&mut places, names[i].key(), i);
+            put_in(&mut places, names[i].series().hash(), i);
         }
         self.places = places;
         Ok(())

@@ -16,7 +16,6 @@ pub mod flushes;
 mod hold;
 mod home;
 mod index;
-mod key;
 pub mod laws;
 mod name;
 pub mod names;

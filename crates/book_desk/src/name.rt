@@ -3,18 +3,16 @@ ghost use Rattle.std.specs.Prelude.{◌≡◌, ◌<◌, IfOk};
 ghost use Rattle.book_desk.specs.Homes as homes;
 
 use crate::home::hash;
-use crate::key::key_of;
 use series_id::SharedId;
 use std::alloc::AllocError;
 use std::marker::Model;
 
-/// The identity of a series, and hashes by which its book, and its number, are found without its
-/// texts. Contracts see the identity.
+/// The identity of a series, and a hash by which its book is found without its texts. Contracts see
+/// the identity.
 #[derive(Drop)]
 pub struct Name {
     series: SharedId,
     hash: u64,
-    key: u64,
 }
 
 impl Model for Name {
@@ -35,9 +33,8 @@ impl Name {
         ensures { IfOk result (λ name. name ≡ series.now) }
     {
         let hash = hash(series.as_series());
-        let key = key_of(series.as_series());
         let series = series.share()?;
-        Ok(Name { series, hash, key })
+        Ok(Name { series, hash })
     }
 
     /// The series.
@@ -45,11 +42,6 @@ impl Name {
         ensures { result.now ≡ self.now }
     {
         &self.series
-    }
-
-    /// A hash of all that identifies the series.
-    pub fn key(&self) -> u64 {
-        self.key
     }
 
     /// The book of the series, of so many.

@@ -1,7 +1,6 @@
 //! Series that have numbers, so that a post need not say what identifies them.
 use crate::flushes::TextFault;
 use crate::index::{Index, MOST_PLACES};
-use crate::key::key_of;
 use crate::name::Name;
 use crate::request_of::request_of;
 use series_id::SharedId;
@@ -56,22 +55,23 @@ impl Names {
     {
         self.index.reserve(&self.names)?;
         let number = self.names.len();
-        let key = name.key();
+        let key = name.series().hash();
         self.names.push(name)?;
         self.index.put(key, number);
         Ok(number as u64)
     }
 
-    /// A number of this series, which has this key, if the index has one.
-    fn find(&self, series: &SharedId, key: u64) -> Option<u64>
+    /// A number of this series, if the index has one.
+    fn find(&self, series: &SharedId) -> Option<u64>
         ensures { IfSome result (λ n. slice_get self.now n ≡ Some series.now) }
     {
         for step in 0..MOST_PLACES {
-            let number = self.index.at(key, step) as u64;
+            let number = self.index.at(series.hash(), step) as u64;
             let Some(name) = self.get(number) else {
                 return None;
             };
-            if name.key() == key && name.series().is_same(series) {
+            let name = name.series();
+            if name.hash() == series.hash() && name.is_same(series) {
                 return Some(number);
             }
         }
@@ -85,8 +85,7 @@ impl Names {
         ensures numbered { IfOk result (IsNumbered series.now self.old self.new) }
         ensures same { OnErr result (self.new ≡ self.old) }
     {
-        let key = key_of(series.as_series());
-        if let Some(number) = self.find(series, key) {
+        if let Some(number) = self.find(series) {
             return Ok(number);
         }
         self.push(Name::of(series)?)

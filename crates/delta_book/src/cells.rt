@@ -59,7 +59,7 @@ pub fn find_place(cells: &[Cell], series: &SharedId) -> Result<usize, usize>
         × (is_ascending (map id_of cells.now) ≡ true → IsGap cells.now i series.now)) }
 {
     let hint = series.place();
-    if hint < cells.len() && series.as_series().is_same(cells[hint].id()) {
+    if hint < cells.len() && series.is_same(cells[hint].shared_id()) {
         return Ok(hint);
     }
     let found = search_place(cells, series.as_series());

@@ -86,7 +86,7 @@ impl MergedPoint {
     fn has_parts_of(&self, other: &MergedPoint) -> bool
         ensures { result ≡ same_point self.now other.now }
     {
-        self.series().is_same(other.series())
+        self.series.is_same(&other.series)
             && self.span.start() == other.span.start()
             && self.span.end() == other.span.end()
             && self.row.as_slice() == other.row.as_slice()

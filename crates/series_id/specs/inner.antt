@@ -1,3 +1,4 @@
 pub mod Values
 pub mod Shares
 pub mod Views
+pub mod Written

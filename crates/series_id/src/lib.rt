@@ -17,6 +17,7 @@ mod shared_parts;
 mod sorting;
 mod texts;
 mod values;
+mod written;
 
 pub use attributes::{AttrSet, Attribute};
 pub use faults::{AttrFault, IdFault, KindFault};

@@ -5,7 +5,9 @@ ghost use Rattle.series_id.specs.Order.{same_series};
 
 use crate::series::SeriesId;
 use crate::shared_parts::SharedParts;
+use crate::written::written;
 use std::alloc::{AllocError, AllocFailed, Global};
+use std::hash::{FoldHasher, Hasher};
 use std::marker::Model;
 use std::sync::Arc;
 use std::sync::atomic::AtomicUsize;
@@ -24,7 +26,11 @@ impl Model for SharedId {
 
     ghost view = { λ s. (arc_value s.kept).series };
 
-    ghost invariant = { λ s. IsIdentity (arc_value s.kept).series };
+    ghost use Rattle.series_id.specs.inner.Written.{written};
+    ghost use Rattle.std.specs.Prelude.{◌≡◌};
+
+    ghost invariant = { λ s. IsIdentity (arc_value s.kept).series
+        × ((arc_value s.kept).written.items ≡ written (arc_value s.kept).series) };
 }
 
 // Written by hand: a derived `drop` is proved again in each crate that drops one.
@@ -40,8 +46,16 @@ impl SharedId {
         ensures same { IfOk result (λ shared. shared ≡ series) }
         ensures back { IfErr result (λ refused. refused.value ≡ series) }
     {
-        let place = AtomicUsize::new(0);
-        match Arc::new(alloc, SharedParts { series, place }) {
+        let Ok(written) = written(alloc, &series) else {
+            return Err(AllocFailed { value: series });
+        };
+        let parts = SharedParts {
+            hash: hash_of(&written),
+            series,
+            written,
+            place: AtomicUsize::new(0),
+        };
+        match Arc::new(alloc, parts) {
             Ok(kept) => Ok(SharedId { kept }),
             Err(refused) => Err(AllocFailed {
                 value: refused.value.series,
@@ -83,11 +97,24 @@ impl SharedId {
         self.kept.place.store(place, Relaxed);
     }
 
-    /// Whether both identify the same series: whether all fields are equal.
+    /// A hash of all that identifies the series: a hint where to look, which no contract uses.
+    pub fn hash(&self) -> u64 {
+        self.kept.hash
+    }
+
+    /// Whether both identify the same series: whether all fields are equal. The bytes that say all
+    /// of them are compared at once.
     pub fn is_same(&self, other: &SharedId) -> bool
         ensures value { result ≡ same_series self.now other.now }
         ensures exact { IsTrue result ↔ (self.now ≡ other.now) }
     {
-        self.as_series().is_same(other.as_series())
+        self.kept.written.as_slice() == other.kept.written.as_slice()
     }
+}
+
+/// A hash of bytes.
+fn hash_of(bytes: &[u8]) -> u64 {
+    let mut hasher = FoldHasher::default();
+    hasher.write(bytes);
+    hasher.finish()
 }

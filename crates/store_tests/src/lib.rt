@@ -25,3 +25,5 @@ mod recovery;
 mod rooms;
 #[cfg(test)]
 mod series;
+#[cfg(test)]
+mod shared_series;
