@@ -7,6 +7,7 @@ Each line is one check; the last line counts those that passed and failed, and t
 """
 import os
 import re
+import shutil
 import subprocess
 import sys
 import tempfile
@@ -28,7 +29,7 @@ class Clone:
         for name in filter(None, names.stdout.decode().split("\0")):
             if os.path.isfile(f"{ROOT}/{name}"):
                 os.makedirs(os.path.dirname(f"{folder}/{name}"), exist_ok=True)
-                subprocess.run(["cp", "-p", f"{ROOT}/{name}", f"{folder}/{name}"], check=True)
+                shutil.copy2(f"{ROOT}/{name}", f"{folder}/{name}")
         self.git("init", "--quiet")
         self.git("config", "user.name", "nobody")
         self.git("config", "user.email", "nobody@localhost")

@@ -5,8 +5,9 @@
 
 `rt ci` proves every crate from nothing, tries the edits of must-fail/ and runs the tests and the
 programs; then the library that the service is linked with is built over what it has proved. STEPS below are
-run after both, and alone where --without-prover is given. The last line counts the crates, edits and steps
-that passed and failed, and the status is 0 where none failed. The logs are in out/logs.
+run after both, and alone where --without-prover is given. The line before the last says what processor time these parts took;
+the last one counts the crates, edits and steps that passed and failed, and the status is 0 where none failed. The logs are in
+out/logs.
 """
 import os
 import re
@@ -55,12 +56,17 @@ TOOL_STEPS = (
     ("python_is_typed", ["tools/python.py", "--check"], 30),
     ("wrong_copies_can_be_made", ["tools/wrong.py", "--check"], 1),
 )
-# The service: cargo's steps, one after another over one folder, and scripts of tests/ with what they run.
+# The service: cargo's steps, one after another over one folder, and scripts of tests/ with what they run. Nothing is compiled a
+# second time here, so nothing is kept for that.
+CARGO = ("env", "CARGO_INCREMENTAL=0", "tools/cargo")
+# What `cargo clippy --all-targets -- -D warnings` checks, the library, the program and all tests, is what `cargo test` compiles.
+# Clippy's own compiler does both at once: it lints, and then compiles as the other does.
+LINTING = ("env", "RUSTC_WORKSPACE_WRAPPER=clippy-driver", "CLIPPY_ARGS=-Dwarnings", *CARGO[1:])
 CARGO_STEPS = (
-    ("service_is_laid_out", ["fmt", "--check"]),
-    ("service_is_built", ["build", "--release"]),
-    ("service_is_linted", ["clippy", "--all-targets", "--", "-D", "warnings"]),
-    ("service_tests", ["test"]),
+    ("service_is_laid_out", [*CARGO, "fmt", "--check"]),
+    ("service_is_built", [*CARGO, "build", "--release"]),
+    ("service_is_linted", [*LINTING, "test", "--no-run"]),
+    ("service_tests", [*LINTING, "test"]),
 )
 # After the program's name: further words, and about how many seconds it takes.
 SERVICE_STEPS = (
@@ -217,8 +223,7 @@ def tool_step(name, command, seconds):
 def cargo_steps():
     """The steps of service/ that run no script, in order."""
     steps = []
-    for name, words in CARGO_STEPS:
-        command = ["tools/cargo", *words]
+    for name, command in CARGO_STEPS:
 
         def work(step, command=command):
             if step.run(command, limit=CARGO_LIMIT) != 0:
@@ -269,15 +274,19 @@ def main(words):
         sys.exit("usage: tools/gate.py [--without-prover]")
     prover = Prover()
     passed = failed = 0
+    times = []
     revision = clean_revision()
     if not words:
         with locked(OUT):
-            Steps([prover.step()]).run()
+            steps = Steps([prover.step()])
+            steps.run()
         passed, failed = prover.passed, prover.failed
+        times.append(steps.processor)
         if not failed:
             steps = Steps([book_step()])
             steps.run()
             passed, failed = passed + len(steps.passed), len(steps.failed)
+            times.append(steps.processor)
     elif not os.path.exists(f"{ROOT}/{LIBRARY}"):
         sys.exit(f"there is no {LIBRARY}: make build makes it")
     if not failed:
@@ -287,11 +296,13 @@ def main(words):
         ])
         steps.run()
         passed, failed = passed + len(steps.passed), len(steps.failed)
+        times.append(steps.processor)
         for step in steps.failed:
             show_faults(step)
         print("beside the prover:" if words else "the gate, the prover's part and the steps beside it:")
     if revision and not failed and not words and clean_revision() == revision:
         note_passed(revision)
+    print(f"processor time: {' + '.join(map(shown, times))}")
     print(f"{passed} passed, {failed} failed")
     return 1 if failed else 0
 

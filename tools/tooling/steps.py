@@ -1,7 +1,8 @@
 """Runs steps side by side, as many as processors and memory carry, and shows how each ended.
 
-A line for each step when it ends. On a terminal a last line moves with what runs. Of a step that fails
-the end of its log is shown, and the command that repeats it.
+A line for each step when it ends: how long it took, and the processor time of what it ran. What went on by itself, as
+a database's server does, and was waited for by nobody is not in it. On a terminal a last line moves with what runs. Of
+a step that fails the end of its log is shown, and the command that repeats it.
 """
 from __future__ import annotations
 
@@ -67,6 +68,7 @@ class Step:
         self.yields = False
         self.count = ""
         self.begun = time.monotonic()
+        self.processor = 0.0  # seconds
         self.say: Callable[[str], object] = print
         self.log = f"{LOGS}/{log or name}.log"
 
@@ -86,7 +88,8 @@ class Step:
                 log.write(line)
                 if read_line:
                     read_line(line)
-            status = CHILDREN.end(child)
+            status, processor = CHILDREN.end(child)
+            self.processor += processor
             is_late = limit and not clock.is_alive()
             clock.cancel()
         if is_late:
@@ -113,16 +116,20 @@ class Children:
             self.running.add(child)
         return child
 
-    def end(self, child: subprocess.Popen[str]) -> int:
-        status = child.wait()
+    def end(self, child: subprocess.Popen[str]) -> tuple[int, float]:
+        """The status of a process, once it has ended, and the processor time of it and of all that was waited for below it."""
+        os.waitid(os.P_PID, child.pid, os.WEXITED | os.WNOWAIT)
         with self.lock:
+            # From here on its number may be another's.
             self.running.discard(child)
-        return status
+            _, status, used = os.wait4(child.pid, 0)
+        child.returncode = os.waitstatus_to_exitcode(status)
+        return child.returncode, used.ru_utime + used.ru_stime
 
     def stop(self, child: subprocess.Popen[str]) -> None:
         """Ends a process and what it has started, as far as that is in its group."""
         with self.lock:
-            if child in self.running and child.poll() is None:
+            if child in self.running:
                 os.killpg(child.pid, signal.SIGTERM)
 
     def end_all(self) -> None:
@@ -163,7 +170,8 @@ class Board:
     def show_end(self, step: Step, seconds: float, note: str, passed: bool) -> None:
         self.ended += 1
         place = f"{self.ended:>{len(str(self.whole))}} of {self.whole}"
-        self.say(f"{place}  {step.name:<24} {shown(seconds):>6}  {note if passed else 'FAILED: ' + note}")
+        times = f"{shown(seconds):>6}  cpu {shown(step.processor):>6}"
+        self.say(f"{place}  {step.name:<24} {times}  {note if passed else 'FAILED: ' + note}")
         if not passed and not CHILDREN.is_ending:
             for line in end_of(step.log):
                 self.say(f"    | {line}")
@@ -218,6 +226,7 @@ class Steps:
         self.running: dict[Step, threading.Thread] = {}
         self.passed: set[str] = set()
         self.failed: list[Step] = []
+        self.processor = 0.0  # seconds, of those that have ended
         self.ended: queue.Queue[tuple[Step, float, bool, str]] = queue.Queue()
         self.processors = len(os.sched_getaffinity(0))
         self.memory = free_memory()
@@ -302,6 +311,7 @@ class Steps:
 
     def hear(self, step: Step, seconds: float, passed: bool, note: str) -> None:
         del self.running[step]
+        self.processor += step.processor
         if passed:
             self.passed.add(step.name)
         else:
