@@ -2,6 +2,7 @@
 
 ghost use Rattle.std.specs.Prelude.{◌≡◌, IsTrue, Some, map, option_and_then};
 ghost use Rattle.series_id.specs.Identity.{IsIdentity};
+ghost use Rattle.series_id.specs.Kinds.{IsKind};
 ghost use Rattle.otlp_read.specs.Streams.{identity_in, series_of};
 ghost use Rattle.otlp_protobuf.specs.inner.Sets.{said_list};
 ghost use Rattle.otlp_protobuf.specs.inner.KindViews.{kind_data};
@@ -29,7 +30,31 @@ pub fn is_series(
     if !is_in_stream(kept, stream) {
         return false;
     }
+    is_of_kind(kept, kind)
+}
+
+/// Whether a kept series is of the kind. The clause is of a kind within its limits.
+fn is_of_kind(kept: &KeptSeries, kind: KindRef<'_>) -> bool
+    ensures only { IsKind kept.now.series.kind → IsTrue result
+        → kind_data kind.entry ≡ Some kept.now.series.kind }
+{
+    if has_bounds(kept, kind) {
+        return true;
+    }
     kind.is_kind(kept.series.as_series().kind())
+}
+
+/// Whether a kept series is of the histogram's bounds, byte for byte.
+fn has_bounds(kept: &KeptSeries, kind: KindRef<'_>) -> bool
+    ensures only { IsTrue result → kind_data kind.entry ≡ Some kept.now.series.kind }
+{
+    match (kind, &kept.bounds) {
+        (KindRef::Histogram { bounds }, Some(own)) => match bounds.spot {
+            Some(packed) => is_copy(own, packed),
+            None => false,
+        },
+        _ => false,
+    }
 }
 
 /// Whether a kept series is one of the stream.

@@ -209,7 +209,7 @@ pub fn series_of(
     let Some(series) = new_series(alloc, stream, kind, attributes)? else {
         return Ok(None);
     };
-    cache.keep(alloc, hash, stream, messages, &series);
+    cache.keep(alloc, hash, stream, kind, messages, &series);
     Ok(Some(series))
 }
 
