@@ -66,19 +66,20 @@ fn checked_from(
 
 /// What is left to check of a message, and how many fields it may have: of a point what comes after
 /// its first numbers, which change with each body.
+#[inline(always)]
 fn rest_of(message: Message, bytes: &[u8], levels: u32, left: usize) -> (&[u8], usize)
     ensures { checked_from result.1 levels message result.0.now
         ≡ checked_from left levels message bytes.now }
 {
     match message {
-        Message::NumberPoint | Message::HistogramPoint => {
-            after_numbers(message, bytes, levels, left)
-        }
+        Message::NumberPoint => after_numbers(Message::NumberPoint, bytes, levels, left),
+        Message::HistogramPoint => after_numbers(Message::HistogramPoint, bytes, levels, left),
         _ => (bytes, left),
     }
 }
 
 /// The same of a point.
+#[inline(always)]
 fn after_numbers(message: Message, bytes: &[u8], levels: u32, left: usize) -> (&[u8], usize)
     ensures { checked_from result.1 levels message result.0.now
         ≡ checked_from left levels message bytes.now }

@@ -43,6 +43,7 @@ impl IdentityCache {
 
     /// The series of a stream with this kind and these attributes, if it came after the last one
     /// before. Takes no memory.
+    #[inline(always)]
     pub fn follow(
         &mut self,
         stream: Stream<'_>,
@@ -86,6 +87,7 @@ impl IdentityCache {
     }
 
     /// A share of the series in a slot, if it is that of the stream, the kind and the attributes.
+    #[inline(always)]
     fn share_at(
         &self,
         slot: usize,

@@ -69,6 +69,7 @@ impl KnownMessages {
     }
 
     /// Whether the message in a slot is this one.
+    #[inline(always)]
     fn is_at(&self, slot: usize, message: Message, bytes: &[u8], levels: u32, left: usize) -> bool
         ensures only { IsTrue result → checked_from left levels message bytes.now ≡ Ok tt }
     {
@@ -130,6 +131,7 @@ fn comes_again(rest: &[u8]) -> bool {
 }
 
 /// Whether a message is the one that is kept, with as many levels, and no fewer fields.
+#[inline(always)]
 fn is_same(kept: &CheckedMessage, message: Message, bytes: &[u8], levels: u32, left: usize) -> bool
     ensures only { IsTrue result → checked_from left levels message bytes.now ≡ Ok tt }
 {

@@ -14,6 +14,7 @@ use crate::streams::{Scope, Stream};
 
 /// Whether a kept series is that of the stream, the kind and the attributes. The clause is of a
 /// series within its limits, as every `SharedId` is.
+#[inline(always)]
 pub fn is_series(
     kept: &KeptSeries,
     stream: Stream<'_>,
@@ -34,6 +35,7 @@ pub fn is_series(
 }
 
 /// Whether a kept series is of the kind. The clause is of a kind within its limits.
+#[inline(always)]
 fn is_of_kind(kept: &KeptSeries, kind: KindRef<'_>) -> bool
     ensures only { IsKind kept.now.series.kind → IsTrue result
         → kind_data kind.entry ≡ Some kept.now.series.kind }
@@ -45,6 +47,7 @@ fn is_of_kind(kept: &KeptSeries, kind: KindRef<'_>) -> bool
 }
 
 /// Whether a kept series is of the histogram's bounds, byte for byte.
+#[inline(always)]
 fn has_bounds(kept: &KeptSeries, kind: KindRef<'_>) -> bool
     ensures only { IsTrue result → kind_data kind.entry ≡ Some kept.now.series.kind }
 {
@@ -58,6 +61,7 @@ fn has_bounds(kept: &KeptSeries, kind: KindRef<'_>) -> bool
 }
 
 /// Whether a kept series is one of the stream.
+#[inline(always)]
 fn is_in_stream(kept: &KeptSeries, stream: Stream<'_>) -> bool
     ensures only { IsTrue result → identity_in (stream_data stream.entry) kept.now.series.kind
         kept.now.series.attrs ≡ kept.now.series }
@@ -69,6 +73,7 @@ fn is_in_stream(kept: &KeptSeries, stream: Stream<'_>) -> bool
 }
 
 /// Whether a kept series is one of the scope.
+#[inline(always)]
 fn is_in_scope(kept: &KeptSeries, scope: Scope<'_>) -> bool
     ensures only { IsTrue result → scope_data scope.entry ≡ record {
       resource = kept.now.series.resource;
@@ -85,6 +90,7 @@ fn is_in_scope(kept: &KeptSeries, scope: Scope<'_>) -> bool
 }
 
 /// Whether copies are of these messages.
+#[inline(always)]
 fn are_same(copies: &[Vec<u8>], messages: &[&[u8]]) -> bool
     ensures only { IsTrue result → map (λ c. c.items) copies.now ≡ map (λ b. b.now) messages.now }
 {
@@ -100,6 +106,7 @@ fn are_same(copies: &[Vec<u8>], messages: &[&[u8]]) -> bool
 }
 
 /// Whether a copy is of this message.
+#[inline(always)]
 pub fn is_copy(copy: &Vec<u8>, message: &[u8]) -> bool
     ensures only { IsTrue result → copy.now.items ≡ message.now }
 {

@@ -185,6 +185,7 @@ const MONOTONIC: u32 = 3;
 
 /// The series of a stream with this kind and these attributes. One that is kept is shared. `None`
 /// if no series may have them.
+#[inline(always)]
 pub fn series_of(
     alloc: Global,
     cache: &mut IdentityCache,
