@@ -21,11 +21,12 @@ use Rattle.otlp_read.specs.Integers.{signed_in}
 use Rattle.otlp_read.specs.Lists.{all_of}
 use Rattle.otlp_read.specs.Streams.{Stream, identity_in, series_in, series_of}
 use Rattle.otlp_protobuf.specs.Wire.{Field}
-use Rattle.otlp_protobuf.specs.Fields.{contents, content_at, gathered, joined, with_first}
+use Rattle.otlp_protobuf.specs.Fields.{contents, content_at, gathered, joined, numbers, numbers_at, packed, with_first}
+use Rattle.otlp_protobuf.specs.inner.SpotViews.{IsSpot}
 use Rattle.otlp_protobuf.specs.inner.Parts.{part_with}
 use Rattle.otlp_protobuf.specs.Members.{double_data}
 use Rattle.otlp_protobuf.specs.declared.known_set.KnownSet.{KnownSet}
-use Rattle.otlp_protobuf.specs.inner.KindViews.{bounds_kind}
+use Rattle.otlp_protobuf.specs.inner.KindViews.{bounds_kind, says_kind}
 use Rattle.otlp_protobuf.specs.inner.RoomViews.{front, IsInRoom}
 
 -- ---- series
@@ -63,7 +64,26 @@ series_parts stream (Some k) found x is = from_set (attributes_in found) refl is
         let same : identity_in stream k attributes ≡ x = checked_is (identity_in stream k attributes) x is in
         record { resource = ap (λ (y : Identity). y.resource) same; attributes = said ∙ ap (λ (y : Identity). Some y.attrs) same }
 
+-- its kind
+pub series_kind : (stream : Stream) (kind : Option Kind) (found : Option Data) (x : Identity) → option_and_then (λ k. series_of stream k found) kind ≡ Some x → kind ≡ Some x.kind
+unfolding series_of series_in
+series_kind stream None found x is = absurd cc
+series_kind stream (Some k) found x is = from_set (attributes_in found) is
+  where
+    from_set : (set : Option (List Attribute)) → option_and_then (series_in stream k) set ≡ Some x → Some k ≡ Some x.kind
+    from_set None is = absurd cc
+    from_set (Some attributes) is = ap (λ (y : Identity). Some y.kind) (checked_is (identity_in stream k attributes) x is)
+
 -- ---- bounds
+
+-- what packed bounds say, where they are all numbers of the field
+pub says : (bytes : List ℕ) (ns : List ℕ) (k : Kind) → packed bytes ++ [] ≡ ns → bounds_kind (map double_data ns) ≡ Some k → says_kind bytes k
+says bytes ns k all is = ap (λ xs. bounds_kind (map double_data xs)) all ∙ is
+
+-- bounds of the same bytes
+pub says_same : (bytes same : List ℕ) (ns : List ℕ) (k : Kind) → packed same ++ [] ≡ ns → bytes ≡ same → says_kind bytes k → bounds_kind (map double_data ns) ≡ Some k
+says_same bytes same ns k all equal is =
+    ap (λ xs. bounds_kind (map double_data xs)) (sym all) ∙ ap (λ b. bounds_kind (map double_data (packed b ++ []))) (sym equal) ∙ is
 
 -- one more of the numbers is a bound
 pub bounds_more : (ns : List ℕ) (n : ℕ) (rest ms : List ℕ) (bounds : List ℤ) (i : ℕ) (b : ℤ) → i < length bounds
@@ -138,6 +158,17 @@ pub room_done : (n : ℕ) (count : Option ℕ) (room : List (Bor (List ℕ))) (f
     → IsInRoom count room (contents n fs) all → IsInRoom count room [] all
 unfolding contents
 room_done n count room fs all is in_room = subst (λ ms. IsInRoom count room ms all) (ap (contents n) is) in_room
+
+-- ---- the numbers of a list that one field may have
+
+pub spot_field : (n : ℕ) (spot : Option (Bor (List ℕ))) (fs : List Field) (f : Field) (rest : List Field) (all : List ℕ)
+    → fs ≡ f ∷ rest → IsSpot spot (numbers n fs) all → IsSpot spot (numbers_at n f ++ numbers n rest) all
+unfolding numbers
+spot_field n spot fs f rest all is in_spot = subst (λ ns. IsSpot spot ns all) (ap (numbers n) is) in_spot
+
+pub spot_done : (n : ℕ) (spot : Option (Bor (List ℕ))) (fs : List Field) (all : List ℕ) → fs ≡ [] → IsSpot spot (numbers n fs) all → IsSpot spot [] all
+unfolding numbers
+spot_done n spot fs all is in_spot = subst (λ ns. IsSpot spot ns all) (ap (numbers n) is) in_spot
 
 -- ---- a set that may be none
 

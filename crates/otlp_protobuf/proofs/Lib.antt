@@ -12,3 +12,4 @@ pub mod StreamLemmas
 pub mod LoopLemmas
 pub mod RequestLemmas
 pub mod KeptLemmas
+pub mod SpotLemmas

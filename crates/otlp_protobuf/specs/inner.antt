@@ -9,4 +9,5 @@ pub mod PairViews
 pub mod Sets
 pub mod KindViews
 pub mod RoomViews
+pub mod SpotViews
 pub mod Parts

@@ -1,11 +1,14 @@
 //! Whether bytes are a message.
 
-ghost use Rattle.std.specs.Prelude.{◌≡◌, ◌%◌, ◌==◌, if◌then◌else◌, length, option_map, Ok, Err};
+ghost use Rattle.std.specs.Prelude.{◌≡◌, ◌<◌, ◌-◌, ◌%◌, ◌==◌, if◌then◌else◌, length, option_map};
+ghost use Rattle.std.specs.Prelude.{Ok, Err, IfSome, IsTrue, None};
 ghost use Rattle.std.specs.Str.{is_utf8};
 ghost use Rattle.otlp_protobuf.specs.Checks.{nested, plain_checked, checked_from, checked};
+ghost use Rattle.otlp_protobuf.specs.Schema.{kind_of};
 ghost use Rattle.otlp_protobuf.specs.inner.Views.{Gives, payload_data};
 
-use crate::fields::field_at;
+use crate::fields::{Field, field_at};
+use crate::histogram_gather::BUCKETS;
 use crate::known_messages::KnownMessages;
 use crate::malformed::Malformed;
 use crate::schema::{Kind, Message};
@@ -51,13 +54,84 @@ fn checked_from(
             return Err(Malformed::Deep);
         }
         rest = after;
-        if known.has(message, inner, content, levels - 1, left) {
+        let (content, fewer) = rest_of(inner, content, levels - 1, left);
+        if known.has(message, inner, content, levels - 1, fewer) {
             continue;
         }
-        checked_from(known, inner, content, levels - 1, left)?;
-        known.keep(message, inner, content, levels - 1, left);
+        checked_from(known, inner, content, levels - 1, fewer)?;
+        known.keep(message, inner, content, levels - 1, fewer);
     }
     ended(rest)
+}
+
+/// What is left to check of a message, and how many fields it may have: of a point what comes after
+/// its first numbers, which change with each body.
+#[inline(always)]
+fn rest_of(message: Message, bytes: &[u8], levels: u32, left: usize) -> (&[u8], usize)
+    ensures { checked_from result.1 levels message result.0.now
+        ≡ checked_from left levels message bytes.now }
+{
+    match message {
+        Message::NumberPoint => after_numbers(Message::NumberPoint, bytes, levels, left),
+        Message::HistogramPoint => after_numbers(Message::HistogramPoint, bytes, levels, left),
+        _ => (bytes, left),
+    }
+}
+
+/// The same of a point.
+#[inline(always)]
+fn after_numbers(message: Message, bytes: &[u8], levels: u32, left: usize) -> (&[u8], usize)
+    ensures { checked_from result.1 levels message result.0.now
+        ≡ checked_from left levels message bytes.now }
+{
+    let mut rest = bytes;
+    let mut left = left;
+    while left > 0 {
+        let Some(after) = after_number(message, rest, levels, left) else {
+            return (rest, left);
+        };
+        rest = after;
+        left -= 1;
+    }
+    (rest, left)
+}
+
+/// The bytes after a field of a number or of buckets.
+#[inline(always)]
+#[tactic(auto, using(crate::proofs::CheckLemmas::check_step))]
+fn after_number(message: Message, bytes: &[u8], levels: u32, left: usize) -> Option<&[u8]>
+    requires { 0 < left }
+    ensures { IfSome result (λ after. checked_from (left - 1) levels message after.now
+        ≡ checked_from left levels message bytes.now) }
+{
+    if bytes.is_empty() {
+        return None;
+    }
+    let Ok((field, after)) = field_at(bytes) else {
+        return None;
+    };
+    if is_number(message, field) {
+        Some(after)
+    } else {
+        None
+    }
+}
+
+/// Whether a field is a number of its own wire type, or buckets.
+#[inline(always)]
+fn is_number(message: Message, field: Field<'_>) -> bool
+    ensures none { IsTrue result
+        → nested (kind_of message field.entry.number) (payload_data field.entry.payload) ≡ None }
+    ensures passes { IsTrue result → plain_checked (kind_of message field.entry.number)
+        (payload_data field.entry.payload) ≡ Ok tt }
+{
+    match (message.kind_of(field.number), field.payload) {
+        (Kind::Fixed64, Payload::Fixed64(_)) => true,
+        (Kind::Packed, Payload::Bytes(content)) => {
+            field.number == BUCKETS && content.len() % 8 == 0
+        }
+        _ => false,
+    }
 }
 
 /// Nothing may be left.

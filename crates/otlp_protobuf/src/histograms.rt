@@ -20,21 +20,17 @@ ghost use Rattle.otlp_protobuf.specs.inner.HistogramViews.{histogram_fields_of};
 ghost use Rattle.otlp_protobuf.specs.inner.StreamViews.{stream_data};
 
 use crate::doubles::unsigned_double;
+use crate::histogram_gather::{ATTRIBUTES, BOUNDS, BUCKETS, gather_histogram};
 use crate::histogram_point::HistogramPoint;
 use crate::identity_cache::IdentityCache;
 use crate::kind_ref::KindRef;
+use crate::number_list::NumberList;
 use crate::numbers::numbers_in;
 use crate::point_attributes::{MOST_ATTRIBUTES, PointAttributes};
 use crate::point_fields::{flags_fit, nanos_in};
-use crate::scan::gather_with;
 use crate::streams::{PointStream, Stream, series_of};
 use metric_events::point::{Point, PointFault};
 use std::alloc::{AllocError, Global};
-
-/// The numbers of a point's buckets and attributes.
-const BUCKETS: u32 = 6;
-
-const ATTRIBUTES: u32 = 9;
 
 /// Start and end (nanoseconds), count and sum of a histogram's point.
 #[derive(Clone, Copy)]
@@ -117,14 +113,16 @@ fn histogram_point(
         ≡ histogram_point (stream_data stream.entry) (point_shown bytes.now)) }
 {
     let mut room: [&[u8]; MOST_ATTRIBUTES] = [&[]; MOST_ATTRIBUTES];
-    let (point, count) = gather_with(HistogramPoint::new(), bytes, ATTRIBUTES, &mut room);
+    let (point, count, buckets, bounds) = gather_histogram(bytes, &mut room);
     let Some(fields) = histogram_fields(point) else {
         return Ok(None);
     };
-    let Some(buckets) = numbers_in(alloc, bytes, BUCKETS)? else {
+    let Some(buckets) = numbers_in(alloc, NumberList::of(bytes, BUCKETS, buckets))? else {
         return Ok(None);
     };
-    let kind = KindRef::Histogram { point: bytes };
+    let kind = KindRef::Histogram {
+        bounds: NumberList::of(bytes, BOUNDS, bounds),
+    };
     let attributes = PointAttributes::of(bytes, ATTRIBUTES, &room, count);
     let Some(series) = series_of(alloc, cache, stream, kind, attributes)? else {
         return Ok(None);

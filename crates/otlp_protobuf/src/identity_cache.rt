@@ -2,9 +2,10 @@
 
 ghost use Rattle.std.specs.Prelude.{◌≡◌, IfOk, IfSome, Some, map, option_and_then};
 ghost use Rattle.series_id.specs.Identity.{IsIdentity};
+ghost use Rattle.series_id.specs.declared.kinds.Kind.{Kind};
 ghost use Rattle.otlp_read.specs.Streams.{identity_in, series_of};
 ghost use Rattle.otlp_protobuf.specs.inner.Sets.{said_list, set_said};
-ghost use Rattle.otlp_protobuf.specs.inner.KindViews.{kind_data};
+ghost use Rattle.otlp_protobuf.specs.inner.KindViews.{kind_data, says_kind};
 ghost use Rattle.otlp_protobuf.specs.inner.StreamViews.{stream_data};
 
 use crate::byte_hash::ByteHash;
@@ -42,6 +43,7 @@ impl IdentityCache {
 
     /// The series of a stream with this kind and these attributes, if it came after the last one
     /// before. Takes no memory.
+    #[inline(always)]
     pub fn follow(
         &mut self,
         stream: Stream<'_>,
@@ -85,6 +87,7 @@ impl IdentityCache {
     }
 
     /// A share of the series in a slot, if it is that of the stream, the kind and the attributes.
+    #[inline(always)]
     fn share_at(
         &self,
         slot: usize,
@@ -111,14 +114,16 @@ impl IdentityCache {
         alloc: Global,
         hash: ByteHash,
         stream: Stream<'_>,
+        kind: KindRef<'_>,
         attributes: &[&[u8]],
         series: &SharedId,
     )
+        requires kind { kind_data kind ≡ Some series.now.kind }
         requires stream { (stream_data stream).scope.resource ≡ series.now.resource }
         requires attributes { set_said (map (λ b. b.now) attributes.now) ≡ Some series.now.attrs }
     {
         if hash.is_small()
-            && let Ok(kept) = kept_series(alloc, stream, attributes, series)
+            && let Ok(kept) = kept_series(alloc, stream, kind, attributes, series)
         {
             let first = hash.slot(SLOTS);
             let slot = if self.slots.at(first).is_none() {
@@ -136,20 +141,38 @@ impl IdentityCache {
 fn kept_series(
     alloc: Global,
     stream: Stream<'_>,
+    kind: KindRef<'_>,
     attributes: &[&[u8]],
     series: &SharedId,
 ) -> Result<KeptSeries, AllocError>
+    requires kind { kind_data kind ≡ Some series.now.kind }
     requires stream { (stream_data stream).scope.resource ≡ series.now.resource }
     requires attributes { set_said (map (λ b. b.now) attributes.now) ≡ Some series.now.attrs }
 {
     let resource = stream.scope.resource.share(alloc)?;
     let attributes = copies(alloc, attributes)?;
+    let bounds = bounds_of(alloc, kind)?;
     let series = series.share()?;
     Ok(KeptSeries {
         series,
         resource,
         attributes,
+        bounds,
     })
+}
+
+/// A copy of the bounds of a histogram, if one field has them all.
+fn bounds_of(alloc: Global, kind: KindRef<'_>) -> Result<Option<Vec<u8>>, AllocError>
+    ensures { IfOk result (λ o. IfSome o (λ b.
+        (k : Kind) → kind_data kind.entry ≡ Some k → says_kind b.items k)) }
+{
+    match kind {
+        KindRef::Histogram { bounds } => match bounds.spot {
+            Some(packed) => Ok(Some(Vec::from_slice(alloc, packed)?)),
+            None => Ok(None),
+        },
+        KindRef::Sum { .. } => Ok(None),
+    }
 }
 
 /// Copies of messages.

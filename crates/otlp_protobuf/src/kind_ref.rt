@@ -4,19 +4,17 @@ ghost use Rattle.std.specs.Prelude.{◌≡◌, IfOk, IsTrue, Some};
 ghost use Rattle.series_id.specs.Kinds.{IsKind};
 ghost use Rattle.otlp_protobuf.specs.inner.KindViews.{kind_data};
 
+use crate::number_list::NumberList;
 use crate::numbers::{Numbers, are_bounds, numbers_in};
 use series_id::Kind;
 use std::alloc::{AllocError, Global};
-
-/// The number of the bounds of a histogram's point.
-const BOUNDS: u32 = 7;
 
 /// The kind of a point's series.
 #[derive(Clone, Copy)]
 pub enum KindRef<'a> {
     Sum { monotonic: bool },
-    /// A histogram with the bounds of this point.
-    Histogram { point: &'a [u8] },
+    /// A histogram with these bounds.
+    Histogram { bounds: NumberList<'a> },
 }
 
 impl<'a> KindRef<'a> {
@@ -26,7 +24,7 @@ impl<'a> KindRef<'a> {
     {
         match self {
             KindRef::Sum { monotonic } => Ok(Some(Kind::Sum { monotonic })),
-            KindRef::Histogram { point } => match numbers_in(alloc, point, BOUNDS)? {
+            KindRef::Histogram { bounds } => match numbers_in(alloc, bounds)? {
                 Some(found) => Ok(Kind::histogram(found).ok()),
                 None => Ok(None),
             },
@@ -39,8 +37,8 @@ impl<'a> KindRef<'a> {
     {
         match (self, kind) {
             (KindRef::Sum { monotonic }, Kind::Sum { monotonic: its }) => monotonic == *its,
-            (KindRef::Histogram { point }, Kind::Histogram { bounds }) => {
-                are_bounds(Numbers::of(point, BOUNDS), bounds.as_slice())
+            (KindRef::Histogram { bounds }, Kind::Histogram { bounds: its }) => {
+                are_bounds(Numbers::of(bounds), its.as_slice())
             }
             _ => false,
         }

@@ -5,17 +5,21 @@ ghost use Rattle.otlp_protobuf.specs.Checks.{checked_from};
 
 use crate::byte_hash::ByteHash;
 use crate::checked_message::CheckedMessage;
+use crate::fields::Fields;
 use crate::followed::{Followed, SLOTS};
 use crate::lookup::is_copy;
 use crate::schema::Message;
 use crate::slots::Slots;
 use std::alloc::Global;
 
-/// The largest attribute, in bytes, that is kept.
+/// The largest attribute, in bytes, that is kept, and the largest rest of a point.
 const MOST_BYTES: usize = 256;
 
-/// The attributes of the points of earlier bodies, which need no check again. What a body says does
-/// not depend on them: they are compared byte by byte.
+const MOST_REST: usize = 1024;
+
+/// The attributes of the points of earlier bodies, and the rests of points that have nothing but
+/// attributes and bounds. They need no check again. What a body says does not depend on them: they
+/// are compared byte by byte.
 #[derive(Drop)]
 pub struct KnownMessages {
     alloc: Global,
@@ -44,7 +48,7 @@ impl KnownMessages {
     ) -> bool
         ensures only { IsTrue result → checked_from left levels message bytes.now ≡ Ok tt }
     {
-        if !is_kept(outer, message, bytes) {
+        if !may_be_kept(outer, message) {
             return false;
         }
         if let Some(slot) = self.followed.next()
@@ -52,6 +56,9 @@ impl KnownMessages {
         {
             self.followed.go_to(slot);
             return true;
+        }
+        if !is_kept(message, bytes) {
+            return false;
         }
         let slot = ByteHash::new().with(bytes).slot(SLOTS);
         if self.is_at(slot, message, bytes, levels, left) {
@@ -62,20 +69,22 @@ impl KnownMessages {
     }
 
     /// Whether the message in a slot is this one.
+    #[inline(always)]
     fn is_at(&self, slot: usize, message: Message, bytes: &[u8], levels: u32, left: usize) -> bool
         ensures only { IsTrue result → checked_from left levels message bytes.now ≡ Ok tt }
     {
-        match (self.slots.at(slot), message) {
-            (Some(kept), Message::KeyValue) => is_same(kept, bytes, levels, left),
-            _ => false,
+        match self.slots.at(slot) {
+            Some(kept) => is_same(kept, message, bytes, levels, left),
+            None => false,
         }
     }
 
-    /// Keeps a message in another one that has passed its check, if it is an attribute of a point.
+    /// Keeps a message in another one that has passed its check, if it is an attribute of a point,
+    /// or the rest of one.
     pub fn keep(&mut self, outer: Message, message: Message, bytes: &[u8], levels: u32, left: usize)
         requires { checked_from left levels message bytes.now ≡ Ok tt }
     {
-        if !is_kept(outer, message, bytes) {
+        if !may_be_kept(outer, message) || !is_kept(message, bytes) {
             return;
         }
         let slot = ByteHash::new().with(bytes).slot(SLOTS);
@@ -83,6 +92,7 @@ impl KnownMessages {
             return;
         };
         let kept = CheckedMessage {
+            message,
             bytes: copy,
             levels,
             left,
@@ -92,21 +102,42 @@ impl KnownMessages {
     }
 }
 
-/// Whether a message in another one is an attribute of a point, and small.
-fn is_kept(outer: Message, message: Message, bytes: &[u8]) -> bool
-    ensures only { IsTrue result → message ≡ Message.KeyValue }
-{
-    let is_attribute = match (outer, message) {
+/// Whether a message in another one is a point, or an attribute of one.
+fn may_be_kept(outer: Message, message: Message) -> bool {
+    match (outer, message) {
+        (_, Message::NumberPoint | Message::HistogramPoint) => true,
         (Message::NumberPoint | Message::HistogramPoint, Message::KeyValue) => true,
         _ => false,
-    };
-    is_attribute && bytes.len() <= MOST_BYTES
+    }
 }
 
-/// Whether an attribute is the one that is kept, with as many levels, and no fewer fields.
-fn is_same(kept: &CheckedMessage, bytes: &[u8], levels: u32, left: usize) -> bool
-    ensures only { IsTrue result → checked_from left levels Message.KeyValue bytes.now ≡ Ok tt }
+/// Whether it is small, and of a point no more than attributes and bounds: these come again.
+fn is_kept(message: Message, bytes: &[u8]) -> bool {
+    match message {
+        Message::KeyValue => bytes.len() <= MOST_BYTES,
+        _ => bytes.len() <= MOST_REST && comes_again(bytes),
+    }
+}
+
+/// Whether the rest of a point has fields of the numbers of bounds and attributes alone.
+fn comes_again(rest: &[u8]) -> bool {
+    let mut fields = Fields::of(rest);
+    while let Some(field) = fields.next() {
+        if field.number != 7 && field.number != 9 {
+            return false;
+        }
+    }
+    true
+}
+
+/// Whether a message is the one that is kept, with as many levels, and no fewer fields.
+#[inline(always)]
+fn is_same(kept: &CheckedMessage, message: Message, bytes: &[u8], levels: u32, left: usize) -> bool
+    ensures only { IsTrue result → checked_from left levels message bytes.now ≡ Ok tt }
 {
+    if !are_alike(kept.message, message) {
+        return false;
+    }
     if kept.levels != levels {
         return false;
     }
@@ -114,4 +145,16 @@ fn is_same(kept: &CheckedMessage, bytes: &[u8], levels: u32, left: usize) -> boo
         return false;
     }
     is_copy(&kept.bytes, bytes)
+}
+
+/// Whether both are points of one kind, or attributes.
+fn are_alike(one: Message, other: Message) -> bool
+    ensures only { IsTrue result → one ≡ other }
+{
+    match (one, other) {
+        (Message::KeyValue, Message::KeyValue) => true,
+        (Message::NumberPoint, Message::NumberPoint) => true,
+        (Message::HistogramPoint, Message::HistogramPoint) => true,
+        _ => false,
+    }
 }

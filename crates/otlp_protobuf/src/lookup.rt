@@ -2,6 +2,7 @@
 
 ghost use Rattle.std.specs.Prelude.{◌≡◌, IsTrue, Some, map, option_and_then};
 ghost use Rattle.series_id.specs.Identity.{IsIdentity};
+ghost use Rattle.series_id.specs.Kinds.{IsKind};
 ghost use Rattle.otlp_read.specs.Streams.{identity_in, series_of};
 ghost use Rattle.otlp_protobuf.specs.inner.Sets.{said_list};
 ghost use Rattle.otlp_protobuf.specs.inner.KindViews.{kind_data};
@@ -13,6 +14,7 @@ use crate::streams::{Scope, Stream};
 
 /// Whether a kept series is that of the stream, the kind and the attributes. The clause is of a
 /// series within its limits, as every `SharedId` is.
+#[inline(always)]
 pub fn is_series(
     kept: &KeptSeries,
     stream: Stream<'_>,
@@ -29,10 +31,37 @@ pub fn is_series(
     if !is_in_stream(kept, stream) {
         return false;
     }
+    is_of_kind(kept, kind)
+}
+
+/// Whether a kept series is of the kind. The clause is of a kind within its limits.
+#[inline(always)]
+fn is_of_kind(kept: &KeptSeries, kind: KindRef<'_>) -> bool
+    ensures only { IsKind kept.now.series.kind → IsTrue result
+        → kind_data kind.entry ≡ Some kept.now.series.kind }
+{
+    if has_bounds(kept, kind) {
+        return true;
+    }
     kind.is_kind(kept.series.as_series().kind())
 }
 
+/// Whether a kept series is of the histogram's bounds, byte for byte.
+#[inline(always)]
+fn has_bounds(kept: &KeptSeries, kind: KindRef<'_>) -> bool
+    ensures only { IsTrue result → kind_data kind.entry ≡ Some kept.now.series.kind }
+{
+    match (kind, &kept.bounds) {
+        (KindRef::Histogram { bounds }, Some(own)) => match bounds.spot {
+            Some(packed) => is_copy(own, packed),
+            None => false,
+        },
+        _ => false,
+    }
+}
+
 /// Whether a kept series is one of the stream.
+#[inline(always)]
 fn is_in_stream(kept: &KeptSeries, stream: Stream<'_>) -> bool
     ensures only { IsTrue result → identity_in (stream_data stream.entry) kept.now.series.kind
         kept.now.series.attrs ≡ kept.now.series }
@@ -44,6 +73,7 @@ fn is_in_stream(kept: &KeptSeries, stream: Stream<'_>) -> bool
 }
 
 /// Whether a kept series is one of the scope.
+#[inline(always)]
 fn is_in_scope(kept: &KeptSeries, scope: Scope<'_>) -> bool
     ensures only { IsTrue result → scope_data scope.entry ≡ record {
       resource = kept.now.series.resource;
@@ -60,6 +90,7 @@ fn is_in_scope(kept: &KeptSeries, scope: Scope<'_>) -> bool
 }
 
 /// Whether copies are of these messages.
+#[inline(always)]
 fn are_same(copies: &[Vec<u8>], messages: &[&[u8]]) -> bool
     ensures only { IsTrue result → map (λ c. c.items) copies.now ≡ map (λ b. b.now) messages.now }
 {
@@ -75,6 +106,7 @@ fn are_same(copies: &[Vec<u8>], messages: &[&[u8]]) -> bool
 }
 
 /// Whether a copy is of this message.
+#[inline(always)]
 pub fn is_copy(copy: &Vec<u8>, message: &[u8]) -> bool
     ensures only { IsTrue result → copy.now.items ≡ message.now }
 {

@@ -14,6 +14,7 @@ ghost use Rattle.otlp_protobuf.specs.inner.Views.{field_data, fields_data};
 
 use crate::doubles::bound_double;
 use crate::fields::{Field, Fields};
+use crate::number_list::NumberList;
 use crate::wire::{Payload, fixed64};
 use std::alloc::{AllocError, Global};
 
@@ -62,14 +63,22 @@ pub struct Numbers<'a> {
 }
 
 impl<'a> Numbers<'a> {
-    /// The numbers of the field of this number.
-    pub fn of(bytes: &'a [u8], number: u32) -> Numbers<'a>
-        ensures { numbers_data result ≡ numbers number (fields bytes.now) }
+    /// The numbers of a list.
+    pub fn of(list: NumberList<'a>) -> Numbers<'a>
+        ensures { numbers_data result ≡ numbers list.entry.number (fields list.entry.bytes.now) }
     {
-        Numbers {
-            packed: &[],
-            number,
-            rest: Fields::of(bytes),
+        let number = list.number;
+        match list.spot {
+            Some(packed) => Numbers {
+                packed,
+                number,
+                rest: Fields { rest: &[], left: 0 },
+            },
+            None => Numbers {
+                packed: &[],
+                number,
+                rest: Fields::of(list.bytes),
+            },
         }
     }
 
@@ -132,22 +141,21 @@ fn first_at<'a>(number: u32, field: Field<'a>) -> Option<(u64, &'a [u8])>
     }
 }
 
-/// The numbers of the list of this number, if each is such a number.
+/// The numbers of a list, if each is such a number.
 pub fn numbers_in<T: Number>(
     alloc: Global,
-    bytes: &[u8],
-    number: u32,
+    list: NumberList<'_>,
 ) -> Result<Option<Vec<T>>, AllocError>
     ensures { IfOk result (λ o. option_map (λ v. v.items) o
-        ≡ all_of T.reads (map T.shows (numbers number (fields bytes.now)))) }
+        ≡ all_of T.reads (map T.shows (numbers list.entry.number
+        (fields list.entry.bytes.now)))) }
 {
-    let mut found = Vec::new(alloc);
-    let mut rest = Numbers::of(bytes, number);
+    let mut rest = Numbers::of(list);
+    let mut found = Vec::with_capacity(alloc, rest.packed.len() / 8)?;
     while let Some(bits) = rest.next() {
         let Some(element) = T::of_bits(bits) else {
             return Ok(None);
         };
-        found.reserve(rest.packed.len() / 8 + 1)?;
         found.push(element)?;
     }
     Ok(Some(found))

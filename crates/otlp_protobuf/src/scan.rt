@@ -47,7 +47,8 @@ pub fn gather_with<'a, G: Gathered>(
 }
 
 /// Puts a message behind those in the room, if it is there.
-fn put_content<'a>(
+#[inline(always)]
+pub fn put_content<'a>(
     room: &mut [&'a [u8]],
     count: Option<usize>,
     content: Option<&'a [u8]>,
@@ -173,7 +174,8 @@ pub fn text_at(bytes: &[u8], number: u32) -> Option<&str>
 }
 
 /// The bytes of a field, if it has this number.
-fn content_at<'a>(number: u32, field: Field<'a>) -> Option<&'a [u8]>
+#[inline(always)]
+pub fn content_at<'a>(number: u32, field: Field<'a>) -> Option<&'a [u8]>
     ensures { option_map (λ b. b.now) result ≡ content_at number (field_data field.entry) }
 {
     if field.number == number {

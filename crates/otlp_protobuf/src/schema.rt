@@ -47,6 +47,7 @@ pub enum Kind {
 
 impl Message {
     /// What the field of this number has.
+    #[inline(always)]
     #[tactic(auto, unfolding(crate::specs::Schema::kind_of))]
     pub fn kind_of(self, number: u32) -> Kind
         ensures { result ≡ kind_of self number }
@@ -134,6 +135,7 @@ fn of_histogram(number: u32) -> Kind
     }
 }
 
+#[inline(always)]
 fn of_number_point(number: u32) -> Kind
     ensures { result ≡ of_number_point number }
 {
@@ -147,6 +149,7 @@ fn of_number_point(number: u32) -> Kind
     }
 }
 
+#[inline(always)]
 fn of_histogram_point(number: u32) -> Kind
     ensures { result ≡ of_histogram_point number }
 {

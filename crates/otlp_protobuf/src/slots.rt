@@ -23,6 +23,7 @@ impl<T: Drop> Slots<T> {
     }
 
     /// The value in a slot, if there is one.
+    #[inline(always)]
     pub fn at(&self, slot: usize) -> Option<&T> {
         if slot >= self.slots.len() {
             return None;

@@ -185,6 +185,7 @@ const MONOTONIC: u32 = 3;
 
 /// The series of a stream with this kind and these attributes. One that is kept is shared. `None`
 /// if no series may have them.
+#[inline(always)]
 pub fn series_of(
     alloc: Global,
     cache: &mut IdentityCache,
@@ -209,7 +210,7 @@ pub fn series_of(
     let Some(series) = new_series(alloc, stream, kind, attributes)? else {
         return Ok(None);
     };
-    cache.keep(alloc, hash, stream, messages, &series);
+    cache.keep(alloc, hash, stream, kind, messages, &series);
     Ok(Some(series))
 }
 

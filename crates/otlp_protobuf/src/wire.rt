@@ -58,7 +58,7 @@ fn weighed(byte: u8, unit: u64, sum: u64) -> Option<u64>
     u64::from(byte % 128).checked_mul(unit)?.checked_add(sum)
 }
 
-/// A number of at most 64 bits, and the bytes after it. Most have one byte.
+/// A number of at most 64 bits, and the bytes after it. Most have one byte, or two.
 #[inline(always)]
 #[tactic(auto, unfolding(crate::specs::Wire::varint_from))]
 pub fn varint(bytes: &[u8]) -> Result<(u64, &[u8]), Malformed>
@@ -67,6 +67,14 @@ pub fn varint(bytes: &[u8]) -> Result<(u64, &[u8]), Malformed>
     if let [byte, rest @ ..] = bytes
         && *byte < 128
         && let Some(number) = weighed(*byte, 1, 0)
+    {
+        return Ok((number, rest));
+    }
+    if let [byte, next, rest @ ..] = bytes
+        && *byte >= 128
+        && *next < 128
+        && let Some(low) = weighed(*byte, 1, 0)
+        && let Some(number) = weighed(*next, 128, low)
     {
         return Ok((number, rest));
     }

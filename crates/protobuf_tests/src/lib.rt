@@ -7,6 +7,8 @@ pub mod forward;
 #[cfg(test)]
 mod forwards;
 #[cfg(test)]
+mod known;
+#[cfg(test)]
 mod messages;
 #[cfg(test)]
 mod random;

@@ -3,11 +3,11 @@ use Rattle.otlp_protobuf.proofs.ListLemmas.{no_front, one_more, one_stops, all_r
 use Rattle.otlp_protobuf.proofs.numbers.numbers_in.Goals as goal
 
 pub loop-bits-init : goal.loop-bits-init
-loop-bits-init g c = rw (c.new-found.ensures.items, c.of-rest.ensures) (no_front _)
+loop-bits-init g c = rw (c.in_ok-found.ensures.items, c.of-rest.ensures) (no_front _)
 
 pub loop-bits-preserved : goal.loop-bits-preserved
 loop-bits-preserved g c =
-    rw (c.in_ok-push.ensures.items, c.reserve.ensures.items) (one_more g.T.Number.shows g.T.Number.reads c.loop-bits.found.items c.in-Some-of_bits.element _ c.in-Some.bits _ _ c.in-Some.ensures (sym c.of_bits.ensures ∙ c.in-Some-of_bits.is) c.loop-bits.invariant)
+    rw c.in_ok-push.ensures.items (one_more g.T.Number.shows g.T.Number.reads c.loop-bits.found.items c.in-Some-of_bits.element _ c.in-Some.bits _ _ c.in-Some.ensures (sym c.of_bits.ensures ∙ c.in-Some-of_bits.is) c.loop-bits.invariant)
 
 pub returns-in_default-of_bits : goal.returns-in_default-of_bits
 returns-in_default-of_bits g c =
