@@ -7,3 +7,5 @@ pub mod MetricLemmas
 pub mod TextLemmas
 pub mod MemberLemmas
 pub mod PartLemmas
+pub mod FollowLemmas
+pub mod TimeLemmas

@@ -2,12 +2,12 @@
 
 ghost use Rattle.std.specs.Prelude.{◌≡◌, option_map, option_and_then};
 ghost use Rattle.serde_json.specs.Find.{as_number, as_u64};
-ghost use Rattle.otlp_read.specs.Fields.{field, flags_fit, text_in, truth_in, is_delta, nanos_in};
+ghost use Rattle.otlp_read.specs.Fields.{field, flags_fit, text_in, truth_in, is_delta};
 ghost use Rattle.otlp_read.specs.Fields.{is_one};
 ghost use Rattle.json_points.specs.inner.Nodes.{data_at};
 ghost use Rattle.json_points.specs.inner.Slots.{slot_data};
 
-use crate::integers::{unsigned, unsigned_64};
+use crate::integers::unsigned;
 use crate::node::Node;
 use crate::numbers::number;
 use series_id::limits::MAX_TEXT;
@@ -87,22 +87,4 @@ fn is_one(node: &Node<'_, '_>) -> bool
         },
         None => false,
     }
-}
-
-/// A time in nanoseconds since the epoch, if it is present.
-#[tactic(auto, unfolding(otlp_read::specs::Fields::nanos_in))]
-pub fn nanos_in(found: &Option<Node<'_, '_>>) -> Option<u64>
-    ensures { result ≡ nanos_in (slot_data found.now) }
-{
-    match found {
-        None => None,
-        Some(node) => unsigned_64(node),
-    }
-}
-
-/// The time of the field of this name.
-pub fn nanos_at(node: &Node<'_, '_>, name: &str) -> Option<u64>
-    ensures { result ≡ nanos_in (field name.now (data_at node.now)) }
-{
-    nanos_in(&field(node, name))
 }

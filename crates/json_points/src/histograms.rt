@@ -15,12 +15,13 @@ ghost use Rattle.json_points.specs.inner.Slots.{slot_data};
 ghost use Rattle.json_points.specs.inner.RefViews.{histogram_fields_data};
 ghost use Rattle.json_points.specs.inner.StreamViews.{stream_data};
 
-use crate::fields::{field, flags_fit, nanos_at};
+use crate::fields::{field, flags_fit};
 use crate::identity_cache::IdentityCache;
 use crate::integers::unsigned_64;
 use crate::lists::list_in;
 use crate::node::Node;
 use crate::streams::{PointStream, Stream, series_of};
+use crate::times::Times;
 use metric_events::point::{Point, PointFault};
 use series_id::Kind;
 use std::alloc::{AllocError, Global};
@@ -72,11 +73,11 @@ fn total_at(node: &Node<'_, '_>, name: &str) -> Option<Option<u64>>
 
 /// The fields of a point; `None` if the point is foreign for one of them.
 #[tactic(auto, unfolding(otlp_read::specs::Histograms::histogram_fields))]
-fn histogram_fields(node: &Node<'_, '_>) -> Option<HistogramFields>
+fn histogram_fields<'a>(times: &mut Times<'a>, node: &Node<'_, 'a>) -> Option<HistogramFields>
     ensures { option_map histogram_fields_data result ≡ histogram_fields (data_at node.now) }
 {
-    let start = nanos_at(node, "startTimeUnixNano")?;
-    let end = nanos_at(node, "timeUnixNano")?;
+    let start = times.start.read_at(node, "startTimeUnixNano")?;
+    let end = times.end.read_at(node, "timeUnixNano")?;
     let count = count_at(node, "count")?;
     let total = total_at(node, "sum")?;
     if flags_fit(&field(node, "flags")) {
@@ -106,30 +107,32 @@ fn kind_of(alloc: Global, bounds: &Option<Node<'_, '_>>) -> Result<Option<Kind>,
 impl PointStream for Option<Stream<'_>> {
     ghost reads = { λ stream. histogram_point_in (option_map stream_data stream) };
 
-    fn read(
+    fn read<'a>(
         self,
         alloc: Global,
         cache: &mut IdentityCache,
-        node: &Node<'_, '_>,
+        times: &mut Times<'a>,
+        node: &Node<'_, 'a>,
     ) -> Result<Option<Point>, AllocError> {
         match self {
             None => Ok(None),
-            Some(stream) => histogram_point(alloc, cache, stream, node),
+            Some(stream) => histogram_point(alloc, cache, times, stream, node),
         }
     }
 }
 
 /// Reads a point of a histogram in a stream; `None` if it is foreign.
 #[tactic(auto, unfolding(otlp_read::specs::Histograms::histogram_point, otlp_read::specs::Histograms::kind_in))]
-fn histogram_point(
+fn histogram_point<'a>(
     alloc: Global,
     cache: &mut IdentityCache,
+    times: &mut Times<'a>,
     stream: Stream<'_>,
-    node: &Node<'_, '_>,
+    node: &Node<'_, 'a>,
 ) -> Result<Option<Point>, AllocError>
     ensures { IfOk result (λ o. o ≡ histogram_point (stream_data stream.entry) (data_at node.now)) }
 {
-    let Some(fields) = histogram_fields(node) else {
+    let Some(fields) = histogram_fields(times, node) else {
         return Ok(None);
     };
     let Some(kind) = kind_of(alloc, &field(node, "explicitBounds"))? else {

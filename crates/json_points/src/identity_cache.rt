@@ -1,16 +1,18 @@
 //! The identities that a reader keeps from one body to the next.
 
-ghost use Rattle.std.specs.Prelude.{◌≡◌, ◌≤◌, [], length, IfOk, IfSome, None, Some};
+ghost use Rattle.std.specs.Prelude.{◌≡◌, ◌≤◌, [], length, IfOk, IfSome};
 ghost use Rattle.json_points.specs.declared.identity_hash.TheConstants.{SLOTS};
 
+use crate::followed::Followed;
 use crate::identity_hash::{IdentityHash, SLOTS};
 use series_id::{SeriesId, SharedId};
 use std::alloc::{AllocError, Global};
 use std::marker::Model;
 
 /// The identities of earlier points. A point whose identity is kept shares it, and no second one is
-/// made. Contracts see the slots: there are none before the first identity is kept, and a cache
-/// that keeps nothing is `None`.
+/// made. It is looked for first where the point was that came after the one before it the last
+/// time, then where its hash says. Contracts see the slots: there are none before the first
+/// identity is kept.
 ///
 /// What a body says does not depend on its reader's cache: an identity in a slot is compared in
 /// full. It is replaced by a later one that needs its slot, so there are never more than `SLOTS` of
@@ -18,52 +20,53 @@ use std::marker::Model;
 /// nothing is kept.
 #[derive(Drop)]
 pub struct IdentityCache {
-    slots: Option<Vec<Option<SharedId>>>,
+    slots: Vec<Option<SharedId>>,
+    followed: Followed,
 }
 
 impl Model for IdentityCache {
-    ghost use Rattle.std.specs.Prelude.{◌≤◌, length, IfSome, List, Option, option_map};
+    ghost use Rattle.std.specs.Prelude.{◌≤◌, length, List, Option};
     ghost use Rattle.json_points.specs.declared.identity_hash.TheConstants.{SLOTS};
     ghost use Rattle.series_id.specs.Identity.{Identity};
 
-    ghost Value = { Option (List (Option Identity)) };
+    ghost Value = { List (Option Identity) };
 
-    ghost view = { λ m. option_map (λ slots. slots.items) m.slots };
+    ghost view = { λ m. m.slots.items };
 
-    ghost invariant = { λ m. IfSome m.slots (λ slots. length slots.items ≤ SLOTS) };
+    ghost invariant = { λ m. length m.slots.items ≤ SLOTS };
 }
 
 impl IdentityCache {
     /// A cache without an identity. Takes no memory until it keeps the first.
     pub fn new(alloc: Global) -> IdentityCache
-        ensures { result ≡ Some [] }
+        ensures { result ≡ [] }
     {
         IdentityCache {
-            slots: Some(Vec::new(alloc)),
+            slots: Vec::new(alloc),
+            followed: Followed::new(alloc),
         }
-    }
-
-    /// A cache that never keeps an identity, for a reader of one body. Takes no memory.
-    pub fn without_slots() -> IdentityCache
-        ensures { result ≡ None }
-    {
-        IdentityCache { slots: None }
     }
 
     /// Whether there are no slots.
     pub(crate) fn is_empty(&self) -> bool {
-        match &self.slots {
-            None => true,
-            Some(slots) => slots.is_empty(),
-        }
+        self.slots.is_empty()
     }
 
     /// The identity in a slot, if there is one.
     pub(crate) fn at(&self, slot: usize) -> Option<&SharedId> {
-        match &self.slots {
-            None => None,
-            Some(slots) => identity_at(slots.as_slice(), slot),
-        }
+        identity_at(self.slots.as_slice(), slot)
+    }
+
+    /// The slot of the identity that comes next, if it is known.
+    pub(crate) fn next(&self) -> Option<usize> {
+        self.followed.next()
+    }
+
+    /// Notes the slot of the identity that came next.
+    pub(crate) fn go_to(&mut self, slot: usize)
+        ensures { self.new ≡ self.old }
+    {
+        self.followed.go_to(slot);
     }
 
     /// This identity, shared with the one in a slot if they are equal. Otherwise it is kept.
@@ -73,13 +76,14 @@ impl IdentityCache {
         hash: IdentityHash,
         series: SeriesId,
     ) -> Result<SharedId, AllocError>
-        ensures same { IfOk result (λ shared. shared ≡ series) }
-        ensures without { self.old ≡ None → self.new ≡ None }
+        ensures { IfOk result (λ shared. shared ≡ series) }
     {
         if let Some(shared) = self.share_same(hash.slot(), &series) {
+            self.go_to(hash.slot());
             return Ok(shared);
         }
         if let Some(shared) = self.share_same(hash.other_slot(), &series) {
+            self.go_to(hash.other_slot());
             return Ok(shared);
         }
         let shared = SharedId::new(alloc, series)?;
@@ -100,14 +104,10 @@ impl IdentityCache {
     }
 
     /// Keeps an identity, if it is small and there are slots or memory for them.
-    fn keep(&mut self, alloc: Global, hash: IdentityHash, series: &SharedId)
-        ensures { self.old ≡ None → self.new ≡ None }
-    {
-        if let Some(slots) = &mut self.slots
-            && hash.is_small()
-            && take_slots(alloc, slots).is_ok()
-        {
-            put(slots, hash, series);
+    fn keep(&mut self, alloc: Global, hash: IdentityHash, series: &SharedId) {
+        if hash.is_small() && take_slots(alloc, &mut self.slots).is_ok() {
+            let slot = put(&mut self.slots, hash, series);
+            self.followed.go_to_new(slot);
         }
     }
 }
@@ -132,8 +132,8 @@ fn take_slots(alloc: Global, slots: &mut Vec<Option<SharedId>>) -> Result<(), Al
     Ok(())
 }
 
-/// Puts an identity into the first of its slots if that is free, else into the other one.
-fn put(slots: &mut Vec<Option<SharedId>>, hash: IdentityHash, series: &SharedId)
+/// Puts an identity into the first of its slots if that is free, else into the other one: which.
+fn put(slots: &mut Vec<Option<SharedId>>, hash: IdentityHash, series: &SharedId) -> usize
     ensures { length slots.new.items ≡ length slots.old.items }
 {
     let slot = if identity_at(slots.as_slice(), hash.slot()).is_none() {
@@ -146,6 +146,7 @@ fn put(slots: &mut Vec<Option<SharedId>>, hash: IdentityHash, series: &SharedId)
     {
         slots[slot] = Some(shared);
     }
+    slot
 }
 
 /// As many slots as a cache has, all free.

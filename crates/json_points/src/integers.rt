@@ -1,8 +1,8 @@
 //! Reads whole numbers: JSON numbers, or decimal texts (proto3 JSON mapping).
 
-ghost use Rattle.std.specs.Prelude.{◌≡◌, ◌<◌, ◌≤◌, ◌^◌};
+ghost use Rattle.std.specs.Prelude.{◌≡◌, ◌-◌, ◌<◌, ◌≤◌, ◌^◌};
 ghost use Rattle.otlp_read.specs.Integers.{magnitude, text_whole, whole, unsigned_in, unsigned_64};
-ghost use Rattle.otlp_read.specs.Integers.{signed_in, signed_64};
+ghost use Rattle.otlp_read.specs.Integers.{signed_in, signed_64, up_to};
 ghost use Rattle.json_points.specs.inner.Nodes.{data_at};
 
 use crate::node::Node;
@@ -68,6 +68,17 @@ pub fn signed(node: &Node<'_, '_>, below: u64, above: u64) -> Option<i64>
         return None;
     }
     Some(found as i64)
+}
+
+/// The number of a text, if it is one of 64 bits without a sign.
+pub fn unsigned_text(text: &str) -> Option<u64>
+    ensures { result ≡ up_to (2 ^ 64 - 1) (text_whole text.now) }
+{
+    let found = whole_text(text)?;
+    if found < 0 || found > i128::from(u64::MAX) {
+        return None;
+    }
+    Some(found as u64)
 }
 
 /// The number of a value, if it is a whole number of 64 bits without a sign.

@@ -8,6 +8,8 @@
 mod attributes;
 mod containers;
 mod fields;
+mod follow;
+mod followed;
 mod histograms;
 mod identity_cache;
 mod identity_hash;
@@ -25,6 +27,7 @@ mod scalar_ref;
 mod set_cache;
 mod streams;
 mod sums;
+mod times;
 mod unknown;
 mod values;
 mod walk;

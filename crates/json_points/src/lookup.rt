@@ -27,7 +27,7 @@ pub const MOST_PAIRS: usize = 16;
 /// any order are found, but only up to `MOST_PAIRS` of them, each with a single value. Takes no
 /// memory.
 pub fn look_up(
-    cache: &IdentityCache,
+    cache: &mut IdentityCache,
     stream: Stream<'_>,
     kind: &Kind,
     found: &Option<Node<'_, '_>>,
@@ -87,7 +87,7 @@ pub fn sort_pairs(pairs: &mut [PairRef<'_>])
 
 /// The series of a stream with this kind and these attributes, which are in key order.
 fn look_up_pairs(
-    cache: &IdentityCache,
+    cache: &mut IdentityCache,
     stream: Stream<'_>,
     kind: &Kind,
     pairs: &[PairRef<'_>],
@@ -99,10 +99,16 @@ fn look_up_pairs(
     let mut hash = stream.hash;
     hash.add_kind(kind);
     hash.add_pairs(pairs);
-    match share_at(cache, hash.slot(), stream, kind, pairs) {
-        Some(series) => Some(series),
-        None => share_at(cache, hash.other_slot(), stream, kind, pairs),
+    let mut slot = hash.slot();
+    let mut found = share_at(cache, slot, stream, kind, pairs);
+    if found.is_none() {
+        slot = hash.other_slot();
+        found = share_at(cache, slot, stream, kind, pairs);
     }
+    if found.is_some() {
+        cache.go_to(slot);
+    }
+    found
 }
 
 /// A share of the series in a slot, if it is that of the stream, the kind and the attributes.
@@ -142,7 +148,7 @@ fn is_series(series: &SeriesId, stream: Stream<'_>, kind: &Kind, pairs: &[PairRe
 }
 
 /// Whether a series is one of the stream.
-fn is_in_stream(series: &SeriesId, stream: Stream<'_>) -> bool
+pub fn is_in_stream(series: &SeriesId, stream: Stream<'_>) -> bool
     ensures only { IsTrue result →
         identity_in (stream_data stream.entry) series.now.kind series.now.attrs ≡ series.now }
 {
@@ -181,7 +187,8 @@ pub fn are_pairs(pairs: &[PairRef<'_>], its: &[Attribute]) -> bool
     true
 }
 
-fn is_pair(pair: &PairRef<'_>, its: &Attribute) -> bool
+/// Whether an attribute is one of a set.
+pub fn is_pair(pair: &PairRef<'_>, its: &Attribute) -> bool
     ensures only { IsTrue result → pair_data pair.now ≡ pair_in its.now }
 {
     match &its.value {

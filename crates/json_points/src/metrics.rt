@@ -22,6 +22,7 @@ use crate::fields::field;
 use crate::node::{Node, Nodes};
 use crate::reader::{Object, Reader};
 use crate::streams::{PointStream, Scope, stream_in, sum_stream_in};
+use crate::times::Times;
 use crate::unknown::Unknown;
 use metric_events::point::Point;
 use otlp_read::Reading;
@@ -246,8 +247,9 @@ fn points_of<S: PointStream>(
         → tally reader.new.out ≡ each_point (S.reads stream) ds (tally reader.old.out)) }
 {
     let mut rest = nodes;
+    let mut times = Times::none();
     while let Some(node) = rest.next() {
-        let point = stream.read(reader.alloc, reader.cache, &node)?;
+        let point = stream.read(reader.alloc, reader.cache, &mut times, &node)?;
         add_point(&mut reader.out, point)?;
     }
     Ok(())

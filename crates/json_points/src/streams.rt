@@ -13,10 +13,12 @@ ghost use Rattle.json_points.specs.inner.Slots.{slot_data};
 
 use crate::attributes::attributes_in;
 use crate::fields::{field, is_delta, text_in, truth_in};
+use crate::follow::follow;
 use crate::identity_cache::IdentityCache;
 use crate::identity_hash::IdentityHash;
 use crate::lookup::look_up;
 use crate::node::Node;
+use crate::times::Times;
 use metric_events::point::Point;
 use series_id::{AttrSet, Kind, SeriesId, SharedId, Text};
 use std::alloc::{AllocError, Global};
@@ -59,12 +61,13 @@ pub trait PointStream: Copy {
     /// What a value is read as, if it is such a point.
     ghost reads: { Self → Data → Option DataPoint };
 
-    /// Reads a point; `None` if it is foreign.
-    fn read(
+    /// Reads a point, and keeps its times; `None` if it is foreign.
+    fn read<'a>(
         self,
         alloc: Global,
         cache: &mut IdentityCache,
-        node: &Node<'_, '_>,
+        times: &mut Times<'a>,
+        node: &Node<'_, 'a>,
     ) -> Result<Option<Point>, AllocError>
         ensures { IfOk result (λ o. o ≡ reads self (data_at node.now)) };
 }
@@ -174,6 +177,9 @@ pub fn series_of(
     ensures { IfOk result (λ o. o ≡ series_of (stream_data stream.entry) kind
         (slot_data found.now)) }
 {
+    if let Some(series) = follow(cache, stream, &kind, found) {
+        return Ok(Some(series));
+    }
     if let Some(series) = look_up(cache, stream, &kind, found) {
         return Ok(Some(series));
     }

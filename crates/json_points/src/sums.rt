@@ -11,11 +11,12 @@ ghost use Rattle.json_points.specs.inner.RefViews.{sum_fields_data};
 ghost use Rattle.json_points.specs.inner.SumParts.{HasParts, is_whole, said_by};
 ghost use Rattle.json_points.specs.inner.StreamViews.{sum_stream_data};
 
-use crate::fields::{flags_fit, nanos_in};
+use crate::fields::flags_fit;
 use crate::identity_cache::IdentityCache;
 use crate::integers::signed_64;
 use crate::node::Node;
 use crate::streams::{PointStream, SumStream, series_of};
+use crate::times::Times;
 use metric_events::point::Point;
 use series_id::Kind;
 use std::alloc::{AllocError, Global};
@@ -108,11 +109,11 @@ fn is_whole_value(parts: &SumParts<'_, '_>) -> bool
 
 /// What a point says; `None` if it is foreign for one of its fields.
 #[tactic(auto, unfolding(crate::specs::inner::SumParts::said_by))]
-fn sum_fields(parts: &SumParts<'_, '_>) -> Option<SumFields>
+fn sum_fields<'a>(times: &mut Times<'a>, parts: &SumParts<'_, 'a>) -> Option<SumFields>
     ensures { option_map sum_fields_data result ≡ said_by parts.now }
 {
-    let start = nanos_in(&parts.start)?;
-    let end = nanos_in(&parts.end)?;
+    let start = times.start.read(&parts.start)?;
+    let end = times.end.read(&parts.end)?;
     let value = number_in(&parts.value)?;
     if is_whole_value(parts) {
         Some(SumFields { start, end, value })
@@ -125,31 +126,33 @@ fn sum_fields(parts: &SumParts<'_, '_>) -> Option<SumFields>
 impl PointStream for Option<SumStream<'_>> {
     ghost reads = { λ sum. sum_point_in (option_map sum_stream_data sum) };
 
-    fn read(
+    fn read<'a>(
         self,
         alloc: Global,
         cache: &mut IdentityCache,
-        node: &Node<'_, '_>,
+        times: &mut Times<'a>,
+        node: &Node<'_, 'a>,
     ) -> Result<Option<Point>, AllocError> {
         match self {
             None => Ok(None),
-            Some(sum) => sum_point(alloc, cache, sum, node),
+            Some(sum) => sum_point(alloc, cache, times, sum, node),
         }
     }
 }
 
 /// Reads a point of a sum in a stream; `None` if it is foreign.
 #[tactic(auto, unfolding(otlp_read::specs::Sums::sum_point))]
-fn sum_point(
+fn sum_point<'a>(
     alloc: Global,
     cache: &mut IdentityCache,
+    times: &mut Times<'a>,
     sum: SumStream<'_>,
-    node: &Node<'_, '_>,
+    node: &Node<'_, 'a>,
 ) -> Result<Option<Point>, AllocError>
     ensures { IfOk result (λ o. o ≡ sum_point (sum_stream_data sum.entry) (data_at node.now)) }
 {
     let parts = parts_of(node);
-    let Some(fields) = sum_fields(&parts) else {
+    let Some(fields) = sum_fields(times, &parts) else {
         return Ok(None);
     };
     let kind = Kind::Sum {

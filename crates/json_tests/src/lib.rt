@@ -2,4 +2,6 @@
 #![tactic(auto)]
 
 #[cfg(test)]
+mod followed;
+#[cfg(test)]
 mod usual;

@@ -42,12 +42,13 @@ const OTHERS: &[&str] = &[
 
 /// Numbers in a fixed order that looks like chance.
 #[derive(Drop)]
-struct Chance {
-    state: u64,
+pub struct Chance {
+    pub state: u64,
 }
 
 impl Chance {
-    fn below(&mut self, limit: usize) -> usize
+    /// A number below the limit.
+    pub fn below(&mut self, limit: usize) -> usize
         requires { 0 < limit }
         ensures { result < limit }
     {
@@ -90,7 +91,8 @@ fn are_same(one: Result<Reading, ReadFault>, other: Result<Reading, ReadFault>) 
     }
 }
 
-fn is_read_alike(alloc: Global, bytes: &[u8], kept: &mut Kept) -> bool {
+/// Whether both readers give the same for a body.
+pub fn is_read_alike(alloc: Global, bytes: &[u8], kept: &mut Kept) -> bool {
     let tree = otlp_read::read_request(alloc, bytes);
     are_same(tree, json_points::read_request_with(alloc, bytes, kept))
 }
