@@ -108,10 +108,10 @@ class Router:
     def lose(self, way: Way, more: int) -> None:
         """There is one rule of a way: the kernel refuses a second one."""
         with self.lock:
-            was = self.lost[way]
-            self.lost[way] += more
-            if bool(was) != bool(self.lost[way]):
-                ip("rule", "add" if more > 0 else "del", "pref", CUT, "from", way[0], "to", way[1], *["blackhole"] * (more > 0))
+            before, after = self.lost[way], self.lost[way] + more
+            if bool(before) != bool(after):
+                ip("rule", "add" if after else "del", "pref", CUT, "from", way[0], "to", way[1], *["blackhole"] * bool(after))
+            self.lost[way] = after
 
 
 def both_ways(one: Machine, *others: Machine) -> list[Way]:
