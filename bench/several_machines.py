@@ -2,13 +2,16 @@
 """Measures instances over a store in PostgreSQL with a synchronous standby, beside one over a folder, in one run.
 
     bench/several_machines.py [--totxegun FILE] [--parts NAME,..] [--rows NAME,..] [--senders N,..] [--parties NAME,..] [--runs N]
-                              [--seconds N] [--series N] [--times N] [--after N] [--size N] [--data DIR]
+                              [--seconds N] [--series N] [--slots N] [--times N] [--after N] [--size N] [--data DIR]
 
 The program is bin/totxegun, as `make build` makes it, where none is named; in about ten minutes it does these parts:
 
   - posts: posts a second, the median and the 99th percentile of a post, and the WAL that the primary writes for one, with 64 and 512
-    senders, by rows json-1, json-20 and protobuf-103. Parties: disk, a folder with --durable disk; store, an instance over a store;
-    store-2, over one of two databases, each with its standby. A ratio is to disk's run beside it.
+    senders, by rows json-1, json-20 and protobuf-103. Parties: disk, a folder with --durable disk; store, an instance over a store
+    of SLOTS slots (32); store-2 and store-4, over one of two or of four databases, each with its standby. A ratio is to disk's run
+    beside it.
+  - wal: of a post of 1 point (or of the first of ROWS), with each number of senders, the records of that WAL by kind, and posts and
+    rows a commit: the same whatever else the machine does, but for how many posts come to a commit.
   - takeover: two instances that have 10,000 series, while 32 senders post to one of them. The other is killed: seconds from the kill
     until the first and the last sender of a slot that it had is answered. It comes back and is ended by SIGTERM: the longest time
     that a sender of a slot which is handed over waits.
@@ -20,6 +23,7 @@ The sink is one of OTLP, in this process. What is printed says what was measured
 import argparse
 import contextlib
 import os
+import re
 import signal
 import statistics
 import subprocess
@@ -39,12 +43,16 @@ from testing.servers import Pair
 from testing.service import JSON, OtlpSink, Point, Post, Sender, Service, by_resource, wait_until
 
 ROWS = {"json-1": ("json", 1), "json-20": ("json", 20), "protobuf-103": ("protobuf", 103)}
-PARTIES = {"disk": 0, "store": 1, "store-2": 2}
-PARTS = ("posts", "takeover", "size")
-SLOTS = "32"
+PARTIES = {"disk": 0, "store": 1, "store-2": 2, "store-4": 4}
+PARTS = ("posts", "wal", "takeover", "size")
 # As one would set a server of this load; the standby has them from it.
 SETTINGS = ("shared_buffers = 256MB", "max_wal_size = 4GB", "max_connections = 200")
 WAL = "select pg_current_wal_lsn() - '0/0'"
+PLACE = "select pg_current_wal_lsn()"
+# A line of pg_waldump --stats=record: a kind, how many, and their bytes with the pages that they have.
+RECORDS = re.compile(r"^(\S+)\s+(\d+) \(.*\)\s+(\d+) \([^)]*\)$", re.MULTILINE)
+# Fewer bytes a post are not worth a word.
+LEAST_BYTES = 0.5
 TABLE = "select pg_total_relation_size('totxegun_store.piece')"
 # Of each sender, so that what a run begins with does not count.
 LEAST_POSTS = 20
@@ -59,8 +67,8 @@ BETWEEN = 5
 class Stores:
     """Databases with a standby each, made when they are needed: a store over the first of them, new each time."""
 
-    def __init__(self, stack: contextlib.ExitStack, program: str) -> None:
-        self.stack, self.program = stack, program
+    def __init__(self, stack: contextlib.ExitStack, program: str, slots: int) -> None:
+        self.stack, self.program, self.slots = stack, program, slots
         self.pairs: list[Pair] = []
 
     def new(self, count: int) -> list[Pair]:
@@ -71,7 +79,7 @@ class Stores:
         these = self.pairs[:count]
         for pair in these:
             pair.ask("drop schema if exists totxegun_store cascade")
-        subprocess.run([self.program, "store", "init", *(pair.address for pair in these), "--slots", SLOTS], check=True,
+        subprocess.run([self.program, "store", "init", *(pair.address for pair in these), "--slots", str(self.slots)], check=True,
                        stdout=subprocess.DEVNULL)
         return these
 
@@ -147,6 +155,40 @@ def print_party(party: str, runs: list[tuple[Loaded, float]], beside: list[tuple
 
 
 # --------------------------------------------------------------------------------------------------------------------
+# What the WAL of a post has
+
+
+def records(pair: Pair, begin: str, end: str) -> dict[str, tuple[int, int]]:
+    """Of each kind how many there are between two places, and their bytes."""
+    said = pair.primary.run("pg_waldump", "-p", f"{pair.primary.folder}/data/pg_wal", "-s", begin, "-e", end, "--stats=record")
+    return {kind: (int(count), int(size)) for kind, count, size in RECORDS.findall(said)}
+
+
+def measure_wal(arguments: argparse.Namespace, stores: Stores, sink: OtlpSink) -> None:
+    encoding, points = ROWS[arguments.rows[0]]
+    for clients in arguments.senders:
+        (pair,) = stores.new(1)
+        with instances(arguments, sink, "a", [pair]) as (one,):
+            senders = Senders(one.listen, clients, Posts("sum", points, max(arguments.series, clients), encoding, "kept"))
+            senders.make_series()
+            senders.load(LEAST_POSTS * clients)
+            begin = pair.ask(PLACE)
+            posts = senders.load(10 * LEAST_POSTS * clients).requests
+            found = records(pair, begin, pair.ask(PLACE))
+        print_wal(f"{arguments.rows[0]}, {clients} senders, {arguments.slots} slots", posts, found)
+
+
+def print_wal(what: str, posts: int, found: dict[str, tuple[int, int]]) -> None:
+    commits, rows = (sum(count for kind, (count, _) in found.items() if kind.startswith(begin))
+                     for begin in ("Transaction/COMMIT", "Heap/INSERT"))
+    print(f"\nWAL of {what}: {sum(size for _, size in found.values()) / posts:.0f} bytes a post, {posts / max(commits, 1):.1f} posts and"
+          f" {rows / max(commits, 1):.1f} rows a commit", flush=True)
+    for kind, (count, size) in sorted(found.items(), key=lambda one: -one[1][1]):
+        if size / posts >= LEAST_BYTES:
+            print(f"  {kind}: {count / posts:.2f} a post, {size / posts:.1f} bytes a post, {size / count:.0f} each", flush=True)
+
+
+# --------------------------------------------------------------------------------------------------------------------
 # Takeover and hand-over
 
 
@@ -185,10 +227,10 @@ def probing(service: Service) -> Iterator[list[Probe]]:
             thread.join()
 
 
-def settled(pair: Pair) -> None:
+def settled(pair: Pair, slots: int) -> None:
     """Once each of two instances has half of the slots, or nearly."""
     owners = "select count(*) from totxegun_store.slot where owner = '{}'"
-    if not wait_until(lambda: all(int(pair.ask(owners.format(name))) >= int(SLOTS) // 4 for name in "ab"), SETTLED_WITHIN):
+    if not wait_until(lambda: all(int(pair.ask(owners.format(name))) >= slots // 4 for name in "ab"), SETTLED_WITHIN):
         raise SystemExit("two instances have not shared the slots out")
 
 
@@ -201,14 +243,14 @@ def measure_takeover(arguments: argparse.Namespace, stores: Stores, sink: OtlpSi
         Senders(stays.listen, PROBES, Posts("sum", 100, SERIES, "protobuf", "kept")).make_series()
         with probing(stays) as probes:
             for _ in range(arguments.times):
-                settled(pair)
+                settled(pair, stores.slots)
                 begun = time.monotonic()
                 lost.kill()
                 time.sleep(arguments.after)
                 ends = [end for gap, end in (probe.gap(begun) for probe in probes) if gap > LONG]
                 firsts, lasts = firsts + [min(ends, default=0)], lasts + [max(ends, default=0)]
                 start(lost)
-                settled(pair)
+                settled(pair, stores.slots)
                 begun = time.monotonic()
                 lost.end()
                 time.sleep(1)
@@ -252,6 +294,7 @@ def main() -> None:
     parser.add_argument("--runs", type=int, default=1)
     parser.add_argument("--seconds", type=float, default=4)
     parser.add_argument("--series", type=int, default=800)
+    parser.add_argument("--slots", type=int, default=32)
     parser.add_argument("--times", type=int, default=3)
     parser.add_argument("--after", type=float, default=12)
     parser.add_argument("--size", type=float, default=120)
@@ -259,14 +302,14 @@ def main() -> None:
     loading.build()
     os.makedirs(arguments.data, exist_ok=True)
     tempfile.tempdir = arguments.data
-    print(f"{arguments.totxegun}, {len(os.sched_getaffinity(0))} processors, {arguments.runs} runs in turn, {SLOTS} slots, all on"
+    print(f"{arguments.totxegun}, {len(os.sched_getaffinity(0))} processors, {arguments.runs} runs in turn, {arguments.slots} slots, all on"
           f" {file_system(arguments.data)}", flush=True)
     signal.signal(signal.SIGTERM, lambda *_: sys.exit(1))
-    measures = {"posts": measure_posts, "takeover": measure_takeover, "size": measure_size}
+    measures = {"posts": measure_posts, "wal": measure_wal, "takeover": measure_takeover, "size": measure_size}
     with contextlib.ExitStack() as stack:
         sink = OtlpSink()
         stack.callback(sink.close)
-        stores = Stores(stack, arguments.totxegun)
+        stores = Stores(stack, arguments.totxegun, arguments.slots)
         for part in arguments.parts:
             measures[part](arguments, stores, sink)
 

@@ -1,7 +1,7 @@
 #!/usr/bin/env python3
 """Three instances over a store, each on a machine of its own, while machines and what is between them fail.
 
-    tests/several_machines.py TOTXEGUN [SECONDS [SEED,..]] [--sink otlp|postgres] [--long] [--other TOTXEGUN]
+    tests/several_machines.py TOTXEGUN [SECONDS [SEED,..]] [--sink otlp|postgres] [--long] [--other TOTXEGUN] [--keep FOLDER]
 
 Machines are network namespaces: three instances, a primary and its synchronous standby, and haproxy, which shares posts out in
 turn. Senders post requests of two resources, and so for two slots, by way of haproxy or each to one instance for a while, and
@@ -21,12 +21,14 @@ in, on other machines. With --long what goes wrong lasts up to a minute, and the
 what the sink has.
 
 At the end the sink has, series by series and bucket by bucket, what senders were told; no spans overlap, and each key brought the
-same bytes. It needs root, for the machines, PostgreSQL, haproxy, ip and gcc; where one is missing a line says so, and the status is
-77. Each other line is one check; the last one counts those that passed and failed, and the status is 1 where one failed.
+same bytes. With --keep what all have written, and what befell them when, stays in FOLDER. It needs root, for the machines,
+PostgreSQL, haproxy, ip and gcc; where one is missing a line says so, and the status is 77. Each other line is one check; the last one
+counts those that passed and failed, and the status is 1 where one failed.
 """
 import argparse
 import collections
 import contextlib
+import datetime
 import itertools
 import json
 import os
@@ -102,14 +104,14 @@ class Balancer:
 class Instance(Service):
     """On a machine of its own; what starts it anew where it has ended stands for its unit."""
 
-    def __init__(self, machine, folder, store, sink, clock, programs):
+    def __init__(self, machine, folder, store, sink, clock, programs, note):
         options = ["--store", store.address, "--instance", machine.name, "--peer", f"{machine.address}:{PEER}", "--peer-plain"]
         options += ["--flush-every", "1s"]
         super().__init__(programs[0], f"{folder}/{machine.name}", sink.address, *options, host=machine.address, ports=(LISTEN, OPERATE),
                          before=machine.on())
         self.machine, self.clock, self.programs = machine, clock, programs
         self.place = self.words.index(programs[0])
-        self.is_wanted, self.starts = False, 0
+        self.is_wanted, self.starts, self.note = False, 0, note
         # One thread starts it for what befell it, and another where it has ended.
         self.starting = threading.Lock()
 
@@ -122,11 +124,18 @@ class Instance(Service):
     def go_on(self):
         with self.starting:
             if self.is_wanted and not self.is_running():
+                ended = self.process and self.process.returncode
                 self.starts += 1
                 self.start(self.clock.environment())
+                self.note(f"{self.machine.name} is started, process {self.process.pid}; the one before had status {ended}")
+
+    def leave(self):
+        """From here on nobody starts it until it begins."""
+        with self.starting:
+            self.is_wanted = False
 
     def vanish(self, with_folder):
-        self.is_wanted = False
+        self.leave()
         self.kill()
         if with_folder:
             shutil.rmtree(self.data, ignore_errors=True)
@@ -192,12 +201,20 @@ class PostgresSink:
         pass
 
 
+def kept_folder(keep, name):
+    """A new one in the folder that is to be kept, where one is."""
+    if keep:
+        os.makedirs(keep, exist_ok=True)
+        return tempfile.mkdtemp(prefix=f"{name}-", dir=keep)
+    return None
+
+
 class World:
     """All machines, and what runs there."""
 
     def __init__(self, stack, what, arguments, seed, store, machines, sink="otlp"):
         self.what, self.program, self.has_others = what, arguments.totxegun, False
-        self.folder = stack.enter_context(tempfile.TemporaryDirectory(prefix="machines-"))
+        self.folder = kept_folder(arguments.keep, sink) or stack.enter_context(tempfile.TemporaryDirectory(prefix="machines-"))
         self.router = Router(stack)
         self.store = store(*map(self.router.machine, machines))
         stack.callback(self.store.close)
@@ -213,7 +230,17 @@ class World:
         os.mkdir(f"{self.folder}/clock-{name}")
         clock = Clock(f"{self.folder}/clock-{name}")
         clock.set(ahead)
-        return Instance(self.router.machine(name), self.folder, self.store, self.sink, clock, programs)
+        return Instance(self.router.machine(name), self.folder, self.store, self.sink, clock, programs, self.note)
+
+    def note(self, text):
+        """What was done, and when, for who looks for a cause; the clocks of instances are others."""
+        with open(f"{self.folder}/befell.log", "a", encoding="utf-8") as file:
+            file.write(f"{datetime.datetime.now(datetime.timezone.utc):%H:%M:%S.%f} {text}\n")
+
+    def keep_logs(self):
+        """What the servers wrote, beside what instances did."""
+        for server in self.store.all:
+            shutil.copyfile(f"{server.folder}/log", f"{self.folder}/server-{server.machine.name}.log")
 
     def ask(self, query):
         return self.store.ask(query)
@@ -289,15 +316,34 @@ def serving(checks, world, seed):
     print(f"note: {sum(one.posts for one in world.senders)} posts, {sum(one.repeats for one in world.senders)} repeats, {terms} terms,"
           f" {sum(one.starts for one in world.instances)} starts, versions {versions}", flush=True)
     for one in world.instances:
-        one.is_wanted = False
+        one.leave()
         status, seconds = one.end(IN_THE_END)
         checks.true(f"{world.what}: {one.machine.name} ends", status == 0, f"status {status} after {seconds:.0f} s: {one.last_lines()}")
     owners = world.ask("select string_agg(distinct owner, ',') from totxegun_store.slot")
     checks.same(f"{world.what}: all slots are handed over", "", owners)
 
 
+def cut_twice(world):
+    """How many rules of a way there are while it is cut twice, once, and no more, as where two things befall at a time."""
+    way, counts = (world.instances[0].machine.address, OWN), []
+
+    def count():
+        rules = subprocess.run(["ip", "rule"], capture_output=True, text=True, check=True, timeout=LIMIT).stdout
+        counts.append(rules.count("blackhole"))
+
+    with world.router.cut(way):
+        with world.router.cut(way):
+            count()
+        count()
+    count()
+    return counts
+
+
 def run_over(checks, arguments, stack, sink, seed, seconds):
     world = World(stack, f"several machines, {sink}", arguments, seed, Pair, "ps", sink)
+    if arguments.keep:
+        stack.callback(world.keep_logs)
+    checks.same(f"{world.what}: a way that is cut twice at a time", [1, 1, 0], cut_twice(world))
     troubles = [of(world, seed, arguments.long) for of in (OfMachines, OfServers)]
     with serving(checks, world, seed) as serves:
         until = time.monotonic() + seconds
@@ -329,6 +375,7 @@ def options(about, seconds=90):
     parser.add_argument("--sink", choices=SINKS, action="append")
     parser.add_argument("--long", action="store_true")
     parser.add_argument("--other", type=os.path.abspath)
+    parser.add_argument("--keep", type=os.path.abspath)
     arguments = parser.parse_args()
     arguments.sink = arguments.sink or SINKS
     return arguments

@@ -34,7 +34,9 @@ class Trouble:
                 self.chance.shuffle(self.left)
             kind = self.left.pop()
             self.done.append(kind.__name__)
+            self.world.note(f"{kind.__name__} begins")
             kind()
+            self.world.note(f"{kind.__name__} has ended")
             self.let_post(self.chance.choice(POSTS))
 
     def let_post(self, count, seconds=POST_WITHIN):
@@ -49,11 +51,13 @@ class Trouble:
             self.go_on(until)
         except Exception as error:  # noqa: BLE001 A thread's: who waits for it says so.
             self.fault = f"{self.done[-1:]}: {type(error).__name__} {error}"
+            self.world.note(self.fault)
 
     def wait(self):
         time.sleep(self.chance.choice(LONG if self.is_long else SHORT))
 
     def cut(self, *ways):
+        self.world.note(f"cut {ways}")
         with self.world.router.cut(*ways):
             self.wait()
 
@@ -66,7 +70,9 @@ class OfMachines(Trouble):
                 self.without_balancer, self.without_sink, self.one_way]
 
     def one(self):
-        return self.chance.choice(self.world.instances)
+        one = self.chance.choice(self.world.instances)
+        self.world.note(f"{self.done[-1]}: {one.machine.name}")
+        return one
 
     def servers(self):
         return [server.machine for server in self.world.store.all]
@@ -93,8 +99,9 @@ class OfMachines(Trouble):
     def ended(self):
         """It hands its slots over, and is started in either version."""
         one = self.one()
-        one.is_wanted = False
-        one.end(2 * TAKEN_WITHIN)
+        one.leave()
+        status, seconds = one.end(2 * TAKEN_WITHIN)
+        self.world.note(f"{one.machine.name} has ended with status {status} after {seconds:.1f} s")
         one.begin(self.chance)
 
     def zombie(self):

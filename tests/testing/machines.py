@@ -5,6 +5,8 @@ import os
 import shutil
 import signal
 import subprocess
+import threading
+from collections import Counter
 from collections.abc import Iterator
 
 import own_network
@@ -21,7 +23,9 @@ Way = tuple[str, str]
 
 
 def ip(*words: object) -> None:
-    subprocess.run(["ip", *map(str, words)], check=True, capture_output=True, timeout=20)
+    done = subprocess.run(["ip", *map(str, words)], check=False, capture_output=True, text=True, timeout=20)
+    if done.returncode:
+        raise OSError(f"ip {' '.join(map(str, words))}: {done.stderr.strip()}")
 
 
 def on(name: str, *words: str) -> list[str]:
@@ -79,6 +83,8 @@ class Router:
         own_network.enter()
         self.stack = stack
         self.machines: list[Machine] = []
+        self.lock = threading.Lock()
+        self.lost: Counter[Way] = Counter()
         ip("addr", "add", f"{OWN}/32", "dev", "lo")
         with open("/proc/sys/net/ipv4/ip_forward", "w", encoding="ascii") as file:
             file.write("1")
@@ -91,15 +97,21 @@ class Router:
 
     @contextlib.contextmanager
     def cut(self, *ways: Way) -> Iterator[None]:
-        """What goes one of these ways, from an address to another, is lost without a word."""
-        rules = [("pref", CUT, "from", source, "to", target) for source, target in ways]
-        for rule in rules:
-            ip("rule", "add", *rule, "blackhole")
-        try:
+        """What goes one of these ways, from an address to another, is lost without a word. A way that is cut twice at a time is cut
+        until both have ended."""
+        with contextlib.ExitStack() as ends:
+            for way in ways:
+                self.lose(way, 1)
+                ends.callback(self.lose, way, -1)
             yield
-        finally:
-            for rule in rules:
-                ip("rule", "del", *rule)
+
+    def lose(self, way: Way, more: int) -> None:
+        """There is one rule of a way: the kernel refuses a second one."""
+        with self.lock:
+            before, after = self.lost[way], self.lost[way] + more
+            if bool(before) != bool(after):
+                ip("rule", "add" if after else "del", "pref", CUT, "from", way[0], "to", way[1], *["blackhole"] * bool(after))
+            self.lost[way] = after
 
 
 def both_ways(one: Machine, *others: Machine) -> list[Way]:

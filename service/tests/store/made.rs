@@ -3,6 +3,8 @@
 use super::server::Server;
 use super::work::{take, wait, Work};
 use super::{make, open, SLOTS};
+use std::thread;
+use std::time::Duration;
 use totxegun::cluster::terms::Refused;
 use totxegun::store::postgres::{address, Copies, PostgresStore, StoreFault};
 
@@ -118,6 +120,29 @@ fn the_first_says_where_all_deliver_to_and_beats_say_what_is_refused() {
     wait(store.beat(0, "a", "h:1", Refused::new())).unwrap();
     assert_eq!(wait(store.instances(0)).unwrap()[0].refused, Refused::new());
     assert_eq!(store.beats().unwrap(), [("a".to_string(), 2)].into());
+}
+
+/// It was there when the start began, which would end else.
+#[test]
+fn what_a_start_asks_is_asked_again_where_the_server_has_gone_away() {
+    let Some(mut server) = Server::start("") else {
+        return;
+    };
+    make(&[&server.address()]);
+    let store = open(&[&server.address()], Copies::One);
+    server.kill();
+    thread::scope(|scope| {
+        let asking = scope.spawn(|| {
+            assert_eq!(store.sink().unwrap(), "");
+            assert_eq!(store.set_sink("", "one").unwrap(), "one");
+            store.agree("whole=auto").unwrap();
+        });
+        thread::sleep(Duration::from_secs(2));
+        assert!(!asking.is_finished());
+        server.run();
+    });
+    let other = store.agree("whole=never").unwrap_err();
+    assert!(matches!(other, StoreFault::Reading { .. }), "{other}");
 }
 
 #[test]

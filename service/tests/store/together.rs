@@ -87,6 +87,41 @@ fn who_comes_aboard_and_who_syncs_meanwhile_both_go_on() {
     owners[1].write("y").unwrap();
 }
 
+/// It is aboard and can't write: its connection is used by a read, which waits for the slot's row.
+#[test]
+fn who_is_read_meanwhile_keeps_no_other_slot_waiting() {
+    let Some(server) = Server::start("") else { return };
+    make(&[&server.address()]);
+    let store = open(&[&server.address()], Copies::One);
+    let [read, other] = [SLOTS[0], SLOTS[1]].map(|slot| Owner::of(&store, slot));
+    // The first piece is not in memory any more, nor there: the server that writes is asked for it.
+    read.drive.write_at(read.file, &[&vec![7; 6 << 20]], 1).unwrap();
+    read.drive.sync().unwrap();
+    server.ask("delete from totxegun_store.piece where slot = 0 and place = 0");
+    thread::scope(|scope| {
+        let lock = "select 1 from totxegun_store.slot where slot = 0 for update; select pg_sleep(5)";
+        scope.spawn(|| server.ask(lock));
+        wait_until("the row is locked", || server.ask(&waiting("PgSleep")) == "1");
+        scope.spawn(|| read.drive.read_at(read.file, &mut [0], 0).unwrap_err());
+        wait_until("the read waits", || server.ask(&waiting("transactionid")) == "1");
+        let writing = read.writes("b");
+        thread::sleep(LONG);
+        let begun = Instant::now();
+        other.write("c").unwrap();
+        assert!(begun.elapsed() < 4 * LONG, "it took {:?}", begun.elapsed());
+        assert_eq!(
+            server.ask(&waiting("PgSleep")),
+            "1",
+            "the row was locked all the time"
+        );
+        let _ = writing.join().unwrap(); // the slot may be lost before, for what it has lost
+    });
+}
+
+fn waiting(event: &str) -> String {
+    format!("select count(*) from pg_stat_activity where wait_event = '{event}'")
+}
+
 #[test]
 fn writes_of_several_slots_are_one_transaction_and_each_is_fenced_by_itself() {
     let Some(server) = Server::start("") else { return };

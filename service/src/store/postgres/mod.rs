@@ -36,12 +36,17 @@ use shared::Shared;
 use std::collections::BTreeMap;
 use std::future::Future;
 use std::sync::{mpsc, Arc};
+use std::thread;
+use std::time::{Duration, Instant};
 use tokio::runtime::{Builder, Runtime};
 
 /// Connections live on these, so that a thread of the service that waits for the store never keeps the store waiting.
 const THREADS: usize = 2;
 /// Short writes of slots go on so many connections to a database, each slot's always on the same one.
 const TOGETHER: usize = 2;
+/// Who starts waits for so long in all where the server goes away meanwhile, and so long between two tries.
+const PATIENCE: Duration = Duration::from_secs(20);
+const PAUSE: Duration = Duration::from_millis(500);
 
 pub struct PostgresStore {
     pub cluster: Cluster,
@@ -148,9 +153,11 @@ impl PostgresStore {
     }
 
     pub fn agree(&self, reading: &str) -> Result<(), StoreFault> {
-        let (server, reading) = (self.databases[0].taker.server.clone(), reading.to_string());
-        let agreeing = async move { schema::agree(&server, &reading).await };
-        self.runtime.wait(agreeing).unwrap_or_else(|| Err(ended()))
+        let server = &self.databases[0].taker.server;
+        self.waited(|| {
+            let (server, reading) = (server.clone(), reading.to_string());
+            async move { schema::agree(&server, &reading).await }
+        })
     }
 
     /// The same where nothing is served, whether it counts or not.
@@ -186,23 +193,38 @@ impl PostgresStore {
         })
     }
 
-    fn waited<T: Send + 'static>(
-        &self,
-        work: impl Future<Output = Result<T, StoreFault>> + Send + 'static,
-    ) -> Result<T, StoreFault> {
-        self.runtime.wait(work).unwrap_or_else(|| Err(ended()))
+    /// Asks again, for a while, where the server that was there when the store was opened has gone away: it comes back, or
+    /// another takes its place. What it asks for may be done again.
+    fn waited<T, W>(&self, work: impl Fn() -> W) -> Result<T, StoreFault>
+    where
+        T: Send + 'static,
+        W: Future<Output = Result<T, StoreFault>> + Send + 'static,
+    {
+        let begun = Instant::now();
+        loop {
+            match self.runtime.wait(work()).unwrap_or_else(|| Err(ended())) {
+                Err(fault) if fault.may_pass() && begun.elapsed() < PATIENCE => thread::sleep(PAUSE),
+                done => return done,
+            }
+        }
     }
 
     /// Where instances deliver to, as the first that started has said; empty before.
     pub fn sink(&self) -> Result<String, StoreFault> {
-        let server = self.beater(0).server.clone();
-        self.waited(async move { schema::sink(&server).await })
+        let server = &self.beater(0).server;
+        self.waited(|| {
+            let server = server.clone();
+            async move { schema::sink(&server).await }
+        })
     }
 
     /// Writes it where it is as before: what it is then.
     pub fn set_sink(&self, before: &str, now: &str) -> Result<String, StoreFault> {
-        let (server, before, now) = (self.beater(0).server.clone(), before.to_string(), now.to_string());
-        self.waited(async move { schema::set_sink(&server, &before, &now).await })
+        let server = &self.beater(0).server;
+        self.waited(|| {
+            let (server, before, now) = (server.clone(), before.to_string(), now.to_string());
+            async move { schema::set_sink(&server, &before, &now).await }
+        })
     }
 
     /// How often each instance has beaten, in all databases together.
@@ -210,7 +232,10 @@ impl PostgresStore {
         let mut beats: BTreeMap<String, u64> = BTreeMap::new();
         for database in 0..self.databases.len() {
             let beater = self.beater(database);
-            let instances = self.waited(async move { Ok(beater.instances().await?) })?;
+            let instances = self.waited(|| {
+                let beater = beater.clone();
+                async move { Ok(beater.instances().await?) }
+            })?;
             for one in instances {
                 *beats.entry(one.name).or_default() += one.beat;
             }

@@ -8,6 +8,7 @@
 mod cache;
 mod extents;
 mod files;
+mod here;
 mod packed;
 #[cfg(test)]
 mod tests;
@@ -24,6 +25,7 @@ use crate::files::drive::{lost, Drive, Lost};
 use crate::latch::Latch;
 use cache::Cache;
 use files::{Bytes, Read};
+use here::on_this_thread;
 use packed::Packed;
 use std::collections::HashMap;
 use std::ffi::OsString;
@@ -118,33 +120,50 @@ impl PostgresDrive {
         told.recv().unwrap_or(Err(Lost)) // the store has ended
     }
 
+    /// The same for what others do, who tell this thread themselves: nobody else is woken for it.
+    fn wait_here<T>(&self, work: impl Future<Output = T>) -> Result<T, Lost> {
+        let mut is_lost = self.lost.subscribe();
+        on_this_thread(async {
+            tokio::select! {
+                done = work => Ok(done),
+                () = is_lost.wait_true() => Err(Lost),
+            }
+        })
+    }
+
     /// Waits until what there is may be written: with others, or where it is long or nobody takes it so, alone.
     fn come_aboard(&self) -> Result<Option<Seat>, Lost> {
         if lock(&self.files).is_long() {
             return Ok(None);
         }
-        let together = self.together.clone();
-        self.wait(async move { Ok(together.board().await) })
+        self.wait_here(self.together.board())
     }
 
     fn commit(&self, seat: Option<Seat>) -> Result<(), Lost> {
         let batch = lock(&self.files).batch();
         let packed = Arc::new(Packed::of(&batch));
-        let writer = self.writer.clone();
-        self.wait(async move {
-            let (mut writer, seat) = match writer.clone().try_lock_owned() {
-                Ok(writer) => (writer, seat),
-                // Others are not kept waiting for who reads by it.
-                Err(_) => (writer.lock_owned().await, None),
-            };
-            writer.commit(&packed, seat).await
-        })?;
+        let is_there = match seat.filter(|_| packed.is_short()) {
+            Some(seat) => self.join(&packed, seat)?,
+            None => false,
+        };
+        if !is_there {
+            let writer = self.writer.clone();
+            self.wait(async move { writer.lock().await.commit(&packed).await })?;
+        }
         lock(&self.files).is_there(&batch);
         let mut cache = lock(&self.cache);
         for piece in batch.pieces {
             cache.put(piece.number, piece.bytes);
         }
         Ok(())
+    }
+
+    /// Whether it was brought there with others, who are not kept waiting for who reads by the writer.
+    fn join(&self, packed: &Arc<Packed>, seat: Seat) -> Result<bool, Lost> {
+        match self.writer.try_lock() {
+            Ok(mut writer) => self.wait_here(writer.join(packed, seat)),
+            Err(_) => Ok(false),
+        }
     }
 
     /// Waits for the server where it is not there: for as long as the slot is this owner's. Those that are not found are

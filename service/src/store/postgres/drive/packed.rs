@@ -2,14 +2,21 @@
 
 use super::files::{Batch, Bytes, Row};
 use flate2::read::DeflateDecoder;
-use flate2::write::DeflateEncoder;
-use flate2::Compression;
-use std::io::{self, Read, Write};
+use flate2::{Compress, Compression, FlushCompress, Status};
+use std::io::{self, Read};
+use std::sync::{Mutex, MutexGuard, PoisonError};
 
 /// What one statement has at most, and a piece.
 const MOST: usize = 16 << 20;
 /// What goes together with writes of other slots has no more.
 const SHORT: usize = 64 << 10;
+/// Of the journal of a few posts less than a tenth would be saved.
+const LEAST: usize = 128;
+/// So many are kept, of 300 KB each.
+const MOST_PACKERS: usize = 8;
+
+/// Those that nobody has just now: to make one takes several times as long as to pack what is short.
+static PACKERS: Mutex<Vec<Compress>> = Mutex::new(Vec::new());
 
 /// It is done by one statement or more, in one transaction.
 pub struct Packed {
@@ -77,11 +84,27 @@ fn signed(numbers: impl Iterator<Item = u64>) -> Vec<i64> {
     numbers.map(|number| number as i64).collect()
 }
 
+fn packers() -> MutexGuard<'static, Vec<Compress>> {
+    PACKERS.lock().unwrap_or_else(PoisonError::into_inner) // each change of it is one step
+}
+
+/// Packed, where that is shorter.
 fn pack(bytes: &Bytes) -> Bytes {
-    let mut encoder = DeflateEncoder::new(Vec::new(), Compression::fast());
-    let packed = encoder.write_all(bytes).and_then(|()| encoder.finish());
-    match packed {
-        Ok(packed) if packed.len() < bytes.len() => packed.into(),
+    if bytes.len() < LEAST {
+        return bytes.clone();
+    }
+    let kept = packers().pop();
+    let mut packer = kept.unwrap_or_else(|| Compress::new(Compression::fast(), false));
+    packer.reset();
+    // There is no room for what is longer.
+    let mut packed = Vec::with_capacity(bytes.len());
+    let done = packer.compress_vec(bytes, &mut packed, FlushCompress::Finish);
+    let mut packers = packers();
+    if packers.len() < MOST_PACKERS {
+        packers.push(packer);
+    }
+    match done {
+        Ok(Status::StreamEnd) if packed.len() < bytes.len() => packed.into(),
         _ => bytes.clone(),
     }
 }
@@ -98,5 +121,53 @@ pub fn unpacked(bytes: &[u8], length: usize) -> io::Result<Vec<u8>> {
     match whole.len() == length {
         true => Ok(whole),
         false => Err(io::ErrorKind::InvalidData.into()),
+    }
+}
+
+#[cfg(test)]
+mod tests {
+    use super::*;
+    use crate::files::test_random::TestRandom;
+    use std::sync::Arc;
+
+    fn of(length: usize, different: u64, chance: &mut TestRandom) -> Bytes {
+        Arc::new((0..length).map(|_| chance.below(different) as u8).collect())
+    }
+
+    #[test]
+    fn what_is_short_or_gets_no_shorter_stays_as_it_is_and_the_rest_comes_back() {
+        let mut chance = TestRandom(1);
+        for length in [0, 1, LEAST - 1, LEAST, 300, 5_000, 200_000] {
+            for different in [1, 4, 256] {
+                let bytes = of(length, different, &mut chance);
+                let packed = pack(&bytes);
+                let is_packed = packed.len() < length;
+                assert_eq!(
+                    is_packed,
+                    length >= LEAST && different < 256,
+                    "{length} {different}"
+                );
+                assert!(is_packed || Arc::ptr_eq(&packed, &bytes));
+                assert_eq!(unpacked(&packed, length).unwrap(), *bytes);
+            }
+        }
+    }
+
+    /// What it has packed before has no say.
+    #[test]
+    fn a_packer_is_kept_and_packs_as_a_new_one_does() {
+        let mut chance = TestRandom(2);
+        for length in (LEAST..3_000).step_by(97) {
+            let bytes = of(length, 8, &mut chance);
+            let mut new = Vec::with_capacity(length);
+            let done = Compress::new(Compression::fast(), false).compress_vec(
+                &bytes,
+                &mut new,
+                FlushCompress::Finish,
+            );
+            assert_eq!(done.unwrap(), Status::StreamEnd);
+            assert_eq!(*pack(&bytes), new);
+        }
+        assert!((1..=MOST_PACKERS).contains(&packers().len()));
     }
 }

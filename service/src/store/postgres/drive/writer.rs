@@ -75,22 +75,16 @@ impl Writer {
         }
     }
 
-    /// Returns once the batch is there without a doubt. It goes with others where it has a seat and is short.
-    pub async fn commit(&mut self, packed: &Arc<Packed>, seat: Option<Seat>) -> Result<(), Lost> {
-        let is_there = match seat.filter(|_| packed.is_short()) {
-            Some(seat) => self.join(packed, seat).await,
-            None => false,
-        };
-        if !is_there {
-            self.commit_alone(packed).await?;
-        }
+    /// Returns once the batch is there without a doubt.
+    pub async fn commit(&mut self, packed: &Packed) -> Result<(), Lost> {
+        self.commit_alone(packed).await?;
         self.note(packed);
         Ok(())
     }
 
     /// Whether it was brought there together with writes of other slots. Where that is not known, the next connection raises
     /// the link, so that it is not done later.
-    async fn join(&mut self, packed: &Arc<Packed>, seat: Seat) -> bool {
+    pub async fn join(&mut self, packed: &Arc<Packed>, seat: Seat) -> bool {
         let write = Write {
             slot: self.slot,
             term: self.term,
@@ -107,6 +101,7 @@ impl Writer {
             Ok(number) => {
                 self.joined = number;
                 Counts::add(&self.counts.commits);
+                self.note(packed);
                 return true;
             }
             Err(Some(doubt)) => self.tell(&doubt),
