@@ -4,6 +4,7 @@
     tools/edits.py [CRATE ..]           tries them
     tools/edits.py --list [CRATE ..]    only prints them: of each crate the file and the function that an edit changes,
                                         and the mistake that it is named after; * before those that the gate tries
+    tools/edits.py --check [CRATE ..]   only sees whether each can be made of the crates as they are
 
 All crates, or those that are named. What stands below them is proved and built first. The edits of a crate
 are tried over a copy of what a check of the crate as it is has kept. Edits that each change the bodies of other
@@ -25,7 +26,7 @@ import sys
 import tempfile
 from collections.abc import Collection, Iterable, Sequence
 
-from tooling.crates import OUT, PARTS, Crate, read_crates
+from tooling.crates import OUT, PARTS, ROOT, Crate, read_crates
 from tooling.files import content, write
 from tooling.functions import Function, functions_of
 from tooling.prover import Prover
@@ -46,6 +47,7 @@ UNREADABLE = re.compile(
 )
 MEMORY = 4 * GIGABYTE
 LIST = "--list"
+CHECK = "--check"
 # The folder of those that the gate tries.
 OF_GATE = "must-fail"
 
@@ -278,9 +280,24 @@ def listed(file: str, folder: str, is_of_gate: bool) -> str:
     return f"{places}: {'* ' if is_of_gate else ''}{edit.name.replace('_', ' ')}"
 
 
+def wrong_edits(crates: Iterable[Crate]) -> int:
+    """Prints which edits can't be made, and how many can: how many not."""
+    every = wrong = 0
+    for crate in crates:
+        for file in crate.edits():
+            every += 1
+            try:
+                Edit(file, crate.folder)
+            except BadEdit as fault:
+                wrong += 1
+                print(f"{os.path.relpath(file, ROOT)}: {fault}")
+    print(f"{every - wrong} edits can be made, {wrong} not")
+    return wrong
+
+
 def main(words: list[str]) -> int:
     known = read_crates()
-    names = [it for it in words if it != LIST]
+    names = [it for it in words if it not in (LIST, CHECK)]
     unknown = [name for name in names if name not in known]
     if unknown:
         sys.exit(f"crates.txt lists no crate {' '.join(unknown)}")
@@ -288,6 +305,8 @@ def main(words: list[str]) -> int:
     if LIST in words:
         show_list(crates)
         return 0
+    if CHECK in words:
+        return 1 if wrong_edits(crates) else 0
     building = Building()
     tried = [Edits(crate, building.prover) for crate in crates if crate.edits()]
     with locked(OUT):

@@ -48,13 +48,14 @@ STEPS = (
     ("gateway_load.py", GATEWAY, 5, True),
 )
 # Of the sources alone: what `make fmt` would change, the definitions that docs/PROOFS.md counts and lists, the pictures, the Python,
-# and whether each wrong copy of the service can still be made.
+# and whether each wrong copy of the service, and each edit of the crates, can still be made.
 TOOL_STEPS = (
     ("crates_are_laid_out", ["tools/format.py", "--check"], 20),
     ("promise_is_counted", ["tools/promise.py", "--check"], 2),
     ("pictures_are_drawn", ["tools/pictures.py", "--check"], 2),
     ("python_is_typed", ["tools/python.py", "--check"], 30),
     ("wrong_copies_can_be_made", ["tools/wrong.py", "--check"], 1),
+    ("edits_can_be_made", ["tools/edits.py", "--check"], 1),
 )
 # The service: cargo's steps, one after another over one folder, and scripts of tests/ with what they run. Nothing is compiled a
 # second time here, so nothing is kept for that.
