@@ -16,6 +16,10 @@ use tokio::time::MissedTickBehavior;
 const LOOK: Duration = Duration::from_millis(50);
 /// A checkpoint comes early after so many posts: a start puts in again what is in no group.
 const MANY_POSTS: u64 = 300_000;
+/// In a store senders wait while that is done for who takes over a slot, so it comes after what takes about a second: so many
+/// posts, or so many bytes of the journal.
+const MANY_POSTS_IN_STORE: u64 = 20_000;
+const MANY_BYTES_IN_STORE: u64 = 64 << 20;
 /// How often it is looked whether there are series to forget where there are too many, and how often some are.
 const BETWEEN_LOOKS_AT_AGES: Duration = Duration::from_secs(1);
 const BETWEEN_FORGETTING: Duration = Duration::from_secs(10);
@@ -129,11 +133,20 @@ impl Keeper {
         let ungrouped = self.slot.ungrouped();
         let due = Instant::now() >= self.next_checkpoint;
         let has_some = ungrouped > 0 || self.released || !self.carried.is_empty();
-        if ungrouped > MANY_POSTS || due && has_some {
+        if self.has_many(ungrouped) || due && has_some {
             let _put_off = self.checkpoint().await?;
         }
         self.rest().await;
         Ok(())
+    }
+
+    /// Whether what is in no group, so many posts, would take a start long.
+    fn has_many(&self, ungrouped: u64) -> bool {
+        let journal = &self.slot.journal;
+        match journal.is_in_store() {
+            true => are_many_in_store(ungrouped, journal.size().0),
+            false => ungrouped > MANY_POSTS,
+        }
     }
 
     /// A fresh book without the series that nobody posts to, where there are some.
@@ -196,5 +209,29 @@ fn tell_ahead(slot: &Slot) {
             "slot {slot}: {series_count} series end over an hour ahead of this clock, such as {series}: until then right points of \
              them are refused; totxegun repair puts their ends back"
         );
+    }
+}
+
+/// Posts in no group, of a journal of so many bytes.
+fn are_many_in_store(posts: u64, bytes: u64) -> bool {
+    posts > MANY_POSTS_IN_STORE || posts > 0 && bytes > MANY_BYTES_IN_STORE
+}
+
+#[cfg(test)]
+mod tests {
+    use super::*;
+
+    #[test]
+    fn a_checkpoint_comes_early_by_posts_and_by_bytes() {
+        let (posts, bytes) = (MANY_POSTS_IN_STORE, MANY_BYTES_IN_STORE);
+        for (posts, bytes, are_many) in [
+            (0, u64::MAX, false), // all is in a group
+            (posts, 0, false),
+            (posts + 1, 0, true),
+            (1, bytes, false),
+            (1, bytes + 1, true),
+        ] {
+            assert_eq!(are_many_in_store(posts, bytes), are_many, "{posts} posts, {bytes} bytes");
+        }
     }
 }
