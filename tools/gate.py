@@ -78,7 +78,6 @@ SERVICE_STEPS = (
     ("close_interrupted.py", ["3"], 60),
     ("same_answers.py", [GATEWAY], 100),
     ("behind_proxies.py", [], 60),
-    ("two_services.py", ["0", "1", "--sink", "one"], 40),
     ("store.py", ["60"], 120),
     # Of several machines, shortly: `make several` tries more, store_peers.py among it, which waits for instances for minutes, and
     # under_patroni.py, for which etcd and Patroni are installed. Without network namespaces several_machines.py is left out.
