@@ -231,7 +231,11 @@ mod tests {
             (1, bytes, false),
             (1, bytes + 1, true),
         ] {
-            assert_eq!(are_many_in_store(posts, bytes), are_many, "{posts} posts, {bytes} bytes");
+            assert_eq!(
+                are_many_in_store(posts, bytes),
+                are_many,
+                "{posts} posts, {bytes} bytes"
+            );
         }
     }
 }
