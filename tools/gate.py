@@ -83,7 +83,7 @@ SERVICE_STEPS = (
     # under_patroni.py, for which etcd and Patroni are installed. Without network namespaces several_machines.py is left out.
     ("store_databases.py", [], 70),
     ("orders_anywhere.py", [], 60),
-    ("several_machines.py", ["40", "59", "--sink", "otlp"], 80),
+    ("several_machines.py", ["60", "59", "--sink", "otlp"], 100),
     ("store_move.py", ["2"], 60),
     ("demo.py", ["25"], 60),
     ("alerts.py", [], 60),
