@@ -1,5 +1,5 @@
 -- The attributes of a list, beside those of a set.
-use Rattle.std.proofs.Common.{◌≡◌, ℕ, ◌+◌, ◌<◌, ◌≤◌, List, [], ◌∷◌, ◌++◌, map, take, length, Option, Some, ap, sym, subst, ◌∙◌, arith}
+use Rattle.std.proofs.Common.{◌≡◌, ℕ, ◌+◌, ◌<◌, ◌≤◌, List, [], ◌∷◌, ◌++◌, map, take, length, Option, Some, refl, ap, sym, subst, ◌∙◌, arith}
 use Rattle.std.proofs.lemmas.Bool.Decides.{nat_tests}
 use Rattle.std.specs.Prelude.{Bool, get_or, option_and_then, IsTrue, nat_eq}
 use Rattle.std.proofs.lemmas.List.{take_more, take_all, map-append, nil_from_length}
@@ -7,6 +7,7 @@ use Rattle.serde_json.specs.Data.{Data}
 use Rattle.series_id.specs.declared.attributes.Attribute.{Attribute}
 use Rattle.series_id.specs.declared.kinds.Kind.{Kind}
 use Rattle.series_id.specs.declared.values.AttrValue.{AttrValue}
+use Rattle.series_id.specs.Attributes.{IsAttrSet}
 use Rattle.series_id.specs.Identity.{Identity}
 use Rattle.series_id.specs.Sorting.{pair_of as pair_in}
 use Rattle.otlp_read.specs.Lists.{all_of, list_in}
@@ -14,6 +15,7 @@ use Rattle.otlp_read.specs.Attributes.{pair_of, set_of, attributes_in}
 use Rattle.otlp_read.specs.Streams.{Stream, series_in, series_of}
 use Rattle.otlp_read.proofs.ListLemmas.{with_front}
 use Rattle.json_points.proofs.ListLemmas.{one_more, all_read}
+use Rattle.json_points.proofs.PairLemmas.{set_is}
 
 -- equal numbers
 pub as_long : (i n : ℕ) → IsTrue (nat_eq i n) → n ≤ i
@@ -47,3 +49,8 @@ pub series_said : (stream : Stream) (kind : Kind) (found : Option Data) (pairs :
 unfolding series_of attributes_in
 series_said stream kind found pairs x list there =
     ap (λ o. option_and_then (series_in stream kind) (option_and_then set_of o)) list ∙ there
+
+-- the set of the pairs is the set of the field
+pub set_said : (found : Option Data) (own : List Attribute) → IsAttrSet own → list_in pair_of found ≡ Some (map pair_in own) → attributes_in found ≡ Some own
+unfolding attributes_in
+set_said found own limits list = ap (option_and_then set_of) list ∙ set_is (map pair_in own) own limits refl

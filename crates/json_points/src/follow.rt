@@ -56,12 +56,7 @@ fn share_said(
 
 /// Whether a series is that of the stream, the kind and the attributes. The clause is of a series
 /// within its limits, as every `SharedId` is.
-fn is_said(
-    series: &SeriesId,
-    stream: Stream<'_>,
-    kind: &Kind,
-    found: &Option<Node<'_, '_>>,
-) -> bool
+fn is_said(series: &SeriesId, stream: Stream<'_>, kind: &Kind, found: &Option<Node<'_, '_>>) -> bool
     ensures only { IsIdentity series.now → IsTrue result →
         series_of (stream_data stream.entry) kind.now (slot_data found.now) ≡ Some series.now }
 {

@@ -15,13 +15,13 @@ ghost use Rattle.json_points.specs.inner.Slots.{slot_data};
 ghost use Rattle.json_points.specs.inner.RefViews.{histogram_fields_data};
 ghost use Rattle.json_points.specs.inner.StreamViews.{stream_data};
 
+use crate::before::Before;
 use crate::fields::{field, flags_fit};
 use crate::identity_cache::IdentityCache;
 use crate::integers::unsigned_64;
 use crate::lists::list_in;
 use crate::node::Node;
 use crate::streams::{PointStream, Stream, series_of};
-use crate::times::Times;
 use metric_events::point::{Point, PointFault};
 use series_id::Kind;
 use std::alloc::{AllocError, Global};
@@ -73,11 +73,11 @@ fn total_at(node: &Node<'_, '_>, name: &str) -> Option<Option<u64>>
 
 /// The fields of a point; `None` if the point is foreign for one of them.
 #[tactic(auto, unfolding(otlp_read::specs::Histograms::histogram_fields))]
-fn histogram_fields<'a>(times: &mut Times<'a>, node: &Node<'_, 'a>) -> Option<HistogramFields>
+fn histogram_fields<'a>(before: &mut Before<'a>, node: &Node<'_, 'a>) -> Option<HistogramFields>
     ensures { option_map histogram_fields_data result ≡ histogram_fields (data_at node.now) }
 {
-    let start = times.start.read_at(node, "startTimeUnixNano")?;
-    let end = times.end.read_at(node, "timeUnixNano")?;
+    let start = before.start.read_at(node, "startTimeUnixNano")?;
+    let end = before.end.read_at(node, "timeUnixNano")?;
     let count = count_at(node, "count")?;
     let total = total_at(node, "sum")?;
     if flags_fit(&field(node, "flags")) {
@@ -111,12 +111,12 @@ impl PointStream for Option<Stream<'_>> {
         self,
         alloc: Global,
         cache: &mut IdentityCache,
-        times: &mut Times<'a>,
+        before: &mut Before<'a>,
         node: &Node<'_, 'a>,
     ) -> Result<Option<Point>, AllocError> {
         match self {
             None => Ok(None),
-            Some(stream) => histogram_point(alloc, cache, times, stream, node),
+            Some(stream) => histogram_point(alloc, cache, before, stream, node),
         }
     }
 }
@@ -126,13 +126,13 @@ impl PointStream for Option<Stream<'_>> {
 fn histogram_point<'a>(
     alloc: Global,
     cache: &mut IdentityCache,
-    times: &mut Times<'a>,
+    before: &mut Before<'a>,
     stream: Stream<'_>,
     node: &Node<'_, 'a>,
 ) -> Result<Option<Point>, AllocError>
     ensures { IfOk result (λ o. o ≡ histogram_point (stream_data stream.entry) (data_at node.now)) }
 {
-    let Some(fields) = histogram_fields(times, node) else {
+    let Some(fields) = histogram_fields(before, node) else {
         return Ok(None);
     };
     let Some(kind) = kind_of(alloc, &field(node, "explicitBounds"))? else {
@@ -141,7 +141,15 @@ fn histogram_point<'a>(
     let Some(buckets) = list_in(alloc, &field(node, "bucketCounts"))? else {
         return Ok(None);
     };
-    let Some(series) = series_of(alloc, cache, stream, kind, &field(node, "attributes"))? else {
+    let Some(series) = series_of(
+        alloc,
+        cache,
+        &mut before.hash,
+        stream,
+        kind,
+        &field(node, "attributes"),
+    )?
+    else {
         return Ok(None);
     };
     let HistogramFields {

@@ -10,9 +10,9 @@ use std::alloc::{AllocError, Global};
 use std::marker::Model;
 
 /// The identities of earlier points. A point whose identity is kept shares it, and no second one is
-/// made. It is looked for first where the point was that came after the one before it the last time,
-/// then where its hash says. Contracts see the slots: there are none before the first identity is
-/// kept.
+/// made. It is looked for first where the point was that came after the one before it the last
+/// time, then where its hash says. Contracts see the slots: there are none before the first
+/// identity is kept.
 ///
 /// What a body says does not depend on its reader's cache: an identity in a slot is compared in
 /// full. It is replaced by a later one that needs its slot, so there are never more than `SLOTS` of

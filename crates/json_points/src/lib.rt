@@ -6,6 +6,7 @@
 #![tactic(auto)]
 
 mod attributes;
+mod before;
 mod containers;
 mod fields;
 mod follow;
@@ -27,7 +28,6 @@ mod scalar_ref;
 mod set_cache;
 mod streams;
 mod sums;
-mod times;
 mod unknown;
 mod values;
 mod walk;

@@ -15,6 +15,7 @@ ghost use Rattle.json_points.specs.inner.StreamViews.{scope_data, stream_data};
 
 use crate::attributes::pair_ref;
 use crate::identity_cache::IdentityCache;
+use crate::identity_hash::IdentityHash;
 use crate::node::{Node, Nodes};
 use crate::scalar_ref::{NO_PAIR, PairRef, ScalarRef};
 use crate::streams::{Scope, Stream};
@@ -23,11 +24,12 @@ use series_id::{AttrValue, Attribute, Kind, SeriesId, SharedId};
 /// The most attributes of a point that is looked up.
 pub const MOST_PAIRS: usize = 16;
 
-/// The series of a stream with this kind and these attributes, if the cache has it. Attributes in
-/// any order are found, but only up to `MOST_PAIRS` of them, each with a single value. Takes no
-/// memory.
+/// The series of a stream with this kind and these attributes, if the cache has it; the hash is
+/// that of both. Attributes in any order are found, but only up to `MOST_PAIRS` of them, each with
+/// a single value. Takes no memory.
 pub fn look_up(
     cache: &mut IdentityCache,
+    hash: IdentityHash,
     stream: Stream<'_>,
     kind: &Kind,
     found: &Option<Node<'_, '_>>,
@@ -42,7 +44,7 @@ pub fn look_up(
     let count = pairs_in(&mut room, found)?;
     let pairs = &mut room[..count];
     sort_pairs(pairs);
-    look_up_pairs(cache, stream, kind, pairs)
+    look_up_pairs(cache, hash, stream, kind, pairs)
 }
 
 /// Puts the attributes of a field at the front of `room`: how many they are. `None` if there are
@@ -88,6 +90,7 @@ pub fn sort_pairs(pairs: &mut [PairRef<'_>])
 /// The series of a stream with this kind and these attributes, which are in key order.
 fn look_up_pairs(
     cache: &mut IdentityCache,
+    before: IdentityHash,
     stream: Stream<'_>,
     kind: &Kind,
     pairs: &[PairRef<'_>],
@@ -96,8 +99,7 @@ fn look_up_pairs(
         option_and_then (series_in (stream_data stream.entry) kind.now)
         (set_of (map pair_data pairs.now)) ≡ Some s) }
 {
-    let mut hash = stream.hash;
-    hash.add_kind(kind);
+    let mut hash = before;
     hash.add_pairs(pairs);
     let mut slot = hash.slot();
     let mut found = share_at(cache, slot, stream, kind, pairs);

@@ -17,12 +17,12 @@ ghost use Rattle.json_points.specs.inner.Nodes.{AreItems, data_at};
 ghost use Rattle.json_points.specs.inner.Slots.{IsList};
 ghost use Rattle.json_points.specs.inner.StreamViews.{scope_data};
 
+use crate::before::Before;
 use crate::containers::{object_in, objects};
 use crate::fields::field;
 use crate::node::{Node, Nodes};
 use crate::reader::{Object, Reader};
 use crate::streams::{PointStream, Scope, stream_in, sum_stream_in};
-use crate::times::Times;
 use crate::unknown::Unknown;
 use metric_events::point::Point;
 use otlp_read::Reading;
@@ -247,9 +247,9 @@ fn points_of<S: PointStream>(
         → tally reader.new.out ≡ each_point (S.reads stream) ds (tally reader.old.out)) }
 {
     let mut rest = nodes;
-    let mut times = Times::none();
+    let mut before = Before::none();
     while let Some(node) = rest.next() {
-        let point = stream.read(reader.alloc, reader.cache, &mut times, &node)?;
+        let point = stream.read(reader.alloc, reader.cache, &mut before, &node)?;
         add_point(&mut reader.out, point)?;
     }
     Ok(())

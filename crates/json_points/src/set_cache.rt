@@ -7,6 +7,7 @@ ghost use Rattle.json_points.specs.inner.Slots.{slot_data};
 ghost use Rattle.json_points.specs.inner.RefViews.{pair_data};
 
 use crate::attributes::attributes_in;
+use crate::follow::are_said;
 use crate::identity_hash::IdentityHash;
 use crate::lookup::{MOST_PAIRS, are_pairs, pairs_in, sort_pairs};
 use crate::node::Node;
@@ -17,12 +18,14 @@ use std::alloc::{AllocError, Global};
 /// How many sets are kept.
 const SETS: usize = 64;
 
-/// The sets of earlier bodies, each in the slot that its hash says. One that is kept is shared:
-/// nothing is allocated. No answer depends on what is kept: a set is compared in full. One of more
-/// than 4,096 bytes is not kept.
+/// The sets of earlier bodies, each in the slot that its hash says; the one that came last is
+/// looked at first. One that is kept is shared: nothing is allocated. No answer depends on what is
+/// kept: a set is compared in full. One of more than 4,096 bytes is not kept.
 #[derive(Drop)]
 pub struct SetCache {
     slots: Vec<Option<AttrSet>>,
+    /// The slot of what came last.
+    last: usize,
 }
 
 impl SetCache {
@@ -30,6 +33,7 @@ impl SetCache {
     pub fn new(alloc: Global) -> SetCache {
         SetCache {
             slots: Vec::new(alloc),
+            last: 0,
         }
     }
 
@@ -41,8 +45,13 @@ impl SetCache {
     ) -> Result<Option<AttrSet>, AllocError>
         ensures { IfOk result (λ o. o ≡ attributes_in (slot_data found.now)) }
     {
+        if let Some(set) = self.share_last(alloc, found) {
+            return Ok(Some(set));
+        }
         let mut hash = IdentityHash::new();
-        if let Some(set) = self.look_up(alloc, &mut hash, found) {
+        let known = self.look_up(alloc, &mut hash, found);
+        self.last = hash.slot() % SETS;
+        if let Some(set) = known {
             return Ok(Some(set));
         }
         let set = attributes_in(alloc, found)?;
@@ -50,6 +59,21 @@ impl SetCache {
             self.keep(alloc, hash, set);
         }
         Ok(set)
+    }
+
+    /// A share of the set that came last, if it is that of a field.
+    fn share_last(&self, alloc: Global, found: &Option<Node<'_, '_>>) -> Option<AttrSet>
+        ensures { IfSome result (λ s. attributes_in (slot_data found.now) ≡ Some s) }
+    {
+        if self.last >= self.slots.len() {
+            return None;
+        }
+        let kept = self.slots[self.last].as_ref()?;
+        if is_said(kept, found) {
+            kept.copy(alloc).ok()
+        } else {
+            None
+        }
     }
 
     /// The attribute set of a field, if it is kept. Adds the attributes to the hash.
@@ -117,4 +141,13 @@ fn is_set(set: &AttrSet, pairs: &[PairRef<'_>]) -> bool
         → set_of (map pair_data pairs.now) ≡ Some set.now }
 {
     are_pairs(pairs, set.pairs())
+}
+
+/// Whether a set is that of a field, and in its order. The clause is of a set within its limits, as
+/// every `AttrSet` is.
+fn is_said(set: &AttrSet, found: &Option<Node<'_, '_>>) -> bool
+    ensures only { IsAttrSet set.now → IsTrue result
+        → attributes_in (slot_data found.now) ≡ Some set.now }
+{
+    are_said(found, set.pairs())
 }

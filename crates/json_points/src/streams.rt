@@ -12,41 +12,38 @@ ghost use Rattle.json_points.specs.inner.Nodes.{data_at};
 ghost use Rattle.json_points.specs.inner.Slots.{slot_data};
 
 use crate::attributes::attributes_in;
+use crate::before::Before;
 use crate::fields::{field, is_delta, text_in, truth_in};
 use crate::follow::follow;
 use crate::identity_cache::IdentityCache;
 use crate::identity_hash::IdentityHash;
 use crate::lookup::look_up;
 use crate::node::Node;
-use crate::times::Times;
 use metric_events::point::Point;
 use series_id::{AttrSet, Kind, SeriesId, SharedId, Text};
 use std::alloc::{AllocError, Global};
 
-/// A resource's attributes, and their hash.
+/// A resource's attributes.
 #[derive(Clone, Copy)]
 pub struct Resource<'a> {
     pub attributes: &'a AttrSet,
-    pub hash: IdentityHash,
 }
 
-/// The resource's attributes, the scope, and the hash of both.
+/// The resource's attributes and the scope.
 #[derive(Clone, Copy)]
 pub struct Scope<'a> {
     pub resource: &'a AttrSet,
     pub name: &'a str,
     pub version: &'a str,
     pub attributes: &'a AttrSet,
-    pub hash: IdentityHash,
 }
 
-/// A metric of a scope, its name and unit, and the hash of both.
+/// A metric of a scope, its name and unit.
 #[derive(Clone, Copy)]
 pub struct Stream<'a> {
     pub scope: Scope<'a>,
     pub name: &'a str,
     pub unit: &'a str,
-    pub hash: IdentityHash,
 }
 
 /// A stream of sums, and whether they are monotonic.
@@ -61,12 +58,12 @@ pub trait PointStream: Copy {
     /// What a value is read as, if it is such a point.
     ghost reads: { Self → Data → Option DataPoint };
 
-    /// Reads a point, and keeps its times; `None` if it is foreign.
+    /// Reads a point after others of its stream; `None` if it is foreign.
     fn read<'a>(
         self,
         alloc: Global,
         cache: &mut IdentityCache,
-        times: &mut Times<'a>,
+        before: &mut Before<'a>,
         node: &Node<'_, 'a>,
     ) -> Result<Option<Point>, AllocError>
         ensures { IfOk result (λ o. o ≡ reads self (data_at node.now)) };
@@ -87,10 +84,9 @@ pub fn inner<'t, 'a>(found: &Option<Node<'t, 'a>>, name: &str) -> Option<Node<'t
 pub fn resource_in<'a>(attributes: Option<&'a AttrSet>) -> Option<Resource<'a>>
     ensures { option_map resource_data result ≡ option_map (λ s. s.now) attributes.entry }
 {
-    let attributes = attributes?;
-    let mut hash = IdentityHash::new();
-    hash.add_set(attributes);
-    Some(Resource { attributes, hash })
+    Some(Resource {
+        attributes: attributes?,
+    })
 }
 
 /// The scope of a resource, with its own attributes. `None` if one of its parts may be in no
@@ -108,16 +104,11 @@ pub fn scope_in<'a>(
     let name = text_in(&inner(scope, "name"))?;
     let version = text_in(&inner(scope, "version"))?;
     let attributes = attributes?;
-    let mut hash = resource.hash;
-    hash.add_text(name);
-    hash.add_text(version);
-    hash.add_set(attributes);
     Some(Scope {
         resource: resource.attributes,
         name,
         version,
         attributes,
-        hash,
     })
 }
 
@@ -135,15 +126,7 @@ pub fn stream_in<'a>(
     let name = text_in(&field(metric, "name"))?;
     let unit = text_in(&field(metric, "unit"))?;
     if is_delta(&field(part, "aggregationTemporality")) {
-        let mut hash = scope.hash;
-        hash.add_text(name);
-        hash.add_text(unit);
-        Some(Stream {
-            scope,
-            name,
-            unit,
-            hash,
-        })
+        Some(Stream { scope, name, unit })
     } else {
         None
     }
@@ -164,12 +147,29 @@ pub fn sum_stream_in<'a>(
     Some(SumStream { stream, monotonic })
 }
 
+/// The hash of a stream, which is made once.
+fn stream_hash(known: &mut Option<IdentityHash>, stream: Stream<'_>) -> IdentityHash {
+    if let Some(hash) = known {
+        return *hash;
+    }
+    let mut hash = IdentityHash::new();
+    hash.add_set(stream.scope.resource);
+    hash.add_text(stream.scope.name);
+    hash.add_text(stream.scope.version);
+    hash.add_set(stream.scope.attributes);
+    hash.add_text(stream.name);
+    hash.add_text(stream.unit);
+    *known = Some(hash);
+    hash
+}
+
 /// The series of a stream with this kind and these attributes, shared with the cache if it has it.
 /// `None` if the attributes are none that a series may have.
 #[tactic(auto, unfolding(otlp_read::specs::Streams::series_of))]
 pub fn series_of(
     alloc: Global,
     cache: &mut IdentityCache,
+    known: &mut Option<IdentityHash>,
     stream: Stream<'_>,
     kind: Kind,
     found: &Option<Node<'_, '_>>,
@@ -180,14 +180,14 @@ pub fn series_of(
     if let Some(series) = follow(cache, stream, &kind, found) {
         return Ok(Some(series));
     }
-    if let Some(series) = look_up(cache, stream, &kind, found) {
+    let mut hash = stream_hash(known, stream);
+    hash.add_kind(&kind);
+    if let Some(series) = look_up(cache, hash, stream, &kind, found) {
         return Ok(Some(series));
     }
     let Some(attributes) = attributes_in(alloc, found)? else {
         return Ok(None);
     };
-    let mut hash = stream.hash;
-    hash.add_kind(&kind);
     hash.add_set(&attributes);
     let Some(series) = series_in(alloc, stream, kind, attributes)? else {
         return Ok(None);

@@ -11,12 +11,12 @@ ghost use Rattle.json_points.specs.inner.RefViews.{sum_fields_data};
 ghost use Rattle.json_points.specs.inner.SumParts.{HasParts, is_whole, said_by};
 ghost use Rattle.json_points.specs.inner.StreamViews.{sum_stream_data};
 
+use crate::before::Before;
 use crate::fields::flags_fit;
 use crate::identity_cache::IdentityCache;
 use crate::integers::signed_64;
 use crate::node::Node;
 use crate::streams::{PointStream, SumStream, series_of};
-use crate::times::Times;
 use metric_events::point::Point;
 use series_id::Kind;
 use std::alloc::{AllocError, Global};
@@ -109,11 +109,11 @@ fn is_whole_value(parts: &SumParts<'_, '_>) -> bool
 
 /// What a point says; `None` if it is foreign for one of its fields.
 #[tactic(auto, unfolding(crate::specs::inner::SumParts::said_by))]
-fn sum_fields<'a>(times: &mut Times<'a>, parts: &SumParts<'_, 'a>) -> Option<SumFields>
+fn sum_fields<'a>(before: &mut Before<'a>, parts: &SumParts<'_, 'a>) -> Option<SumFields>
     ensures { option_map sum_fields_data result ≡ said_by parts.now }
 {
-    let start = times.start.read(&parts.start)?;
-    let end = times.end.read(&parts.end)?;
+    let start = before.start.read(&parts.start)?;
+    let end = before.end.read(&parts.end)?;
     let value = number_in(&parts.value)?;
     if is_whole_value(parts) {
         Some(SumFields { start, end, value })
@@ -130,12 +130,12 @@ impl PointStream for Option<SumStream<'_>> {
         self,
         alloc: Global,
         cache: &mut IdentityCache,
-        times: &mut Times<'a>,
+        before: &mut Before<'a>,
         node: &Node<'_, 'a>,
     ) -> Result<Option<Point>, AllocError> {
         match self {
             None => Ok(None),
-            Some(sum) => sum_point(alloc, cache, times, sum, node),
+            Some(sum) => sum_point(alloc, cache, before, sum, node),
         }
     }
 }
@@ -145,20 +145,28 @@ impl PointStream for Option<SumStream<'_>> {
 fn sum_point<'a>(
     alloc: Global,
     cache: &mut IdentityCache,
-    times: &mut Times<'a>,
+    before: &mut Before<'a>,
     sum: SumStream<'_>,
     node: &Node<'_, 'a>,
 ) -> Result<Option<Point>, AllocError>
     ensures { IfOk result (λ o. o ≡ sum_point (sum_stream_data sum.entry) (data_at node.now)) }
 {
     let parts = parts_of(node);
-    let Some(fields) = sum_fields(times, &parts) else {
+    let Some(fields) = sum_fields(before, &parts) else {
         return Ok(None);
     };
     let kind = Kind::Sum {
         monotonic: sum.monotonic,
     };
-    let Some(series) = series_of(alloc, cache, sum.stream, kind, &parts.attributes)? else {
+    let Some(series) = series_of(
+        alloc,
+        cache,
+        &mut before.hash,
+        sum.stream,
+        kind,
+        &parts.attributes,
+    )?
+    else {
         return Ok(None);
     };
     let point = Point::shared_sum(series, fields.start, fields.end, fields.value);

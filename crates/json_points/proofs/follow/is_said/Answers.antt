@@ -13,5 +13,5 @@ returns c =
     record {
       only = λ limits same.
           series_said (stream_data c.args.stream) c.args.kind.now (slot_data c.args.found.now) _ c.args.series.now said
-              (series_is (stream_data c.args.stream) c.args.kind.now _ c.args.series.now limits within (sym c.kind.ensures ∙ c.is_same.ensures.0 same) (ap (map pair_in) (c.pairs.ensures ∙ c.attrs.ensures)));
+          (series_is (stream_data c.args.stream) c.args.kind.now _ c.args.series.now limits within (sym c.kind.ensures ∙ c.is_same.ensures.0 same) (ap (map pair_in) (c.pairs.ensures ∙ c.attrs.ensures)));
     }

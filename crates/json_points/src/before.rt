@@ -1,4 +1,5 @@
-//! The times of a list's points: most have the same text as the point before.
+//! What is known of a list's points before: most times have the same text as those of the point
+//! before.
 
 ghost use Rattle.std.specs.Prelude.{◌≡◌, ◌-◌, ◌^◌};
 ghost use Rattle.otlp_read.specs.Fields.{field, nanos_in};
@@ -7,6 +8,7 @@ ghost use Rattle.json_points.specs.inner.Nodes.{data_at};
 ghost use Rattle.json_points.specs.inner.Slots.{slot_data};
 
 use crate::fields::field;
+use crate::identity_hash::IdentityHash;
 use crate::integers::{unsigned_64, unsigned_text};
 use crate::node::Node;
 
@@ -18,19 +20,21 @@ pub struct Time<'a> {
     ghost is_written: { nanos ≡ up_to (2 ^ 64 - 1) (text_whole text.now) },
 }
 
-/// Start and end of the point before.
+/// Start and end of the point before, and the hash of its stream, if one was made.
 #[derive(Clone, Copy)]
-pub struct Times<'a> {
+pub struct Before<'a> {
     pub start: Time<'a>,
     pub end: Time<'a>,
+    pub hash: Option<IdentityHash>,
 }
 
-impl<'a> Times<'a> {
+impl<'a> Before<'a> {
     /// No point came before.
-    pub fn none() -> Times<'a> {
-        Times {
+    pub fn none() -> Before<'a> {
+        Before {
             start: Time::none(),
             end: Time::none(),
+            hash: None,
         }
     }
 }
