@@ -1,10 +1,12 @@
 //! Identities that are stored once and shared.
 
-ghost use Rattle.std.specs.Prelude.{◌≡◌, ◌↔◌, ◌<◌, IfErr, IfOk, IsTrue};
+ghost use Rattle.std.specs.Prelude.{◌≡◌, ◌↔◌, ◌<◌, IfErr, IfOk, IfSome, IsTrue};
+ghost use Rattle.series_id.specs.Identity.{Identity, IsIdentity};
 ghost use Rattle.series_id.specs.Order.{same_series};
+ghost use Rattle.series_id.specs.inner.Written as spec;
 
 use crate::series::SeriesId;
-use crate::shared_parts::SharedParts;
+use crate::shared_parts::{SharedParts, if_few, series_of};
 use crate::written::written;
 use std::alloc::{AllocError, AllocFailed, Global};
 use std::hash::{FoldHasher, Hasher};
@@ -28,9 +30,11 @@ impl Model for SharedId {
 
     ghost use Rattle.series_id.specs.inner.Written.{written};
     ghost use Rattle.std.specs.Prelude.{◌≡◌};
+    ghost use Rattle.std.specs.Option.{ForSome};
 
     ghost invariant = { λ s. IsIdentity (arc_value s.kept).series
-        × ((arc_value s.kept).written.items ≡ written (arc_value s.kept).series) };
+        × ForSome (arc_value s.kept).written
+        (λ bytes. bytes.items ≡ written (arc_value s.kept).series) };
 }
 
 // Written by hand: a derived `drop` is proved again in each crate that drops one.
@@ -49,16 +53,19 @@ impl SharedId {
         let Ok(written) = written(alloc, &series) else {
             return Err(AllocFailed { value: series });
         };
+        let hash = hash_of(&written);
+        let written = if_few(written);
+        let place = AtomicUsize::new(0);
         let parts = SharedParts {
-            hash: hash_of(&written),
             series,
             written,
-            place: AtomicUsize::new(0),
+            hash,
+            place,
         };
         match Arc::new(alloc, parts) {
             Ok(kept) => Ok(SharedId { kept }),
             Err(refused) => Err(AllocFailed {
-                value: refused.value.series,
+                value: series_of(refused.value),
             }),
         }
     }
@@ -102,14 +109,36 @@ impl SharedId {
         self.kept.hash
     }
 
+    /// The bytes that say all of the identity, if they are kept.
+    fn written(&self) -> Option<&[u8]>
+        ensures { IfSome result (λ bytes. (bytes.now ≡ spec.written self.now)
+            × IsIdentity self.now) }
+    {
+        match &self.kept.written {
+            Some(written) => Some(written.as_slice()),
+            None => None,
+        }
+    }
+
     /// Whether both identify the same series: whether all fields are equal. The bytes that say all
-    /// of them are compared at once.
+    /// of them are compared at once, if they are kept of both.
     pub fn is_same(&self, other: &SharedId) -> bool
         ensures value { result ≡ same_series self.now other.now }
         ensures exact { IsTrue result ↔ (self.now ≡ other.now) }
     {
-        self.kept.written.as_slice() == other.kept.written.as_slice()
+        match (self.written(), other.written()) {
+            (Some(mine), Some(its)) => are_one(mine, its),
+            _ => self.as_series().is_same(other.as_series()),
+        }
     }
+}
+
+/// Whether bytes say one identity.
+fn are_one(mine: &[u8], its: &[u8]) -> bool
+    ensures { (x y : Identity) → IsIdentity x → IsIdentity y → mine.now ≡ spec.written x
+        → its.now ≡ spec.written y → (result ≡ same_series x y) × (IsTrue result ↔ (x ≡ y)) }
+{
+    mine == its
 }
 
 /// A hash of bytes.
