@@ -10,6 +10,9 @@ use std::sync::Arc;
 
 const PIECE: usize = 1 << 20;
 static ZEROS: [u8; PIECE] = [0; PIECE];
+/// So many zeros are written by one call. What one call has written the system may keep as one, and then looks through all of
+/// it at each write into it, and at each sync.
+const FILL: usize = 64 << 10;
 /// An eighth of what a file has, but no less and no more.
 const LEAST_BLOCKS: u64 = 64 << 10;
 const MOST_BLOCKS: u64 = 16 << 20;
@@ -328,9 +331,11 @@ impl Segment {
                 self.disk.take_blocks(&self.file, self.at, *taken - self.at);
             }
             Ahead::Zeros(filled) => {
-                while *filled < end + PIECE as u64 / 2 {
-                    self.disk.write_at(&self.file, &self.path, &[&ZEROS], *filled)?;
-                    *filled += PIECE as u64;
+                let wanted = end + PIECE as u64 / 2;
+                while *filled < wanted || *filled % PIECE as u64 > 0 {
+                    self.disk
+                        .write_at(&self.file, &self.path, &[&ZEROS[..FILL]], *filled)?;
+                    *filled += FILL as u64;
                 }
             }
             Ahead::Nothing | Ahead::Blocks(_) => {}
