@@ -11,8 +11,9 @@
 //!
 //! Numbers of 19 and 22 are packed. A name is written with the first points of a segment that need it, by the same write.
 //!
-//! A record is written in place, under one short lock, so that the order in the file is the order of the calls. One
-//! thread syncs, once for all that wait; nobody who must wait for the disk holds the lock of those who write.
+//! A record gets its place under one short lock, so that the order in the file is the order of the calls, and is in memory
+//! until the next write, which is for all that were appended (`write`). One thread syncs, once for all that wait; nobody who
+//! must wait for the disk holds the lock of those who append.
 
 mod earlier_segment;
 mod held;
@@ -24,6 +25,7 @@ mod post;
 mod reading;
 mod record;
 mod sync;
+mod write;
 
 use super::disk::{Disk, File};
 use super::drive::Lost;
@@ -81,6 +83,10 @@ struct Shared {
     durability: Durability,
     free_space: Arc<FreeSpace>,
     place: Mutex<Place>,
+    /// Locked while something is written into the segment, before `place`: what is written then.
+    writing: Mutex<Vec<u8>>,
+    /// All before this ticket is in a file.
+    written: AtomicU64,
     /// Never locked over a call of the disk: who shows it must not wait for one.
     sizes: Mutex<Vec<Size>>,
     /// What of quarantined senders' files counts, where a segment is the first that is replayed.
@@ -130,7 +136,8 @@ impl Expected {
 }
 
 impl Journal {
-    /// Puts a post behind the others. `names` says what its numbers stand for, where the segment has not said that.
+    /// Puts a post behind the others, and writes nothing yet. `names` says what its numbers stand for, where the segment has not
+    /// said that.
     pub fn append(&self, post: &Post, names: &dyn Names) -> Ticket {
         let shared = &*self.shared;
         let now = seconds();
@@ -139,7 +146,6 @@ impl Journal {
                 let numbers = record::numbers(now, post);
                 let (numbers, sender) = (numbers.as_flattened(), post.sender.as_bytes());
                 let head = records::head(POST, &[numbers, sender, body]);
-                // In parts: a long body that is put together first costs as much as a part of its write.
                 let mut place = lock(&shared.place);
                 shared.put(&mut place, post, now, &[&head, numbers, sender, body])
             }
@@ -155,7 +161,7 @@ impl Journal {
 
     /// Begins a segment: its number, and a ticket for all before it. Its name is durable with that ticket.
     pub fn turn(&self) -> (u64, Ticket) {
-        let mut place = lock(&self.shared.place);
+        let mut place = self.shared.to_write();
         let next = place.segment.number + 1;
         self.turn_to(&mut place, next);
         (next, Ticket(place.ticket))
@@ -179,7 +185,7 @@ impl Journal {
     pub async fn durable(&self, ticket: Ticket) -> Result<(), Lost> {
         match self.shared.durability {
             Durability::Disk => self.shared.synced(ticket.0).await,
-            Durability::Process => Ok(()),
+            Durability::Process => self.write(ticket),
         }
     }
 
@@ -218,7 +224,7 @@ impl Journal {
 
     /// Makes sure that the next segment's number is at least this: the outbox may know of a later segment than is left.
     pub fn reach(&self, segment: u64) {
-        let mut place = lock(&self.shared.place);
+        let mut place = self.shared.to_write();
         if place.segment.number < segment {
             self.turn_to(&mut place, segment);
         }
@@ -239,7 +245,7 @@ impl Journal {
         numbers.retain(|number| *number < before && *number < last);
         if !numbers.is_empty() {
             // A start that misses one of them is told so whether the outbox is older than this.
-            lock(&shared.place).segment.say_forgotten(before)?;
+            shared.to_write().segment.say_forgotten(before)?;
         }
         for number in numbers {
             shared.disk.remove(&segment::path(&shared.folder, number))?;
@@ -277,7 +283,12 @@ impl Shared {
     fn put<const N: usize>(&self, place: &mut Place, post: &Post, now: u64, parts: &[&[u8]; N]) -> Ticket {
         let length = parts.iter().map(|part| part.len() as u64).sum();
         self.free_space.use_up(length);
-        if let Err(fault) = place.segment.put(parts) {
+        // What a drive has is in memory until its sync anyway.
+        let put = match self.disk.keeps_order() {
+            true => place.segment.put(parts).map(drop),
+            false => place.segment.append(parts),
+        };
+        if let Err(fault) = put {
             let Lost = self.disk.fail(fault);
         }
         place.ticket += 1;

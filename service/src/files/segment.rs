@@ -1,9 +1,11 @@
-//! Segments: numbered files of a folder, of which the last is written.
+//! Segments: numbered files of a folder, of which the last is written. `dropped` keeps what a start leaves out of one.
+
+mod dropped;
 
 use super::disk::{io_fault, Disk, File};
 use super::records::{self, Which, END, MARK, MARK_LENGTHS};
-use super::torn_tail::CHANGED;
 use super::Fault;
+pub use dropped::{keep_aside, Dropped};
 use std::io::ErrorKind;
 use std::path::{Path, PathBuf};
 use std::sync::Arc;
@@ -112,69 +114,6 @@ pub fn missing(folder: &Path, number: u64) -> Fault {
     }
 }
 
-/// What a start left out of a file: nobody was told that it is there.
-#[derive(Clone, Debug, PartialEq, Eq)]
-pub struct Dropped {
-    pub file: PathBuf,
-    /// Where it began, and how many bytes it has up to the last that is not zero.
-    pub at: u64,
-    pub bytes: u64,
-    pub kept: PathBuf,
-}
-
-impl std::fmt::Display for Dropped {
-    fn fmt(&self, out: &mut std::fmt::Formatter<'_>) -> std::fmt::Result {
-        let (file, kept) = (self.file.display(), self.kept.display());
-        let (at, bytes) = (self.at, self.bytes);
-        write!(
-            out,
-            "{file}, byte {at}: {bytes} bytes are no whole record, as a loss of power leaves it, so they do not count; they \
-             are kept in {kept}"
-        )
-    }
-}
-
-/// Keeps what is in a file from `at` on, but zeros at its end, before it is dropped: in a file beside it, durably.
-pub fn keep_aside(disk: &Disk, path: &Path, at: u64) -> Result<Option<Dropped>, Fault> {
-    let mut rest = disk.open(path)?.read_from(at).map_err(io_fault(path))?;
-    let Some(last) = rest.iter().rposition(|byte| *byte != 0) else {
-        return Ok(None);
-    };
-    if disk.keeps_order() {
-        let (path, what) = (path.into(), CHANGED.into());
-        return Err(Fault::Damaged { path, at, what });
-    }
-    rest.truncate(last + 1);
-    let stem = path.file_stem().unwrap_or_default().to_string_lossy();
-    let mut kept = path.with_file_name(format!("{stem}-{at}.torn"));
-    let mut number = 1;
-    // An earlier start may have ended after it.
-    while is_other(disk, &kept, &rest)? {
-        number += 1;
-        kept = path.with_file_name(format!("{stem}-{at}-{number}.torn"));
-    }
-    if !disk.has(&kept)? {
-        disk.put_file(&kept, &rest)?;
-    }
-    let dropped = Dropped {
-        file: path.into(),
-        at,
-        bytes: rest.len() as u64,
-        kept,
-    };
-    let (file, kept) = (dropped.file.display(), dropped.kept.display());
-    tracing::warn!(%file, offset = at, bytes = dropped.bytes, %kept, "{dropped}");
-    Ok(Some(dropped))
-}
-
-/// Whether a file is there that has other bytes.
-fn is_other(disk: &Disk, path: &Path, bytes: &[u8]) -> Result<bool, Fault> {
-    let Some(file) = disk.find(path)? else {
-        return Ok(false);
-    };
-    Ok(file.read_from(0).is_ok_and(|there| there != bytes))
-}
-
 /// Closes the last segment of an earlier run at `at`. What was torn behind becomes zeros, and the file stays as long:
 /// one that is shorter than it was made is a fault.
 pub fn close_at(disk: &Disk, path: &Path, at: u64) -> Result<(), Fault> {
@@ -200,8 +139,10 @@ pub struct Segment {
     pub file: Arc<File>,
     pub path: PathBuf,
     pub number: u64,
-    /// Where the next record is written.
+    /// Where the next record goes.
     pub at: u64,
+    /// What is before that, and in the file with the next write.
+    unwritten: Vec<u8>,
     ahead: Ahead,
     /// All before it is durable.
     durable: u64,
@@ -240,6 +181,7 @@ impl Segment {
             path,
             number,
             at: 0,
+            unwritten: Vec::new(),
             ahead,
             durable: 0,
             marked: 0,
@@ -270,27 +212,70 @@ impl Segment {
         }
     }
 
-    /// Writes records with one write: where it begins. A mark goes before what follows a sync.
+    /// Writes records with one write: where it begins.
     pub fn put<const N: usize>(&mut self, parts: &[&[u8]; N]) -> Result<u64, Fault> {
-        let length = parts.iter().map(|part| part.len() as u64).sum::<u64>();
-        self.make_ahead(self.at + MARK_LENGTHS[1] as u64 + length)?;
-        if self.durable > self.marked {
-            self.put_mark()?;
-        }
-        let begin = self.at;
+        let (begin, end) = self.make_room(parts)?;
+        self.write()?;
         self.disk.write_at(&self.file, &self.path, parts, begin)?;
-        self.at += length;
-        self.records = self.at;
+        self.end_record(end);
         Ok(begin)
     }
 
-    fn put_mark(&mut self) -> Result<(), Fault> {
+    /// Puts records behind the others, for the next write.
+    pub fn append<const N: usize>(&mut self, parts: &[&[u8]; N]) -> Result<(), Fault> {
+        let (_, end) = self.make_room(parts)?;
+        parts
+            .iter()
+            .for_each(|part| self.unwritten.extend_from_slice(part));
+        self.end_record(end);
+        Ok(())
+    }
+
+    /// Where these records begin and end. A mark goes before what follows a sync.
+    fn make_room<const N: usize>(&mut self, parts: &[&[u8]; N]) -> Result<(u64, u64), Fault> {
+        let length = parts.iter().map(|part| part.len() as u64).sum::<u64>();
+        self.make_ahead(self.at + MARK_LENGTHS[1] as u64 + length)?;
+        if self.durable > self.marked {
+            self.append_mark()?;
+        }
+        Ok((self.at, self.at + length))
+    }
+
+    fn end_record(&mut self, end: u64) {
+        self.at = end;
+        self.records = end;
+    }
+
+    /// Writes all that was appended.
+    pub fn write(&mut self) -> Result<(), Fault> {
+        let bytes = std::mem::take(&mut self.unwritten);
+        match bytes.len() {
+            0 => Ok(()),
+            length => {
+                let begin = self.at - length as u64;
+                self.disk.write_at(&self.file, &self.path, &[&bytes], begin)
+            }
+        }
+    }
+
+    /// The same for who writes it: an empty buffer becomes what was appended. Where it begins.
+    pub fn give_unwritten(&mut self, buffer: &mut Vec<u8>) -> u64 {
+        std::mem::swap(&mut self.unwritten, buffer);
+        self.at - buffer.len() as u64
+    }
+
+    fn append_mark(&mut self) -> Result<(), Fault> {
         let mark = self.mark(MARK);
         self.make_ahead(self.at + mark.len() as u64)?;
-        self.disk.write_at(&self.file, &self.path, &[&mark], self.at)?;
+        self.unwritten.extend_from_slice(&mark);
         self.at += mark.len() as u64;
         self.marked = self.durable;
         Ok(())
+    }
+
+    fn put_mark(&mut self) -> Result<(), Fault> {
+        self.append_mark()?;
+        self.write()
     }
 
     /// Whether its last record is durable, and no mark says so.

@@ -191,27 +191,18 @@ async fn posts_go_on_while_a_group_is_committed() {
 #[tokio::test(flavor = "multi_thread")]
 async fn a_checkpoint_waits_for_a_post_that_is_written() {
     let place = tempfile::tempdir().unwrap();
-    let (is_held, waits) = (Arc::new(AtomicBool::new(false)), Arc::new(AtomicBool::new(false)));
-    let (holding, waiting) = (is_held.clone(), waits.clone());
-    let disk = Disk::failing(move |call, path| {
-        while call == Call::Write && is_in("journal", path) && holding.load(SeqCst) {
-            waiting.store(true, SeqCst);
-            std::thread::sleep(Duration::from_millis(1));
-        }
-        Ok(())
-    });
-    let run = Run::begin(place.path(), disk).await;
-    is_held.store(true, SeqCst);
+    let run = Run::begin(place.path(), Disk::default()).await;
+    let appending = run.slot.journal.hold_appends();
     let (slot, core) = (run.slot.clone(), run.slot.core.clone());
     let post = tokio::spawn(async move { slot.post("A".into(), point("a", 1).into()).await });
-    while !waits.load(SeqCst) {
+    while run.slot.ungrouped() == 0 {
         tokio::time::sleep(Duration::from_millis(1)).await;
     }
     // The book has it, and who wants to take it out waits.
     let taking = tokio::task::spawn_blocking(move || core.lock().series());
     tokio::time::sleep(Duration::from_millis(100)).await;
     let is_taken = taking.is_finished();
-    is_held.store(false, SeqCst);
+    drop(appending);
     assert!(!is_taken, "the lock was free while the post was in no journal");
     assert_eq!(post.await.unwrap(), Outcome::taken(0));
     assert_eq!((taking.await.unwrap(), run.flush().await), (1, 1));

@@ -64,7 +64,7 @@ fn all_of_it_is_its_owners_alone() {
         foreign: 0,
         body: Body::Text(bytes::Bytes::from_static(b"{}")),
     };
-    journal.append(&post, &NoNames);
+    journal.write(journal.append(&post, &NoNames)).unwrap();
     folder.dead().unwrap().keep("0-e-1", "400", b"{}").unwrap();
     let mut left = vec![path];
     let mut files = 0;

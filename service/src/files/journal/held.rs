@@ -123,7 +123,7 @@ impl Shared {
             .map_err(io_fault(&self.folder))?;
         let mut record = Vec::new();
         records::put(&mut record, HELD, &[&bytes]);
-        let mut place = lock(&self.place);
+        let mut place = self.to_write();
         if place.segment.number != next {
             let source = io::Error::other("the journal turned while posts of quarantined senders were moved");
             return Err(io_fault(&place.segment.path)(source));

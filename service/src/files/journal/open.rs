@@ -53,6 +53,8 @@ impl Journal {
             durability,
             free_space,
             place: Mutex::new(place),
+            writing: Mutex::default(),
+            written: AtomicU64::new(0),
             sizes: Mutex::new(sizes),
             held: Mutex::new(held),
             durable: AtomicU64::new(0),

@@ -22,10 +22,8 @@ impl Shared {
         with_held: bool,
         each: &mut impl FnMut(u64, Replayed) -> Result<bool, Fault>,
     ) -> Result<(), Fault> {
-        let (last, at) = {
-            let place = lock(&self.place);
-            (place.segment.number, place.segment.at)
-        };
+        let up_to = self.written(|place| (place.segment.number, place.segment.at));
+        let (last, at) = up_to.map_err(Fault::Lost)?;
         for number in segment::numbers(&self.disk, &self.folder)? {
             if !(first..end).contains(&number) || number > last {
                 continue;

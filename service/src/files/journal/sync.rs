@@ -91,12 +91,10 @@ impl Shared {
     /// The same, for who has the journal alone.
     pub(super) fn try_sync(&self) -> Result<(), Fault> {
         self.disk.board();
-        let (ended, file, path, number, at, length, named, ticket) = {
-            let mut place = lock(&self.place);
-            let ended = std::mem::take(&mut place.ended);
+        let brought = self.written(|place| {
             let segment = &place.segment;
             (
-                ended,
+                std::mem::take(&mut place.ended),
                 segment.file.clone(),
                 segment.path.clone(),
                 segment.number,
@@ -105,7 +103,8 @@ impl Shared {
                 place.named,
                 place.ticket,
             )
-        };
+        });
+        let (ended, file, path, number, at, length, named, ticket) = brought.map_err(Fault::Lost)?;
         for (file, path) in &ended {
             self.disk.order(file, path)?;
         }
@@ -192,7 +191,7 @@ impl Shared {
 
     /// Marks the last record, where nothing else is written. The mark itself need not be durable.
     fn mark_last(&self) {
-        if let Err(fault) = lock(&self.place).segment.mark_last() {
+        if let Err(fault) = self.to_write().segment.mark_last() {
             let Lost = self.disk.fail(fault);
         }
     }
@@ -251,7 +250,7 @@ impl Drop for Journal {
             self.shared.disk.discard(&next.path); // the next start does it too
         }
         self.shared.sync();
-        let ended = lock(&self.shared.place).segment.end();
+        let ended = self.shared.to_write().segment.end();
         if let Err(fault) = ended {
             self.shared.disk.end(&fault);
         }

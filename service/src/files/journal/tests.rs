@@ -1,4 +1,4 @@
-//! What is kept comes back, over any calls and starts; `damage` and `syncs` have what goes wrong.
+//! What is kept comes back, over any calls and starts; `damage`, `syncs` and `writes` have what goes wrong.
 
 mod changed;
 mod damage;
@@ -7,6 +7,7 @@ mod letters;
 mod points;
 mod power;
 mod syncs;
+mod writes;
 
 use super::*;
 use crate::files::disk::{Call, FAILED};
@@ -50,8 +51,11 @@ fn post(text: &str) -> Post {
     }
 }
 
+/// Where it is in the file already.
 fn append(journal: &Journal, text: &str) -> Ticket {
-    journal.append(&post(text), &Letters::of(text))
+    let ticket = journal.append(&post(text), &Letters::of(text));
+    journal.write(ticket).unwrap();
+    ticket
 }
 
 /// As totxegun 0.5.0 wrote posts of quarantined senders into the next segment.

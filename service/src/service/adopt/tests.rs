@@ -60,7 +60,7 @@ fn filled(path: &Path, slots: u16, posts: u64) {
                     sender: sender.clone(),
                     foreign: 0,
                 };
-                journal.append(&post, &NoNames);
+                journal.write(journal.append(&post, &NoNames)).unwrap();
             }
         }
     }

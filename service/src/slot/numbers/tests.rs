@@ -314,7 +314,7 @@ fn a_post_asks_for_the_room_that_it_takes_in_the_journal() {
             };
             let names: HashSet<u64> = read.post.numbers().collect();
             let (before, asked) = (written(), read.bytes() as u64);
-            journal.append(&read.post, read.names());
+            journal.write(journal.append(&read.post, read.names())).unwrap();
             let (took, heads) = (written() - before, HEAD + NAME * names.len() as u64);
             assert!(took <= asked + heads, "{took} > {asked} + {heads}: {body:02x?}");
             by[usize::from(is_text)] += u64::from(!names.is_empty());

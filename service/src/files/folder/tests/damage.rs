@@ -63,11 +63,11 @@ fn with_three_commits(place: &Path) {
     let (journal, outbox) = folder.slot(0).unwrap();
     for number in 1..4 {
         copied(&place.join("slot-0"), &place.join(format!("copy-{number}")));
-        journal.append(&post("a"), &NoNames);
+        journal.write(journal.append(&post("a"), &NoNames)).unwrap();
         let (next, _) = journal.turn();
         outbox.commit(&[], next).unwrap();
         journal.forget(next).unwrap();
-        journal.append(&post("b"), &NoNames);
+        journal.write(journal.append(&post("b"), &NoNames)).unwrap();
     }
     drop((journal, outbox));
 }

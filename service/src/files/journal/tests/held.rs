@@ -13,7 +13,8 @@ fn of(sender: &str, text: &str) -> Post {
 }
 
 pub fn append_of(journal: &Journal, sender: &str, text: &str) {
-    journal.append(&of(sender, text), &Letters::of(text));
+    let ticket = journal.append(&of(sender, text), &Letters::of(text));
+    journal.write(ticket).unwrap();
 }
 
 fn all(journal: &Journal, first: u64) -> Vec<Post> {

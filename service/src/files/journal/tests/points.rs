@@ -62,7 +62,8 @@ fn a_segment_says_a_name_once_ahead_of_its_first_points_and_by_the_same_write() 
         if lock(&journal.shared.place).segment.number < segment {
             journal.turn();
         }
-        journal.append(&of_letters(letters), &Letters::of(""));
+        let ticket = journal.append(&of_letters(letters), &Letters::of(""));
+        journal.write(ticket).unwrap();
     }
     let expected: [(&[u8], &[u8]); 5] = [
         (b"abca", b"abc"),

@@ -302,8 +302,10 @@ fn sizes_are_told_while_a_write_stalls_and_how_long_it_does() {
     let size = told.recv_timeout(Duration::from_secs(5));
     stalls.store(false, SeqCst);
     writing.join().unwrap();
-    assert_eq!(size, Ok(before), "nobody waits for the write");
-    assert!(journal.size().0 > before.0);
+    assert!(
+        size.is_ok_and(|size| size.0 > before.0),
+        "nobody waits for the write"
+    );
     while journal.under_way() > Duration::ZERO {
         std::thread::sleep(Duration::from_millis(1));
     }

@@ -1,0 +1,122 @@
+//! When what was appended gets into the file, and what happens where that fails.
+
+use super::*;
+
+/// Puts a post behind the others, and writes nothing.
+fn append_only(journal: &Journal, text: &str) -> Ticket {
+    journal.append(&post(text), &Letters::of(text))
+}
+
+/// What a start would find where the process ended now.
+fn there(folder: &Path) -> Vec<String> {
+    let copy = tempfile::tempdir().unwrap();
+    crate::files::power::copy(folder, &copy.path().join("copy"));
+    texts(&open(&copy.path().join("copy")), 1)
+}
+
+fn counted() -> (Disk, Arc<AtomicUsize>) {
+    let writes = Arc::new(AtomicUsize::new(0));
+    let counts = writes.clone();
+    let disk = Disk::failing(move |call, _| {
+        counts.fetch_add(usize::from(call == Call::Write), SeqCst);
+        Ok(())
+    });
+    (disk, writes)
+}
+
+#[tokio::test]
+async fn one_write_is_for_all_that_was_appended_and_nobody_is_told_before() {
+    let folder = tempfile::tempdir().unwrap();
+    let (disk, writes) = counted();
+    let journal = open_on(&disk, folder.path(), Durability::Process).unwrap();
+    let before = writes.load(SeqCst);
+    let tickets = ["a", "b", "c"].map(|text| append_only(&journal, text));
+    assert_eq!((writes.load(SeqCst), there(folder.path()).len()), (before, 0));
+    journal.durable(tickets[1]).await.unwrap();
+    assert_eq!(there(folder.path()), ["a", "b", "c"]);
+    for ticket in tickets {
+        journal.durable(ticket).await.unwrap();
+    }
+    assert_eq!(writes.load(SeqCst), before + 1);
+    append_only(&journal, "d");
+    journal.durable(journal.now()).await.unwrap(); // as a refusal waits
+    assert_eq!(there(folder.path()), ["a", "b", "c", "d"]);
+}
+
+#[test]
+fn whatever_comes_next_writes_what_was_appended_first() {
+    for durability in [Durability::Process, Durability::Disk] {
+        let folder = tempfile::tempdir().unwrap();
+        let journal = open_on(&Disk::default(), folder.path(), durability).unwrap();
+        append_only(&journal, "a");
+        let (next, _) = journal.turn();
+        assert_eq!(there(folder.path()), ["a"]);
+        append_only(&journal, "b");
+        journal.hold(&[post("a").sender].into(), 1, next).unwrap();
+        assert_eq!(texts(&journal, 1), ["a", "b"]);
+        append_only(&journal, "c");
+        journal.forget(1).unwrap();
+        assert_eq!(texts(&journal, 1), ["a", "b", "c"]);
+        append_only(&journal, "d");
+        journal.settle(journal.now());
+        assert_eq!(there(folder.path()), ["a", "b", "c", "d"]);
+        append_only(&journal, "e");
+        drop(journal);
+        assert_eq!(there(folder.path()), ["a", "b", "c", "d", "e"]);
+    }
+}
+
+/// Else the segment would end ahead of what is still written into it.
+#[test]
+fn a_turn_waits_for_a_write_that_is_under_way() {
+    let folder = tempfile::tempdir().unwrap();
+    let (holds, waits) = (Arc::new(AtomicBool::new(false)), Arc::new(AtomicBool::new(false)));
+    let (holding, waiting) = (holds.clone(), waits.clone());
+    let disk = Disk::failing(move |call, _| {
+        while call == Call::Write && holding.load(SeqCst) {
+            waiting.store(true, SeqCst);
+            std::thread::sleep(Duration::from_millis(1));
+        }
+        Ok(())
+    });
+    let journal = Arc::new(open_on(&disk, folder.path(), Durability::Process).unwrap());
+    holds.store(true, SeqCst);
+    let (writes, turns) = (journal.clone(), journal.clone());
+    let writing = std::thread::spawn(move || append(&writes, "a"));
+    while !waits.load(SeqCst) {
+        std::thread::sleep(Duration::from_millis(1));
+    }
+    append_only(&journal, "b"); // it does not wait
+    let turning = std::thread::spawn(move || turns.turn());
+    std::thread::sleep(Duration::from_millis(100));
+    let has_turned = turning.is_finished();
+    holds.store(false, SeqCst);
+    writing.join().unwrap();
+    turning.join().unwrap();
+    assert!(!has_turned);
+    assert_eq!(there(folder.path()), ["a", "b"]);
+}
+
+/// What is behind a hole is there for no start.
+#[test]
+fn after_a_failed_write_nobody_else_writes() {
+    let folder = tempfile::tempdir().unwrap();
+    let (fails, later) = (Arc::new(AtomicBool::new(false)), Arc::new(AtomicUsize::new(0)));
+    let (failing, counts) = (fails.clone(), later.clone());
+    let disk = Disk::failing(move |call, _| match call == Call::Write && failing.load(SeqCst) {
+        true if counts.fetch_add(1, SeqCst) == 0 => Err(std::io::Error::other("no disk")),
+        _ => Ok(()),
+    });
+    let (tell, told) = mpsc::channel();
+    let disk = disk.ending(move |fault| tell.send(fault.to_string()).unwrap());
+    let journal = Arc::new(open_on(&disk, folder.path(), Durability::Process).unwrap());
+    fails.store(true, SeqCst);
+    for text in ["a", "b"] {
+        let writes = journal.clone();
+        std::thread::spawn(move || append(&writes, text));
+        std::thread::sleep(Duration::from_millis(100));
+    }
+    assert!(told.recv().unwrap().contains("no disk"));
+    assert_eq!(later.load(SeqCst), 1);
+    std::mem::forget(journal);
+}

@@ -1,0 +1,77 @@
+//! How what was appended gets into the segment: by one write for all that was there when it began.
+
+use super::{lock, Journal, Place, Shared, Ticket};
+use crate::files::drive::Lost;
+use std::ops::{Deref, DerefMut};
+use std::sync::atomic::Ordering::SeqCst;
+use std::sync::MutexGuard;
+
+/// What is left of a write's memory for the next one.
+const KEPT: usize = 64 << 10;
+
+/// The place, for who writes into the segment by himself: no other write is under way.
+pub(super) struct ToWrite<'a> {
+    place: MutexGuard<'a, Place>,
+    _writing: MutexGuard<'a, Vec<u8>>,
+}
+
+impl Deref for ToWrite<'_> {
+    type Target = Place;
+
+    fn deref(&self) -> &Place {
+        &self.place
+    }
+}
+
+impl DerefMut for ToWrite<'_> {
+    fn deref_mut(&mut self) -> &mut Place {
+        &mut self.place
+    }
+}
+
+impl Journal {
+    /// Has all before a ticket in a file: there it is also where the process ends now.
+    pub fn write(&self, ticket: Ticket) -> Result<(), Lost> {
+        match self.shared.written.load(SeqCst) >= ticket.0 {
+            true => Ok(()),
+            false => self.shared.written(|_| ()),
+        }
+    }
+}
+
+#[cfg(test)]
+impl Journal {
+    /// Nobody appends until this is dropped.
+    pub fn hold_appends(&self) -> impl Sized + '_ {
+        lock(&self.shared.place)
+    }
+}
+
+impl Shared {
+    pub fn to_write(&self) -> ToWrite<'_> {
+        let writing = lock(&self.writing);
+        ToWrite {
+            place: lock(&self.place),
+            _writing: writing,
+        }
+    }
+
+    /// Writes all that was appended until now: what `see` says of the place up to there. Who appends meanwhile does not wait.
+    /// Where that fails the process ends while nobody else can write: what is behind a hole is there for no start.
+    pub fn written<T>(&self, see: impl FnOnce(&mut Place) -> T) -> Result<T, Lost> {
+        let mut bytes = lock(&self.writing);
+        let mut place = lock(&self.place);
+        let (seen, ticket) = (see(&mut place), place.ticket);
+        let at = place.segment.give_unwritten(&mut bytes);
+        let (file, path) = (place.segment.file.clone(), place.segment.path.clone());
+        drop(place);
+        if !bytes.is_empty() {
+            let written = self.disk.write_at(&file, &path, &[&bytes], at);
+            written.map_err(|fault| self.disk.fail(fault))?;
+            bytes.clear();
+            bytes.shrink_to(KEPT);
+        }
+        self.written.store(ticket, SeqCst);
+        Ok(seen)
+    }
+}

@@ -1,0 +1,69 @@
+//! What a start leaves out of a file, and where it is kept.
+
+use crate::files::disk::{io_fault, Disk};
+use crate::files::torn_tail::CHANGED;
+use crate::files::Fault;
+use std::path::{Path, PathBuf};
+
+/// What a start left out of a file: nobody was told that it is there.
+#[derive(Clone, Debug, PartialEq, Eq)]
+pub struct Dropped {
+    pub file: PathBuf,
+    /// Where it began, and how many bytes it has up to the last that is not zero.
+    pub at: u64,
+    pub bytes: u64,
+    pub kept: PathBuf,
+}
+
+impl std::fmt::Display for Dropped {
+    fn fmt(&self, out: &mut std::fmt::Formatter<'_>) -> std::fmt::Result {
+        let (file, kept) = (self.file.display(), self.kept.display());
+        let (at, bytes) = (self.at, self.bytes);
+        write!(
+            out,
+            "{file}, byte {at}: {bytes} bytes are no whole record, as a loss of power leaves it, so they do not count; they \
+             are kept in {kept}"
+        )
+    }
+}
+
+/// Keeps what is in a file from `at` on, but zeros at its end, before it is dropped: in a file beside it, durably.
+pub fn keep_aside(disk: &Disk, path: &Path, at: u64) -> Result<Option<Dropped>, Fault> {
+    let mut rest = disk.open(path)?.read_from(at).map_err(io_fault(path))?;
+    let Some(last) = rest.iter().rposition(|byte| *byte != 0) else {
+        return Ok(None);
+    };
+    if disk.keeps_order() {
+        let (path, what) = (path.into(), CHANGED.into());
+        return Err(Fault::Damaged { path, at, what });
+    }
+    rest.truncate(last + 1);
+    let stem = path.file_stem().unwrap_or_default().to_string_lossy();
+    let mut kept = path.with_file_name(format!("{stem}-{at}.torn"));
+    let mut number = 1;
+    // An earlier start may have ended after it.
+    while is_other(disk, &kept, &rest)? {
+        number += 1;
+        kept = path.with_file_name(format!("{stem}-{at}-{number}.torn"));
+    }
+    if !disk.has(&kept)? {
+        disk.put_file(&kept, &rest)?;
+    }
+    let dropped = Dropped {
+        file: path.into(),
+        at,
+        bytes: rest.len() as u64,
+        kept,
+    };
+    let (file, kept) = (dropped.file.display(), dropped.kept.display());
+    tracing::warn!(%file, offset = at, bytes = dropped.bytes, %kept, "{dropped}");
+    Ok(Some(dropped))
+}
+
+/// Whether a file is there that has other bytes.
+fn is_other(disk: &Disk, path: &Path, bytes: &[u8]) -> Result<bool, Fault> {
+    let Some(file) = disk.find(path)? else {
+        return Ok(false);
+    };
+    Ok(file.read_from(0).is_ok_and(|there| there != bytes))
+}
