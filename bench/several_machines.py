@@ -8,7 +8,7 @@ The program is bin/totxegun, as `make build` makes it, where none is named; in a
 
   - posts: posts a second, the median and the 99th percentile of a post, and the WAL that the primary writes for one, with 64 and 512
     senders, by rows json-1, json-20 and protobuf-103. Parties: disk, a folder with --durable disk; store, an instance over a store
-    of SLOTS slots (32); store-2 and store-4, over one of two or of four databases, each with its standby. A ratio is to disk's run
+    of SLOTS slots (12); store-2 and store-4, over one of two or of four databases, each with its standby. A ratio is to disk's run
     beside it.
   - wal: of a post of 1 point (or of the first of ROWS), with each number of senders, the records of that WAL by kind, and posts and
     rows a commit: the same whatever else the machine does, but for how many posts come to a commit.
@@ -294,7 +294,7 @@ def main() -> None:
     parser.add_argument("--runs", type=int, default=1)
     parser.add_argument("--seconds", type=float, default=4)
     parser.add_argument("--series", type=int, default=800)
-    parser.add_argument("--slots", type=int, default=32)
+    parser.add_argument("--slots", type=int, default=12)
     parser.add_argument("--times", type=int, default=3)
     parser.add_argument("--after", type=float, default=12)
     parser.add_argument("--size", type=float, default=120)

@@ -29,7 +29,6 @@ from testing.servers import Pair  # noqa: E402
 from testing.service import (JSON, PROTOBUF, OtlpSink, Sender, Service, add_points, by_resource, differences, overlaps,  # noqa: E402
                      told_to_all, wait_until)
 
-SLOTS = "8"
 SENDERS = 6
 
 
@@ -75,7 +74,8 @@ def try_starts(checks, program, store, folder):
                              ("no slots", ["store", "init", store.address, "--slots", "0"], "--slots")):
         status, text = run(*line)
         checks.true(f"{what} is refused by name", status in (1, 2) and part in text, text)
-    checks.same("a store is made", 0, run("store", "init", store.address, "--slots", SLOTS)[0])
+    status, text = run("store", "init", store.address)
+    checks.true("a store is made, of 12 slots", status == 0 and text.startswith("a store of 12 slots in "), text)
     status, text = run("store", "init", store.address)
     checks.true("it is made once", status == 1 and "has a store already" in text, text)
     status, text = run(*words, *sink)

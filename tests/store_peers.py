@@ -27,7 +27,7 @@ from testing.loopback import free_port  # noqa: E402
 from testing.database import initdb  # noqa: E402
 from testing.servers import Server  # noqa: E402
 from testing.service import DELTA, JSON, OtlpSink, Service, wait_until  # noqa: E402
-from testing.slots import IN_THE_END, come_to_rest, place  # noqa: E402
+from testing.slots import IN_THE_END, come_to_rest, places  # noqa: E402
 
 SLOTS = 8
 SECOND = 1_000_000_000
@@ -280,7 +280,8 @@ def try_units(checks, program, folder, store, sink):
         instance.start()
     checks.true("two have their slots", settled(store, "a", "b"), [one.last_lines(), other.last_lines()])
     resources = [f"resource-{number:02}" for number in range(12)]
-    homes = {place(slot_of(one, resource), "ab"): resource for resource in resources}
+    of_slots = places(range(SLOTS), "ab")
+    homes = {of_slots[slot_of(one, resource)]: resource for resource in resources}
     checks.same("each has a resource", {"a", "b"}, set(homes))
     # The one that takes over has taken the name in whole seconds, in a slot of its own.
     checks.same("whole numbers come first at the one", 200, other.posted(request(homes["b"], 7, "whole", "s"))[0])

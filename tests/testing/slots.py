@@ -2,7 +2,7 @@
 import hashlib
 import json
 import time
-from collections.abc import Iterable
+from collections.abc import Iterable, Sequence
 
 from testing.servers import Server
 from testing.service import wait_until
@@ -12,9 +12,18 @@ IN_THE_END = 180
 OWNERS = "select json_object_agg(slot, owner) from totxegun_store.slot"
 
 
-def place(slot: int, names: Iterable[str]) -> str:
-    """The instance at which a slot belongs, of those of these names: as service/src/cluster/places.rs says."""
-    return max(names, key=lambda name: (hashlib.sha256(slot.to_bytes(2, "big") + name.encode()).digest(), name))
+def places(slots: Sequence[int], names: Iterable[str]) -> dict[int, str]:
+    """The instance at which each slot of a database belongs, of those of these names: as service/src/cluster/places.rs says."""
+    counts = dict.fromkeys(names, 0)
+    each, more = divmod(len(slots), len(counts))
+    places: dict[int, str] = {}
+    for slot in slots:
+        with_room = (name for name, count in counts.items() if count < each + (more > 0))
+        name = max(with_room, key=lambda name: (hashlib.sha256(slot.to_bytes(2, "big") + name.encode()).digest(), name))
+        counts[name] += 1
+        more -= counts[name] > each
+        places[slot] = name
+    return places
 
 
 def owners(*databases: Server) -> dict[int, str]:
@@ -23,12 +32,14 @@ def owners(*databases: Server) -> dict[int, str]:
     return {int(slot): owner for each in said for slot, owner in each.items()}
 
 
-def come_to_rest(databases: Iterable[Server], slots: int, names: Iterable[str], seconds: float = IN_THE_END) -> bool:
+def come_to_rest(databases: Sequence[Server], slots: int, names: Iterable[str], seconds: float = IN_THE_END) -> bool:
     """Waits until each slot is where it belongs, so that none moves by itself any more: whether that came."""
-    places = {slot: place(slot, names) for slot in range(slots)}
+    wanted: dict[int, str] = {}
+    for number in range(len(databases)):
+        wanted |= places(range(number, slots, len(databases)), names)
 
     def is_so() -> bool:
         time.sleep(0.5)
-        return owners(*databases) == places
+        return owners(*databases) == wanted
 
     return wait_until(is_so, seconds)

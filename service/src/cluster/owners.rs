@@ -13,7 +13,7 @@ mod step;
 pub use refused::Refusal;
 pub use step::{Step, Whose};
 
-use super::places::place;
+use super::places::places;
 use super::terms::{Refused, Row, Seen, Stay};
 use namesake::Namesake;
 use others::Others;
@@ -194,11 +194,13 @@ impl Owners {
         if living == self.living && self.places.len() == self.rows.len() {
             return;
         }
-        let place_of = |row: &Row| {
-            let place = place(row.slot, refused::may_have(row.slot, &living));
-            (row.slot, place.map(String::from))
-        };
-        self.places = self.rows.iter().map(place_of).collect();
+        let slots: Vec<u16> = self.rows.iter().map(|row| row.slot).collect();
+        let names: Vec<&str> = living.keys().map(String::as_str).collect();
+        let places = places(&slots, &names, |slot, name| !living[name].contains_key(&slot));
+        let kept = places
+            .into_iter()
+            .map(|(slot, place)| (slot, place.map(String::from)));
+        self.places = kept.collect();
         self.living = living;
     }
 

@@ -1,11 +1,60 @@
-//! Where each slot belongs: at the instance whose name has, beside the slot's number, the highest hash of all that live. So
-//! all that see the same instances agree, and where one comes or goes only its own slots move.
+//! Where each slot belongs: in their order at the instance whose name has, beside the slot's number, the highest hash of those
+//! that live and have room, which is for no more than one slot more than another has. So all that see the same instances
+//! agree, and where one comes or goes its own slots move, and few others.
 
 use sha2::{Digest, Sha256};
+use std::collections::BTreeMap;
 
-/// The instance, of these, at which a slot has its place; none where there is none.
-pub fn place<'a>(slot: u16, names: impl IntoIterator<Item = &'a str>) -> Option<&'a str> {
-    names.into_iter().max_by_key(|name| (weight(slot, name), *name))
+/// Of each of these slots the instance, of these, at which it has its place; none where none may have it. Who may not have a
+/// slot changes the place of that one alone.
+pub fn places<'a>(
+    slots: &[u16],
+    names: &[&'a str],
+    may_have: impl Fn(u16, &str) -> bool,
+) -> BTreeMap<u16, Option<&'a str>> {
+    let mut shares = Shares::of(slots.len(), names);
+    let place = |slot: &u16| {
+        let may = |name: &&str| may_have(*slot, name);
+        let place = shares.give(*slot).filter(may);
+        (
+            *slot,
+            place.or_else(|| highest(*slot, names.iter().copied().filter(may))),
+        )
+    };
+    slots.iter().map(place).collect()
+}
+
+/// How many slots each has, and what each may get.
+struct Shares<'a> {
+    counts: BTreeMap<&'a str, usize>,
+    each: usize,
+    /// So many get one more.
+    more: usize,
+}
+
+impl<'a> Shares<'a> {
+    fn of(slots: usize, names: &[&'a str]) -> Shares<'a> {
+        let instances = names.len().max(1);
+        Shares {
+            counts: names.iter().map(|name| (*name, 0)).collect(),
+            each: slots / instances,
+            more: slots % instances,
+        }
+    }
+
+    fn give(&mut self, slot: u16) -> Option<&'a str> {
+        let most = self.each + usize::from(self.more > 0);
+        let with_room = self.counts.iter().filter(|(_, count)| **count < most);
+        let name = highest(slot, with_room.map(|(name, _)| *name))?;
+        let count = self.counts.entry(name).or_default();
+        *count += 1;
+        self.more -= usize::from(*count > self.each);
+        Some(name)
+    }
+}
+
+fn highest<'a>(slot: u16, names: impl Iterator<Item = &'a str>) -> Option<&'a str> {
+    names.max_by_key(|name| (weight(slot, name), *name))
 }
 
 fn weight(slot: u16, name: &str) -> [u8; 32] {
@@ -17,22 +66,43 @@ fn weight(slot: u16, name: &str) -> [u8; 32] {
 mod tests {
     use super::*;
 
-    fn places<'a>(names: &[&'a str]) -> Vec<&'a str> {
-        (0..256)
-            .map(|slot| place(slot, names.iter().copied()).unwrap())
-            .collect()
+    fn of<'a>(slots: u16, names: &[&'a str]) -> Vec<&'a str> {
+        let slots: Vec<u16> = (0..slots).collect();
+        let places = places(&slots, names, |_, _| true);
+        places.into_values().flatten().collect()
     }
 
     #[test]
-    fn who_comes_takes_its_share_and_who_goes_leaves_the_others_places() {
-        let (two, three) = (places(&["a", "b"]), places(&["b", "c", "a"]));
-        assert_eq!(place(0, []), None);
-        for (before, after) in two.iter().zip(&three) {
-            assert!(before == after || *after == "c");
+    fn all_have_as_many_and_few_move_where_one_comes_or_goes() {
+        for (slots, most) in [(256, 30), (12, 3)] {
+            let (two, three) = (of(slots, &["a", "b"]), of(slots, &["b", "c", "a"]));
+            let moved = |(before, after): &(&&str, &&str)| before != after && **after != "c";
+            let moved = two.iter().zip(&three).filter(moved).count();
+            assert!(moved <= most, "{moved} of {slots} moved beside those of c");
         }
-        for name in ["a", "b", "c"] {
-            let share = three.iter().filter(|place| **place == name).count();
-            assert!((60..112).contains(&share), "{name} has {share} of 256");
+        for slots in 0..40 {
+            for names in [&["a"][..], &["a", "b", "c"], &["x", "y", "z", "v", "w"]] {
+                let places = of(slots, names);
+                let share = |name: &&str| places.iter().filter(|place| *place == name).count();
+                let shares = names.iter().map(share);
+                let spread = shares.clone().max().unwrap() - shares.clone().min().unwrap();
+                assert!(spread <= 1 && shares.sum::<usize>() == usize::from(slots));
+            }
         }
+        assert_eq!(places(&[3], &[], |_, _| true), [(3, None)].into());
+    }
+
+    #[test]
+    fn who_may_not_have_a_slot_changes_the_place_of_that_one_alone() {
+        let (slots, names) = ((0..12).collect::<Vec<u16>>(), ["a", "b", "c"]);
+        let before = places(&slots, &names, |_, _| true);
+        for (slot, place) in &before {
+            let refused = |other, name: &str| other != *slot || Some(name) != *place;
+            let mut after = places(&slots, &names, refused);
+            assert!(after[slot].is_some() && after[slot] != *place);
+            after.insert(*slot, *place);
+            assert_eq!(after, before);
+        }
+        assert!(places(&slots, &names, |slot, _| slot != 3)[&3].is_none());
     }
 }

@@ -22,8 +22,8 @@ pub struct Init {
     /// Where: postgres://USER@HOST:PORT/DB, or postgres://USER@HOST1,HOST2/DB of servers that stand in for each other. Several share the slots: then `serve` names them in this order
     #[arg(value_name = "ADDRESS", required = true, value_parser = address)]
     databases: Vec<Server>,
-    /// In how many slots series are kept: at least four for each machine; it stays as it is
-    #[arg(long, value_name = "N", default_value_t = 32, value_parser = value_parser!(u16).range(1..=i64::from(MOST_SLOTS)))]
+    /// In how many slots series are kept: four for each machine; it stays as it is
+    #[arg(long, value_name = "N", default_value_t = 12, value_parser = value_parser!(u16).range(1..=i64::from(MOST_SLOTS)))]
     slots: u16,
 }
 

@@ -2,7 +2,7 @@
 
 use super::server::Server;
 use super::work::{take, wait, Work};
-use super::{make, open, SLOTS};
+use super::{make, open, SLOTS, STRAYS};
 use std::thread;
 use std::time::Duration;
 use totxegun::cluster::terms::Refused;
@@ -103,6 +103,28 @@ fn a_store_that_was_made_in_part_is_made_whole() {
     }
     let even = "select coalesce(bool_and(slot % 2 = 0), true) from totxegun_store.piece";
     assert_eq!(server.ask(even), "t");
+}
+
+/// Its pieces have another key, and their columns another order.
+#[test]
+fn a_store_that_was_made_before_goes_on() {
+    let Some(server) = Server::start("") else { return };
+    make(&[&server.address()]);
+    server.ask("drop table totxegun_store.piece");
+    server.ask(
+        "create table totxegun_store.piece (slot int not null, file bigint not null, number bigint not null,
+        place bigint not null, length int not null, bytes bytea not null, primary key (slot, file, number))",
+    );
+    let store = open(&[&server.address()], Copies::One);
+    for seed in 0..4 {
+        let mut work = Work::take(&store, 0, seed);
+        for _ in 0..12 {
+            assert!(work.round());
+            work.check();
+        }
+        assert_eq!(server.ask(STRAYS), "0");
+        assert!(take(&store, 0).1 == work.synced);
+    }
 }
 
 #[test]

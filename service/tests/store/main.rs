@@ -17,6 +17,9 @@ use totxegun::store::postgres::{address, Copies, PostgresStore};
 use work::{take, Work};
 
 const SLOTS: u16 = 64;
+/// Pieces of files that are gone.
+const STRAYS: &str = "select count(*) from totxegun_store.piece
+    where (slot, file) not in (select slot, file from totxegun_store.file)";
 
 /// So many rounds of each trial, or as many as STORE_ROUNDS says.
 fn rounds(usual: u64) -> u64 {
@@ -47,6 +50,7 @@ fn a_drive_is_as_a_map_has_it_and_the_next_owner_finds_what_was_synced() {
             assert!(work.round());
             work.check();
         }
+        assert_eq!(server.ask(STRAYS), "0");
         work.step();
         let (next, found) = take(&store, slot);
         assert!(found == work.synced, "seed {seed}");

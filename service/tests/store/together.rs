@@ -3,7 +3,7 @@
 use super::proxy::Proxy;
 use super::server::{wait_until, Server};
 use super::work::{contents, take};
-use super::{make, open};
+use super::{make, open, STRAYS};
 use std::path::Path;
 use std::sync::Arc;
 use std::thread::{self, JoinHandle};
@@ -190,9 +190,7 @@ fn what_comes_late_of_a_transaction_of_several_slots_is_done_for_none() {
     proxy.go_on();
     let left = format!("select count(*) from pg_stat_activity where pid in ({together})");
     wait_until("it is done", || server.ask(&left) == "0");
-    let strays =
-        "select count(*) from totxegun_store.piece where file not in (select file from totxegun_store.file)";
-    assert_eq!(server.ask(strays), "0", "what came late was done");
+    assert_eq!(server.ask(STRAYS), "0", "what came late was done");
     for slot in SLOTS {
         let (next, found) = take(&store, slot);
         assert_eq!(found.len(), 2);

@@ -31,14 +31,6 @@ pub struct Refusal {
     pub reason: String,
 }
 
-/// The instances that do not refuse a slot.
-pub(super) fn may_have(slot: u16, refused: &BTreeMap<String, Refused>) -> impl Iterator<Item = &str> {
-    let may = refused
-        .iter()
-        .filter(move |(_, refused)| !refused.contains_key(&slot));
-    may.map(|(name, _)| name.as_str())
-}
-
 /// Of each instance what it refuses.
 pub(super) fn all(refused: &BTreeMap<String, Refused>) -> Vec<Refusal> {
     let of_one = |(instance, refused): (&String, &Refused)| {

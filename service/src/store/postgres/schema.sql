@@ -20,8 +20,9 @@ create table totxegun_store.delivered (
     slot int primary key, term bigint not null, number bigint not null);
 create table totxegun_store.file (
     slot int not null, file bigint not null, name text not null, primary key (slot, file));
--- Bytes of a file from a place on. A later number counts where two overlap. Packed (raw deflate) where `bytes` has
--- another length.
+-- Bytes of a file from a place on. A later number counts where two overlap; a slot has none twice. Packed (raw deflate) where
+-- `bytes` has another length. As it has no gaps, and by this key, a row is 12 bytes less to be logged than in stores that were
+-- made before, which had the key (slot, file, number).
 create table totxegun_store.piece (
-    slot int not null, file bigint not null, number bigint not null, place bigint not null, length int not null,
-    bytes bytea not null, primary key (slot, file, number));
+    file bigint not null, number bigint not null, place bigint not null, slot int not null, length int not null,
+    bytes bytea not null, primary key (slot, number));

@@ -41,11 +41,13 @@ macro_rules! mine {
     };
 }
 
-/// All of a sync of one slot, or a part of it where it is long. Each part of it may be done again.
+/// All of a sync of one slot, or a part of it where it is long. Each part of it may be done again. A file's pieces have greater
+/// numbers than the file: so what was written before it is not looked at.
 const PUT: &str = concat!(
     mine!(),
     ", gone as (
         delete from totxegun_store.piece using mine where piece.slot = mine.slot and piece.file = any($4::bigint[])
+        and piece.number > (select min(file) from unnest($4::bigint[]) as without (file))
     ), gone_files as (
         delete from totxegun_store.file using mine where file.slot = mine.slot and file.file = any($4::bigint[])
     ), named as (
@@ -57,7 +59,7 @@ const PUT: &str = concat!(
         select mine.slot, new.file, new.number, new.place, new.length, new.bytes
         from mine, unnest($7::bigint[], $8::bigint[], $9::bigint[], $10::int[], $11::bytea[])
             as new (file, number, place, length, bytes)
-        on conflict (slot, file, number) do nothing
+        on conflict do nothing
     ) select write from mine"
 );
 
@@ -76,10 +78,7 @@ macro_rules! append {
 }
 
 /// It may be done again.
-const APPEND: &str = concat!(
-    append!(),
-    " on conflict (slot, file, number) do nothing) select write from mine"
-);
+const APPEND: &str = concat!(append!(), " on conflict do nothing) select write from mine");
 /// Of pieces that were never sent before. A server that need not look for them first writes a tenth less.
 const APPEND_NEW: &str = concat!(append!(), ") select write from mine");
 

@@ -1,7 +1,7 @@
 //! Instances over a store of two databases: each is by itself.
 
 use super::*;
-use crate::cluster::places::place;
+use crate::cluster::places::places;
 
 const FAST: Duration = Duration::from_millis(50);
 /// So many beats in which nothing must move.
@@ -51,8 +51,9 @@ async fn are_settled(databases: &[&Arc<Store>], names: &[&str]) {
     until(|| {
         databases.iter().all(|database| {
             let rows = database.rows.lock().unwrap();
-            let is_there = |row: &Row| place(row.slot, names.iter().copied()) == Some(&row.owner);
-            rows.1.iter().all(is_there)
+            let slots: Vec<u16> = rows.1.iter().map(|row| row.slot).collect();
+            let places = places(&slots, names, |_, _| true);
+            rows.1.iter().all(|row| places[&row.slot] == Some(&row.owner))
         })
     })
     .await;

@@ -231,10 +231,16 @@ impl World {
 
     /// Each slot is served by its place alone, and all know it.
     pub fn is_settled(&self) -> bool {
-        let refuses = |node: &&Node, slot| node.owners.told().1.contains_key(&slot);
+        let slots: Vec<u16> = (0..SLOTS).collect();
+        let names: Vec<&str> = self.nodes.iter().map(|node| node.name.as_str()).collect();
+        let refuses = |node: &Node, slot| node.owners.told().1.contains_key(&slot);
+        let places = places(&slots, &names, |slot, name| {
+            !self
+                .nodes
+                .iter()
+                .any(|node| node.name == name && refuses(node, slot))
+        });
         self.store.rows.iter().all(|row| {
-            let may = self.nodes.iter().filter(|node| !refuses(node, row.slot));
-            let names = may.map(|node| node.name.as_str());
             let served = |node: &Node| match &node.owners.whose()[&row.slot] {
                 Whose::Here { term } => node.name == row.owner && *term == row.term,
                 Whose::There { name, address, term } => {
@@ -245,7 +251,7 @@ impl World {
                 }
                 Whose::Nobody => false,
             };
-            place(row.slot, names) == Some(&row.owner) && self.nodes.iter().all(served)
+            places[&row.slot] == Some(&row.owner) && self.nodes.iter().all(served)
         })
     }
 
