@@ -50,7 +50,7 @@ STEPS = (
 # Of the sources alone: what `make fmt` would change, the definitions that docs/PROOFS.md counts and lists, the pictures, the Python,
 # and whether each wrong copy of the service, and each edit of the crates, can still be made.
 TOOL_STEPS = (
-    ("crates_are_laid_out", ["tools/format.py", "--check"], 20),
+    ("crates_are_laid_out", ["tools/format.py", "--check"], 3),
     ("promise_is_counted", ["tools/promise.py", "--check"], 2),
     ("pictures_are_drawn", ["tools/pictures.py", "--check"], 2),
     ("python_is_typed", ["tools/python.py", "--check"], 30),
