@@ -33,7 +33,7 @@ WORDS = (("SEED", 1, 0), ("SECONDS", 60, 10))
 def build_sender() -> str | None:
     """The path of the program that posts, built from Debian's Go packages; nothing where that fails."""
     os.makedirs(OUT, exist_ok=True)
-    environment = {**os.environ, "GO111MODULE": "off", "GOPATH": LIBRARIES, "GOCACHE": f"{OUT}/go", "GOFLAGS": ""}
+    environment = {**os.environ, "GO111MODULE": "off", "GOPATH": LIBRARIES, "GOCACHE": f"{ROOT}/out/go", "GOFLAGS": ""}
     done = subprocess.run(["go", "build", "-o", f"{OUT}/sender", "."], cwd=f"{DEMO}/sender", env=environment, check=False)
     if done.returncode:
         print("the programs that post could not be built")

@@ -21,21 +21,22 @@ import re
 import ssl
 import subprocess
 import sys
-import time
+import threading
 from collections.abc import Callable, Mapping
 from typing import Any
 
 from testing import ROOT
 from testing.checks import Checks
 from testing.loopback import SECONDS, free_port
-from testing.service import (Value, JSON, PROTOBUF, Sender, Service, SqliteSink, add_points, differences, in_json, in_protobuf,
+from testing.service import (Value, JSON, PROTOBUF, Bursts, Sender, Service, SqliteSink, add_points, differences, in_json, in_protobuf,
                      overlaps, told_to_all,
                              wait_until)
 from testing.shipped import end_group, folder, listens, missing, run_script, shipped, started, with_replaced
 from service_load import post_meanwhile
 
 SENDERS = 6
-LOAD_SECONDS = 15
+# Before each kill, in seconds.
+PAUSE = 1
 LIMIT = 4_194_304
 HIDDEN = ["/", "/flush", "/report", "/metrics", "/status", "/dead", "/quarantine/sender-1", "//flush", "/%66lush",
           "/v1/metrics/../../flush", "/v1/metrics/"]
@@ -245,12 +246,13 @@ def under_load(checks: Checks, proxy: Proxy, service: Service, sink: SqliteSink)
     kind = proxy.kind
     before = sink.points() if service.order("/flush") == 200 and wait_until(service.is_drained) else None
     clients = [Client(service, proxy, number) for number in range(SENDERS)]
-    until = time.monotonic() + LOAD_SECONDS
-    threads = post_meanwhile(clients, lambda: time.monotonic() > until)
+    bursts, over = Bursts(), threading.Event()
+    threads = post_meanwhile(clients, over.is_set, lambda _: bursts.are_on.wait())
     for kill in kills(proxy, service):
         service.wait_ready()
-        time.sleep(LOAD_SECONDS / 15)
+        bursts.before(PAUSE)
         kill()
+    over.set()
     checks.true(f"{kind}: the service is ready again", service.wait_ready(), service.last_lines())
     for thread in threads:
         thread.join(SECONDS)

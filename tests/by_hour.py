@@ -26,7 +26,7 @@ from typing import Any
 
 from testing.checks import Checks
 from testing.database import Database, initdb
-from testing.service import BOUNDS, Point, Post, Sender, Service, added, wait_until
+from testing.service import BOUNDS, Bursts, Point, Post, Sender, Service, added, wait_until
 
 MINUTE, HOUR, DAY = (60 * 10**9, 3600 * 10**9, 86_400 * 10**9)
 SENDERS = 4
@@ -87,8 +87,9 @@ class HourlySender(Sender):
             if b"its clock is 365d ahead" not in text:
                 self.surprises.append((status, text))
 
-    def run(self, until: float) -> None:
+    def run(self, until: float, bursts: Bursts) -> None:
         while time.monotonic() < until and self.time < self.end:
+            bursts.are_on.wait()
             if not self.post(self.next_points()):
                 return
             if self.posts % 30 == 1:
@@ -152,9 +153,9 @@ def by_month(hours: dict[Any, Any]) -> dict[Any, Any]:
     return months
 
 
-def trouble(service: Service, until: float, chance: random.Random) -> None:
+def trouble(service: Service, until: float, chance: random.Random, bursts: Bursts) -> None:
     while time.monotonic() < until:
-        time.sleep(chance.choice([0.2, 0.7, 1.5]))
+        bursts.before(chance.choice([0.2, 0.7, 1.5]))
         if chance.random() < 0.5:
             service.order("/flush", 5)
         else:
@@ -169,8 +170,9 @@ def run(checks: Checks, program: str, folder: str, sink: File | Server, seconds:
     checks.true(f"{kind}: the service is ready", service.wait_ready(), service.last_lines())
     senders = [HourlySender(service, number, f"{kind} {seed}") for number in range(SENDERS)]
     until = time.monotonic() + seconds
-    threads = [threading.Thread(target=sender.run, args=(until,)) for sender in senders]
-    threads.append(threading.Thread(target=trouble, args=(service, until, random.Random(f"{kind} {seed}"))))
+    bursts = Bursts()
+    threads = [threading.Thread(target=sender.run, args=(until, bursts)) for sender in senders]
+    threads.append(threading.Thread(target=trouble, args=(service, until, random.Random(f"{kind} {seed}"), bursts)))
     for thread in threads:
         thread.start()
     for thread in threads:

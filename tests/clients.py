@@ -94,7 +94,7 @@ def compare_wrk(checks: Checks, what: str, told: dict[str, int], found: Any, acc
 def alone(checks: Checks, service: Service, sink: SqliteSink, folder: str, stack: contextlib.ExitStack) -> dict[str, int]:
     wrk = Wrk(service.listen, folder, "wrk.alone")
     stack.callback(wrk.kill)
-    time.sleep(1.5)
+    time.sleep(0.5)
     wait_until(lambda: accepted(service) > LEAST_POSTS, PATIENCE)
     wrk.end(checks, "wrk alone")
     checks.same("wrk alone: each answer is 200", 0, sum(repeats for _, repeats, _ in wrk.series.values()))

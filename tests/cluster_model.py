@@ -27,6 +27,7 @@ Each rule has wrong copies of the program too, without it, in service/wrong: COP
 Each line is one check; the last line counts those that passed and failed, and the status is 0 where none failed.
 """
 import dataclasses
+import gc
 import os
 import sys
 import time
@@ -690,6 +691,7 @@ def text_of(label):
 
 def main():
     checks = Checks()
+    gc.disable()  # No state is part of itself: to look for that among so many takes a tenth of the time.
     for world, left in WHOLE:
         found = explore(Rules(), world, left)
         bounds = ", ".join(f"{count} {kind.replace('_', '-')}" for kind, count in left._asdict().items() if count)

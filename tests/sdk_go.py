@@ -70,7 +70,9 @@ def build(folder: str) -> tuple[str, str]:
     with open(f"{folder}/descriptors", "wb") as file:
         file.write(file_of_definitions())
     environment = dict(os.environ, GO111MODULE="off", GOPATH=GOPATH, GOCACHE=CACHE, GOFLAGS="-p=2")
-    built = subprocess.run(["go", "build", "-o", program, *glob.glob(f"{TESTS}/sdk_go/*.go")], env=environment,
+    # Most of the work is gRPC and protobuf, which are compiled quickly: they send little.
+    words = ["-ldflags=-s -w", "-gcflags=google.golang.org/...=-N -l -dwarf=false"]
+    built = subprocess.run(["go", "build", *words, "-o", program, *glob.glob(f"{TESTS}/sdk_go/*.go")], env=environment,
                            capture_output=True, text=True, check=False)
     return program, built.stderr if built.returncode else ""
 

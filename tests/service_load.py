@@ -68,7 +68,7 @@ class Trouble:
             event = self.chance.choice(self.events)
             self.counts[event.__name__] = self.counts.get(event.__name__, 0) + 1
             event()
-            self.let_post(self.chance.choice([0, 5, 50, 200]), until)
+            self.let_post(self.chance.choice([0, 5, 20, 20, 100]), until)
 
     def let_post(self, count: int, until: float) -> None:
         """Waits until so many posts more were answered, and three seconds at most."""
@@ -169,7 +169,7 @@ def intrude(sender: Sender, senders: list[Sender]) -> None:
             sender.surprises.append((status, text))
 
 
-def post_meanwhile(senders: Sequence[Sender], is_over: Callable[[], bool],
+def post_meanwhile(senders: Sequence[Sender], is_over: Callable[[], object],
                    between: Callable[[Sender], object] = lambda sender: None) -> list[threading.Thread]:
     """Threads in which the senders post until it is over; each ends with a post that was answered."""
     def go_on(sender: Sender) -> None:

@@ -27,6 +27,8 @@ coarser machine, in crates/service_law; this is what finds a way where a rule is
 Each line is one check; the last line counts those that passed and failed, and the status is 0 where none failed.
 """
 import dataclasses
+import functools
+import gc
 import sys
 import time
 from collections import deque
@@ -42,7 +44,8 @@ MOST_STATES = 1_000_000
 # The rules
 
 
-@dataclasses.dataclass(frozen=True)
+# Compared by its identity, which what is remembered of a search asks for often.
+@dataclasses.dataclass(frozen=True, eq=False)
 class Rules:
     """What makes the service exact. Each is a switch, so that the search can do without it."""
 
@@ -274,8 +277,13 @@ def with_request(state: State, *requests: Request) -> State:
 
 def spend(state: State, kind: str) -> Left | None:
     """The budget with one less of a kind, or None where it is used up."""
-    count = getattr(state.left, kind)
-    return state.left._replace(**{kind: count - 1}) if count else None
+    return less(state.left, kind)
+
+
+@functools.cache
+def less(left: Left, kind: str) -> Left | None:
+    count = getattr(left, kind)
+    return left._replace(**{kind: count - 1}) if count else None
 
 
 # --------------------------------------------------------------------------------------------------------------------
@@ -333,15 +341,16 @@ def flushable(books: Books) -> int:
 # Posts
 
 
-def next_post(state: State, sender: str) -> int | None:
+@functools.cache
+def next_post(told: tuple[int, ...], sender: str) -> int | None:
     """The first post of the sender that it has no answer to, or None."""
-    return next((number for number, one in enumerate(POSTS) if one.sender == sender and not state.told[number]), None)
+    return next((number for number, one in enumerate(POSTS) if one.sender == sender and not told[number]), None)
 
 
 def post(rules: Rules, state: State) -> Events:
     """A sender posts what it does not have an answer to, if it waits for no attempt at it, and the books are asked."""
     for sender in (A, B) if state.books else ():
-        number = next_post(state, sender)
+        number = next_post(state.told, sender)
         if number is None or state.attempts[number] == MOST_ATTEMPTS or sender == A and state.left.repairs:
             continue
         if any(request.is_awaited and request.post == number for request in state.requests):
@@ -397,7 +406,8 @@ def place_late(rules: Rules, state: State) -> Events:
             yield f"post {request.post} has its place in the queue", placed(rules, others, request.post, request.is_awaited)
 
 
-def moved(records: Iterable[Record], before: int, after: int) -> tuple[Record, ...]:
+@functools.cache
+def moved(records: tuple[Record, ...], before: int, after: int) -> tuple[Record, ...]:
     return tuple(one._replace(sync=after) if one.sync == before else one for one in records)
 
 
@@ -599,6 +609,7 @@ def replayed(outbox: Outbox, journal: tuple[Record, ...]) -> tuple[Record, ...]:
                  and (not record.is_held or record.segment == outbox.journal))
 
 
+@functools.cache
 def fresh_books(rules: Rules, outbox: Outbox, journal: tuple[Record, ...]) -> Books:
     """Primed, then given the posts that no group has, then the quarantine."""
     known = tuple((owner, frontier(outbox, series)) if owner and frontier(outbox, series) is not None else None
@@ -669,13 +680,17 @@ def counted(state: State) -> list[int]:
 def fault_of_hours(state: State) -> str | None:
     """Which series is in two hours at once, or out of order; or None."""
     group = state.checkpoint.group if state.checkpoint and state.checkpoint.step < Step.COMMITTED else ()
-    pending = (state.books.pending, *group, *state.books.earlier) if state.books else ()
-    for points in (*pending, *state.outbox.requests):
+    return fault_of_sets((state.books.pending, *group, *state.books.earlier) if state.books else (), state.outbox.requests)
+
+
+@functools.cache
+def fault_of_sets(pending: tuple[int, ...], requests: tuple[int, ...]) -> str | None:
+    for points in (*pending, *requests):
         for series in SERIES:
             if sum(1 for hour in OF_HOUR if points & OF_SERIES[series] & hour) > 1:
                 return f"what goes of series {series} as one is of two hours"
     for series in SERIES:
-        order = [points & OF_SERIES[series] for points in state.outbox.requests if points & OF_SERIES[series]]
+        order = [points & OF_SERIES[series] for points in requests if points & OF_SERIES[series]]
         if order != sorted(order):
             return f"a later hour of series {series} is sent before an earlier one"
     return None
@@ -723,10 +738,10 @@ def explore(rules: Rules, left: Left) -> Found:
     waiting = deque([begin])
     while waiting and len(parents) < MOST_STATES:
         state = waiting.popleft()
-        for label, after in (step for action in ACTIONS for step in action(rules, state)):
-            if after in parents:
+        for label, after in (event for action in ACTIONS for event in action(rules, state)):
+            step = label, state
+            if parents.setdefault(after, step) is not step:
                 continue
-            parents[after] = label, state
             fault = fault_of_hours(after) or (fault_of(after) if is_quiet(after) else None)
             if fault:
                 return Found(len(parents), fault, way_to(parents, after), False)
@@ -741,6 +756,7 @@ def show(found: Found) -> None:
 
 def main() -> int:
     checks = Checks()
+    gc.disable()  # No state is part of itself: to look for that among so many takes an eighth of the time.
     for left in BOUNDS:
         found = explore(Rules(), left)
         repaired = ", x put back" if left.repairs else ""

@@ -6,47 +6,32 @@
 With --check nothing is changed: the files are named that would be, and the lines of code and definitions that have
 more than 100 columns. The status is 1 where there are any.
 """
-import filecmp
 import os
 import re
-import shutil
 import subprocess
 import sys
-import tempfile
 from collections.abc import Iterator
 
-from tooling.crates import PARTS, ROOT, Crate, read_crates
+from tooling.crates import ROOT, Crate, read_crates
+from tooling.prover import Prover
 
-# What a crate's folder needs around it, for `rt` to know what it is built over.
-AROUND = ("crates.txt", "HANDLES")
+# What has a layout.
+LAID_OUT = (".rt", ".antt")
 # Parts whose lines have at most so many columns, and what of a line may be wider: a text, an attribute of the prover,
 # an import of one name.
 NARROW, COLUMNS = ("src", "specs"), 100
 WIDE = re.compile(r'"|\\$|^ *#!?\[|^(ghost |pub )?use [^,]*$')
 
 
-def lay_out(folder: str) -> bool:
-    """Formats the crate in a folder. Returns whether it could."""
-    ran = subprocess.run(["rt", "fmt"], cwd=folder, stdout=subprocess.PIPE, stderr=subprocess.STDOUT, text=True)
-    if ran.returncode:
-        print(f"{folder}: {ran.stdout}")
-    return ran.returncode == 0
-
-
-def copy_of(crates: list[Crate], top: str) -> None:
-    """The crates, copied below another folder."""
-    for name in AROUND:
-        shutil.copy(f"{ROOT}/{name}", top)
-    for crate in crates:
-        for part in PARTS:
-            if os.path.isdir(f"{crate.folder}/{part}"):
-                shutil.copytree(f"{crate.folder}/{part}", f"{top}/crates/{crate.name}/{part}")
-
-
-def changed(crate: Crate, folder: str) -> list[str]:
-    """The crate's files that are otherwise in this folder."""
-    names = [os.path.relpath(file, crate.folder) for file in crate.files()]
-    return [name for name in names if not filecmp.cmp(f"{crate.folder}/{name}", f"{folder}/{name}", shallow=False)]
+def lay_out(crates: list[Crate], how: str) -> list[str]:
+    """What `rattle fmt`, which `rt fmt` calls for each crate, says of all files: a line for each that is wrong."""
+    files = [os.path.relpath(file, ROOT) for crate in crates for file in crate.files() if file.endswith(LAID_OUT)]
+    ran = subprocess.run([f"{Prover().kit}/bin/rattle", "fmt", how, *files], cwd=ROOT, stdout=subprocess.PIPE, stderr=subprocess.STDOUT,
+                         text=True, check=False)
+    lines = ran.stdout.splitlines()
+    if bool(ran.returncode) != bool(lines):
+        sys.exit(f"rattle fmt had status {ran.returncode}, and said {lines}")
+    return lines
 
 
 def too_wide(crate: Crate) -> Iterator[str]:
@@ -57,35 +42,18 @@ def too_wide(crate: Crate) -> Iterator[str]:
             with open(file, encoding="utf-8") as lines:
                 for number, line in enumerate(map(str.rstrip, lines), 1):
                     if len(line) > COLUMNS and not WIDE.search(line):
-                        yield f"{name}:{number}"
-
-
-def check(crates: list[Crate]) -> int:
-    """How many files would be changed, could not be read, or have a line that is too wide."""
-    count = 0
-    with tempfile.TemporaryDirectory(prefix="format-") as top:
-        copy_of(crates, top)
-        for crate in crates:
-            folder = f"{top}/crates/{crate.name}"
-            count += not lay_out(folder)
-            for name in changed(crate, folder):
-                count += 1
-                print(f"crates/{crate.name}/{name}: make fmt changes it")
-            for place in too_wide(crate):
-                count += 1
-                print(f"crates/{crate.name}/{place}: more than {COLUMNS} columns")
-    return count
+                        yield f"crates/{crate.name}/{name}:{number}: more than {COLUMNS} columns"
 
 
 def main(words: list[str]) -> int:
     if words not in ([], ["--check"]):
         sys.exit("usage: tools/format.py [--check]")
     crates = list(read_crates().values())
+    faults = lay_out(crates, "--check" if words else "--write")
     if words:
-        count = check(crates)
-        print(f"{len(crates)} crates, {count} files or lines that are not laid out")
-        return 1 if count else 0
-    return 0 if all([lay_out(crate.folder) for crate in crates]) else 1
+        faults += [place for crate in crates for place in too_wide(crate)]
+    print("\n".join([*faults, f"{len(crates)} crates, {len(faults)} files or lines that are not laid out"]))
+    return 1 if faults else 0
 
 
 if __name__ == "__main__":

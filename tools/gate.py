@@ -50,7 +50,7 @@ STEPS = (
 # Of the sources alone: what `make fmt` would change, the definitions that docs/PROOFS.md counts and lists, the pictures, the Python,
 # and whether each wrong copy of the service, and each edit of the crates, can still be made.
 TOOL_STEPS = (
-    ("crates_are_laid_out", ["tools/format.py", "--check"], 20),
+    ("crates_are_laid_out", ["tools/format.py", "--check"], 3),
     ("promise_is_counted", ["tools/promise.py", "--check"], 2),
     ("pictures_are_drawn", ["tools/pictures.py", "--check"], 2),
     ("python_is_typed", ["tools/python.py", "--check"], 30),
@@ -71,7 +71,7 @@ CARGO_STEPS = (
 )
 # After the program's name: further words, and about how many seconds it takes.
 SERVICE_STEPS = (
-    ("service_load.py", ["60"], 120),
+    ("service_load.py", ["50"], 90),
     ("by_hour.py", ["10"], 50),
     ("clock_jumps.py", ["1"], 20),
     ("service_interrupted.py", ["5"], 300),
@@ -101,6 +101,8 @@ SERVICE_STEPS = (
     ("unit_tasks.py", [], 5),
     ("package_installs.py", [], 15),
 )
+# These compile a program in Go: the second one takes from the first what both use.
+IN_GO = ("sdk_go.py", "demo.py")
 # These run no program.
 WITHOUT_PROGRAM = ("service_model.py", "runs_model.py", "cluster_model.py", "releases.py", "drawn.py")
 STEP_LIMIT = 600
@@ -241,6 +243,8 @@ def service_steps(before):
     steps = [step_of(it, "", 60, False, []) for it in WITHOUT_PROGRAM]
     for script, words, seconds in SERVICE_STEPS:
         step = step_of(script, " ".join([SERVICE_MADE, *words]), seconds, False, before, "service_")
+        if script in IN_GO:
+            step.lane = step.lane or "go"
         step.after = ["service_is_built"]
         steps.append(step)
     return steps

@@ -63,12 +63,13 @@ def ask(port: int | str, method: str, path: str, body: bytes | str = b"", header
 
 
 def wait_until(what: Callable[[], object], seconds: float = SECONDS) -> bool:
-    """Whether it came true within so many seconds."""
-    until = time.monotonic() + seconds
+    """Whether it came true within so many seconds. It is asked more rarely the longer it takes: to ask may cost a process."""
+    until, pause = time.monotonic() + seconds, 0.01
     while not what():
         if time.monotonic() > until:
             return False
-        time.sleep(0.01)
+        time.sleep(pause)
+        pause = min(1.1 * pause, 0.1)
     return True
 
 
@@ -398,6 +399,24 @@ class Sender:
     def close(self) -> None:
         if self.connection is not None:
             self.connection.close()
+
+
+class Bursts:
+    """When senders post: just before each thing that befalls the service, so that it comes while posts are on their way, and
+    until that is done. Else they wait."""
+
+    SECONDS = 0.3
+
+    def __init__(self) -> None:
+        self.are_on = threading.Event()
+        self.are_on.set()
+
+    def before(self, pause: float) -> None:
+        """Waits for so many seconds, of which senders post for the last ones."""
+        self.are_on.clear()
+        time.sleep(max(pause - self.SECONDS, 0))
+        self.are_on.set()
+        time.sleep(min(pause, self.SECONDS))
 
 
 def told_to_all(senders: Iterable[Sender]) -> dict[str, Value]:

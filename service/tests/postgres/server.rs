@@ -10,6 +10,9 @@ use std::sync::Arc;
 use tokio::io::{AsyncReadExt, AsyncWriteExt};
 use tokio::net::{TcpListener, TcpStream};
 
+#[path = "../data/folder.rs"]
+mod folder;
+
 pub struct Server {
     pub folder: tempfile::TempDir,
     programs: PathBuf,
@@ -53,15 +56,10 @@ impl Server {
             child: None,
         };
         drop(port);
-        let data = server.data();
-        let made = server
-            .command("initdb")
-            .args(["-U", "postgres", "-E", "UTF8", "--locale=C", "-N"])
-            .args(["--auth-local=trust", "--auth-host=scram-sha-256", "-D"])
-            .arg(data)
-            .output()
-            .unwrap();
-        assert!(made.status.success(), "{}", String::from_utf8_lossy(&made.stderr));
+        let mut initdb = server.command("initdb");
+        initdb.args(["-U", "postgres", "-E", "UTF8", "--locale=C", "-N"]);
+        initdb.args(["--auth-local=trust", "--auth-host=scram-sha-256", "-D"]);
+        folder::make(&server.data(), initdb);
         server.run();
         Some(server)
     }

@@ -8,6 +8,9 @@ use std::path::PathBuf;
 use std::process::{Child, Command, Stdio};
 use std::time::{Duration, Instant};
 
+#[path = "../data/folder.rs"]
+mod folder;
+
 /// PostgreSQL does not run as root.
 const USER: u32 = 65534;
 const SETTINGS: &str =
@@ -82,7 +85,7 @@ impl Server {
             "trust",
             "-D",
         ]);
-        done(initdb.arg(server.data()));
+        folder::make(&server.data(), initdb);
         server.set(&format!("{SETTINGS}{settings}\n"));
         server.run();
         Some(server)
