@@ -30,6 +30,8 @@ use tracing_subscriber::{filter::Targets, prelude::*};
 
 /// Threads of all that no sender waits for: checkpoints, the delivery, operators.
 const BACKGROUND: usize = 2;
+/// A thread of long work that has none for so long ends: what it keeps of free memory is others' then.
+const IDLE: Duration = Duration::from_secs(2);
 /// Threads for calls of files that wait for a disk. A store has several slots, each of which may wait for it.
 const LONG_WORK: usize = 16;
 const LONG_WORK_OF_STORE: usize = 128;
@@ -239,6 +241,7 @@ impl Options {
                 true => LONG_WORK_OF_STORE,
                 false => LONG_WORK,
             })
+            .thread_keep_alive(IDLE)
             .enable_all();
         let runtime = building.build().context("no threads could be started")?;
         let ended = runtime.block_on(service::run(self.settings(most_files, metrics)?));

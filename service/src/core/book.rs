@@ -319,15 +319,24 @@ impl Drop for Flushes {
 extern "C" {
     #[link_name = "MallocExtension_ReleaseFreeMemory"]
     fn release_free_memory();
+    #[link_name = "MallocExtension_MarkThreadIdle"]
+    fn mark_thread_idle();
     #[cfg(test)]
     #[link_name = "MallocExtension_GetNumericProperty"]
     fn number_of(property: *const libc::c_char, number: *mut usize) -> libc::c_int;
 }
 
-/// Gives the system back what nobody has of the process' memory.
+/// Gives the system back what nobody has of the process' memory, but for what other threads keep.
 pub(super) fn give_back() {
+    give_back_of_thread();
     // SAFETY: it may be called at any time, by any thread.
     unsafe { release_free_memory() };
+}
+
+/// Gives all threads the free memory that this one keeps for itself.
+pub(super) fn give_back_of_thread() {
+    // SAFETY: as above.
+    unsafe { mark_thread_idle() };
 }
 
 /// How many bytes of the allocator's the system has back now.

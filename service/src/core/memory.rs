@@ -124,6 +124,11 @@ pub(super) fn note_refusal() {
     OWN.try_with(note).unwrap_or_default(); // of a thread that ends nobody asks
 }
 
+/// What this thread has not counted with the others: another number once it has used the library.
+pub(super) fn drift() -> i64 {
+    OWN.with(|own| own.drift.get())
+}
+
 /// How many blocks this thread was refused so far.
 pub(super) fn refusals() -> u64 {
     OWN.with(|own| own.refusals.get())

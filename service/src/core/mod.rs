@@ -74,6 +74,16 @@ pub fn give_back_memory() {
     book::give_back();
 }
 
+/// Gives all threads what this one keeps of free memory, where it has not used the library since it was asked `before`: an
+/// allocator has a store for each thread, and takes nothing out of one that does nothing. What to ask next time.
+pub fn give_back_of_thread(before: Option<i64>) -> Option<i64> {
+    let now = Some(memory::drift());
+    if now == before {
+        book::give_back_of_thread();
+    }
+    now
+}
+
 /// How much of it the system has back now.
 #[cfg(test)]
 pub(crate) fn given_back() -> usize {

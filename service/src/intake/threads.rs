@@ -1,14 +1,20 @@
 //! Threads that serve senders. Each has a runtime of its own, so a request's whole way is on one thread: nothing of it
 //! is moved, and nobody is woken for it on another.
 
+use crate::core::give_back_of_thread;
+use crate::work::within;
 use std::io::Result;
+use std::pin::pin;
 use std::sync::atomic::{AtomicUsize, Ordering::Relaxed};
 use std::sync::Arc;
+use std::time::Duration;
 use tokio::runtime::{Builder, Handle};
 use tokio::sync::oneshot;
 
 /// Threads beside each for long bodies; how many are read at a time is bounded elsewhere.
 const LONG_WORK: usize = 2;
+/// How often a thread looks whether it serves anybody.
+const LOOK: Duration = Duration::from_secs(5);
 
 /// They end when this is dropped, whatever they do then.
 pub struct Threads(Vec<Thread>);
@@ -52,7 +58,7 @@ impl Thread {
         let handle = runtime.handle().clone();
         let (end, ended) = oneshot::channel::<()>();
         std::thread::Builder::new().name(name).spawn(move || {
-            let _ = runtime.block_on(ended);
+            runtime.block_on(rest_until(ended));
             runtime.shutdown_background(); // who still waits for a disk or a sender is not waited for
         })?;
         Ok(Thread {
@@ -60,6 +66,14 @@ impl Thread {
             connections: Arc::default(),
             _end: end,
         })
+    }
+}
+
+/// Returns once it ends. Until then what a thread has that serves nobody is given back.
+async fn rest_until(ended: oneshot::Receiver<()>) {
+    let (mut ended, mut before) = (pin!(ended), None);
+    while within(LOOK, &mut ended).await.is_none() {
+        before = give_back_of_thread(before);
     }
 }
 

@@ -23,6 +23,7 @@ pub use wide_integers::Exact;
 
 use super::periods::{Deed, Told};
 use super::{Answer, Fate, Forwarded, Keys, Memory, Retention, Sink};
+use crate::core::give_back_of_thread;
 use fault::NotTaken;
 use std::path::{Path, PathBuf};
 use std::sync::mpsc::{self, RecvTimeoutError};
@@ -218,12 +219,15 @@ impl Writer {
     /// Until there is nobody any more who sends. Nobody waits where the service ends: the key says the next time that it
     /// was taken.
     fn run(&mut self, received: &mpsc::Receiver<Job>) {
-        let mut wait = LOOK;
+        let (mut wait, mut before) = (LOOK, None);
         loop {
             match received.recv_timeout(wait) {
                 Ok(Job::Take(request, done)) => drop(done.send(self.take(&request))),
                 Ok(Job::Settle { who, deed, done }) => drop(done.send(self.settle(&who, &deed))),
-                Err(RecvTimeoutError::Timeout) => self.look(),
+                Err(RecvTimeoutError::Timeout) => {
+                    self.look();
+                    before = give_back_of_thread(before);
+                }
                 Err(RecvTimeoutError::Disconnected) => return,
             }
             wait = if self.keep_up() { PAUSE } else { LOOK };
