@@ -116,7 +116,11 @@ fn who_leaves_hands_all_over_and_takes_nothing() {
     world.nodes.pop();
     world.store.instances.remove("c");
     world.rounds(5);
-    assert!(world.is_settled());
+    assert!(world.store.rows.iter().all(|row| !row.owner.is_empty()));
+    // One of the others', so that both have as many.
+    let before = world.hand_overs;
+    world.rounds(SETTLED as usize + 5);
+    assert!(world.is_settled() && world.hand_overs - before <= 1);
     // The last one leaves them without an owner.
     world.nodes[0].owners.leave();
     world.nodes[1].owners.leave();
