@@ -124,7 +124,7 @@ fn histogram_point(
         bounds: NumberList::of(bytes, BOUNDS, bounds),
     };
     let attributes = PointAttributes::of(bytes, ATTRIBUTES, &room, count);
-    let Some(series) = series_of(alloc, cache, stream, kind, attributes)? else {
+    let Some(series) = series_of(alloc, cache, &stream, kind, attributes)? else {
         return Ok(None);
     };
     let HistogramFields {

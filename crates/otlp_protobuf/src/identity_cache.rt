@@ -46,14 +46,14 @@ impl IdentityCache {
     #[inline(always)]
     pub fn follow(
         &mut self,
-        stream: Stream<'_>,
-        kind: KindRef<'_>,
+        stream: &Stream<'_>,
+        kind: &KindRef<'_>,
         attributes: &[&[u8]],
     ) -> Option<SharedId>
         ensures { IfSome result (λ s. option_and_then
-            (λ k. series_of (stream_data stream.entry) k
+            (λ k. series_of (stream_data stream.now) k
             (said_list (map (λ b. b.now) attributes.now)))
-            (kind_data kind.entry) ≡ Some s) }
+            (kind_data kind.now) ≡ Some s) }
     {
         let slot = self.followed.next()?;
         let series = self.share_at(slot, stream, kind, attributes)?;
@@ -65,14 +65,14 @@ impl IdentityCache {
     pub fn look_up(
         &mut self,
         hash: ByteHash,
-        stream: Stream<'_>,
-        kind: KindRef<'_>,
+        stream: &Stream<'_>,
+        kind: &KindRef<'_>,
         attributes: &[&[u8]],
     ) -> Option<SharedId>
         ensures { IfSome result (λ s. option_and_then
-            (λ k. series_of (stream_data stream.entry) k
+            (λ k. series_of (stream_data stream.now) k
             (said_list (map (λ b. b.now) attributes.now)))
-            (kind_data kind.entry) ≡ Some s) }
+            (kind_data kind.now) ≡ Some s) }
     {
         let mut slot = hash.slot(SLOTS);
         let mut found = self.share_at(slot, stream, kind, attributes);
@@ -91,14 +91,14 @@ impl IdentityCache {
     fn share_at(
         &self,
         slot: usize,
-        stream: Stream<'_>,
-        kind: KindRef<'_>,
+        stream: &Stream<'_>,
+        kind: &KindRef<'_>,
         attributes: &[&[u8]],
     ) -> Option<SharedId>
         ensures { IfSome result (λ s. option_and_then
-            (λ k. series_of (stream_data stream.entry) k
+            (λ k. series_of (stream_data stream.now) k
             (said_list (map (λ b. b.now) attributes.now)))
-            (kind_data kind.entry) ≡ Some s) }
+            (kind_data kind.now) ≡ Some s) }
     {
         let kept = self.slots.at(slot)?;
         if is_series(kept, stream, kind, attributes) {
@@ -113,13 +113,13 @@ impl IdentityCache {
         &mut self,
         alloc: Global,
         hash: ByteHash,
-        stream: Stream<'_>,
+        stream: &Stream<'_>,
         kind: KindRef<'_>,
         attributes: &[&[u8]],
         series: &SharedId,
     )
         requires kind { kind_data kind ≡ Some series.now.kind }
-        requires stream { (stream_data stream).scope.resource ≡ series.now.resource }
+        requires stream { (stream_data stream.now).scope.resource ≡ series.now.resource }
         requires attributes { set_said (map (λ b. b.now) attributes.now) ≡ Some series.now.attrs }
     {
         if hash.is_small()
@@ -140,13 +140,13 @@ impl IdentityCache {
 /// A series with what said it.
 fn kept_series(
     alloc: Global,
-    stream: Stream<'_>,
+    stream: &Stream<'_>,
     kind: KindRef<'_>,
     attributes: &[&[u8]],
     series: &SharedId,
 ) -> Result<KeptSeries, AllocError>
     requires kind { kind_data kind ≡ Some series.now.kind }
-    requires stream { (stream_data stream).scope.resource ≡ series.now.resource }
+    requires stream { (stream_data stream.now).scope.resource ≡ series.now.resource }
     requires attributes { set_said (map (λ b. b.now) attributes.now) ≡ Some series.now.attrs }
 {
     let resource = stream.scope.resource.share(alloc)?;

@@ -5,7 +5,6 @@ ghost use Rattle.otlp_protobuf.specs.Checks.{checked_from};
 
 use crate::byte_hash::ByteHash;
 use crate::checked_message::CheckedMessage;
-use crate::fields::Fields;
 use crate::followed::{Followed, SLOTS};
 use crate::lookup::is_copy;
 use crate::schema::Message;
@@ -18,7 +17,7 @@ const MOST_BYTES: usize = 256;
 const MOST_REST: usize = 1024;
 
 /// The attributes of the points of earlier bodies, and the rests of points that have nothing but
-/// attributes and bounds. They need no check again. What a body says does not depend on them: they
+/// attributes, bounds and flags. They need no check again. What a body says does not depend on them: they
 /// are compared byte by byte.
 #[derive(Drop)]
 pub struct KnownMessages {
@@ -38,6 +37,7 @@ impl KnownMessages {
     }
 
     /// Whether a message in another one is known to pass its check.
+    #[inline(always)]
     pub fn has(
         &mut self,
         outer: Message,
@@ -57,6 +57,14 @@ impl KnownMessages {
             self.followed.go_to(slot);
             return true;
         }
+        self.has_elsewhere(message, bytes, levels, left)
+    }
+
+    /// The same of one that did not come next the last time.
+    #[inline(never)]
+    fn has_elsewhere(&mut self, message: Message, bytes: &[u8], levels: u32, left: usize) -> bool
+        ensures only { IsTrue result → checked_from left levels message bytes.now ≡ Ok tt }
+    {
         if !is_kept(message, bytes) {
             return false;
         }
@@ -81,6 +89,7 @@ impl KnownMessages {
 
     /// Keeps a message in another one that has passed its check, if it is an attribute of a point,
     /// or the rest of one.
+    #[inline(never)]
     pub fn keep(&mut self, outer: Message, message: Message, bytes: &[u8], levels: u32, left: usize)
         requires { checked_from left levels message bytes.now ≡ Ok tt }
     {
@@ -111,7 +120,7 @@ fn may_be_kept(outer: Message, message: Message) -> bool {
     }
 }
 
-/// Whether it is small, and of a point no more than attributes and bounds: these come again.
+/// Whether it is small, and of a point no more than what comes again.
 fn is_kept(message: Message, bytes: &[u8]) -> bool {
     match message {
         Message::KeyValue => bytes.len() <= MOST_BYTES,
@@ -119,16 +128,53 @@ fn is_kept(message: Message, bytes: &[u8]) -> bool {
     }
 }
 
-/// Whether the rest of a point has fields of the numbers of bounds and attributes alone.
-fn comes_again(rest: &[u8]) -> bool {
-    let mut fields = Fields::of(rest);
-    while let Some(field) = fields.next() {
-        if field.number != 7 && field.number != 9 {
-            return false;
-        }
+/// Whether the rest of a point has bounds, attributes and flags alone, none of them long.
+fn comes_again(bytes: &[u8]) -> bool {
+    let mut rest = bytes;
+    for _ in 0..bytes.len() {
+        let Some(after) = after_what_comes_again(rest) else {
+            break;
+        };
+        rest = after;
     }
-    true
+    rest.is_empty()
 }
+
+/// The bytes after a field at the front that comes again.
+#[inline(always)]
+fn after_what_comes_again(rest: &[u8]) -> Option<&[u8]> {
+    match rest {
+        [BOUNDS_OR_ATTRIBUTE | HISTOGRAM_ATTRIBUTE, size, after @ ..] if *size < 128 => {
+            behind(usize::from(*size), after)
+        }
+        [
+            BOUNDS_OR_ATTRIBUTE | HISTOGRAM_ATTRIBUTE,
+            low,
+            high,
+            after @ ..,
+        ] if *high < 128 => { behind(usize::from(*low % 128) + usize::from(*high) * 128, after) }
+        [FLAGS | HISTOGRAM_FLAGS, flags, after @ ..] if *flags < 128 => Some(after),
+        _ => None,
+    }
+}
+
+/// The bytes behind so many.
+fn behind(size: usize, bytes: &[u8]) -> Option<&[u8]> {
+    if size <= bytes.len() {
+        Some(&bytes[size..])
+    } else {
+        None
+    }
+}
+
+/// The keys of these fields.
+const BOUNDS_OR_ATTRIBUTE: u8 = 58;
+
+const HISTOGRAM_ATTRIBUTE: u8 = 74;
+
+const FLAGS: u8 = 64;
+
+const HISTOGRAM_FLAGS: u8 = 80;
 
 /// Whether a message is the one that is kept, with as many levels, and no fewer fields.
 #[inline(always)]

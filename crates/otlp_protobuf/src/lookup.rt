@@ -17,13 +17,13 @@ use crate::streams::{Scope, Stream};
 #[inline(always)]
 pub fn is_series(
     kept: &KeptSeries,
-    stream: Stream<'_>,
-    kind: KindRef<'_>,
+    stream: &Stream<'_>,
+    kind: &KindRef<'_>,
     attributes: &[&[u8]],
 ) -> bool
     ensures only { IsIdentity kept.now.series → IsTrue result → option_and_then
-        (λ k. series_of (stream_data stream.entry) k (said_list (map (λ b. b.now) attributes.now)))
-        (kind_data kind.entry) ≡ Some kept.now.series }
+        (λ k. series_of (stream_data stream.now) k (said_list (map (λ b. b.now) attributes.now)))
+        (kind_data kind.now) ≡ Some kept.now.series }
 {
     if !are_same(kept.attributes.as_slice(), attributes) {
         return false;
@@ -36,11 +36,11 @@ pub fn is_series(
 
 /// Whether a kept series is of the kind. The clause is of a kind within its limits.
 #[inline(always)]
-fn is_of_kind(kept: &KeptSeries, kind: KindRef<'_>) -> bool
+fn is_of_kind(kept: &KeptSeries, kind: &KindRef<'_>) -> bool
     ensures only { IsKind kept.now.series.kind → IsTrue result
-        → kind_data kind.entry ≡ Some kept.now.series.kind }
+        → kind_data kind.now ≡ Some kept.now.series.kind }
 {
-    if has_bounds(kept, kind) {
+    if has_bounds(kept, *kind) {
         return true;
     }
     kind.is_kind(kept.series.as_series().kind())
@@ -62,20 +62,20 @@ fn has_bounds(kept: &KeptSeries, kind: KindRef<'_>) -> bool
 
 /// Whether a kept series is one of the stream.
 #[inline(always)]
-fn is_in_stream(kept: &KeptSeries, stream: Stream<'_>) -> bool
-    ensures only { IsTrue result → identity_in (stream_data stream.entry) kept.now.series.kind
+fn is_in_stream(kept: &KeptSeries, stream: &Stream<'_>) -> bool
+    ensures only { IsTrue result → identity_in (stream_data stream.now) kept.now.series.kind
         kept.now.series.attrs ≡ kept.now.series }
 {
     let series = kept.series.as_series();
     series.name().as_str() == stream.name
         && series.unit().as_str() == stream.unit
-        && is_in_scope(kept, stream.scope)
+        && is_in_scope(kept, &stream.scope)
 }
 
 /// Whether a kept series is one of the scope.
 #[inline(always)]
-fn is_in_scope(kept: &KeptSeries, scope: Scope<'_>) -> bool
-    ensures only { IsTrue result → scope_data scope.entry ≡ record {
+fn is_in_scope(kept: &KeptSeries, scope: &Scope<'_>) -> bool
+    ensures only { IsTrue result → scope_data scope.now ≡ record {
       resource = kept.now.series.resource;
       name = kept.now.series.scope_name;
       version = kept.now.series.scope_version;

@@ -17,7 +17,7 @@ ghost use Rattle.otlp_protobuf.specs.inner.PartViews.{part_of, parts_data, sum_p
 
 use crate::fields::Fields;
 use crate::reader::{Object, Reader};
-use crate::scan::{Whole, next_content};
+use crate::scan::{Whole, next_content, put_part};
 use crate::streams::{PointStream, Scope, histogram_stream, sum_stream};
 use metric_events::point::Point;
 use otlp_read::Reading;
@@ -72,11 +72,11 @@ fn parts_of<'a>(alloc: Global, metric: &'a [u8]) -> Result<Parts<'a>, AllocError
     let mut summary = Whole::Absent;
     let mut rest = Fields::of(metric);
     while let Some(field) = rest.next() {
-        gauge = gauge.with_field(alloc, 5, field)?;
-        sum = sum.with_field(alloc, 7, field)?;
-        histogram = histogram.with_field(alloc, 9, field)?;
-        exponential = exponential.with_field(alloc, 10, field)?;
-        summary = summary.with_field(alloc, 11, field)?;
+        put_part(alloc, 5, &mut gauge, field)?;
+        put_part(alloc, 7, &mut sum, field)?;
+        put_part(alloc, 9, &mut histogram, field)?;
+        put_part(alloc, 10, &mut exponential, field)?;
+        put_part(alloc, 11, &mut summary, field)?;
     }
     Ok(Parts {
         gauge,

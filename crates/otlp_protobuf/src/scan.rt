@@ -1,6 +1,6 @@
 //! Finds fields of a message by their numbers, in its bytes.
 
-ghost use Rattle.std.specs.Prelude.{◌≡◌, ◌∷◌, ◌++◌, [], ℕ, List, IfOk, MatchOption, None, Some};
+ghost use Rattle.std.specs.Prelude.{◌≡◌, ◌∷◌, ◌++◌, [], ℕ, List, IfOk, MatchOption, OnOk, None, Some};
 ghost use Rattle.std.specs.Prelude.{option_and_then, option_map};
 ghost use Rattle.otlp_protobuf.specs.Wire.{Field as FieldData, fields};
 ghost use Rattle.otlp_protobuf.specs.Fields.{gathered, newer, last, bits, content, if_text};
@@ -14,6 +14,7 @@ ghost use Rattle.otlp_protobuf.specs.inner.Parts.{part_with};
 use crate::fields::{Field, Fields};
 use crate::wire::Payload;
 use std::alloc::{AllocError, Global};
+use std::mem::replace;
 
 /// What a message says, gathered field by field.
 pub trait Gathered: Copy {
@@ -74,7 +75,7 @@ pub fn last<'a>(bytes: &'a [u8], number: u32) -> Option<Payload<'a>>
     let mut found = None;
     let mut rest = Fields::of(bytes);
     while let Some(field) = rest.next() {
-        found = newer(number, found, field);
+        note(number, &mut found, field);
     }
     found
 }
@@ -92,21 +93,20 @@ pub fn last_two<'a>(
     let mut second = None;
     let mut rest = Fields::of(bytes);
     while let Some(field) = rest.next() {
-        first = newer(one, first, field);
-        second = newer(other, second, field);
+        note(one, &mut first, field);
+        note(other, &mut second, field);
     }
     (first, second)
 }
 
-/// The value of a field of this number, if it is one, else what was found before.
-fn newer<'a>(number: u32, found: Option<Payload<'a>>, field: Field<'a>) -> Option<Payload<'a>>
-    ensures { option_map payload_data result
-        ≡ newer number (option_map payload_data found.entry) (field_data field.entry) }
+/// Puts the value of a field of this number in the place of what was found before.
+#[inline(always)]
+fn note<'a>(number: u32, found: &mut Option<Payload<'a>>, field: Field<'a>)
+    ensures { option_map payload_data found.new
+        ≡ newer number (option_map payload_data found.old) (field_data field.entry) }
 {
     if field.number == number {
-        Some(field.payload)
-    } else {
-        found
+        *found = Some(field.payload);
     }
 }
 
@@ -251,20 +251,23 @@ impl<'a> Whole<'a> {
     }
 }
 
-impl<'a> Whole<'a> {
-    /// The message with a field, if it has this number.
-    pub fn with_field(
-        self,
-        alloc: Global,
-        number: u32,
-        field: Field<'a>,
-    ) -> Result<Whole<'a>, AllocError>
-        ensures { IfOk result (λ w. whole_data w
-            ≡ part_with number (whole_data self.entry) (field_data field.entry)) }
-    {
-        match content_at(number, field) {
-            Some(part) => self.with(alloc, part),
-            None => Ok(self),
+/// Puts a field behind the parts of a message, if it has this number.
+#[inline(always)]
+pub fn put_part<'a>(
+    alloc: Global,
+    number: u32,
+    found: &mut Whole<'a>,
+    field: Field<'a>,
+) -> Result<(), AllocError>
+    ensures { OnOk result (whole_data found.new
+        ≡ part_with number (whole_data found.old) (field_data field.entry)) }
+{
+    match content_at(number, field) {
+        None => Ok(()),
+        Some(part) => {
+            let before = replace(found, Whole::Absent);
+            *found = before.with(alloc, part)?;
+            Ok(())
         }
     }
 }

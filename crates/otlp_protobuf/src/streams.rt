@@ -42,13 +42,12 @@ pub struct Scope<'a> {
     pub hash: ByteHash,
 }
 
-/// A metric of a scope, and the hash of both.
+/// A metric of a scope.
 #[derive(Clone, Copy)]
 pub struct Stream<'a> {
     pub scope: Scope<'a>,
     pub name: &'a str,
     pub unit: &'a str,
-    pub hash: ByteHash,
 }
 
 /// A stream of sums, and whether they are monotonic.
@@ -139,13 +138,7 @@ fn stream_if<'a>(delta: bool, scope: Option<Scope<'a>>, metric: &'a [u8]) -> Opt
     let name = text_in(text_if(name))?;
     let unit = text_in(text_if(unit))?;
     if delta {
-        let hash = scope.hash.with(name.as_bytes()).with(unit.as_bytes());
-        Some(Stream {
-            scope,
-            name,
-            unit,
-            hash,
-        })
+        Some(Stream { scope, name, unit })
     } else {
         None
     }
@@ -189,22 +182,41 @@ const MONOTONIC: u32 = 3;
 pub fn series_of(
     alloc: Global,
     cache: &mut IdentityCache,
-    stream: Stream<'_>,
+    stream: &Stream<'_>,
     kind: KindRef<'_>,
     attributes: PointAttributes<'_, '_>,
 ) -> Result<Option<SharedId>, AllocError>
     ensures { IfOk result (λ o. o ≡ option_and_then
-        (λ k. series_of (stream_data stream.entry) k (said_list (attributes_data attributes.entry)))
+        (λ k. series_of (stream_data stream.now) k (said_list (attributes_data attributes.entry)))
+        (kind_data kind.entry)) }
+{
+    if let Some(messages) = attributes.found {
+        if let Some(series) = cache.follow(stream, &kind, messages) {
+            return Ok(Some(series));
+        }
+    }
+    other_series(alloc, cache, stream, kind, attributes)
+}
+
+/// The same of one that did not come next the last time. Apart, so that one that did pays nothing
+/// for it.
+#[inline(never)]
+fn other_series(
+    alloc: Global,
+    cache: &mut IdentityCache,
+    stream: &Stream<'_>,
+    kind: KindRef<'_>,
+    attributes: PointAttributes<'_, '_>,
+) -> Result<Option<SharedId>, AllocError>
+    ensures { IfOk result (λ o. o ≡ option_and_then
+        (λ k. series_of (stream_data stream.now) k (said_list (attributes_data attributes.entry)))
         (kind_data kind.entry)) }
 {
     let Some(messages) = attributes.found else {
         return new_series(alloc, stream, kind, attributes);
     };
-    if let Some(series) = cache.follow(stream, kind, messages) {
-        return Ok(Some(series));
-    }
-    let hash = hash_of(stream.hash, messages);
-    if let Some(series) = cache.look_up(hash, stream, kind, messages) {
+    let hash = hash_of(stream, messages);
+    if let Some(series) = cache.look_up(hash, stream, &kind, messages) {
         return Ok(Some(series));
     }
     let Some(series) = new_series(alloc, stream, kind, attributes)? else {
@@ -215,8 +227,9 @@ pub fn series_of(
 }
 
 /// The hash of a stream with the messages of a point's attributes.
-fn hash_of(stream: ByteHash, messages: &[&[u8]]) -> ByteHash {
-    let mut hash = stream;
+fn hash_of(stream: &Stream<'_>, messages: &[&[u8]]) -> ByteHash {
+    let name = stream.scope.hash.with(stream.name.as_bytes());
+    let mut hash = name.with(stream.unit.as_bytes());
     for message in messages {
         hash = hash.with(message);
     }
@@ -227,12 +240,12 @@ fn hash_of(stream: ByteHash, messages: &[&[u8]]) -> ByteHash {
 #[tactic(auto, unfolding(otlp_read::specs::Streams::series_of))]
 fn new_series(
     alloc: Global,
-    stream: Stream<'_>,
+    stream: &Stream<'_>,
     kind: KindRef<'_>,
     attributes: PointAttributes<'_, '_>,
 ) -> Result<Option<SharedId>, AllocError>
     ensures { IfOk result (λ o. o ≡ option_and_then
-        (λ k. series_of (stream_data stream.entry) k (said_list (attributes_data attributes.entry)))
+        (λ k. series_of (stream_data stream.now) k (said_list (attributes_data attributes.entry)))
         (kind_data kind.entry)) }
 {
     let Some(kind) = kind.to_kind(alloc)? else {
@@ -251,11 +264,11 @@ fn new_series(
 #[tactic(auto, unfolding(otlp_read::specs::Streams::series_in))]
 fn series_in(
     alloc: Global,
-    stream: Stream<'_>,
+    stream: &Stream<'_>,
     kind: Kind,
     attributes: AttrSet,
 ) -> Result<Option<SeriesId>, AllocError>
-    ensures { IfOk result (λ o. o ≡ series_in (stream_data stream.entry) kind attributes) }
+    ensures { IfOk result (λ o. o ≡ series_in (stream_data stream.now) kind attributes) }
 {
     let resource = stream.scope.resource.set.copy(alloc)?;
     let scope_name = text(alloc, stream.scope.name)?;

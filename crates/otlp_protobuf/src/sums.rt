@@ -91,7 +91,7 @@ fn sum_point(
         monotonic: sum.monotonic,
     };
     let attributes = PointAttributes::of(bytes, ATTRIBUTES, &room, count);
-    let Some(series) = series_of(alloc, cache, sum.stream, kind, attributes)? else {
+    let Some(series) = series_of(alloc, cache, &sum.stream, kind, attributes)? else {
         return Ok(None);
     };
     let point = Point::shared_sum(series, fields.start, fields.end, fields.value);

@@ -10,6 +10,6 @@ returns c =
     let messages = sym (c.are_same.ensures.only c.if-not-are_same.false) ∙ ap (map (λ (a : Vec ℕ Global). a.items)) c.as_slice.ensures.value in
     record {
       only = λ whole same.
-          series_known (stream_data c.args.stream) (kind_data c.args.kind) _ c.args.kept.now.series whole (c.is_in_stream.ensures.only c.if-not-is_in_stream.false)
+          series_known (stream_data c.args.stream.now) (kind_data c.args.kind.now) _ c.args.kept.now.series whole (c.is_in_stream.ensures.only c.if-not-is_in_stream.false)
           (c.is_of_kind.ensures.only whole.kind same) (ap set_said messages ∙ c.args.kept.now.has_attributes);
     }
