@@ -6,13 +6,16 @@ use crate::files::Fault;
 use std::sync::atomic::Ordering::SeqCst;
 use std::sync::{Arc, PoisonError};
 use std::thread::ThreadId;
-use std::time::Duration;
+use std::time::{Duration, Instant};
 use tokio::sync::oneshot;
 
 /// How long what nobody waits for stays unsynced: so a machine's end takes no more, where posts are only written.
 const IDLE: Duration = Duration::from_secs(1);
 /// How long nobody waits for anything before the last record is marked.
 const QUIET: Duration = Duration::from_millis(100);
+/// How long after a sync the next one is put off at most, where not so many wait yet as this one has told: who posts as fast as
+/// it is answered comes again at once, and each sync costs processor time, however few wait for it.
+const GATHER: Duration = Duration::from_micros(200);
 
 /// What the syncer has to do.
 enum Due {
@@ -24,9 +27,20 @@ enum Due {
 #[derive(Default)]
 pub struct Waiters {
     list: Vec<Waiter>,
-    /// The syncer has nothing to do.
-    idle: bool,
+    /// Once there are so many the syncer is woken; 0 where it does not sleep.
+    awaited: usize,
+    /// How many the last sync has told, and until when as many are waited for.
+    told: Option<(usize, Instant)>,
     pub(super) ending: bool,
+}
+
+impl Waiters {
+    /// How many have to be there before a sync begins, and how long it waits for them; none where it waits no more.
+    fn gathers(&self) -> Option<(usize, Duration)> {
+        let (told, until) = self.told.filter(|(told, _)| *told > self.list.len().max(1))?;
+        let left = until.saturating_duration_since(Instant::now());
+        (!left.is_zero()).then_some((told, left))
+    }
 }
 
 struct Waiter {
@@ -65,7 +79,7 @@ impl Shared {
             let (tell, done) = oneshot::channel();
             let thread = std::thread::current().id();
             waiters.list.push(Waiter { ticket, thread, tell });
-            if std::mem::take(&mut waiters.idle) {
+            if waiters.list.len() == waiters.awaited {
                 self.work.notify_one();
             }
             done
@@ -129,11 +143,12 @@ impl Shared {
 
     fn tell(&self, ticket: u64) {
         let due: Vec<Waiter> = {
-            let list = &mut lock(&self.waiters).list;
-            let (due, later) = std::mem::take(list)
-                .into_iter()
-                .partition(|one| one.ticket <= ticket);
-            *list = later;
+            let mut waiters = lock(&self.waiters);
+            let all = std::mem::take(&mut waiters.list).into_iter();
+            let (due, later) = all.partition::<Vec<_>, _>(|one| one.ticket <= ticket);
+            waiters.list = later;
+            // A drive gathers by itself.
+            waiters.told = (!self.disk.keeps_order()).then(|| (due.len(), Instant::now() + GATHER));
             due
         };
         let mut threads: Vec<(ThreadId, Vec<oneshot::Sender<Told>>)> = Vec::new();
@@ -160,18 +175,20 @@ impl Shared {
             if waiters.ending || self.disk.is_lost() {
                 return Due::End;
             }
-            if !waiters.list.is_empty() {
+            let gathers = waiters.gathers();
+            if gathers.is_none() && !waiters.list.is_empty() {
                 return Due::Sync;
             }
-            waiters.idle = true;
-            let pause = if waited < IDLE { QUIET } else { IDLE };
+            let idle = if waited < IDLE { QUIET } else { IDLE };
+            let (awaited, pause) = gathers.unwrap_or((1, idle));
+            waiters.awaited = awaited;
             let (woken, why) = self
                 .work
                 .wait_timeout(waiters, pause)
                 .unwrap_or_else(PoisonError::into_inner);
             waiters = woken;
-            waiters.idle = false;
-            if waiters.ending || !why.timed_out() {
+            waiters.awaited = 0;
+            if waiters.ending || !why.timed_out() || gathers.is_some() {
                 continue;
             }
             waited += pause;
@@ -255,5 +272,39 @@ impl Drop for Journal {
             self.shared.disk.end(&fault);
         }
         self.shared.sync();
+    }
+}
+
+#[cfg(test)]
+mod tests {
+    use super::*;
+
+    /// So many wait.
+    fn waiting(count: usize, told: usize, until: Instant) -> Waiters {
+        let waiter = || Waiter {
+            ticket: 1,
+            thread: std::thread::current().id(),
+            tell: oneshot::channel().0,
+        };
+        Waiters {
+            list: (0..count).map(|_| waiter()).collect(),
+            told: Some((told, until)),
+            ..Waiters::default()
+        }
+    }
+
+    /// Who is alone is never put off, and nobody for longer than a moment.
+    #[test]
+    fn a_sync_is_put_off_until_as_many_wait_as_the_last_one_told() {
+        let now = Instant::now();
+        let later = now + Duration::from_secs(3600);
+        let awaited = |waiters: Waiters| waiters.gathers().map(|(count, _)| count);
+        assert_eq!(awaited(waiting(2, 3, later)), Some(3));
+        assert_eq!(awaited(waiting(0, 3, later)), Some(3));
+        assert_eq!(awaited(waiting(3, 3, later)), None);
+        assert_eq!(awaited(waiting(1, 1, later)), None);
+        assert_eq!(awaited(waiting(0, 1, later)), None);
+        assert_eq!(awaited(waiting(2, 3, now)), None);
+        assert_eq!(awaited(Waiters::default()), None);
     }
 }
