@@ -6,7 +6,8 @@
 
 INFLUXDB is HOST:PORT, and its database is there. A point of InfluxDB is told by its measurement, its tags and its time: here
 by the series and the end of the span, so a request that is written twice leaves each point once. It is answered 200 once
-InfluxDB has it on disk. A number past 63 bits is refused.
+InfluxDB has it on disk, which is so with `wal-fsync-delay` at 0. A number past 63 bits is refused. totxegun has to serve without
+--sink-protobuf and --sink-gzip. 1.6.7 was run.
 
 A tag for each attribute of the point and the resource, in which a backslash is shown as `/` and a line's end as a space; and
 `series_id`, a digest that tells two series apart for good. A name that InfluxDB can't have has `_` before it: an empty one, a
