@@ -314,7 +314,8 @@ impl Drop for Flushes {
     }
 }
 
-// tcmalloc, which has all blocks of the process: it is linked before the C library, whose malloc nobody calls.
+// tcmalloc, which has all blocks of the process: it is linked before the C library, whose malloc nobody calls. A post takes
+// hundreds of blocks, and of four allocators it took the least time.
 #[link(name = "tcmalloc_minimal")]
 extern "C" {
     #[link_name = "MallocExtension_ReleaseFreeMemory"]

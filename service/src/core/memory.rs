@@ -1,4 +1,5 @@
-//! How much memory the book has: what the library asks for is counted, and refused over a bound.
+//! How much memory the book has: what the library asks for is counted, and refused over a bound. A failed allocation is an
+//! answer; a killed process has to be restored.
 //!
 //! Posts are read and admitted below a lower bound than what was taken is forwarded by: what lies between the two is a
 //! reserve for that. So posts are refused, and nothing of them is kept, before a flush would find too little.

@@ -1,4 +1,5 @@
-//! A connection of a sender over HTTP: it serves many requests one after another, and is closed where it is slow or idle.
+//! A connection of a sender over HTTP: it serves many requests one after another, and is closed where it is slow or idle. All
+//! else of HTTP is hyper's, with which a post takes more processor time.
 
 use super::connections::{ConnectionPermits, Protocol, Shared, Transport};
 use super::head::{self, Connection};

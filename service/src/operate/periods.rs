@@ -1,4 +1,5 @@
-//! Periods of the sink are closed and opened, and what it counted is corrected.
+//! Periods of the sink are closed and opened, and what it counted is corrected. A close is refused while something waits, and
+//! does not flush by itself: a biller is to know what is not in it.
 
 use super::status::Status;
 use super::{message, reply, Actor, Desk, JSON};

@@ -1,5 +1,5 @@
-//! The operators' address of TCP, which any program of the machine reaches: it is read by all, and takes orders from who
-//! has a token.
+//! The operators' address of TCP, which any program of the machine reaches, and a page in a browser: it is read by all, and
+//! takes orders from who has a token. Of a socket the kernel says who connects.
 
 use super::{is_met, message, Actor, Desk, Page, Route};
 use crate::identity::{by_token, Stranger, Tokens};

@@ -81,7 +81,7 @@ pub struct Options {
 /// When what a folder knows began, in nanoseconds since 1970.
 #[derive(Clone, Copy, Debug, Default, PartialEq, Eq, Serialize, Deserialize)]
 pub struct Since {
-    /// Runs from here on have been in no other folder.
+    /// Runs from here on have been in no other folder: what is older may have been counted by another service.
     pub made: u64,
     /// Runs from here on are of no series that was forgotten.
     pub forgotten: u64,

@@ -1,8 +1,10 @@
 //! Periods of a sink: which are closed, what comes for them later, and what is corrected.
 //!
 //! What a sink has of a closed hour does not change any more. What comes for it later counts in the first hour from now on
-//! that is open, beside a row that says to which hour it belongs. All of it is in the sink, and is read in the transaction
-//! that takes a request: so a close and a delivery are one after the other, and a close is there or not.
+//! that is open, beside a row that says to which hour it belongs. So do corrections: the sums of hours, days and months are
+//! those of all accepted points. To open an hour moves nothing back, since it may have been billed where it was counted. All
+//! of it is in the sink, and is read in the transaction that takes a request: so a close and a delivery are one after the
+//! other, and a close is there or not.
 
 mod period;
 

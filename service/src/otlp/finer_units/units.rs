@@ -5,6 +5,11 @@
 //! is kept: a unit that was taken once is the coarsest of these for ever, since a coarser one between would be taken in it
 //! (units are in chains, each of which divides the one before). Which is why a start has to know all series before posts are read.
 //!
+//! Times are taken in microseconds: a histogram's sum of at most 2^53 is 285 years then, and would be 104 days in nanoseconds.
+//! A histogram of times is taken so from the first, since after a whole second its later points would be foreign. Doubles of
+//! a metric that was taken in its own unit are foreign by name, also 5.0: rounded they could count as nothing, and in another
+//! unit it would have two totals.
+//!
 //! Of several slots each decides by what it has itself, so that a post means the same wherever its slot is: else a repeat
 //! would be of another series, and count twice. Where a slot knows nothing of a name yet, it takes what others here have.
 

@@ -48,7 +48,8 @@ fn beside(count: u64, buckets: &[u64]) -> Option<u64> {
     (all != u128::from(count)).then_some(count)
 }
 
-/// As `totxegun.bucket_counts` reads it: seven bits a byte, the lowest first; a byte from 128 on is not the last.
+/// As `totxegun.bucket_counts` reads it: seven bits a byte, the lowest first; a byte from 128 on is not the last. So a small
+/// count takes a byte.
 fn packed(buckets: &[u64]) -> Vec<u8> {
     let mut bytes = Vec::with_capacity(buckets.len());
     for bucket in buckets {
