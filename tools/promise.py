@@ -59,7 +59,7 @@ INNER = ".specs.inner."
 NUMBERED = "{definitions:,} definitions, {lines:,} lines in {files} files"
 APART = "{types} types and constants of `src/` and {kit} definitions and types of the kit"
 # A file of the reading list of docs/PROOFS.md.
-LISTED = re.compile(r"^\d+\. `(\w+/specs/[\w/]+)`: ", re.MULTILINE)
+LISTED = re.compile(r"^\d+\. `(\w+/specs/[\w/]+)`", re.MULTILINE)
 
 IMPORT = re.compile(r"^\s*(?:ghost |pub )*use Rattle\.([\w.]+)(?:\.\{([^}]*)\}| as (\w+))?;?$", re.MULTILINE)
 DEFINED = re.compile(r"^(?:(?:abbrev|unfoldable|pub|record|data) )*([^\s:({]+)")
