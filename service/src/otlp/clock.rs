@@ -1,5 +1,6 @@
 //! Points that end too far from the service's clock. They are not taken: a series goes on where its last point ended, so one
-//! from a clock that is a year ahead would have all right ones refused for a year.
+//! from a clock that is a year ahead would have all right ones refused for a year. A 400 would have the right points of the post
+//! dropped too, a 503 would come again for ever.
 //!
 //! The clock is looked at where a post comes in, and nowhere else: what was taken once is not compared with it again.
 
