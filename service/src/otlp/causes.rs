@@ -259,14 +259,19 @@ impl Cause {
                 "serve with --exponential and bounds that are edges of their buckets, as powers of two are; or send them elsewhere"
             }
             Cause::Gauge | Cause::Summary => {
-                "these are not added up: send them elsewhere, or name them by --expect-foreign"
+                "these are not added up: hand them on by --pass, or name them by --expect-foreign"
             }
             Cause::CumulativeSum | Cause::CumulativeHistogram => "set the sender's temporality preference to delta",
             Cause::UpDownCounter => {
                 "these are cumulative also with the preference delta: use two Counters, or name them by --expect-foreign"
             }
-            Cause::Double => "use an instrument of whole numbers, or serve with --whole",
-            Cause::Fraction => "use whole bounds in a finer unit, or serve with --whole",
+            Cause::Double => {
+                "use an instrument of whole numbers (Go's Int64Counter, Java's LongCounter, JavaScript's ValueType.INT, Python's int, \
+                 .NET's Counter<long>, Rust's u64_counter), or serve with --whole"
+            }
+            Cause::Fraction => {
+                "use whole values and bounds (Go's Int64Histogram, Java's ofLongs(), Rust's u64_histogram), or serve with --whole"
+            }
             Cause::Attribute => "use texts, whole numbers, truths and lists of them, each key once, or --drop-attribute",
             Cause::Span => "each point has to say where it starts, and end after it",
             Cause::ClockAhead => "set the sender's clock, by NTP; or the service's, where that is wrong; or give a greater --most-ahead",
