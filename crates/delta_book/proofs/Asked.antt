@@ -17,8 +17,7 @@ use Rattle.series_cell.specs.Cells.{CellView, AllOwn, end_of}
 use Rattle.series_cell.proofs.Reading.{frontier_is}
 use Rattle.delta_book.specs.Tables.{AreCells, id_of}
 use Rattle.metric_events.specs.DataPoint.{DataPoint}
-use Rattle.metric_events.proofs.Senders.{same_sender-refl}
-use Rattle.delta_book.specs.inner.Tables.{HasPoint, IdAt}
+use Rattle.delta_book.specs.inner.Tables.{IdAt}
 use Rattle.delta_book.specs.Refusals.{has_other_writer}
 use Rattle.delta_book.proofs.Tables.{stands_at, at_id}
 use Rattle.delta_book.specs.declared.faults.AdmitFault.TheVariants.{OtherWriter, OutOfOrder}

@@ -27,6 +27,7 @@ use Rattle.metric_events.proofs.Closing.{home_row}
 use Rattle.series_cell.specs.Cells.{CellView, Stands, HandsOn, end_of, opened_with}
 use Rattle.series_cell.proofs.Reading.{tells}
 use Rattle.delta_book.specs.Carries.{Carries, AllCarry, AllHandOn, BeginsWith, AllOpened}
+use Rattle.delta_book.specs.Ready.{is_ready}
 use Rattle.delta_book.specs.Tables.{AreCells, AllStand, id_of}
 use Rattle.delta_book.specs.inner.Tables.{HasPoint, AreOpen, AreFlights}
 use Rattle.delta_book.specs.declared.book.Book.TheInside.{Inside}
@@ -185,8 +186,8 @@ flights_none : (es fs : List Entry) (os : List JournalRef) → AreFlights es os 
 flights_none es fs [] h = tt
 flights_none es fs (o ∷ os) h = absurd h
 
-pub next_stored : (b b' : Inside) → IsStored b → round_refusal (history_in b) ≡ None → b'.opening ≡ close (history_in b) → b'.entries.items ≡ [] → AreCells b'.cells.items (opened_points b'.opening) → b'.opened.items ≡ b.opened.items → b'.live.items ≡ b.live.items → b'.held.items ≡ b.held.items → b'.batches ≡ b.batches → b'.flushes ≡ b.flushes → MAX_ENTRIES ≤ vec_capacity b'.entries → MAX_OPEN ≤ vec_capacity b'.opened → MAX_LIVE ≤ vec_capacity b'.live → IsStored b'
-next_stored b b' h none e empty cells eo el eh eb ef room open_room live_room =
+pub next_stored : (b b' : Inside) → IsStored b → round_refusal (history_in b) ≡ None → b'.opening ≡ close (history_in b) → b'.entries.items ≡ [] → AreCells b'.cells.items (opened_points b'.opening) → b'.opened.items ≡ b.opened.items → b'.live.items ≡ b.live.items → b'.held.items ≡ b.held.items → b'.batches ≡ b.batches → b'.flushes ≡ b.flushes → MAX_ENTRIES ≤ vec_capacity b'.entries → MAX_OPEN ≤ vec_capacity b'.opened → MAX_LIVE ≤ vec_capacity b'.live → list_any (is_ready b'.held.items) (take b'.passed b'.cells.items) ≡ false → IsStored b'
+next_stored b b' h none e empty cells eo el eh eb ef room open_room live_room passed =
     let m = may_close (history_in b) none in
     let begun : history_in b' ≡ Opened b'.opening = ap (λ xs. history (journal_of b'.opening xs)) empty in
     record {
@@ -199,6 +200,7 @@ next_stored b b' h none e empty cells eo el eh eb ef room open_room live_room =
       held_are = eh ∙ (h.held_are ∙ (sym (ap (λ (P : Opening). P.held) e) ∙ ap held_senders (sym begun)));
       admitted_are = eb ∙ (h.admitted_are ∙ (sym (ap (λ (P : Opening). P.batches) e) ∙ ap admits (sym begun)));
       taken_are = ef ∙ (h.taken_are ∙ (sym (ap (λ (P : Opening). P.flushes) e) ∙ ap takes (sym begun)));
+      passed_over = passed;
       round = omega (arith, ap (λ (P : Opening). P.round) e, m.earlier);
       room = room;
       open_room = open_room;

@@ -170,7 +170,7 @@ some_ids held (c ∷ cs) a e = both (is_ready held c) refl (some_ids held cs)
     both true f r = let q : c.id ∷ ready_ids held cs ≡ [] = rw f at e in cc
     both false f r = r (rw f at a) (rw f at e)
 
-none_ids : (held : List (List ℕ)) (cs : List CellView) → list_any (is_ready held) cs ≡ false → ready_ids held cs ≡ []
+pub none_ids : (held : List (List ℕ)) (cs : List CellView) → list_any (is_ready held) cs ≡ false → ready_ids held cs ≡ []
 none_ids held cs a = ap (map id_of) (filter_none (is_ready held) cs (any_none (is_ready held) cs a))
 
 none_filtered : (t : Accepted → Bool) (qs : List Accepted) → list_any t qs ≡ false → filter t qs ≡ []

@@ -1,10 +1,10 @@
 -- A point goes into the cell of its series.
-use Rattle.std.proofs.Common.{◌≡◌, ℕ, ◌+◌, ◌<◌, ◌≤◌, Bool, true, false, cond, not, List, [], ◌∷◌, ◌++◌, map, take, set, get_or, length, refl, ap, sym, ◌∙◌, subst, arith, inl, inr, ◌⊎◌, Some, None}
+use Rattle.std.proofs.Common.{◌≡◌, ℕ, ◌<◌, ◌≤◌, Bool, true, false, cond, not, List, [], ◌∷◌, ◌++◌, map, take, set, get_or, length, refl, ap, sym, ◌∙◌, subst, arith, inl, inr, Some, None}
 use Rattle.std.specs.declared.result.Result.{Result}
 use Rattle.std.specs.declared.result.Result.TheVariants.{Ok, Err}
 use Rattle.std.specs.Prelude.{OnOk, OnErr, IfErr, IfSome, nat_lt}
 use Rattle.std.specs.declared.option.Option.{Option}
-use Rattle.std.specs.List.{list_all, list_any, insert}
+use Rattle.std.specs.List.{list_all, insert}
 use Rattle.std.proofs.lemmas.Bool.{and_from, ltb-false, or_cases, or_left, or_right, not-false, cases_lt}
 use Rattle.std.proofs.lemmas.List.{append-nil, take_all}
 use Rattle.std.proofs.lemmas.List.Elements.{filter-append}
@@ -27,7 +27,7 @@ use Rattle.series_cell.proofs.Sizes.{sized}
 use Rattle.series_cell.proofs.Standing.{end_is}
 use Rattle.delta_book.specs.Tables.{AreCells, id_of}
 use Rattle.delta_book.specs.inner.Parts.{part_of, parts_of}
-use Rattle.delta_book.specs.inner.Tables.{AreSome, HasPending, IsTable, IdAt, Keeps, Puts, Removes}
+use Rattle.delta_book.specs.inner.Tables.{AreSome, HasPending, IsTable, IdAt, Puts, Removes}
 use Rattle.delta_book.specs.inner.Puts.{AddsPoint, IsGap, RejectsAt, RejectsPart, fault_at, fits_with, next_fault}
 use Rattle.delta_book.specs.declared.faults.AdmitFault.TheVariants.{OtherWriter, OutOfOrder}
 use Rattle.delta_book.specs.declared.put.Rejection.{Rejection}

@@ -31,6 +31,7 @@ use Rattle.metric_events.specs.declared.opening.Opening.{Opening}
 use Rattle.metric_events.proofs.Room.{kept_room}
 use Rattle.metric_events.proofs.Numbers.{admits-le, takes-le}
 use Rattle.metric_events.proofs.Closing.{opening_is}
+use Rattle.delta_book.specs.Ready.{is_ready}
 use Rattle.delta_book.specs.Tables.{AreCells, AreBooked}
 use Rattle.delta_book.specs.inner.Tables.{AreOpen, AreFlights, are_full, is_full, series_named}
 use Rattle.delta_book.specs.inner.Tables.{EndsFlush, entry_of, on_series, is_other_open}
@@ -45,8 +46,8 @@ use Rattle.series_cell.proofs.ByPlace.{written_back}
 use Rattle.delta_book.proofs.Choosing.{AreTied, tied}
 
 -- one more entry, and what it does to what is kept
-pub stored_push : (b b' : Inside) (x : Entry) → IsStored b → Allowed (history_in b) x.event → IsNumbered (history_in b ▸ x.event) → AreCells b'.cells.items (points_after x.event (points (history_in b))) → AreOpen b'.entries.items b'.opened.items (open_after x.event (open_batches (history_in b))) → AreFlights b'.entries.items b'.live.items (live_after x.event (live_flushes (history_in b))) → are_full (points_after x.event (points (history_in b))) (live_after x.event (live_flushes (history_in b))) ≡ true → b'.held.items ≡ held_after x.event b.held.items → journal_in b' ≡ appended (journal_in b) x → MAX_OPEN ≤ vec_capacity b'.opened → MAX_LIVE ≤ vec_capacity b'.live → MAX_ENTRIES ≤ vec_capacity b'.entries → b'.batches ≡ admits (history_in b ▸ x.event) → b'.flushes ≡ takes (history_in b ▸ x.event) → IsStored b'
-stored_push b b' x h allowed numbered cells opened live full held ex open_room live_room room ea et =
+pub stored_push : (b b' : Inside) (x : Entry) → IsStored b → Allowed (history_in b) x.event → IsNumbered (history_in b ▸ x.event) → AreCells b'.cells.items (points_after x.event (points (history_in b))) → AreOpen b'.entries.items b'.opened.items (open_after x.event (open_batches (history_in b))) → AreFlights b'.entries.items b'.live.items (live_after x.event (live_flushes (history_in b))) → are_full (points_after x.event (points (history_in b))) (live_after x.event (live_flushes (history_in b))) ≡ true → b'.held.items ≡ held_after x.event b.held.items → journal_in b' ≡ appended (journal_in b) x → MAX_OPEN ≤ vec_capacity b'.opened → MAX_LIVE ≤ vec_capacity b'.live → MAX_ENTRIES ≤ vec_capacity b'.entries → b'.batches ≡ admits (history_in b ▸ x.event) → b'.flushes ≡ takes (history_in b ▸ x.event) → list_any (is_ready b'.held.items) (take b'.passed b'.cells.items) ≡ false → IsStored b'
+stored_push b b' x h allowed numbered cells opened live full held ex open_room live_room room ea et passed =
     let e = after_push (journal_in b) (journal_in b') x ex in
     record {
       legal = legal_push (journal_in b) (journal_in b') x ex h.legal allowed;
@@ -58,6 +59,7 @@ stored_push b b' x h allowed numbered cells opened live full held ex open_room l
       held_are = held ∙ (ap (held_after x.event) h.held_are ∙ ap held_senders (sym e));
       admitted_are = ea ∙ ap admits (sym e);
       taken_are = et ∙ ap takes (sym e);
+      passed_over = passed;
       round = subst (λ (j : Journal). j.opening.round ≤ LAST_ROUND) (sym ex) h.round;
       room = room;
       open_room = open_room;
@@ -155,14 +157,14 @@ not_flying f (InFlight g) e k = absurd k
 not_flying f q e k = refl
 
 -- a flush has ended
-pub stored_end : (b b' : Inside) (f : ℕ) (q : Place) (x : Entry) → EndsFlush f q x.event → IsStored b → is_live f (live_flushes (history_in b)) ≡ true → AreCells b'.cells.items (map (landed f q) (points (history_in b))) → AreOpen b'.entries.items b'.opened.items (open_batches (history_in b)) → AreFlights b'.entries.items b'.live.items (filter (is_other_flight f) (live_flushes (history_in b))) → are_full (map (landed f q) (points (history_in b))) (filter (is_other_flight f) (live_flushes (history_in b))) ≡ true → b'.held.items ≡ b.held.items → journal_in b' ≡ appended (journal_in b) x → MAX_OPEN ≤ vec_capacity b'.opened → MAX_LIVE ≤ vec_capacity b'.live → MAX_ENTRIES ≤ vec_capacity b'.entries → b'.batches ≡ b.batches → b'.flushes ≡ b.flushes → IsStored b'
-stored_end b b' f q x k h l cells opened live full held ex open_room live_room room eb ef = ends q k cells full
+pub stored_end : (b b' : Inside) (f : ℕ) (q : Place) (x : Entry) → EndsFlush f q x.event → IsStored b → is_live f (live_flushes (history_in b)) ≡ true → AreCells b'.cells.items (map (landed f q) (points (history_in b))) → AreOpen b'.entries.items b'.opened.items (open_batches (history_in b)) → AreFlights b'.entries.items b'.live.items (filter (is_other_flight f) (live_flushes (history_in b))) → are_full (map (landed f q) (points (history_in b))) (filter (is_other_flight f) (live_flushes (history_in b))) ≡ true → b'.held.items ≡ b.held.items → journal_in b' ≡ appended (journal_in b) x → MAX_OPEN ≤ vec_capacity b'.opened → MAX_LIVE ≤ vec_capacity b'.live → MAX_ENTRIES ≤ vec_capacity b'.entries → b'.batches ≡ b.batches → b'.flushes ≡ b.flushes → list_any (is_ready b'.held.items) (take b'.passed b'.cells.items) ≡ false → IsStored b'
+stored_end b b' f q x k h l cells opened live full held ex open_room live_room room eb ef passed = ends q k cells full
   where
     named : (e : Event) → x.event ≡ e → journal_in b' ≡ appended (journal_in b) (record { seat = x.seat; event = e })
     named e k = ex ∙ ap (λ v. appended (journal_in b) (record { seat = x.seat; event = v })) k
 
     ends : (q : Place) → EndsFlush f q x.event → AreCells b'.cells.items (map (landed f q) (points (history_in b))) → are_full (map (landed f q) (points (history_in b))) (filter (is_other_flight f) (live_flushes (history_in b))) ≡ true → IsStored b'
-    ends Acknowledged k cells full = stored_push b b' (record { seat = x.seat; event = Settle f }) h l h.numbered cells opened live full held (named (Settle f) k) open_room live_room room (eb ∙ h.admitted_are) (ef ∙ h.taken_are)
-    ends Dropped k cells full = stored_push b b' (record { seat = x.seat; event = Drop f }) h l h.numbered cells opened live full held (named (Drop f) k) open_room live_room room (eb ∙ h.admitted_are) (ef ∙ h.taken_are)
-    ends Home k cells full = stored_push b b' (record { seat = x.seat; event = GiveBack f }) h l h.numbered cells opened live full held (named (GiveBack f) k) open_room live_room room (eb ∙ h.admitted_are) (ef ∙ h.taken_are)
+    ends Acknowledged k cells full = stored_push b b' (record { seat = x.seat; event = Settle f }) h l h.numbered cells opened live full held (named (Settle f) k) open_room live_room room (eb ∙ h.admitted_are) (ef ∙ h.taken_are) passed
+    ends Dropped k cells full = stored_push b b' (record { seat = x.seat; event = Drop f }) h l h.numbered cells opened live full held (named (Drop f) k) open_room live_room room (eb ∙ h.admitted_are) (ef ∙ h.taken_are) passed
+    ends Home k cells full = stored_push b b' (record { seat = x.seat; event = GiveBack f }) h l h.numbered cells opened live full held (named (GiveBack f) k) open_room live_room room (eb ∙ h.admitted_are) (ef ∙ h.taken_are) passed
     ends (InFlight g) k cells full = absurd k

@@ -5,33 +5,30 @@ use Rattle.std.proofs.lemmas.Bool.{and_from, or_left, or_right, leb-true}
 use Rattle.series_id.specs.Identity.{Identity}
 use Rattle.series_id.proofs.Order.{same_series-refl}
 use Rattle.series_id.specs.Order.{same_series}
-use Rattle.metric_events.specs.History.{History, entries}
-use Rattle.metric_events.specs.Points.{points, taken, is_flying, is_home}
+use Rattle.metric_events.specs.History.{entries}
+use Rattle.metric_events.specs.Points.{points, taken, is_home}
 use Rattle.metric_events.specs.Running.{live_flushes, owed}
-use Rattle.metric_events.specs.Series.{of_series}
-use Rattle.metric_events.specs.Standing.{stands}
-use Rattle.metric_events.specs.Legal.{MayTake, is_in_live, is_held, are_distinct}
+use Rattle.metric_events.specs.Legal.{MayTake, is_in_live, is_held}
 use Rattle.metric_events.specs.Choice.{is_eligible, first_eligible, pick}
 use Rattle.metric_events.specs.declared.limits.TheConstants.{MAX_LIVE, MAX_ENTRIES}
 use Rattle.metric_events.specs.declared.accepted.Accepted.{Accepted}
 use Rattle.metric_events.specs.declared.flight.Flight.{Flight}
 use Rattle.metric_events.specs.declared.entry.Entry.{Entry}
 use Rattle.metric_events.specs.declared.event.Event.TheVariants.{Take}
-use Rattle.metric_events.proofs.Lists.{all_weaker}
 use Rattle.series_cell.specs.Cells.{CellView, lifted}
 use Rattle.delta_book.specs.Journal.{Journal, history, takes}
 use Rattle.delta_book.specs.Refusals.{has_room}
 use Rattle.delta_book.specs.declared.book.Book.TheInside.{Inside}
 use Rattle.delta_book.specs.inner.Stored.{IsStored, journal_in, history_in}
 use Rattle.delta_book.specs.Tables.{AreCells}
-use Rattle.delta_book.specs.inner.Tables.{AreFlights, At, on_series}
+use Rattle.delta_book.specs.inner.Tables.{AreFlights, At, ForPoints, on_series}
 use Rattle.delta_book.specs.Ready.{is_ready}
 use Rattle.delta_book.specs.inner.Ready.{first_ready}
 use Rattle.delta_book.specs.declared.open.JournalRef.{JournalRef}
 use Rattle.series_cell.proofs.ByPlace.{written_back}
 use Rattle.delta_book.proofs.Tables.{taken-on}
 use Rattle.delta_book.proofs.Entries.{is_home_of, at_last, flights_push, flights_more}
-use Rattle.delta_book.proofs.Choosing.{AreTied, first_is, any_ready}
+use Rattle.delta_book.proofs.Choosing.{first_is, any_ready}
 use Rattle.delta_book.proofs.Picking.{picked_all_of, nothing_picked, something_picked, may_take_now}
 use Rattle.delta_book.proofs.Stored.{tied_in}
 
@@ -84,13 +81,41 @@ home_listed live held all (a ∷ qs) w =
 pub home_picked : (qs : List Accepted) (live : List Flight) (held : List (List ℕ)) (n : ℕ) → list_all (λ x. list_any (is_home_of x) qs) (first_eligible qs live held n) ≡ true
 home_picked qs live held n = picked_all_of (λ x. list_any (is_home_of x) qs) qs live held n (home_listed live held qs qs (λ t m. m))
 
-pub taken_cells : (cs ds new : List CellView) (E : History) (f : ℕ) (series named : List Identity) (len : ℕ) → AreCells cs (points E) → AreTied (points E) (live_flushes E) → MayTake E f named → ds ≡ cs → series ≡ named → ((qs : List Accepted) → AreCells ds qs → are_distinct series ≡ true → list_all (λ x. not (list_any (stands is_flying) (of_series x qs))) series ≡ true → AreCells new (map (on_series (lifted f) series) qs)) → length new ≡ length ds → len ≡ length cs → AreCells (take len (new ++ drop (length new) cs)) (map (taken f named) (points E))
-taken_cells cs ds new E f series named len h t may d s k n m =
-    let may2 : MayTake E f series = subst (MayTake E f) (sym s) may in
-    let free : list_all (λ x. not (list_any (stands is_flying) (of_series x (points E)))) series ≡ true = all_weaker (λ x. not (is_in_live (live_flushes E) x)) (λ x. not (list_any (stands is_flying) (of_series x (points E)))) (λ x g. ap not (sym (t.tied x)) ∙ g) series may2.apart in
-    subst (λ ks. AreCells ks (map (taken f named) (points E))) (sym (written_back cs new len (n ∙ ap length d) m))
-    (subst (λ xs. AreCells new (map (taken f xs) (points E))) s
-    (subst (AreCells new) (taken-on f series (points E)) (k (points E) (subst (λ ks. AreCells ks (points E)) (sym d) h) may2.distinct free)))
+pub taken_cells : (b : Inside) (ds new : List CellView) (ks : List (List ℕ)) (n f len : ℕ) (named : List Identity) → IsStored b → ds ≡ b.cells.items → ks ≡ b.held.items → named ≡ first_eligible (points (history_in b)) (live_flushes (history_in b)) b.held.items n → ForPoints ds (λ qs. AreCells new (map (on_series (lifted f) (first_ready ks n ds)) qs)) → length new ≡ length ds → len ≡ length b.cells.items → AreCells (take len (new ++ drop (length new) b.cells.items)) (map (taken f named) (points (history_in b)))
+taken_cells b ds new ks n f len named h d k e lifts l m =
+    let qs = points (history_in b) in
+    let picked : first_ready ks n ds ≡ named = ap (λ js. first_ready js n ds) k ∙ (ap (first_ready b.held.items n) d ∙ (picked_cells b n h ∙ sym e)) in
+    subst (λ es. AreCells es (map (taken f named) qs)) (sym (written_back b.cells.items new len (l ∙ ap length d) m))
+    (subst (AreCells new) (ap (λ xs. map (on_series (lifted f) xs) qs) picked ∙ taken-on f named qs)
+    (lifts qs (subst (λ es. AreCells es qs) (sym d) h.cells)))
+
+-- nothing may be taken of what is passed over
+
+pub over_in : (b : Inside) (ds : List CellView) (ks : List (List ℕ)) → IsStored b → ds ≡ b.cells.items → ks ≡ b.held.items → list_any (is_ready ks) (take b.passed ds) ≡ false
+over_in b ds ks h d k = ap (λ js. list_any (is_ready js) (take b.passed ds)) k ∙ (ap (λ es. list_any (is_ready b.held.items) (take b.passed es)) d ∙ h.passed_over)
+
+pub over_after : (b : Inside) (ds new : List CellView) (ks : List (List ℕ)) (i len : ℕ) → IsStored b → ds ≡ b.cells.items → ks ≡ b.held.items → ForPoints ds (λ _. list_any (is_ready ks) (take i new) ≡ false) → length new ≡ length ds → len ≡ length b.cells.items → list_any (is_ready b.held.items) (take i (take len (new ++ drop (length new) b.cells.items))) ≡ false
+over_after b ds new ks i len h d k over l m =
+    ap (λ es. list_any (is_ready b.held.items) (take i es)) (written_back b.cells.items new len (l ∙ ap length d) m)
+    ∙ (sym (ap (λ js. list_any (is_ready js) (take i new)) k) ∙ over (points (history_in b)) (subst (λ es. AreCells es (points (history_in b))) (sym d) h.cells))
+
+pub passed_to : (b : Inside) (ds : List CellView) (ks : List (List ℕ)) (i : ℕ) → IsStored b → ds ≡ b.cells.items → ks ≡ b.held.items → list_any (is_ready ks) (take i ds) ≡ false → IsStored (record b { passed = i })
+passed_to b ds ks i h d k over = record {
+  legal = h.legal;
+  numbered = h.numbered;
+  cells = h.cells;
+  opened = h.opened;
+  live = h.live;
+  full = h.full;
+  held_are = h.held_are;
+  admitted_are = h.admitted_are;
+  taken_are = h.taken_are;
+  passed_over = sym (ap (λ js. list_any (is_ready js) (take i ds)) k ∙ ap (λ es. list_any (is_ready b.held.items) (take i es)) d) ∙ over;
+  round = h.round;
+  room = h.room;
+  open_room = h.open_room;
+  live_room = h.live_room;
+}
 
 pub flights_taken : (xs ys : List Entry) (x : Entry) (os os' : List JournalRef) (ls : List Flight) (f i : ℕ) (series : List Identity) → AreFlights xs os ls → ys ≡ xs ++ x ∷ [] → x.event ≡ Take f series → i ≡ length xs → os' ≡ os ++ record { number = f; entry = i } ∷ [] → AreFlights ys os' (ls ++ record { number = f; series = series } ∷ [])
 flights_taken xs ys x os os' ls f i series h e v m o =

@@ -81,37 +81,6 @@ pub fn find_cell(cells: &[Cell], series: &SharedId) -> Option<usize>
     }
 }
 
-fn lift_one(cell: &mut Cell, flush: u64)
-    ensures stands { (qs : List Accepted) → Stands cell.old qs
-        → list_any (stands is_flying) qs ≡ false → Stands cell.new (map (lifted flush) qs) }
-    ensures same { IsOfSame cell.old cell.new }
-{
-    if !cell.is_flying() {
-        cell.lift_off(flush);
-    }
-}
-
-fn lift_series(cells: &mut [Cell], flush: u64, series: &SharedId)
-    ensures { ForPoints cells.old (λ qs.
-        list_any (stands is_flying) (of_series series.now qs) ≡ false
-        → AreCells cells.new (map (on_series (lifted flush) (series.now ∷ [])) qs)) }
-{
-    if let Some(i) = find_cell(cells, series) {
-        lift_one(&mut cells[i], flush);
-    }
-}
-
-/// The pending points of these series are in flight with the flush.
-pub fn mark_in_flight(cells: &mut [Cell], flush: u64, series: &[SharedId])
-    ensures { ForPoints cells.old (λ qs. are_distinct series.now ≡ true
-        → list_all (λ x. not (list_any (stands is_flying) (of_series x qs))) series.now ≡ true
-        → AreCells cells.new (map (on_series (lifted flush) series.now) qs)) }
-{
-    for x in series {
-        lift_series(cells, flush, x);
-    }
-}
-
 fn land_one(cell: &mut Cell, place: Place)
     ensures stands { (f : ℕ) (qs : List Accepted) → Stands cell.old qs
         → list_any (stands (is_in_flight f)) qs ≡ true → is_flying place ≡ false

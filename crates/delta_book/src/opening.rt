@@ -42,7 +42,7 @@ fn add_past(alloc: Global, row: &[u64], past: &[u128]) -> Result<WideRow, AllocE
     requires small { list_all (λ w. nat_le w (2 ^ 127)) past.now ≡ true }
     ensures { IfOk result (λ w. w ≡ add_rows row.now past.now) }
 {
-    let mut words = Vec::new(alloc);
+    let mut words = Vec::with_capacity(alloc, row.len())?;
     for k in 0..row.len() {
         words.push(u128::from(row[k]) + past[k])?;
     }
@@ -53,7 +53,7 @@ fn add_past(alloc: Global, row: &[u64], past: &[u128]) -> Result<WideRow, AllocE
 fn widen(alloc: Global, row: &[u64]) -> Result<WideRow, AllocError>
     ensures { IfOk result (λ w. w ≡ row.now) }
 {
-    let mut words = Vec::new(alloc);
+    let mut words = Vec::with_capacity(alloc, row.len())?;
     for word in row {
         words.push(u128::from(*word))?;
     }
@@ -152,7 +152,7 @@ fn hand_on_all(
         → IfOk result (λ v. v.items ≡ map (λ x. handed_on before.now.series
         (series_standing qs held x)) (series_in_order qs)) }
 {
-    let mut all = Vec::new(alloc);
+    let mut all = Vec::with_capacity(alloc, cells.len())?;
     for cell in cells {
         all.push(hand_on(alloc, cell, before)?)?;
     }

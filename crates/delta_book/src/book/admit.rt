@@ -50,6 +50,7 @@ impl Book {
             return Err((fault, body));
         }
         let number = self.batches + 1;
+        self.passed = 0;
         if let Err(fault) = put_batch(
             self.alloc,
             &mut self.cells,

@@ -94,6 +94,7 @@ impl Book {
             return Err(RoundFault::NoMemory);
         };
         let round = opening.round;
+        self.passed = 0;
         carry_all(&mut self.cells);
         self.opening = opening;
         self.entries.clear();

@@ -38,6 +38,7 @@ impl Book {
         let Some(at) = find_entry(&self.live, flush) else {
             return Err(NotLive);
         };
+        self.passed = 0;
         end_in_cells(&mut self.cells, place, series_at(&self.entries, at));
         self.entries.push_reserved(Entry { seat, event });
         close(&mut self.live, flush);
@@ -97,6 +98,7 @@ impl Book {
         if !is_all_home(&self.cells, points_at(&self.entries, at), batch) {
             return Err(UndoFault::Taken);
         }
+        self.passed = 0;
         remove_batch(&mut self.cells, points_at(&self.entries, at), batch);
         self.entries.push_reserved(Entry {
             seat,

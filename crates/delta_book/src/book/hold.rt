@@ -48,6 +48,7 @@ impl Book {
         if self.held.reserve(1).is_err() {
             return Err(QuarantineFault::NoMemory);
         }
+        self.passed = 0;
         self.held.push_reserved(name);
         self.entries.push_reserved(Entry {
             seat,
@@ -67,6 +68,7 @@ impl Book {
         let Some(i) = find_sender(&self.held, sender) else {
             return Err(NotQuarantined);
         };
+        self.passed = 0;
         let name = self.held.remove(i);
         self.entries.push_reserved(Entry {
             seat,

@@ -1,11 +1,10 @@
 //! Takes a flush.
 ghost use Rattle.std.specs.Prelude.{◌≡◌, ◌≢◌, ◌≤◌, [], length, nat_lt, ◌&&◌, IfNone};
-ghost use Rattle.std.specs.Prelude.{IfSome, IfOk, IfErr, OnErr, if◌then◌else◌};
+ghost use Rattle.std.specs.Prelude.{IfSome, IfOk, IfErr, OnErr, if◌then◌else◌, ℕ, true, false};
 
 use crate::book::Book;
-use crate::cells::mark_in_flight;
 use crate::faults::TakeFault;
-use crate::flush::{Flush, Load, has_ready, prepare};
+use crate::flush::{Flush, Load, first_place, lift_first, prepare};
 use crate::open::JournalRef;
 use metric_events::entry::Entry;
 use metric_events::event::Event;
@@ -37,6 +36,18 @@ impl Book {
         false
     }
 
+    /// Whether there is something to take. The cells before it are not looked at again until
+    /// another call than `take` changes the book.
+    fn find_ready(&mut self) -> bool
+        ensures same { self.new ≡ self.old }
+        ensures nothing { result ≡ false → (max : ℕ) → pick (history self.old) max ≡ [] }
+        ensures some { result ≡ true → (max : ℕ) → 1 ≤ max → pick (history self.old) max ≢ [] }
+    {
+        let place = first_place(&self.cells, &self.held, self.passed);
+        self.passed = place;
+        place < self.cells.len()
+    }
+
     /// Takes a flush where there is something to take.
     fn take_ready(&mut self, seat: u16, max: usize) -> Result<Flush, TakeFault>
         requires { pick (history self.old) max ≢ [] }
@@ -49,11 +60,12 @@ impl Book {
             return Err(TakeFault::Full);
         }
         let number = self.flushes + 1;
-        let Ok(load) = prepare(self.alloc, &self.cells, &self.held, max) else {
+        let Ok(load) = prepare(self.alloc, &self.cells, &self.held, self.passed, max) else {
             return Err(TakeFault::NoMemory);
         };
         let Load { series, points } = load;
-        mark_in_flight(&mut self.cells, number, series.as_slice());
+        let passed = lift_first(&mut self.cells, &self.held, self.passed, max, number);
+        self.passed = passed;
         self.live.push_reserved(JournalRef {
             number,
             entry: self.entries.len(),
@@ -85,7 +97,7 @@ impl Book {
             else TakeFault.NoMemory)) }
         ensures err { OnErr result ((pick (history self.old) max ≢ []) × (self.new ≡ self.old)) }
     {
-        if !has_ready(&self.cells, &self.held) {
+        if !self.find_ready() {
             return Ok(None);
         }
         match self.take_ready(seat, max) {
