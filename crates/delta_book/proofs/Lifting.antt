@@ -16,8 +16,7 @@ use Rattle.series_cell.specs.Cells.{CellView, Stands, lifted}
 use Rattle.series_cell.proofs.Reading.{stored_is}
 use Rattle.series_cell.proofs.Points.{MovesOnly}
 use Rattle.delta_book.specs.Tables.{AreCells, id_of}
-use Rattle.delta_book.specs.Ready.{is_ready}
-use Rattle.delta_book.specs.inner.Ready.{ready_ids}
+use Rattle.delta_book.specs.inner.Ready.{is_ready, ready_ids}
 use Rattle.delta_book.specs.inner.Tables.{on_series}
 use Rattle.delta_book.proofs.Tables.{not_first, among_at, id_at, ids_distinct, on_more, cell_changed}
 use Rattle.delta_book.proofs.Preparing.{ready_push}
