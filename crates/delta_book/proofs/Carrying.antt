@@ -27,7 +27,7 @@ use Rattle.metric_events.proofs.Closing.{home_row}
 use Rattle.series_cell.specs.Cells.{CellView, Stands, HandsOn, end_of, opened_with}
 use Rattle.series_cell.proofs.Reading.{tells}
 use Rattle.delta_book.specs.Carries.{Carries, AllCarry, AllHandOn, BeginsWith, AllOpened}
-use Rattle.delta_book.specs.Ready.{is_ready}
+use Rattle.delta_book.specs.inner.Ready.{is_ready}
 use Rattle.delta_book.specs.Tables.{AreCells, AllStand, id_of}
 use Rattle.delta_book.specs.inner.Tables.{HasPoint, AreOpen, AreFlights}
 use Rattle.delta_book.specs.declared.book.Book.TheInside.{Inside}

@@ -30,8 +30,7 @@ use Rattle.delta_book.specs.Tables.{AreCells, AllStand, id_of}
 use Rattle.delta_book.specs.inner.Tables.{is_full, are_full}
 use Rattle.delta_book.proofs.Picking.{some_filtered}
 use Rattle.delta_book.proofs.Tables.{agree}
-use Rattle.delta_book.specs.Ready.{is_ready}
-use Rattle.delta_book.specs.inner.Ready.{ready_ids, first_ready}
+use Rattle.delta_book.specs.inner.Ready.{is_ready, ready_ids, first_ready}
 
 -- two ascending lists of the same series are one
 

@@ -1,10 +1,10 @@
--- The walks over the cells of which nothing may be taken, and over those that a flush takes.
-use Rattle.std.proofs.Common.{◌≡◌, ℕ, ◌+◌, ◌<◌, ◌≤◌, Bool, true, false, cond, not, ◌&&◌, List, [], ◌∷◌, ◌++◌, map, set, get_or, length, take, drop, refl, ap, sym, ◌∙◌, subst, arith, zero, suc}
+-- The walk that lifts what a flush takes: one cell more.
+use Rattle.std.proofs.Common.{◌≡◌, ℕ, ◌+◌, ◌<◌, Bool, true, false, cond, not, ◌&&◌, List, [], ◌∷◌, ◌++◌, map, set, get_or, length, take, drop, refl, ap, sym, ◌∙◌, subst, arith, zero, suc}
 use Rattle.std.specs.Prelude.{nat_lt}
 use Rattle.std.specs.List.{list_any}
-use Rattle.std.proofs.lemmas.Bool.{and_parts, or_from, le-ltb, lt-ltb}
-use Rattle.std.proofs.lemmas.List.Folds.{list_any-append, list_any_at, list_any_more}
-use Rattle.std.proofs.lemmas.List.{drop_more, take_all, take_more_set}
+use Rattle.std.proofs.lemmas.Bool.{and_parts, or_from}
+use Rattle.std.proofs.lemmas.List.Folds.{list_any-append}
+use Rattle.std.proofs.lemmas.List.{drop_more, take_more_set}
 use Rattle.series_id.specs.Order.{same_series}
 use Rattle.metric_events.specs.Points.{at, is_among, is_home}
 use Rattle.metric_events.specs.Legal.{are_distinct, is_held}
@@ -16,8 +16,7 @@ use Rattle.series_cell.specs.Cells.{CellView, Stands, lifted}
 use Rattle.series_cell.proofs.Reading.{stored_is}
 use Rattle.series_cell.proofs.Points.{MovesOnly}
 use Rattle.delta_book.specs.Tables.{AreCells, id_of}
-use Rattle.delta_book.specs.Ready.{is_ready}
-use Rattle.delta_book.specs.inner.Ready.{ready_ids}
+use Rattle.delta_book.specs.inner.Ready.{is_ready, ready_ids}
 use Rattle.delta_book.specs.inner.Tables.{on_series}
 use Rattle.delta_book.proofs.Tables.{not_first, among_at, id_at, ids_distinct, on_more, cell_changed}
 use Rattle.delta_book.proofs.Preparing.{ready_push}
@@ -64,21 +63,6 @@ none_home f (a ∷ qs) = or_from (is_home (lifted f a).place) (list_any (stands 
 pub lifted_over : (held : List (List ℕ)) (c : CellView) (f : ℕ) (qs : List Accepted) → Stands c (map (lifted f) qs) → is_ready held c ≡ false
 lifted_over held c f qs h = ap (λ v. v && (not (nat_lt 0 c.cut) && not (is_held c.owner held))) (stored_is c (map (lifted f) qs) h ∙ none_home f qs)
 
--- no cell passes a test, up to the next one
-
-pub none_more : {X : Type 0} (t : X → Bool) (xs : List X) (i : ℕ) (x : X) → i < length xs → x ≡ get_or xs i x → list_any t (take i xs) ≡ false → t x ≡ false → list_any t (take (i + 1) xs) ≡ false
-none_more t xs i x l e n m = list_any_more t xs i x l ∙ or_from (list_any t (take i xs)) (t (get_or xs i x)) n (ap t (sym e) ∙ m)
-
+-- none passes a test, up to the next one
 pub none_set : {X : Type 0} (t : X → Bool) (xs : List X) (i : ℕ) (y : X) → i < length xs → list_any t (take i xs) ≡ false → t y ≡ false → list_any t (take (i + 1) (set xs i y)) ≡ false
 none_set t xs i y l n m = ap (list_any t) (take_more_set xs i y l) ∙ (list_any-append t (take i xs) (y ∷ []) ∙ or_from (list_any t (take i xs)) (list_any t (y ∷ [])) n (or_from (t y) false m refl))
-
-pub none_all : {X : Type 0} (t : X → Bool) (xs : List X) (i n : ℕ) → length xs ≤ i → length xs ≤ n → list_any t (take i xs) ≡ false → list_any t (take n xs) ≡ false
-none_all t xs i n l m h = ap (list_any t) (take_all n xs m ∙ sym (take_all i xs l)) ∙ h
-
--- there is a place exactly where a cell passes
-
-pub some_place : {X : Type 0} (t : X → Bool) (xs : List X) (i : ℕ) (x : X) → i < length xs → x ≡ get_or xs i x → t x ≡ true → nat_lt i (length xs) ≡ list_any t xs
-some_place t xs i x l e m = lt-ltb i (length xs) l ∙ sym (list_any_at t xs i x l (ap t (sym e) ∙ m))
-
-pub no_place : {X : Type 0} (t : X → Bool) (xs : List X) (i n : ℕ) → length xs ≤ i → length xs ≤ n → list_any t (take i xs) ≡ false → nat_lt n (length xs) ≡ list_any t xs
-no_place t xs i n l m h = le-ltb n (length xs) m ∙ (sym h ∙ ap (list_any t) (take_all i xs l))

@@ -9,8 +9,7 @@ use Rattle.metric_events.specs.DataPoint.{DataPoint}
 use Rattle.metric_events.specs.Choice.{present}
 use Rattle.series_cell.specs.Cells.{CellView}
 use Rattle.delta_book.specs.Tables.{id_of}
-use Rattle.delta_book.specs.Ready.{is_ready}
-use Rattle.delta_book.specs.inner.Ready.{ready_ids}
+use Rattle.delta_book.specs.inner.Ready.{is_ready, ready_ids}
 use Rattle.delta_book.proofs.Tables.{take_next}
 use Rattle.delta_book.proofs.Sending.{present_push}
 

@@ -31,7 +31,7 @@ use Rattle.metric_events.specs.declared.opening.Opening.{Opening}
 use Rattle.metric_events.proofs.Room.{kept_room}
 use Rattle.metric_events.proofs.Numbers.{admits-le, takes-le}
 use Rattle.metric_events.proofs.Closing.{opening_is}
-use Rattle.delta_book.specs.Ready.{is_ready}
+use Rattle.delta_book.specs.inner.Ready.{is_ready}
 use Rattle.delta_book.specs.Tables.{AreCells, AreBooked}
 use Rattle.delta_book.specs.inner.Tables.{AreOpen, AreFlights, are_full, is_full, series_named}
 use Rattle.delta_book.specs.inner.Tables.{EndsFlush, entry_of, on_series, is_other_open}

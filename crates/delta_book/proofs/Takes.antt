@@ -22,8 +22,7 @@ use Rattle.delta_book.specs.declared.book.Book.TheInside.{Inside}
 use Rattle.delta_book.specs.inner.Stored.{IsStored, journal_in, history_in}
 use Rattle.delta_book.specs.Tables.{AreCells}
 use Rattle.delta_book.specs.inner.Tables.{AreFlights, At, ForPoints, on_series}
-use Rattle.delta_book.specs.Ready.{is_ready}
-use Rattle.delta_book.specs.inner.Ready.{first_ready}
+use Rattle.delta_book.specs.inner.Ready.{is_ready, first_ready}
 use Rattle.delta_book.specs.declared.open.JournalRef.{JournalRef}
 use Rattle.series_cell.proofs.ByPlace.{written_back}
 use Rattle.delta_book.proofs.Tables.{taken-on}

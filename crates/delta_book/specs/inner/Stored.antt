@@ -9,7 +9,7 @@ use Rattle.metric_events.specs.declared.limits.TheConstants.{MAX_ENTRIES, MAX_OP
 use Rattle.delta_book.specs.declared.opening.TheConstants.{LAST_ROUND}
 use Rattle.delta_book.specs.declared.book.Book.TheInside.{Inside}
 use Rattle.delta_book.specs.Journal.{Journal, journal_of, history, admits, takes, IsNumbered}
-use Rattle.delta_book.specs.Ready.{is_ready}
+use Rattle.delta_book.specs.inner.Ready.{is_ready}
 use Rattle.delta_book.specs.Tables.{AreCells}
 use Rattle.delta_book.specs.inner.Tables.{AreOpen, AreFlights, are_full}
 
@@ -21,8 +21,8 @@ abbrev pub history_in : Inside → History
 history_in b = history (journal_in b)
 
 -- the history is legal and numbered; the cells, what is open, live and quarantined, and the counts
--- are those of the history; nothing may be taken of the cells that are passed over; and there is room
--- for all entries, open batches and live flushes
+-- are those of the history; nothing may be taken of the cells that are passed over; and there is
+-- room for all entries, open batches and live flushes
 pub record IsStored (b : Inside) : Type 0 where
   pub legal : IsLegal (history_in b)
   pub numbered : IsNumbered (history_in b)

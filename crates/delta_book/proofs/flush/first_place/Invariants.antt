@@ -1,6 +1,6 @@
 use Rattle.std.proofs.Common.{◌≡◌, take, false}
 use Rattle.std.specs.List.{list_any}
-use Rattle.delta_book.specs.Ready.{is_ready}
+use Rattle.delta_book.specs.inner.Ready.{is_ready}
 use Rattle.delta_book.proofs.flush.first_place.Given as goal
 
 abbrev pub invariant-loop-i : goal.invariant-loop-i

@@ -4,10 +4,9 @@ use Rattle.metric_events.specs.Series.{of_series}
 use Rattle.series_cell.specs.Cells.{lifted}
 use Rattle.series_cell.proofs.Points.{moves_lifted}
 use Rattle.std.proofs.lemmas.List.{set-get_or, drop-set-lt}
-use Rattle.delta_book.specs.Ready.{is_ready}
+use Rattle.delta_book.specs.inner.Ready.{is_ready, ready_ids}
 use Rattle.delta_book.specs.Tables.{AreCells}
 use Rattle.delta_book.specs.inner.Tables.{ForPoints, on_series}
-use Rattle.delta_book.specs.inner.Ready.{ready_ids}
 use Rattle.delta_book.proofs.Choosing.{first_upto, none_ids}
 use Rattle.delta_book.proofs.Lifting.{rest_next, lifted_next, none_set}
 use Rattle.delta_book.proofs.Preparing.{ready_push, ready_skip}

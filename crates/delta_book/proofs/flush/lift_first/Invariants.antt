@@ -1,10 +1,9 @@
 use Rattle.std.proofs.Common.{◌≡◌, ◌+◌, map, take, drop, length, false}
 use Rattle.series_cell.specs.Cells.{lifted}
 use Rattle.std.specs.List.{list_any}
-use Rattle.delta_book.specs.Ready.{is_ready}
+use Rattle.delta_book.specs.inner.Ready.{is_ready, ready_ids}
 use Rattle.delta_book.specs.Tables.{AreCells}
 use Rattle.delta_book.specs.inner.Tables.{ForPoints, on_series}
-use Rattle.delta_book.specs.inner.Ready.{ready_ids}
 use Rattle.delta_book.proofs.flush.lift_first.Given as goal
 
 abbrev pub invariant-loop-i : goal.invariant-loop-i
