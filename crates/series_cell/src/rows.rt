@@ -8,7 +8,7 @@ use std::alloc::{AllocError, Global};
 pub fn zero_row(alloc: Global, len: usize) -> Result<Vec<u64>, AllocError>
     ensures { IfOk result (λ v. v.items ≡ zeros len) }
 {
-    let mut row = Vec::new(alloc);
+    let mut row = Vec::with_capacity(alloc, len)?;
     row.resize(len, 0)?;
     Ok(row)
 }
