@@ -9,7 +9,7 @@ use metric_events::span::Span;
 use std::alloc::AllocError;
 
 /// Room for so many spans is made at least, where room is made.
-pub const LEAST_ROOM: usize = 4;
+pub const LEAST_ROOM: usize = 1;
 
 /// Room for so many spans may be kept where there is none: what the points of a few usual posts
 /// need.
