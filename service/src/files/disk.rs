@@ -9,12 +9,13 @@ mod owned;
 mod read;
 mod under_way;
 
-use super::drive::{is_lost, Drive, Lost};
+use super::drive::{is_lost, Drive, Lost, Passenger};
 use super::Fault;
 pub use file::{Cursor, File};
 use nix::errno::Errno;
 use nix::fcntl::{fallocate, FallocateFlags};
 use nix::sys::uio::pwritev;
+pub use owned::Began;
 use owned::Owned;
 use std::fs::{DirBuilder, OpenOptions};
 use std::io::{self, IoSlice};
@@ -300,10 +301,32 @@ impl Disk {
         })
     }
 
-    /// Of a drive, once a sync may begin, which follows at once.
-    pub fn board(&self) {
+    /// Whether a sync is had begun and ended for who waits without a thread.
+    pub fn takes_passengers(&self) -> bool {
+        matches!(&self.place, Place::Drive(owned) if owned.takes_passengers())
+    }
+
+    pub fn board(&self, who: Arc<dyn Passenger>) {
         if let Place::Drive(owned) = &self.place {
-            owned.board();
+            owned.board(who);
+        }
+    }
+
+    /// Of a passenger's sync, that it begins; none of a folder, which takes none.
+    pub fn begin_sync(&self) -> Option<Began> {
+        match &self.place {
+            Place::Folder { .. } => None,
+            Place::Drive(owned) => Some(owned.begin()),
+        }
+    }
+
+    /// It was done, or the slot was lost.
+    pub fn end_sync(&self, began: Result<Began, Lost>) {
+        if let Place::Drive(owned) = &self.place {
+            match began {
+                Ok(began) => owned.end(began),
+                Err(Lost) => owned.lose(),
+            }
         }
     }
 

@@ -7,6 +7,7 @@ mod slot;
 use std::ffi::OsString;
 use std::io;
 use std::path::Path;
+use std::sync::Arc;
 use std::time::Duration;
 
 pub use slot::open;
@@ -34,8 +35,12 @@ pub trait Drive: Send + Sync {
     fn rename(&self, from: &Path, to: &Path) -> io::Result<()>;
     /// `NotFound` where there is none.
     fn remove(&self, name: &Path) -> io::Result<()>;
-    /// Returns once a sync may begin, where it waits for others: what is done meanwhile is in it too. The sync follows at once.
-    fn board(&self) {}
+    /// Whether it takes passengers.
+    fn takes_passengers(&self) -> bool {
+        false
+    }
+    /// Has a sync begin soon, and end, for who waits without a thread. It never waits.
+    fn board(&self, _who: Arc<dyn Passenger>) {}
     /// Waits until all is durable that was done before the call, and the slot was still this owner's: also where nothing
     /// was done, a commit under its term has come that began after the call. It fails by `Lost` alone.
     fn sync(&self) -> io::Result<()>;
@@ -49,6 +54,14 @@ pub trait Drive: Send + Sync {
     fn delivered(&self) -> u64 {
         0
     }
+}
+
+/// Who waits for a sync without a thread. Each call is made by whoever has something to tell, and keeps nobody waiting.
+pub trait Passenger: Send + Sync {
+    /// The sync begins once this has returned: what is done until then is in it.
+    fn begin(&self);
+    /// It has ended, or the slot was lost before.
+    fn end(self: Arc<Self>, done: Result<(), Lost>);
 }
 
 /// Another instance has the slot, or may have: nothing of it may be answered or delivered any more.

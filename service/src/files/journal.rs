@@ -27,7 +27,7 @@ mod record;
 mod sync;
 mod write;
 
-use super::disk::{Disk, File};
+use super::disk::{Began, Disk, File};
 use super::drive::Lost;
 use super::free_space::FreeSpace;
 use super::records::{self, Which};
@@ -42,7 +42,7 @@ use std::path::{Path, PathBuf};
 use std::sync::atomic::{AtomicU64, Ordering::SeqCst};
 use std::sync::{Arc, Condvar, Mutex};
 use std::time::Duration;
-use sync::Waiters;
+use sync::{Brought, Waiters};
 
 const POST: u8 = records::OWN;
 const COPY: u8 = records::OWN + 1;
@@ -96,6 +96,8 @@ struct Shared {
     waiters: Mutex<Waiters>,
     work: Condvar,
     syncing: Mutex<()>,
+    /// What a passenger's sync has, while it is under way.
+    aboard: Mutex<Option<(Began, Brought)>>,
     /// The next segment, durable, which has no name yet. Locked after `place`.
     next: Mutex<Option<Segment>>,
 }

@@ -5,10 +5,11 @@ use super::server::{wait_until, Server};
 use super::work::{contents, take};
 use super::{make, open, STRAYS};
 use std::path::Path;
+use std::sync::mpsc::{channel, Sender};
 use std::sync::Arc;
 use std::thread::{self, JoinHandle};
 use std::time::{Duration, Instant};
-use totxegun::files::drive::{is_lost, Drive};
+use totxegun::files::drive::{is_lost, Drive, Lost, Passenger};
 use totxegun::store::postgres::{Copies, PostgresDrive, PostgresStore};
 
 /// They share a connection.
@@ -55,7 +56,18 @@ impl Owner {
     }
 }
 
-/// As the journal's thread and the outbox do it: neither keeps the other waiting, nor other slots.
+/// A journal as a drive has it.
+struct Journal(Sender<Result<(), Lost>>);
+
+impl Passenger for Journal {
+    fn begin(&self) {}
+
+    fn end(self: Arc<Self>, done: Result<(), Lost>) {
+        let _ = self.0.send(done);
+    }
+}
+
+/// As the journal and the outbox do it: neither keeps the other waiting, nor other slots.
 #[test]
 fn who_comes_aboard_and_who_syncs_meanwhile_both_go_on() {
     let Some(server) = Server::start("") else { return };
@@ -66,12 +78,16 @@ fn who_comes_aboard_and_who_syncs_meanwhile_both_go_on() {
     let works = |owner: &Owner, boards: bool| {
         let owner = owner.clone();
         thread::spawn(move || {
+            let (tell, told) = channel();
             while Instant::now() < until {
                 owner.drive.write_at(owner.file, &[b"x"], 0).unwrap();
-                if boards {
-                    owner.drive.board();
+                match boards {
+                    true => {
+                        owner.drive.board(Arc::new(Journal(tell.clone())));
+                        told.recv().unwrap().unwrap();
+                    }
+                    false => owner.drive.sync().unwrap(),
                 }
-                owner.drive.sync().unwrap();
             }
         })
     };
@@ -81,10 +97,31 @@ fn who_comes_aboard_and_who_syncs_meanwhile_both_go_on() {
         .collect();
     wait_until("all are done", || all.iter().all(JoinHandle::is_finished));
     all.into_iter().for_each(|one| one.join().unwrap());
-    // One that comes aboard and is lost before it syncs is not waited for.
-    owners[0].drive.board();
+    // One whose slot is lost is told so, and others wait for nothing of it.
+    let (tell, told) = channel();
     owners[0].drive.lose();
+    owners[0].drive.board(Arc::new(Journal(tell)));
+    assert!(told.recv().unwrap().is_err());
     owners[1].write("y").unwrap();
+}
+
+/// Whatever became of its write.
+#[test]
+fn who_waits_is_told_that_the_store_has_ended() {
+    let Some(server) = Server::start("") else { return };
+    let proxy = Proxy::start(server.port);
+    make(&[&server.address()]);
+    let store = open(&[&proxy.address()], Copies::One);
+    let owners = SLOTS.map(|slot| Owner::of(&store, slot));
+    proxy.stop_after(0);
+    let first = owners[0].writes("b");
+    wait_until("the first is on its way", || proxy.holds());
+    let second = owners[1].writes("b");
+    drop(store);
+    for one in [first, second] {
+        wait_until("it is told", || one.is_finished());
+        assert!(is_lost(&one.join().unwrap().unwrap_err()));
+    }
 }
 
 /// It is aboard and can't write: its connection is used by a read, which waits for the slot's row.

@@ -1,6 +1,6 @@
 //! A drive that this instance has, until it is lost.
 
-use crate::files::drive::{is_lost, lost, Drive, Lost};
+use crate::files::drive::{is_lost, lost, Drive, Lost, Passenger};
 use crate::files::lock;
 use crate::latch::Latch;
 use std::io;
@@ -19,6 +19,13 @@ pub struct Owned {
     lost: watch::Sender<bool>,
     /// Why it was closed, where another instance has not taken it.
     failure: OnceLock<String>,
+}
+
+/// What there was when a sync began.
+#[derive(Clone, Copy)]
+pub struct Began {
+    made: u64,
+    at: Instant,
 }
 
 impl Owned {
@@ -53,19 +60,41 @@ impl Owned {
         Ok(done)
     }
 
-    pub fn board(&self) {
-        if !self.is_lost() {
-            self.drive.board();
+    pub fn takes_passengers(&self) -> bool {
+        self.drive.takes_passengers()
+    }
+
+    pub fn board(&self, who: Arc<dyn Passenger>) {
+        match self.is_lost() {
+            true => who.end(Err(Lost)),
+            false => self.drive.board(who),
         }
     }
 
     pub fn sync(&self) -> io::Result<()> {
-        let (made, began) = (self.made.load(SeqCst), Instant::now());
+        let began = self.begin();
         self.call(|drive| drive.sync())?;
-        self.durable.fetch_max(made, SeqCst);
-        let mut ours = lock(&self.ours);
-        *ours = began.max(*ours);
+        self.end(began);
         Ok(())
+    }
+
+    /// A sync begins.
+    pub fn begin(&self) -> Began {
+        Began {
+            made: self.made.load(SeqCst),
+            at: Instant::now(),
+        }
+    }
+
+    /// It was done.
+    pub fn end(&self, began: Began) {
+        self.durable.fetch_max(began.made, SeqCst);
+        let mut ours = lock(&self.ours);
+        *ours = began.at.max(*ours);
+    }
+
+    pub fn lose(&self) {
+        self.lost.send_replace(true);
     }
 
     /// No call reaches the drive any more, as where it is lost.

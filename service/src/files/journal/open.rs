@@ -61,6 +61,7 @@ impl Journal {
             waiters: Mutex::new(Waiters::default()),
             work: Condvar::new(),
             syncing: Mutex::new(()),
+            aboard: Mutex::default(),
             next: Mutex::new(None),
         });
         shared.try_sync()?;

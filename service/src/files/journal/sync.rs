@@ -1,8 +1,10 @@
 //! The journal's syncer: one thread, one `fdatasync` for all that wait.
 
 use super::{lock, Journal, Shared};
-use crate::files::drive::Lost;
+use crate::files::disk::File;
+use crate::files::drive::{Lost, Passenger};
 use crate::files::Fault;
+use std::path::PathBuf;
 use std::sync::atomic::Ordering::SeqCst;
 use std::sync::{Arc, PoisonError};
 use std::thread::ThreadId;
@@ -26,7 +28,21 @@ pub struct Waiters {
     list: Vec<Waiter>,
     /// The syncer has nothing to do.
     idle: bool,
+    /// A drive has a sync begin and end for who waits.
+    is_aboard: bool,
     pub(super) ending: bool,
+}
+
+/// What a sync makes durable.
+pub struct Brought {
+    ended: Vec<(Arc<File>, PathBuf)>,
+    file: Arc<File>,
+    path: PathBuf,
+    number: u64,
+    at: u64,
+    length: u64,
+    named: bool,
+    ticket: u64,
 }
 
 struct Waiter {
@@ -48,7 +64,7 @@ impl Drop for Told {
 }
 
 impl Shared {
-    pub async fn synced(&self, ticket: u64) -> Result<(), Lost> {
+    pub async fn synced(self: &Arc<Self>, ticket: u64) -> Result<(), Lost> {
         if self.durable.load(SeqCst) >= ticket {
             return Ok(());
         }
@@ -65,8 +81,13 @@ impl Shared {
             let (tell, done) = oneshot::channel();
             let thread = std::thread::current().id();
             waiters.list.push(Waiter { ticket, thread, tell });
-            if std::mem::take(&mut waiters.idle) {
-                self.work.notify_one();
+            if !self.disk.takes_passengers() {
+                if std::mem::take(&mut waiters.idle) {
+                    self.work.notify_one();
+                }
+            } else if !std::mem::replace(&mut waiters.is_aboard, true) {
+                drop(waiters);
+                self.disk.board(self.clone());
             }
             done
         };
@@ -90,41 +111,50 @@ impl Shared {
 
     /// The same, for who has the journal alone.
     pub(super) fn try_sync(&self) -> Result<(), Fault> {
-        self.disk.board();
-        let brought = self.written(|place| {
-            let segment = &place.segment;
-            (
-                std::mem::take(&mut place.ended),
-                segment.file.clone(),
-                segment.path.clone(),
-                segment.number,
-                segment.at,
-                segment.length(),
-                place.named,
-                place.ticket,
-            )
-        });
-        let (ended, file, path, number, at, length, named, ticket) = brought.map_err(Fault::Lost)?;
-        for (file, path) in &ended {
+        let brought = self.bring().map_err(Fault::Lost)?;
+        for (file, path) in &brought.ended {
             self.disk.order(file, path)?;
         }
-        match named {
-            true => self.disk.sync(&file, &path)?,
+        let (file, path) = (&brought.file, &brought.path);
+        match brought.named {
+            true => self.disk.sync(file, path)?,
             false => {
-                self.disk.order(&file, &path)?;
+                self.disk.order(file, path)?;
                 self.disk.sync_folder(&self.folder)?;
             }
         }
+        self.note_durable(&brought);
+        Ok(())
+    }
+
+    /// All that was appended until now.
+    fn bring(&self) -> Result<Brought, Lost> {
+        self.written(|place| {
+            let segment = &place.segment;
+            Brought {
+                ended: std::mem::take(&mut place.ended),
+                file: segment.file.clone(),
+                path: segment.path.clone(),
+                number: segment.number,
+                at: segment.at,
+                length: segment.length(),
+                named: place.named,
+                ticket: place.ticket,
+            }
+        })
+    }
+
+    fn note_durable(&self, brought: &Brought) {
         {
             let mut place = lock(&self.place);
-            if place.segment.number == number {
-                place.segment.note_durable(at, length);
+            if place.segment.number == brought.number {
+                place.segment.note_durable(brought.at, brought.length);
                 place.named = true;
             }
         }
-        self.durable.store(ticket, SeqCst);
-        self.tell(ticket);
-        Ok(())
+        // A passenger's sync may tell so behind a later one.
+        self.durable.fetch_max(brought.ticket, SeqCst);
+        self.tell(brought.ticket);
     }
 
     fn tell(&self, ticket: u64) {
@@ -160,7 +190,7 @@ impl Shared {
             if waiters.ending || self.disk.is_lost() {
                 return Due::End;
             }
-            if !waiters.list.is_empty() {
+            if !waiters.list.is_empty() && !waiters.is_aboard {
                 return Due::Sync;
             }
             waiters.idle = true;
@@ -230,6 +260,34 @@ impl Shared {
                     return;
                 }
             }
+        }
+    }
+}
+
+/// A drive that takes passengers is told of the journal, and not the syncer.
+impl Passenger for Shared {
+    fn begin(&self) {
+        let began = self.disk.begin_sync();
+        let brought = self.bring().ok();
+        *lock(&self.aboard) = began.zip(brought);
+    }
+
+    fn end(self: Arc<Self>, done: Result<(), Lost>) {
+        let aboard = lock(&self.aboard).take();
+        let Some((began, brought)) = done.ok().and(aboard) else {
+            self.disk.end_sync(Err(Lost));
+            lock(&self.waiters).list.clear(); // who waited is told so
+            return;
+        };
+        self.disk.end_sync(Ok(began));
+        self.note_durable(&brought);
+        let somebody_waits = {
+            let waiters = &mut lock(&self.waiters);
+            waiters.is_aboard = !waiters.list.is_empty();
+            waiters.is_aboard
+        };
+        if somebody_waits {
+            self.disk.clone().board(self);
         }
     }
 }

@@ -268,7 +268,7 @@ impl PostgresStore {
         };
         let (writer, files) = self.runtime.wait(opening).unwrap_or(Err(Lost))?;
         let (reader, runtime) = (database.reader.clone(), self.runtime.handle().clone());
-        Ok(Arc::new(PostgresDrive::new(writer, files, reader, runtime)))
+        Ok(PostgresDrive::new(writer, files, reader, runtime))
     }
 
     fn beater(&self, database: usize) -> Arc<Shared> {

@@ -11,8 +11,6 @@ use std::sync::Arc;
 pub const PIECE: usize = 1 << 20;
 /// So many pieces and files can an owner make.
 const NUMBERS: u32 = 40;
-/// More bytes take some milliseconds to be packed.
-const LONG: usize = 512 << 10;
 /// So many bytes are fetched at once, as a rule: what is read is read on.
 const AHEAD: u64 = 2 << 20;
 
@@ -53,6 +51,12 @@ pub struct Batch {
     pub gone: Vec<u64>,
     pub named: Vec<(u64, String)>,
     pub pieces: Vec<Row>,
+}
+
+impl Batch {
+    pub fn size(&self) -> usize {
+        self.pieces.iter().map(|row| row.bytes.len()).sum()
+    }
 }
 
 /// A piece as the store has it.
@@ -243,12 +247,6 @@ impl Files {
         let parts = extents.parts(at, AHEAD).map(|part| part.piece);
         let needed = parts.filter(|piece| *piece > 0 && !is_here(piece));
         needed.collect::<BTreeSet<u64>>().into_iter().collect()
-    }
-
-    /// Whether the next batch takes so long to be packed that nobody waits for it.
-    pub fn is_long(&self) -> bool {
-        let lengths = self.held.range(self.queued..).map(|(_, piece)| piece.bytes.len());
-        lengths.sum::<usize>() > LONG
     }
 
     pub fn batch(&mut self) -> Batch {

@@ -8,12 +8,12 @@
 mod cache;
 mod extents;
 mod files;
-mod here;
 mod packed;
 #[cfg(test)]
 mod tests;
 mod together;
-mod turns;
+mod trip;
+mod waits;
 mod writer;
 
 pub(super) use files::Files;
@@ -21,23 +21,21 @@ pub(super) use together::Together;
 pub(super) use writer::Writer;
 
 use super::shared::{Shared, Stored};
-use crate::files::drive::{lost, Drive, Lost};
+use crate::files::drive::{lost, Drive, Lost, Passenger};
 use crate::latch::Latch;
 use cache::Cache;
-use files::{Bytes, Read};
-use here::on_this_thread;
-use packed::Packed;
+use files::{Batch, Bytes, Read};
 use std::collections::HashMap;
 use std::ffi::OsString;
 use std::future::Future;
 use std::io;
 use std::path::Path;
-use std::sync::{mpsc, Arc, Mutex, MutexGuard, PoisonError};
+use std::sync::{mpsc, Arc, Mutex, MutexGuard, PoisonError, Weak};
 use std::time::Duration;
-use together::Seat;
 use tokio::runtime::Handle;
 use tokio::sync::watch;
-use turns::Turns;
+use trip::Trip;
+use waits::Waits;
 
 pub struct PostgresDrive {
     slot: u16,
@@ -45,14 +43,24 @@ pub struct PostgresDrive {
     delivered: u64,
     files: Mutex<Files>,
     cache: Mutex<Cache>,
-    turns: Turns,
+    waits: Waits,
     together: Arc<Together>,
-    /// For the sync that comes next.
-    seat: Mutex<Option<Seat>>,
     writer: Arc<tokio::sync::Mutex<Writer>>,
     reader: Arc<Shared>,
     runtime: Handle,
     lost: watch::Sender<bool>,
+    this: Weak<PostgresDrive>,
+}
+
+/// A thread that waits for a sync.
+struct Thread(mpsc::SyncSender<Result<(), Lost>>);
+
+impl Passenger for Thread {
+    fn begin(&self) {}
+
+    fn end(self: Arc<Self>, done: Result<(), Lost>) {
+        let _ = self.0.send(done); // who waits is there
+    }
 }
 
 fn lock<T>(mutex: &Mutex<T>) -> MutexGuard<'_, T> {
@@ -61,21 +69,26 @@ fn lock<T>(mutex: &Mutex<T>) -> MutexGuard<'_, T> {
 }
 
 impl PostgresDrive {
-    pub(super) fn new(writer: Writer, files: Files, reader: Arc<Shared>, runtime: Handle) -> PostgresDrive {
-        PostgresDrive {
+    pub(super) fn new(
+        writer: Writer,
+        files: Files,
+        reader: Arc<Shared>,
+        runtime: Handle,
+    ) -> Arc<PostgresDrive> {
+        Arc::new_cyclic(|this| PostgresDrive {
             slot: writer.slot as u16,
             term: writer.term as u64,
             delivered: writer.delivered,
             files: Mutex::new(files),
             cache: Mutex::default(),
-            turns: Turns::default(),
+            waits: Waits::default(),
             together: writer.together.clone(),
-            seat: Mutex::default(),
             writer: Arc::new(tokio::sync::Mutex::new(writer)),
             reader,
             runtime,
             lost: watch::channel(false).0,
-        }
+            this: this.clone(),
+        })
     }
 
     pub fn slot(&self) -> u16 {
@@ -89,18 +102,16 @@ impl PostgresDrive {
     /// Nothing is written any more, and who waits is told so: for who knows that another has the slot, gives it away, or
     /// ends.
     pub fn lose(&self) {
-        self.turns.lose();
         self.lost.send_replace(true);
-        self.leave();
+        self.waits.lose();
     }
 
-    /// Others that write together wait for nothing of this slot: it has one seat at a time, and none while it waits.
-    fn leave(&self) {
-        drop(lock(&self.seat).take());
+    fn ask(self: &Arc<Self>) {
+        self.together.ask(Trip::of(self.clone()));
     }
 
     fn check(&self) -> io::Result<()> {
-        self.turns.check().map_err(|Lost| lost())
+        self.waits.check().map_err(|Lost| lost())
     }
 
     /// Waits for work on the store's own threads, whatever thread this is, until it is done or the slot is lost.
@@ -120,49 +131,12 @@ impl PostgresDrive {
         told.recv().unwrap_or(Err(Lost)) // the store has ended
     }
 
-    /// The same for what others do, who tell this thread themselves: nobody else is woken for it.
-    fn wait_here<T>(&self, work: impl Future<Output = T>) -> Result<T, Lost> {
-        let mut is_lost = self.lost.subscribe();
-        on_this_thread(async {
-            tokio::select! {
-                done = work => Ok(done),
-                () = is_lost.wait_true() => Err(Lost),
-            }
-        })
-    }
-
-    /// Waits until what there is may be written: with others, or where it is long or nobody takes it so, alone.
-    fn come_aboard(&self) -> Result<Option<Seat>, Lost> {
-        if lock(&self.files).is_long() {
-            return Ok(None);
-        }
-        self.wait_here(self.together.board())
-    }
-
-    fn commit(&self, seat: Option<Seat>) -> Result<(), Lost> {
-        let batch = lock(&self.files).batch();
-        let packed = Arc::new(Packed::of(&batch));
-        let is_there = match seat.filter(|_| packed.is_short()) {
-            Some(seat) => self.join(&packed, seat)?,
-            None => false,
-        };
-        if !is_there {
-            let writer = self.writer.clone();
-            self.wait(async move { writer.lock().await.commit(&packed).await })?;
-        }
+    /// The store has what a batch has.
+    fn is_there(&self, batch: Batch) {
         lock(&self.files).is_there(&batch);
         let mut cache = lock(&self.cache);
         for piece in batch.pieces {
             cache.put(piece.number, piece.bytes);
-        }
-        Ok(())
-    }
-
-    /// Whether it was brought there with others, who are not kept waiting for who reads by the writer.
-    fn join(&self, packed: &Arc<Packed>, seat: Seat) -> Result<bool, Lost> {
-        match self.writer.try_lock() {
-            Ok(mut writer) => self.wait_here(writer.join(packed, seat)),
-            Err(_) => Ok(false),
         }
     }
 
@@ -269,29 +243,27 @@ impl Drive for PostgresDrive {
         lock(&self.files).remove(name)
     }
 
-    fn board(&self) {
-        if let Ok(seat) = self.turns.waited(|| self.come_aboard()) {
-            *lock(&self.seat) = seat;
-        }
-        if self.turns.check().is_err() {
-            self.leave();
+    fn takes_passengers(&self) -> bool {
+        true
+    }
+
+    fn board(&self, who: Arc<dyn Passenger>) {
+        if self.waits.add(who) {
+            if let Some(this) = self.this.upgrade() {
+                this.ask();
+            }
         }
     }
 
     fn sync(&self) -> io::Result<()> {
-        let board = || {
-            let seat = lock(&self.seat).take();
-            seat.map_or_else(|| self.come_aboard(), |seat| Ok(Some(seat)))
-        };
-        let done = self.turns.ended(board, |seat| self.commit(seat), || self.leave());
-        done.map_err(|Lost| {
-            self.leave();
-            lost()
-        })
+        let (tell, told) = mpsc::sync_channel(1);
+        self.board(Arc::new(Thread(tell)));
+        // Where nobody tells, the store has ended.
+        told.recv().unwrap_or(Err(Lost)).map_err(|Lost| lost())
     }
 
     fn under_way(&self) -> Duration {
-        self.turns.longest()
+        self.waits.longest()
     }
 
     fn owned_under(&self) -> Option<u64> {

@@ -1,13 +1,14 @@
 //! Short writes of several slots, which one transaction brings to a database: a commit costs its servers more than what it
 //! brings.
 //!
-//! One is on its way at a time, and who asks meanwhile has a seat in the next one. What a slot brings is what it has once that
-//! begins. It writes for each slot by itself, where that one's row says so. Where it is not known whether it was done, each of its
-//! slots does its own write again, on a connection of its own, under another link.
+//! One is on its way at a time, and who asks meanwhile is in the next one. What a slot brings is what it has once that begins.
+//! It writes for each slot by itself, where that one's row says so. Where it is not known whether it was done, each of its slots
+//! does its own write again, on a connection of its own, under another link.
 
 mod comers;
 
 use super::packed::{Columns, Packed};
+use super::trip::{Aboard, Begun, Trip};
 use super::writer::append;
 use crate::postgres::Server;
 use crate::store::postgres::doubt::{Doubt, Next};
@@ -18,7 +19,6 @@ use std::sync::atomic::{AtomicBool, Ordering::Relaxed};
 use std::sync::Arc;
 use tokio::runtime::Handle;
 use tokio::sync::mpsc::{unbounded_channel, UnboundedReceiver, UnboundedSender};
-use tokio::sync::oneshot;
 
 /// A transaction takes no more once it has so many bytes.
 const MOST: usize = 1 << 20;
@@ -27,13 +27,10 @@ const PATIENCE: &str = "set lock_timeout = '1s'";
 
 /// Who writes for the slots that ask.
 pub struct Together {
-    ask: UnboundedSender<oneshot::Sender<Seat>>,
+    ask: UnboundedSender<Trip>,
     comers: Arc<Comers>,
     is_suspect: Arc<AtomicBool>,
 }
-
-/// A place in a transaction that waits for what it brings.
-pub struct Seat(oneshot::Sender<Brought>);
 
 /// A slot's write.
 pub struct Write {
@@ -49,11 +46,6 @@ impl Write {
     fn row(&self) -> (i32, i64, i64, &Columns) {
         (self.slot, self.term, self.link, &self.packed.pieces[0]) // it is short
     }
-}
-
-struct Brought {
-    write: Write,
-    answer: oneshot::Sender<Answer>,
 }
 
 /// The number of the connection by which it was brought there; else nothing is known.
@@ -99,38 +91,14 @@ impl Together {
         self.comers.come();
     }
 
-    /// A seat, once the transaction begins; none where nobody takes it.
-    pub async fn board(&self) -> Option<Seat> {
-        let (seat, seated) = oneshot::channel();
-        let _ = self.ask.send(seat); // where nobody takes it, nobody answers
-        seated.await.ok()
+    /// It begins with the next transaction.
+    pub fn ask(&self, trip: Trip) {
+        let _ = self.ask.send(trip); // where nobody takes it, the store has ended
     }
-}
-
-impl Seat {
-    pub async fn put(self, write: Write) -> Answer {
-        let (answer, answered) = oneshot::channel();
-        let _ = self.0.send(Brought { write, answer });
-        answered.await.unwrap_or(Err(None))
-    }
-}
-
-/// What those bring who have a seat now. Who needs none lets go of it.
-async fn boarded(all: Vec<oneshot::Sender<Seat>>) -> Vec<Brought> {
-    let seated = |one: oneshot::Sender<Seat>| {
-        let (bring, brought) = oneshot::channel();
-        one.send(Seat(bring)).ok().map(|()| brought)
-    };
-    let coming: Vec<_> = all.into_iter().filter_map(seated).collect();
-    let mut all = Vec::new();
-    for brought in coming {
-        all.extend(brought.await.ok());
-    }
-    all
 }
 
 impl Line {
-    async fn run(mut self, mut asked: UnboundedReceiver<oneshot::Sender<Seat>>) {
+    async fn run(mut self, mut asked: UnboundedReceiver<Trip>) {
         while let Some(first) = asked.recv().await {
             self.departures.wait().await;
             let mut all = vec![first];
@@ -138,7 +106,11 @@ impl Line {
                 all.push(next);
             }
             self.departures.begin();
-            let mut all = boarded(all).await;
+            let begun: Vec<Begun> = all.into_iter().filter_map(Trip::begin).collect();
+            let mut all = Vec::new();
+            for one in begun {
+                all.extend(one.come_aboard().await);
+            }
             while !all.is_empty() {
                 let some = all.drain(..count_of(&all)).collect();
                 self.put(some).await;
@@ -147,8 +119,9 @@ impl Line {
         }
     }
 
-    async fn put(&mut self, mut all: Vec<Brought>) {
-        let answer: Box<dyn Fn(usize) -> Answer> = match self.try_put(&mut all).await {
+    async fn put(&mut self, all: Vec<Aboard>) {
+        let writes: Vec<Write> = all.iter().map(Aboard::write).collect();
+        let answer: Box<dyn Fn(usize) -> Answer> = match self.try_put(&writes).await {
             Ok(done) => {
                 let number = self.number;
                 Box::new(move |place| done.contains(&place).then_some(number).ok_or(None))
@@ -159,19 +132,20 @@ impl Line {
             }
         };
         for (place, one) in all.into_iter().enumerate() {
-            let _ = one.answer.send(answer(place)); // who has lost its slot is gone
+            one.end(answer(place));
         }
     }
 
     /// The places of those that are there.
-    async fn try_put(&mut self, all: &mut Vec<Brought>) -> Result<BTreeSet<usize>, Doubt> {
+    async fn try_put(&mut self, all: &[Write]) -> Result<BTreeSet<usize>, Doubt> {
         let session = self.connected().await?;
-        self.keep_whole(&session, all).await?;
-        let writes: Vec<_> = all.iter().map(|one| one.write.row()).collect();
+        let whole = self.whole_of(&session, all).await?;
+        let writes: Vec<_> = whole.iter().map(|place| all[*place].row()).collect();
         // No write comes here twice.
         let done = session
             .written(append(&session, &session.append_new, &writes))
-            .await;
+            .await
+            .map(|done| done.into_iter().map(|place| whole[place]).collect());
         if done.as_ref().err().is_none_or(|doubt| doubt.next() == Next::Same) {
             self.session = Some(session);
         }
@@ -192,25 +166,24 @@ impl Line {
         Ok(session)
     }
 
-    /// Leaves those out of which the server has lost something: they are told so by a connection of their own.
-    async fn keep_whole(&mut self, session: &Session, all: &mut Vec<Brought>) -> Result<(), Doubt> {
-        for place in (0..all.len()).rev() {
-            let Write { slot, last, .. } = all[place].write;
-            if self.whole.contains(&slot) || is_there(session, slot, last).await? {
-                self.whole.insert(slot);
-            } else {
-                all.swap_remove(place);
+    /// The places of those of which the server has lost nothing. The others are told so by a connection of their own.
+    async fn whole_of(&mut self, session: &Session, all: &[Write]) -> Result<Vec<usize>, Doubt> {
+        let mut whole = Vec::new();
+        for (place, Write { slot, last, .. }) in all.iter().enumerate() {
+            if self.whole.contains(slot) || is_there(session, *slot, *last).await? {
+                self.whole.insert(*slot);
+                whole.push(place);
             }
         }
-        Ok(())
+        Ok(whole)
     }
 }
 
 /// How many of these, from the first on, are one transaction: at least one.
-fn count_of(all: &[Brought]) -> usize {
+fn count_of(all: &[Aboard]) -> usize {
     let sizes = all.iter().scan(0, |size, one| {
         let before = *size;
-        *size += one.write.packed.size;
+        *size += one.size();
         (before < MOST).then_some(())
     });
     sizes.count()

@@ -2,7 +2,7 @@
 
 use super::files::{Batch, Files, StoredPiece};
 use super::packed::{Columns, Packed};
-use super::together::{Seat, Together, Write};
+use super::together::{Answer, Together, Write};
 use crate::files::drive::Lost;
 use crate::log::RateLimit;
 use crate::postgres::Server;
@@ -82,17 +82,20 @@ impl Writer {
         Ok(())
     }
 
-    /// Whether it was brought there together with writes of other slots. Where that is not known, the next connection raises
-    /// the link, so that it is not done later.
-    pub async fn join(&mut self, packed: &Arc<Packed>, seat: Seat) -> bool {
-        let write = Write {
+    /// What is written together with other slots.
+    pub fn write(&self, packed: &Arc<Packed>) -> Write {
+        Write {
             slot: self.slot,
             term: self.term,
             link: self.link,
             last: self.last,
             packed: packed.clone(),
-        };
-        let joined = seat.put(write).await;
+        }
+    }
+
+    /// Whether it was brought there so. Where that is not known, the next connection raises the link, so that it is not done
+    /// later.
+    pub fn joined(&mut self, packed: &Packed, joined: Answer) -> bool {
         // Another connection may be one to another server.
         if !joined.as_ref().is_ok_and(|number| *number == self.joined) {
             self.session = None;
