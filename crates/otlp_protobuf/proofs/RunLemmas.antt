@@ -8,9 +8,8 @@ use Rattle.otlp_protobuf.specs.declared.malformed.Malformed.{Malformed}
 use Rattle.otlp_protobuf.specs.declared.malformed.Malformed.TheVariants.{Cut, Deep, LongNumber, NoNumber}
 use Rattle.otlp_protobuf.specs.declared.schema.Message.{Message}
 use Rattle.otlp_protobuf.specs.declared.schema.Message.TheVariants.{KeyValue}
-use Rattle.otlp_protobuf.specs.declared.schema.Kind.{Kind}
 use Rattle.otlp_protobuf.specs.declared.schema.Kind.TheVariants.{Inner}
-use Rattle.otlp_protobuf.specs.Wire.{◌>>=◌, Field, bytes_value, varint, varint_from, weighed, key, taken, counted, plain, payload_at, field_at}
+use Rattle.otlp_protobuf.specs.Wire.{◌>>=◌, bytes_value, varint, varint_from, weighed, key, taken, counted, plain, payload_at, field_at}
 use Rattle.otlp_protobuf.specs.Schema.{kind_of}
 use Rattle.otlp_protobuf.specs.Checks.{value_checked, checked_from}
 use Rattle.otlp_protobuf.specs.inner.Runs.{attribute, IsAttribute, IsField, AreFields, run_bytes, IsRun, Passes}
