@@ -44,7 +44,7 @@ value_passes inner outer k v on is = by (nested k v) is
     by None is = is
     by (Some m) is = on m.0 m.1 is
 
-deep_passes : (none : Bool) (a b : Result ⊤ Malformed) → (a ≡ Ok tt → b ≡ Ok tt) → (if none then Err Deep else a) ≡ Ok tt → (if none then Err Deep else b) ≡ Ok tt
+pub deep_passes : (none : Bool) (a b : Result ⊤ Malformed) → (a ≡ Ok tt → b ≡ Ok tt) → (if none then Err Deep else a) ≡ Ok tt → (if none then Err Deep else b) ≡ Ok tt
 deep_passes true a b on is = is
 deep_passes false a b on is = on is
 
@@ -66,7 +66,7 @@ one_longer (suc left) levels m bytes is =
     is
 
 -- so many more
-checked_longer : (k left more levels : ℕ) (m : Message) (bytes : List ℕ) → more ≡ left + k → checked_from left levels m bytes ≡ Ok tt → checked_from more levels m bytes ≡ Ok tt
+pub checked_longer : (k left more levels : ℕ) (m : Message) (bytes : List ℕ) → more ≡ left + k → checked_from left levels m bytes ≡ Ok tt → checked_from more levels m bytes ≡ Ok tt
 checked_longer zero left more levels m bytes far is =
     let same : more ≡ left = omega arith in
     ap (λ n. checked_from n levels m bytes) same ∙ is

@@ -13,3 +13,4 @@ pub mod LoopLemmas
 pub mod RequestLemmas
 pub mod KeptLemmas
 pub mod SpotLemmas
+pub mod RunLemmas

@@ -11,3 +11,4 @@ pub mod KindViews
 pub mod RoomViews
 pub mod SpotViews
 pub mod Parts
+pub mod Runs

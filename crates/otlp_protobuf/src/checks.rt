@@ -1,15 +1,14 @@
 //! Whether bytes are a message.
 
 ghost use Rattle.std.specs.Prelude.{◌≡◌, ◌<◌, ◌-◌, ◌%◌, ◌==◌, if◌then◌else◌, length, option_map};
-ghost use Rattle.std.specs.Prelude.{Ok, Err, IfSome, IsTrue, None};
+ghost use Rattle.std.specs.Prelude.{Ok, Err, IfSome, IsTrue, MatchOption, None};
 ghost use Rattle.std.specs.Str.{is_utf8};
 ghost use Rattle.otlp_protobuf.specs.Checks.{nested, plain_checked, checked_from, checked};
 ghost use Rattle.otlp_protobuf.specs.Schema.{kind_of};
 ghost use Rattle.otlp_protobuf.specs.inner.Views.{Gives, payload_data};
 
 use crate::fields::{Field, field_at};
-use crate::histogram_gather::BUCKETS;
-use crate::known_messages::KnownMessages;
+use crate::known_runs::KnownRuns;
 use crate::malformed::Malformed;
 use crate::schema::{Kind, Message};
 use crate::wire::Payload;
@@ -19,7 +18,7 @@ pub const MAX_LEVELS: u32 = 99;
 
 /// Checks a message with all that is in it. What is known of its points' attributes is not checked
 /// again.
-pub fn checked(known: &mut KnownMessages, message: Message, bytes: &[u8]) -> Result<(), Malformed>
+pub fn checked(known: &mut KnownRuns, message: Message, bytes: &[u8]) -> Result<(), Malformed>
     ensures { Gives (λ done. done) result (checked message bytes.now) }
 {
     checked_from(known, message, bytes, MAX_LEVELS, bytes.len())
@@ -28,7 +27,7 @@ pub fn checked(known: &mut KnownMessages, message: Message, bytes: &[u8]) -> Res
 /// The same with so many levels of messages below it at most, and so many fields.
 #[tactic(auto, using(crate::proofs::CheckLemmas::check_step))]
 fn checked_from(
-    known: &mut KnownMessages,
+    known: &mut KnownRuns,
     message: Message,
     bytes: &[u8],
     levels: u32,
@@ -54,31 +53,78 @@ fn checked_from(
             return Err(Malformed::Deep);
         }
         rest = after;
-        let (content, fewer) = rest_of(inner, content, levels - 1, left);
-        if known.has(message, inner, content, levels - 1, fewer) {
+        let Some((content, fewer)) = rest_of(known, inner, content, levels - 1, left) else {
             continue;
-        }
+        };
         checked_from(known, inner, content, levels - 1, fewer)?;
-        known.keep(message, inner, content, levels - 1, fewer);
+        known.keep(inner, content, levels - 1, fewer);
     }
     ended(rest)
 }
 
-/// What is left to check of a message, and how many fields it may have: of a point what comes after
-/// its first numbers, which change with each body.
+/// What is left to check of a message, if there is something, and how many fields it may have: of a
+/// point what comes after its numbers, which change with each body, and known attributes.
 #[inline(always)]
-fn rest_of(message: Message, bytes: &[u8], levels: u32, left: usize) -> (&[u8], usize)
-    ensures { checked_from result.1 levels message result.0.now
-        ≡ checked_from left levels message bytes.now }
+fn rest_of<'a>(
+    known: &mut KnownRuns,
+    message: Message,
+    bytes: &'a [u8],
+    levels: u32,
+    left: usize,
+) -> Option<(&'a [u8], usize)>
+    ensures { MatchOption result (checked_from left levels message bytes.now ≡ Ok tt)
+        (λ r. checked_from r.1 levels message r.0.now ≡ checked_from left levels message bytes.now) }
 {
     match message {
-        Message::NumberPoint => after_numbers(Message::NumberPoint, bytes, levels, left),
-        Message::HistogramPoint => after_numbers(Message::HistogramPoint, bytes, levels, left),
-        _ => (bytes, left),
+        Message::NumberPoint => rest_of_point(known, Message::NumberPoint, bytes, levels, left),
+        Message::HistogramPoint => {
+            rest_of_point(known, Message::HistogramPoint, bytes, levels, left)
+        }
+        _ => Some((bytes, left)),
     }
 }
 
 /// The same of a point.
+#[inline(always)]
+fn rest_of_point<'a>(
+    known: &mut KnownRuns,
+    message: Message,
+    bytes: &'a [u8],
+    levels: u32,
+    left: usize,
+) -> Option<(&'a [u8], usize)>
+    ensures { MatchOption result (checked_from left levels message bytes.now ≡ Ok tt)
+        (λ r. checked_from r.1 levels message r.0.now ≡ checked_from left levels message bytes.now) }
+{
+    let (rest, left) = after_known(known, message, bytes, levels, left);
+    if rest.is_empty() {
+        None
+    } else {
+        Some((rest, left))
+    }
+}
+
+/// What is left after the numbers at the front of a point, known attributes, and the numbers behind
+/// them.
+#[inline(always)]
+fn after_known<'a>(
+    known: &mut KnownRuns,
+    message: Message,
+    bytes: &'a [u8],
+    levels: u32,
+    left: usize,
+) -> (&'a [u8], usize)
+    ensures { checked_from result.1 levels message result.0.now
+        ≡ checked_from left levels message bytes.now }
+{
+    let (rest, left) = after_numbers(message, bytes, levels, left);
+    match known.after(message, rest, levels, left) {
+        Some((rest, left)) => after_numbers(message, rest, levels, left),
+        None => (rest, left),
+    }
+}
+
+/// What is left after the numbers at the front of a point.
 #[inline(always)]
 fn after_numbers(message: Message, bytes: &[u8], levels: u32, left: usize) -> (&[u8], usize)
     ensures { checked_from result.1 levels message result.0.now
@@ -96,7 +142,7 @@ fn after_numbers(message: Message, bytes: &[u8], levels: u32, left: usize) -> (&
     (rest, left)
 }
 
-/// The bytes after a field of a number or of buckets.
+/// The bytes after a field of numbers.
 #[inline(always)]
 #[tactic(auto, using(crate::proofs::CheckLemmas::check_step))]
 fn after_number(message: Message, bytes: &[u8], levels: u32, left: usize) -> Option<&[u8]>
@@ -117,7 +163,7 @@ fn after_number(message: Message, bytes: &[u8], levels: u32, left: usize) -> Opt
     }
 }
 
-/// Whether a field is a number of its own wire type, or buckets.
+/// Whether a field is a number of its own wire type, or several.
 #[inline(always)]
 fn is_number(message: Message, field: Field<'_>) -> bool
     ensures none { IsTrue result
@@ -127,9 +173,8 @@ fn is_number(message: Message, field: Field<'_>) -> bool
 {
     match (message.kind_of(field.number), field.payload) {
         (Kind::Fixed64, Payload::Fixed64(_)) => true,
-        (Kind::Packed, Payload::Bytes(content)) => {
-            field.number == BUCKETS && content.len() % 8 == 0
-        }
+        (Kind::Varint, Payload::Varint(_)) => true,
+        (Kind::Packed, Payload::Bytes(content)) => content.len() % 8 == 0,
         _ => false,
     }
 }

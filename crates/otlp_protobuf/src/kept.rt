@@ -1,7 +1,7 @@
 //! What a reader keeps from one body to the next.
 
 use crate::identity_cache::IdentityCache;
-use crate::known_messages::KnownMessages;
+use crate::known_runs::KnownRuns;
 use crate::set_cache::SetCache;
 use std::alloc::Global;
 
@@ -11,7 +11,7 @@ use std::alloc::Global;
 pub struct Kept {
     pub(crate) cache: IdentityCache,
     pub(crate) sets: SetCache,
-    pub(crate) known: KnownMessages,
+    pub(crate) known: KnownRuns,
 }
 
 impl Kept {
@@ -20,7 +20,7 @@ impl Kept {
         Kept {
             cache: IdentityCache::new(alloc),
             sets: SetCache::new(alloc),
-            known: KnownMessages::new(alloc),
+            known: KnownRuns::new(alloc),
         }
     }
 }

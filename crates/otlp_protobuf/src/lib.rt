@@ -4,7 +4,7 @@
 
 mod attributes;
 mod byte_hash;
-mod checked_message;
+mod checked_run;
 mod checks;
 mod doubles;
 mod fault;
@@ -17,7 +17,7 @@ mod identity_cache;
 mod kept;
 mod kept_series;
 mod kind_ref;
-mod known_messages;
+mod known_runs;
 mod known_set;
 mod lists;
 mod lookup;
@@ -29,6 +29,7 @@ mod numbers;
 mod point_attributes;
 mod point_fields;
 mod reader;
+mod runs;
 mod scalar_ref;
 mod scan;
 mod schema;

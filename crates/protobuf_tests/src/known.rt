@@ -61,6 +61,50 @@ fn sum(alloc: Global) -> Result<Body, Fail> {
     Ok(point)
 }
 
+/// An attribute with its JSON.
+const ONE: (&[u8], &str) = (ATTRIBUTE, r#"{"key":"k","value":{"stringValue":"v"}}"#);
+
+const OTHER: (&[u8], &str) = (
+    &[10, 1, 108, 18, 2, 24, 5],
+    r#"{"key":"l","value":{"intValue":"5"}}"#,
+);
+
+/// Puts attributes behind the other fields of a sum's point.
+fn put_attributes(
+    point: &mut Body,
+    list: &mut String,
+    attributes: &[(&[u8], &str)],
+) -> Result<(), Fail> {
+    for (bytes, text) in attributes {
+        point.content(7, bytes)?;
+        list.push_str(if list.is_empty() { "" } else { "," })?;
+        list.push_str(text)?;
+    }
+    Ok(())
+}
+
+/// A point of a sum, with attributes before its numbers, between them and its value, and behind it.
+fn sum_among(
+    alloc: Global,
+    front: &[(&[u8], &str)],
+    middle: &[(&[u8], &str)],
+    back: &[(&[u8], &str)],
+) -> Result<Body, Fail> {
+    let mut list = String::new(alloc);
+    let mut point = Body::new(alloc);
+    put_attributes(&mut point, &mut list, front)?;
+    point.fixed(2, 10)?;
+    point.member("startTimeUnixNano", "10")?;
+    point.fixed(3, 20)?;
+    point.member("timeUnixNano", "20")?;
+    put_attributes(&mut point, &mut list, middle)?;
+    point.fixed(6, 4)?;
+    point.member("asInt", "4")?;
+    put_attributes(&mut point, &mut list, back)?;
+    point.list("attributes", &list)?;
+    Ok(point)
+}
+
 /// A metric of this name that has a point.
 fn metric(alloc: Global, name: &str, field: u8, kind: &str, point: &Body) -> Result<Body, Fail> {
     let mut data = Body::new(alloc);
@@ -155,6 +199,48 @@ fn a_known_point_reads_alike_after_a_body_that_was_refused(rt: HostRuntime) -> R
     body.bytes.push(10)?;
     assert!(rt; read_request_with(alloc, body.bytes.as_slice(), &mut kept).is_err());
     assert!(rt; reads(alloc, &mut kept, &metric)?);
+    Ok(())
+}
+
+/// Attributes are known as they stand in a point: others that begin with them, the same in another
+/// order, apart from one another, elsewhere in the point or under another metric are read anew.
+#[test]
+fn known_attributes_are_taken_for_no_others(rt: HostRuntime) -> Result<(), Fail> {
+    let alloc = rt.alloc();
+    let mut kept = Kept::new(alloc);
+    let both = &[ONE, OTHER];
+    let turned = &[OTHER, ONE];
+    let points = [
+        sum_among(alloc, &[], &[], &[ONE])?,
+        sum_among(alloc, &[], &[], both)?,
+        sum_among(alloc, &[], &[], turned)?,
+        sum_among(alloc, &[], both, &[])?,
+        sum_among(alloc, both, &[], &[])?,
+        sum_among(alloc, &[ONE], &[], &[OTHER])?,
+        sum_among(alloc, &[ONE], &[ONE], &[])?,
+        sum_among(alloc, &[], &[], &[])?,
+    ];
+    for name in ["a", "b", "a"] {
+        for point in &points {
+            let metric = metric(alloc, name, 7, "sum", point)?;
+            assert!(rt; reads(alloc, &mut kept, &metric)?);
+        }
+    }
+    Ok(())
+}
+
+/// What is behind known attributes is checked.
+#[test]
+fn a_point_of_known_attributes_is_refused_for_another(rt: HostRuntime) -> Result<(), Fail> {
+    let alloc = rt.alloc();
+    let mut kept = Kept::new(alloc);
+    let known = metric(alloc, "s", 7, "sum", &sum(alloc)?)?;
+    assert!(rt; reads(alloc, &mut kept, &known)?);
+    let mut point = sum(alloc)?;
+    point.content(7, &[10, 2, 107])?;
+    let faulty = request(alloc, &metric(alloc, "s", 7, "sum", &point)?)?;
+    assert!(rt; read_request_with(alloc, faulty.bytes.as_slice(), &mut kept).is_err());
+    assert!(rt; reads(alloc, &mut kept, &known)?);
     Ok(())
 }
 
