@@ -73,7 +73,8 @@ fn rest_of<'a>(
     left: usize,
 ) -> Option<(&'a [u8], usize)>
     ensures { MatchOption result (checked_from left levels message bytes.now ≡ Ok tt)
-        (λ r. checked_from r.1 levels message r.0.now ≡ checked_from left levels message bytes.now) }
+        (λ r. checked_from r.1 levels message r.0.now
+        ≡ checked_from left levels message bytes.now) }
 {
     match message {
         Message::NumberPoint => rest_of_point(known, Message::NumberPoint, bytes, levels, left),
@@ -94,7 +95,8 @@ fn rest_of_point<'a>(
     left: usize,
 ) -> Option<(&'a [u8], usize)>
     ensures { MatchOption result (checked_from left levels message bytes.now ≡ Ok tt)
-        (λ r. checked_from r.1 levels message r.0.now ≡ checked_from left levels message bytes.now) }
+        (λ r. checked_from r.1 levels message r.0.now
+        ≡ checked_from left levels message bytes.now) }
 {
     let (rest, left) = after_known(known, message, bytes, levels, left);
     if rest.is_empty() {

@@ -1,5 +1,6 @@
 -- Runs of a point's attributes: their fields, one after the other.
-use Rattle.std.specs.Prelude.{◌≡◌, ◌≤◌, ◌<◌, ◌+◌, ◌%◌, ◌/◌, ℕ, List, [], ◌∷◌, ◌++◌, length, take, Ok}
+use Rattle.std.specs.Prelude.{◌≡◌, ◌≤◌, ◌<◌, ◌+◌, ◌%◌, ◌/◌, ℕ, Ok}
+use Rattle.std.specs.Prelude.{List, [], ◌∷◌, ◌++◌, length, take}
 use Rattle.otlp_protobuf.specs.declared.schema.Message.{Message}
 use Rattle.otlp_protobuf.specs.declared.schema.Message.TheVariants.{KeyValue}
 use Rattle.otlp_protobuf.specs.declared.schema.Kind.TheVariants.{Inner}
