@@ -329,11 +329,12 @@ fn not_taken(refused: Refused) -> Trouble {
 /// each goes behind those that a book has, or near their end.
 fn owned(outbox: &Outbox) -> BTreeMap<Arc<str>, Vec<(SeriesKey, u64)>> {
     let mut owned: BTreeMap<Arc<str>, Vec<(SeriesKey, u64)>> = BTreeMap::new();
-    for (key, series) in outbox.series() {
+    for (key, series) in outbox.with_owner() {
         if let Some(owner) = series.owner {
             owned.entry(owner).or_default().push((key, series.frontier));
         }
     }
-    owned.values_mut().for_each(|series| series.sort_unstable());
+    // They mostly are in this order already, which this way of sorting is quick with.
+    owned.values_mut().for_each(|series| series.sort());
     owned
 }
