@@ -117,6 +117,19 @@ impl Outbox {
         self.those(|_| true).into_iter().collect()
     }
 
+    pub fn keys(&self) -> Vec<SeriesKey> {
+        self.those(|_| true).into_iter().map(|(key, _)| key).collect()
+    }
+
+    /// Those that have a run, and those whose owners are known.
+    pub fn with_run(&self) -> Vec<(SeriesKey, Series)> {
+        self.those(|series| series.run.is_some())
+    }
+
+    pub fn with_owner(&self) -> Vec<(SeriesKey, Series)> {
+        self.those(|series| series.owner.is_some())
+    }
+
     /// The series whose owners are unknown.
     pub fn without_owner(&self) -> HashSet<SeriesKey> {
         let unknown = self.those(|series| series.owner.is_none());
@@ -132,8 +145,7 @@ impl Outbox {
             let (ids, series) = those.map(|(id, series)| (id, series.clone())).unzip();
             (ids, series, state.series.texts())
         };
-        let keys = texts.of(ids.into_iter());
-        keys.zip(series).collect()
+        texts.all_of(&ids).into_iter().zip(series).collect()
     }
 
     /// When what is known here began.

@@ -96,7 +96,7 @@ impl State {
             since: outbox.since(),
             ..State::default()
         };
-        for (key, known) in outbox.series() {
+        for (key, known) in outbox.with_run() {
             if let (Some(run), Some(mut series)) = (known.run, Series::new(key, known.frontier)) {
                 series.run = Some(run);
                 state.put(series);

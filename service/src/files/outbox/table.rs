@@ -5,7 +5,7 @@
 
 use super::texts::Texts;
 use super::Series;
-use crate::otlp::series::{Digest, SeriesKey};
+use crate::otlp::series::{Digest, Digests, SeriesKey};
 use std::collections::{HashMap, HashSet};
 use std::sync::Arc;
 use std::time::Instant;
@@ -23,6 +23,8 @@ pub struct Table {
     /// By id; none of what was forgotten.
     known: Vec<Option<KnownSeries>>,
     keys: Texts,
+    /// What comes is mostly in the order of its keys.
+    digests: Digests,
     /// Each is in memory once.
     owners: HashSet<Arc<str>>,
 }
@@ -77,7 +79,7 @@ impl Table {
     /// Has the next id, or where it is known already the one that it has.
     pub fn put(&mut self, key: SeriesKey, known: KnownSeries) -> u32 {
         let next = self.next_id();
-        let id = *self.ids.entry(key.digest()).or_insert(next);
+        let id = *self.ids.entry(self.digests.of(&key)).or_insert(next);
         if id == next {
             self.known.push(Some(known));
             self.keys.push(key);
