@@ -66,15 +66,15 @@ fn whatever_comes_next_writes_what_was_appended_first() {
     }
 }
 
-/// Else the segment would end ahead of what is still written into it.
+/// Else the segment would end ahead of what is still written into it. The first write alone is held.
 #[test]
 fn a_turn_waits_for_a_write_that_is_under_way() {
     let folder = tempfile::tempdir().unwrap();
     let (holds, waits) = (Arc::new(AtomicBool::new(false)), Arc::new(AtomicBool::new(false)));
     let (holding, waiting) = (holds.clone(), waits.clone());
     let disk = Disk::failing(move |call, _| {
-        while call == Call::Write && holding.load(SeqCst) {
-            waiting.store(true, SeqCst);
+        let is_held = call == Call::Write && holding.load(SeqCst) && !waiting.swap(true, SeqCst);
+        while is_held && holding.load(SeqCst) {
             std::thread::sleep(Duration::from_millis(1));
         }
         Ok(())
