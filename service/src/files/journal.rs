@@ -245,7 +245,9 @@ impl Journal {
         numbers.retain(|number| *number < before && *number < last);
         if !numbers.is_empty() {
             // A start that misses one of them is told so whether the outbox is older than this.
-            shared.to_write().segment.say_forgotten(before)?;
+            let mut place = shared.to_write();
+            let said = place.segment.say_forgotten(before);
+            said.map_err(|fault| Fault::Lost(shared.disk.fail(fault)))?; // while nobody else can write
         }
         for number in numbers {
             shared.disk.remove(&segment::path(&shared.folder, number))?;

@@ -128,7 +128,8 @@ impl Shared {
             let source = io::Error::other("the journal turned while posts of quarantined senders were moved");
             return Err(io_fault(&place.segment.path)(source));
         }
-        place.segment.put(&[&record])?;
+        let put = place.segment.put(&[&record]);
+        put.map_err(|fault| Fault::Lost(self.disk.fail(fault)))?; // while nobody else can write
         place.ticket += 1;
         place.kept = place.ticket;
         drop(place);
