@@ -9,23 +9,23 @@
 //! What comes is read side by side, on threads that last as long as it does, and goes in one after the other. So are the series
 //! that the journal names, ahead of that.
 
-use super::numbers::{Number, Numbers, Own};
+mod said;
+
+use super::numbers::Numbers;
 use super::Trouble;
 use crate::core::{free_spare_readers, Book, Core, Read, Refused};
-use crate::files::{Body, Outbox, Post, Replayed};
+use crate::files::{Body, Outbox, Post};
 use crate::otlp::series::{zeros, NotForwarded, SeriesKey};
 use crate::runs::State;
 use crate::slot::Slot;
 use crate::work::{in_order, WorkQueue};
+use said::said;
 use std::collections::{BTreeMap, BTreeSet};
 use std::sync::Arc;
 use std::time::{Duration, Instant};
 
 /// So that no post takes long. What its series share is in memory once.
 const SERIES_OF_A_POST: usize = 1000;
-/// Posts of the journal go together up to so many, or so many bytes.
-const POSTS_OF_A_PART: usize = 16;
-const BYTES_OF_A_PART: usize = 64 << 10;
 /// How often it is said how far it is.
 const PROGRESS: Duration = Duration::from_secs(1);
 
@@ -112,19 +112,6 @@ enum Unprimed {
     NotForwarded(#[from] NotForwarded),
 }
 
-/// Posts of the journal, one behind the other.
-#[derive(Default)]
-struct Part {
-    posts: Vec<Said>,
-    bytes: usize,
-}
-
-/// A post, and what its file says of numbers ahead of it.
-struct Said {
-    named: Vec<(u64, Number)>,
-    post: Post,
-}
-
 /// What comes of the journal; none where room is to be made ahead of what is next.
 type Coming = Option<Again>;
 
@@ -178,63 +165,6 @@ impl<S: Fn() -> bool> Filling<'_, S> {
                 })
             },
         )
-    }
-}
-
-/// Gives the posts of the journal that are in no group, in order, until `each` is false. What they say of numbers is known
-/// already, but where there is no memory for that.
-fn said(
-    slot: &Slot,
-    own: &Own,
-    stops: &impl Fn() -> bool,
-    mut each: impl FnMut(Said) -> bool + Send,
-) -> Result<(), Trouble> {
-    let given = in_order(
-        |part: &mut Part| part.posts.iter_mut().for_each(|said| said.be_named(own)),
-        |part| part.posts.into_iter().all(&mut each).then_some(()).ok_or(None),
-        |queue| {
-            let mut part = Part::default();
-            let read = slot.journal.posts(slot.outbox.journal(), u64::MAX, |read| {
-                part.push(read);
-                !stops() && (!part.is_full() || queue.push(std::mem::take(&mut part)))
-            });
-            queue.push(part);
-            read.map_err(|fault| Some(fault.into()))
-        },
-    );
-    match given {
-        Err(Some(trouble)) => Err(trouble),
-        Err(None) | Ok(()) => Ok(()),
-    }
-}
-
-impl Part {
-    fn push(&mut self, read: Replayed) {
-        let Replayed { post, named } = read;
-        self.bytes += match &post.body {
-            Body::Text(text) => text.len(),
-            Body::Points(points) => size_of_val(points.words()),
-        };
-        let named = named.into_iter();
-        let named = named.map(|(number, text)| {
-            self.bytes += text.len();
-            (number, Number::Said(text))
-        });
-        let named = named.collect();
-        self.posts.push(Said { named, post });
-    }
-
-    fn is_full(&self) -> bool {
-        self.posts.len() >= POSTS_OF_A_PART || self.bytes >= BYTES_OF_A_PART
-    }
-}
-
-impl Said {
-    /// What is refused is asked for again in its turn.
-    fn be_named(&mut self, own: &Own) {
-        for (_, number) in &mut self.named {
-            let _ = number.be_own(own);
-        }
     }
 }
 
