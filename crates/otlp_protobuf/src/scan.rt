@@ -8,7 +8,6 @@ ghost use Rattle.otlp_protobuf.specs.Fields.{text_of, text_at, content_at, conte
 ghost use Rattle.otlp_protobuf.specs.Fields.{whole_at, with_first};
 ghost use Rattle.otlp_protobuf.specs.inner.Views.{payload_data, field_data, fields_data};
 ghost use Rattle.otlp_protobuf.specs.inner.Views.{whole_data};
-ghost use Rattle.otlp_protobuf.specs.inner.RoomViews.{IsInRoom};
 ghost use Rattle.otlp_protobuf.specs.inner.Parts.{part_with};
 
 use crate::fields::{Field, Fields};
@@ -23,48 +22,6 @@ pub trait Gathered: Copy {
     /// Takes a field.
     fn take(self, field: Field<'_>) -> Self
         ensures { result ≡ takes self (field_data field.entry) };
-}
-
-/// What a message says, after what there is, and at the front of the room how many messages the
-/// fields of this number have; `None` if they are more than there is room for.
-pub fn gather_with<'a, G: Gathered>(
-    nothing: G,
-    bytes: &'a [u8],
-    number: u32,
-    room: &mut [&'a [u8]],
-) -> (G, Option<usize>)
-    ensures said { result.0 ≡ gathered G.takes nothing (fields bytes.now) }
-    ensures messages { IsInRoom result.1 room.new [] (contents number (fields bytes.now)) }
-{
-    let mut found = nothing;
-    let mut count = Some(0);
-    let mut rest = Fields::of(bytes);
-    while let Some(field) = rest.next() {
-        found = found.take(field);
-        count = put_content(room, count, content_at(number, field));
-    }
-    (found, count)
-}
-
-/// Puts a message behind those in the room, if it is there.
-#[inline(always)]
-pub fn put_content<'a>(
-    room: &mut [&'a [u8]],
-    count: Option<usize>,
-    content: Option<&'a [u8]>,
-) -> Option<usize>
-    ensures { (after all : List (List ℕ)) → IsInRoom count room.old
-        (with_first (option_map (λ b. b.now) content.entry) after) all
-        → IsInRoom result room.new after all }
-{
-    let (Some(count), Some(content)) = (count, content) else {
-        return count;
-    };
-    if count >= room.len() {
-        return None;
-    }
-    room[count] = content;
-    Some(count + 1)
 }
 
 /// The last value of this number.
