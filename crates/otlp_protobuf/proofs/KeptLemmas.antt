@@ -1,10 +1,10 @@
 -- A series that is kept, and one that is made anew.
-use Rattle.std.proofs.Common.{◌≡◌, ℕ, ◌+◌, ◌<◌, ◌≤◌, cond, true, false, List, [], ◌∷◌, ◌++◌, map, take, drop, set, get_or, length, Option, Some, None, Ok, Err, refl, ap, sym, subst, ◌∙◌, append_assoc, arith}
-use Rattle.std.specs.Prelude.{ℤ, option_and_then, option_map}
+use Rattle.std.proofs.Common.{◌≡◌, ℕ, ◌+◌, ◌<◌, ◌≤◌, cond, true, false, List, [], ◌∷◌, ◌++◌, map, drop, get_or, length, Option, Some, None, Ok, Err, refl, ap, sym, subst, ◌∙◌}
+use Rattle.std.specs.Prelude.{ℤ, Bool, IfSome, IsTrue, option_and_then, option_map}
+use Rattle.std.specs.Option.{ForSome}
 use Rattle.std.specs.Borrow.{Bor}
 use Rattle.std.specs.Result.{result_ok}
-use Rattle.std.proofs.Math.ListN.{length-set}
-use Rattle.std.proofs.lemmas.List.{at_drop_all, drop_more, take_more_set, map-append}
+use Rattle.std.proofs.lemmas.List.{at_drop_all, drop_more}
 use Rattle.serde_json.specs.Data.{Data}
 use Rattle.series_id.specs.declared.attributes.Attribute.{Attribute}
 use Rattle.series_id.specs.declared.faults.IdFault.TheVariants.{TextTooLong}
@@ -27,8 +27,16 @@ use Rattle.otlp_protobuf.specs.inner.Parts.{part_with}
 use Rattle.otlp_protobuf.specs.Members.{double_data}
 use Rattle.otlp_protobuf.specs.declared.known_set.KnownSet.{KnownSet}
 use Rattle.otlp_protobuf.specs.inner.KindViews.{bounds_kind, says_kind}
+use Rattle.otlp_protobuf.specs.inner.Sets.{said_list}
 
 -- ---- series
+
+-- a share of a kept series is the series of its attributes
+pub share_known : (r : Option Identity) (stream : Stream) (kind : Option Kind) (known : Bool) (kept messages : List (List ℕ))
+    → IfSome r (λ s. (ms : List (List ℕ)) → (IsTrue known → kept ≡ ms) → option_and_then (λ k. series_of stream k (said_list ms)) kind ≡ Some s)
+    → (IsTrue known → kept ≡ messages) → ForSome r (λ s. option_and_then (λ k. series_of stream k (said_list messages)) kind ≡ Some s)
+share_known None stream kind known kept messages share same = λ s is. cc
+share_known (Some x) stream kind known kept messages share same = λ s is. share messages same ∙ is
 
 -- an identity of the stream is the series of its kind and its attributes there
 pub series_known : (stream : Stream) (kind : Option Kind) (found : Option Data) (x : Identity) → IsIdentity x → identity_in stream x.kind x.attrs ≡ x

@@ -33,7 +33,8 @@ pub fn next_other<'a>(
     ensures seen { (all : List (List ℕ))
         → Sees (messages_of known.entry) seen.old (contents number (fields_data rest.old)) all
         → MatchOption result (Sees (messages_of known.entry) seen.new [] all)
-        (λ _. Sees (messages_of known.entry) seen.new (contents number (fields_data rest.new)) all) }
+        (λ _. Sees (messages_of known.entry) seen.new
+        (contents number (fields_data rest.new)) all) }
 {
     pass_run(rest, seen, number, known);
     next_unlike(rest, seen, number)

@@ -64,4 +64,5 @@ others n (f ∷ fs) = if f.number == n then others n fs else f ∷ others n fs
 -- so many fields, of the attributes that they are by themselves, whatever comes behind them
 abbrev pub SaysRun : ℕ → ℕ → List ℕ → Type 0
 SaysRun n count run = (left : ℕ) → (rest : List ℕ)
-    → fields_from (count + left) (run ++ rest) ≡ map (attribute n) (contents n (fields run)) ++ fields_from left rest
+    → fields_from (count + left) (run ++ rest)
+    ≡ map (attribute n) (contents n (fields run)) ++ fields_from left rest

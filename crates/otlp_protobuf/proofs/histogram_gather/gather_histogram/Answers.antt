@@ -1,4 +1,4 @@
-use Rattle.std.proofs.Common.{refl, ap, sym, ◌∙◌, ◌≡◌, arith, subst}
+use Rattle.std.proofs.Common.{refl, ap, sym, ◌∙◌, arith, subst}
 use Rattle.otlp_protobuf.specs.Wire.{fields}
 use Rattle.otlp_protobuf.specs.Fields.{contents, gathered, numbers, packed_from}
 use Rattle.otlp_protobuf.specs.Points.{no_histogram, take_histogram}

@@ -1,5 +1,4 @@
-use Rattle.std.proofs.Common.{List, ap, map, subst, sym, ◌++◌, ◌≡◌, ◌∙◌, ℕ}
-use Rattle.otlp_protobuf.specs.Wire.{Field}
+use Rattle.std.proofs.Common.{ap, map, subst, sym, ◌++◌, ◌≡◌, ◌∙◌}
 use Rattle.otlp_protobuf.specs.Fields.{contents}
 use Rattle.otlp_protobuf.specs.inner.Runs.{attribute, others}
 use Rattle.otlp_protobuf.specs.inner.RunViews.{messages_of, run_messages, Sees}
@@ -8,7 +7,7 @@ use Rattle.otlp_protobuf.proofs.RunLemmas.{contents_run, others_run}
 use Rattle.otlp_protobuf.proofs.others.pass_run.Goals as goal
 
 pub returns-in-Some-after_run-clause-same : goal.returns-in-Some-after_run-clause-same
-returns-in-Some-after_run-clause-same c = 
+returns-in-Some-after_run-clause-same c =
     let F = fields_data c.in-Some-after_run.after in
     let ms = run_messages c.in-Some.run'.now in
     let split = c.in-Some-after_run.ensures ∙ ap (λ n. map (attribute n) ms ++ F) c.if-run-number.true in

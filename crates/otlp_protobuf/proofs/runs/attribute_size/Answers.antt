@@ -1,4 +1,4 @@
-use Rattle.std.proofs.Common.{◌≤◌, ℕ, ◌-◌, length, take, drop, subst, arith, length-drop, length-take}
+use Rattle.std.proofs.Common.{◌≤◌, ◌-◌, length, drop, arith, length-take}
 use Rattle.otlp_protobuf.proofs.RunLemmas.{short_field, long_field}
 use Rattle.otlp_protobuf.proofs.runs.attribute_size.Goals as goal
 
