@@ -9,8 +9,8 @@ use Rattle.otlp_protobuf.specs.declared.malformed.Malformed.TheVariants.{Cut, De
 use Rattle.otlp_protobuf.specs.declared.schema.Message.{Message}
 use Rattle.otlp_protobuf.specs.declared.schema.Message.TheVariants.{KeyValue}
 use Rattle.otlp_protobuf.specs.declared.schema.Kind.TheVariants.{Inner}
-use Rattle.otlp_protobuf.specs.Wire.{◌>>=◌, Field, bytes_value, varint, varint_from, weighed, key, taken, counted, plain, payload_at, field_at, with_field, fields_from, fields}
-use Rattle.otlp_protobuf.specs.Fields.{bits, contents, content, gathered, numbers, numbers_at, numbers_of, with_first}
+use Rattle.otlp_protobuf.specs.Wire.{◌>>=◌, Value, Field, bytes_value, varint, varint_from, weighed, key, taken, counted, plain, payload_at, field_at, with_field, fields_from, fields}
+use Rattle.otlp_protobuf.specs.Fields.{bits, contents, content, gathered, last, newer, numbers, numbers_at, numbers_of, with_first}
 use Rattle.otlp_protobuf.specs.declared.number_point.NumberPoint.{NumberPoint}
 use Rattle.otlp_protobuf.specs.declared.histogram_point.HistogramPoint.{HistogramPoint}
 use Rattle.otlp_protobuf.specs.Points.{take_number, take_histogram}
@@ -286,6 +286,27 @@ run_says n size count bytes run found is = λ left rest.
     ∙ ap (λ xs. fields_from (length found.found + left) (xs ++ rest)) (is ∙ sym found.all)
     ∙ run_fields n found.found found.are left rest
     ∙ ap (λ ms. map (attribute n) ms ++ fields_from left rest) (sym (run_alone n found.found found.are) ∙ ap (λ xs. contents n (fields xs)) (found.all ∙ sym is))
+
+-- ---- the last value of another number
+
+newer_run : (n k : ℕ) (found : Option Value) (ms : List (List ℕ)) (fs : List Field) → (k ≡ n → ⊥) → gathered (newer k) found (map (attribute n) ms ++ fs) ≡ gathered (newer k) found fs
+newer_run n k found [] fs other = refl
+newer_run n k found (m ∷ ms) fs other =
+    ap (λ t. gathered (newer k) (if t then Some (bytes_value m) else found) (map (attribute n) ms ++ fs)) (ne_eqb n k (λ e. other (sym e)))
+    ∙ newer_run n k found ms fs other
+
+pub last_after : (n k size count : ℕ) (bytes : List ℕ) → IsRun n size count bytes → (k ≡ n → ⊥) → gathered (newer k) None (fields_from (length bytes - count) (drop size bytes)) ≡ last k bytes
+last_after n k size count bytes run other =
+    let few : count ≤ size = run.few in
+    let fits : size ≤ length bytes = run.fits in
+    let left : ℕ = length bytes - count in
+    let all : count + left ≡ length bytes = omega arith in
+    let front : List ℕ = take size bytes in
+    let after : List ℕ = drop size bytes in
+    sym (ap (λ xs. gathered (newer k) None (fields_from (length bytes) xs)) (sym (take-append-drop size bytes))
+    ∙ ap (λ m. gathered (newer k) None (fields_from m (front ++ after))) (sym all)
+    ∙ ap (gathered (newer k) None) (run_says n size count bytes front run refl left after)
+    ∙ newer_run n k None (contents n (fields front)) (fields_from left after) other)
 
 -- ---- the other fields
 

@@ -2,6 +2,7 @@
 //! results of `otlp_read`: a message means what its JSON mapping means.
 #![tactic(auto)]
 
+mod after_points;
 mod attributes;
 mod byte_hash;
 mod checked_run;

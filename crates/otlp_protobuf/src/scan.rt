@@ -28,8 +28,16 @@ pub trait Gathered: Copy {
 pub fn last<'a>(bytes: &'a [u8], number: u32) -> Option<Payload<'a>>
     ensures { option_map payload_data result ≡ last number bytes.now }
 {
+    last_of(Fields::of(bytes), number)
+}
+
+/// The last value of this number in fields.
+pub fn last_of<'a>(fields: Fields<'a>, number: u32) -> Option<Payload<'a>>
+    ensures { option_map payload_data result
+        ≡ gathered (newer number) None (fields_data fields.entry) }
+{
     let mut found = None;
-    let mut rest = Fields::of(bytes);
+    let mut rest = fields;
     while let Some(field) = rest.next() {
         found = newer(number, found, field);
     }
@@ -45,9 +53,23 @@ pub fn last_two<'a>(
     ensures one { option_map payload_data result.0 ≡ last one bytes.now }
     ensures other { option_map payload_data result.1 ≡ last other bytes.now }
 {
+    last_two_of(Fields::of(bytes), one, other)
+}
+
+/// The last values of two numbers in fields.
+pub fn last_two_of<'a>(
+    fields: Fields<'a>,
+    one: u32,
+    other: u32,
+) -> (Option<Payload<'a>>, Option<Payload<'a>>)
+    ensures one { option_map payload_data result.0
+        ≡ gathered (newer one) None (fields_data fields.entry) }
+    ensures other { option_map payload_data result.1
+        ≡ gathered (newer other) None (fields_data fields.entry) }
+{
     let mut first = None;
     let mut second = None;
-    let mut rest = Fields::of(bytes);
+    let mut rest = fields;
     while let Some(field) = rest.next() {
         first = newer(one, first, field);
         second = newer(other, second, field);
@@ -143,6 +165,7 @@ pub fn content_at<'a>(number: u32, field: Field<'a>) -> Option<&'a [u8]>
 }
 
 /// The bytes of the next field of this number. Others are passed over.
+#[inline(always)]
 #[tactic(auto, unfolding(crate::specs::Fields::contents))]
 pub fn next_content<'a>(rest: &mut Fields<'a>, number: u32) -> Option<&'a [u8]>
     ensures { MatchOption result (contents number (fields_data rest.old) ≡ [])

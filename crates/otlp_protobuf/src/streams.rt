@@ -14,13 +14,14 @@ ghost use Rattle.otlp_protobuf.specs.inner.StreamViews.{resource_data, scope_dat
 ghost use Rattle.otlp_protobuf.specs.inner.StreamViews.{stream_data, stream_from, sum_stream_data};
 ghost use Rattle.otlp_protobuf.specs.inner.StreamViews.{sum_stream_from, truth_from};
 
+use crate::after_points::{last_after_points, last_two_after_points};
 use crate::attributes::{attributes_in, text_in};
 use crate::byte_hash::ByteHash;
 use crate::identity_cache::IdentityCache;
 use crate::kind_ref::KindRef;
 use crate::known_set::KnownSet;
 use crate::point_attributes::PointAttributes;
-use crate::scan::{bits, last, last_two, text_if};
+use crate::scan::{bits, last_two, text_if};
 use crate::wire::Payload;
 use metric_events::point::Point;
 use series_id::{AttrSet, Kind, SeriesId, SharedId, Text};
@@ -161,7 +162,11 @@ pub fn histogram_stream<'a>(
     ensures { option_map stream_data result ≡ histogram_stream_from
         (option_map scope_data scope.entry) metric.now histogram.now }
 {
-    stream_if(is_delta(last(histogram, TEMPORALITY)), scope, metric)
+    stream_if(
+        is_delta(last_after_points(histogram, TEMPORALITY)),
+        scope,
+        metric,
+    )
 }
 
 /// The stream of a metric's sum.
@@ -173,7 +178,7 @@ pub fn sum_stream<'a>(
     ensures { option_map sum_stream_data result ≡ sum_stream_from
         (option_map scope_data scope.entry) metric.now sum.now }
 {
-    let (temporality, monotonic) = last_two(sum, TEMPORALITY, MONOTONIC);
+    let (temporality, monotonic) = last_two_after_points(sum, TEMPORALITY, MONOTONIC);
     let stream = stream_if(is_delta(temporality), scope, metric)?;
     let monotonic = is_true(monotonic);
     Some(SumStream { stream, monotonic })
