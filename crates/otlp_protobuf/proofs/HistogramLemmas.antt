@@ -120,10 +120,10 @@ kind_is_histogram bounds k h = by_bounds (all_of (signed_in MAX_BOUND MAX_BOUND)
 -- ---- of a kind that may be none
 
 -- the fields that were read are those of the point
-pub fields_said : (bytes : List ℕ) (nothing p : HistogramPoint) (o : Option HistogramFields) (buckets bounds attributes : List Data) → nothing ≡ no_histogram
-    → p ≡ gathered take_histogram nothing (fields bytes) → o ≡ histogram_fields_of p → o ≡ histogram_fields (histogram_point_data (histogram_point_of bytes) buckets bounds attributes)
-fields_said bytes nothing p o buckets bounds attributes none said read =
-    read ∙ ap histogram_fields_of (said ∙ ap (λ n. gathered take_histogram n (fields bytes)) none) ∙ sym (histogram_fields_are (histogram_point_of bytes) buckets bounds attributes)
+pub fields_said : (bytes : List ℕ) (p : HistogramPoint) (o : Option HistogramFields) (buckets bounds attributes : List Data) → p ≡ gathered take_histogram no_histogram (fields bytes)
+    → o ≡ histogram_fields_of p → o ≡ histogram_fields (histogram_point_data (histogram_point_of bytes) buckets bounds attributes)
+fields_said bytes p o buckets bounds attributes said read =
+    read ∙ ap histogram_fields_of said ∙ sym (histogram_fields_are (histogram_point_of bytes) buckets bounds attributes)
 
 pub no_buckets : (stream : Stream) (p : HistogramPoint) (buckets bounds attributes : List Data) (f : HistogramFields) → Some f ≡ histogram_fields (histogram_point_data p buckets bounds attributes)
     → None ≡ all_of unsigned_64 buckets → None ≡ histogram_point stream (histogram_point_data p buckets bounds attributes)

@@ -1,10 +1,10 @@
 -- A series that is kept, and one that is made anew.
-use Rattle.std.proofs.Common.{◌≡◌, ℕ, ◌+◌, ◌<◌, ◌≤◌, cond, true, false, List, [], ◌∷◌, ◌++◌, map, take, drop, set, get_or, length, Option, Some, None, Ok, Err, refl, ap, sym, subst, ◌∙◌, append_assoc, arith}
-use Rattle.std.specs.Prelude.{ℤ, option_and_then, option_map}
+use Rattle.std.proofs.Common.{◌≡◌, ℕ, ◌+◌, ◌<◌, ◌≤◌, cond, true, false, List, [], ◌∷◌, ◌++◌, map, drop, get_or, length, Option, Some, None, Ok, Err, refl, ap, sym, subst, ◌∙◌}
+use Rattle.std.specs.Prelude.{ℤ, Bool, IfSome, IsTrue, option_and_then, option_map}
+use Rattle.std.specs.Option.{ForSome}
 use Rattle.std.specs.Borrow.{Bor}
 use Rattle.std.specs.Result.{result_ok}
-use Rattle.std.proofs.Math.ListN.{length-set}
-use Rattle.std.proofs.lemmas.List.{at_drop_all, drop_more, take_more_set, map-append}
+use Rattle.std.proofs.lemmas.List.{at_drop_all, drop_more}
 use Rattle.serde_json.specs.Data.{Data}
 use Rattle.series_id.specs.declared.attributes.Attribute.{Attribute}
 use Rattle.series_id.specs.declared.faults.IdFault.TheVariants.{TextTooLong}
@@ -27,9 +27,16 @@ use Rattle.otlp_protobuf.specs.inner.Parts.{part_with}
 use Rattle.otlp_protobuf.specs.Members.{double_data}
 use Rattle.otlp_protobuf.specs.declared.known_set.KnownSet.{KnownSet}
 use Rattle.otlp_protobuf.specs.inner.KindViews.{bounds_kind, says_kind}
-use Rattle.otlp_protobuf.specs.inner.RoomViews.{front, IsInRoom}
+use Rattle.otlp_protobuf.specs.inner.Sets.{said_list}
 
 -- ---- series
+
+-- a share of a kept series is the series of its attributes
+pub share_known : (r : Option Identity) (stream : Stream) (kind : Option Kind) (known : Bool) (kept messages : List (List ℕ))
+    → IfSome r (λ s. (ms : List (List ℕ)) → (IsTrue known → kept ≡ ms) → option_and_then (λ k. series_of stream k (said_list ms)) kind ≡ Some s)
+    → (IsTrue known → kept ≡ messages) → ForSome r (λ s. option_and_then (λ k. series_of stream k (said_list messages)) kind ≡ Some s)
+share_known None stream kind known kept messages share same = λ s is. cc
+share_known (Some x) stream kind known kept messages share same = λ s is. share messages same ∙ is
 
 -- an identity of the stream is the series of its kind and its attributes there
 pub series_known : (stream : Stream) (kind : Option Kind) (found : Option Data) (x : Identity) → IsIdentity x → identity_in stream x.kind x.attrs ≡ x
@@ -134,30 +141,6 @@ part_more n a b total fs f rest is put so_far =
 pub part_done : (n : ℕ) (a total : Option (List ℕ)) (fs : List Field) → fs ≡ [] → joined a (contents n fs) ≡ total → a ≡ total
 unfolding contents
 part_done n a total fs none so_far = ap (λ xs. joined a (contents n xs)) (sym none) ∙ so_far
-
--- ---- the messages in a room
-
--- one more is in the room
-pub room_more : (n : ℕ) (room : List (Bor (List ℕ))) (b : Bor (List ℕ)) (after all : List (List ℕ)) → n < length room
-    → IsInRoom (Some n) room (b.now ∷ after) all → IsInRoom (Some (n + 1)) (set room n b) after all
-room_more n room b after all fits is = (
-  omega (arith, length-set {A = Bor (List ℕ)}),
-  ap (λ xs. xs ++ after) (ap (map (λ (c : Bor (List ℕ)). c.now)) (take_more_set room n b fits) ∙ map-append (λ (c : Bor (List ℕ)). c.now) (take n room) (b ∷ []))
-      ∙ append_assoc (front n room) (b.now ∷ []) after ∙ is.1,
-)
-
--- a field of a message, and those after it
-pub room_field : (n : ℕ) (count : Option ℕ) (room : List (Bor (List ℕ))) (fs : List Field) (f : Field) (rest : List Field) (first : Option (List ℕ)) (all : List (List ℕ))
-    → fs ≡ f ∷ rest → first ≡ content_at n f → IsInRoom count room (contents n fs) all → IsInRoom count room (with_first first (contents n rest)) all
-unfolding contents
-room_field n count room fs f rest first all is content in_room =
-    subst (λ ms. IsInRoom count room ms all) (ap (contents n) is ∙ ap (λ o. with_first o (contents n rest)) (sym content)) in_room
-
--- no field is left
-pub room_done : (n : ℕ) (count : Option ℕ) (room : List (Bor (List ℕ))) (fs : List Field) (all : List (List ℕ)) → fs ≡ []
-    → IsInRoom count room (contents n fs) all → IsInRoom count room [] all
-unfolding contents
-room_done n count room fs all is in_room = subst (λ ms. IsInRoom count room ms all) (ap (contents n) is) in_room
 
 -- ---- the numbers of a list that one field may have
 

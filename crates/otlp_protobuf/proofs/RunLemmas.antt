@@ -1,18 +1,26 @@
 -- Runs of attributes.
-use Rattle.std.proofs.Common.{◌≡◌, ◌<◌, ◌≤◌, ℕ, zero, suc, ◌-◌, ◌+◌, ◌*◌, ◌/◌, ◌%◌, ◌^◌, ◌==◌, List, [], ◌∷◌, ◌++◌, length, get_or, take, drop, Option, Some, None, Result, Ok, Err, refl, sym, ap, subst, ◌∙◌, append_assoc, append-nil, zero-add, false, arith, length-append, length-drop}
+use Rattle.std.proofs.Common.{◌≡◌, ◌<◌, ◌≤◌, ℕ, zero, suc, ◌-◌, ◌+◌, ◌*◌, ◌/◌, ◌%◌, ◌^◌, ◌==◌, List, [], ◌∷◌, ◌++◌, length, map, get_or, take, drop, Option, Some, None, Result, Ok, Err, refl, sym, ap, subst, ◌∙◌, append_assoc, append-nil, zero-add, true, false, ◌⊎◌, inl, inr, arith, length-append, length-drop}
 use Rattle.std.specs.Prelude.{if◌then◌else◌, nat_lt, nat_le, ⊤}
 use Rattle.std.proofs.Math.Seq.{take-append_seam, take-append-add, drop-append_seam, take-add}
-use Rattle.std.proofs.lemmas.Bool.{lt-ltb, le-ltb, ne_eqb}
+use Rattle.std.proofs.lemmas.Bool.{lt-ltb, le-ltb, eq-eqb, ne_eqb, cases_eq}
 use Rattle.std.proofs.lemmas.List.{take-append-drop, length-take-le}
 use Rattle.otlp_protobuf.specs.declared.malformed.Malformed.{Malformed}
 use Rattle.otlp_protobuf.specs.declared.malformed.Malformed.TheVariants.{Cut, Deep, LongNumber, NoNumber}
 use Rattle.otlp_protobuf.specs.declared.schema.Message.{Message}
 use Rattle.otlp_protobuf.specs.declared.schema.Message.TheVariants.{KeyValue}
 use Rattle.otlp_protobuf.specs.declared.schema.Kind.TheVariants.{Inner}
-use Rattle.otlp_protobuf.specs.Wire.{◌>>=◌, bytes_value, varint, varint_from, weighed, key, taken, counted, plain, payload_at, field_at}
+use Rattle.otlp_protobuf.specs.Wire.{◌>>=◌, Value, Field, bytes_value, varint, varint_from, weighed, key, taken, counted, plain, payload_at, field_at, with_field, fields_from, fields}
+use Rattle.otlp_protobuf.specs.Fields.{bits, contents, content, gathered, last, newer, numbers, numbers_at, numbers_of, with_first}
+use Rattle.otlp_protobuf.specs.declared.number_point.NumberPoint.{NumberPoint}
+use Rattle.otlp_protobuf.specs.declared.histogram_point.HistogramPoint.{HistogramPoint}
+use Rattle.otlp_protobuf.specs.Points.{take_number, take_histogram}
+use Rattle.std.specs.Int.{w64, cast_signed}
 use Rattle.otlp_protobuf.specs.Schema.{kind_of}
 use Rattle.otlp_protobuf.specs.Checks.{value_checked, checked_from}
-use Rattle.otlp_protobuf.specs.inner.Runs.{attribute, IsAttribute, IsField, AreFields, run_bytes, IsRun, Passes}
+use Rattle.otlp_protobuf.specs.inner.Runs.{attribute, IsAttribute, IsField, AreFields, run_bytes, IsRun, Passes, others, SaysRun}
+use Rattle.otlp_protobuf.specs.declared.others.Seen.{Seen}
+use Rattle.otlp_protobuf.specs.inner.RunViews.{Sees}
+use Rattle.otlp_protobuf.proofs.WireLemmas.{fields_step}
 use Rattle.otlp_protobuf.proofs.CheckLemmas.{check_step, checked_longer, deep_passes}
 
 -- ---- the field of an attribute
@@ -215,3 +223,156 @@ unfolding checked_from
 none_left zero levels m [] none = refl
 none_left (suc left) levels m [] none = refl
 none_left left levels m (b ∷ bs) none = absurd (omega arith)
+
+-- ---- the fields of known attributes
+
+run_fields : (n : ℕ) (fs : List (List ℕ × List ℕ)) → AreFields n fs → (left : ℕ) (rest : List ℕ)
+    → fields_from (length fs + left) (run_bytes fs ++ rest) ≡ map (attribute n) (map (λ (f : List ℕ × List ℕ). f.1) fs) ++ fields_from left rest
+run_fields n [] are left rest = ap (λ k. fields_from k rest) (zero-add left)
+run_fields n (f ∷ fs) are left rest =
+    let longer : length (f ∷ fs) + left - 1 ≡ length fs + left = let e : length (f ∷ fs) ≡ suc (length fs) = refl in omega arith in
+    ap (fields_from (length (f ∷ fs) + left)) (append_assoc f.0 (run_bytes fs) rest)
+    ∙ fields_step (length (f ∷ fs) + left) (f.0 ++ (run_bytes fs ++ rest)) (let e : length (f ∷ fs) ≡ suc (length fs) = refl in omega arith)
+    ∙ ap (λ r. with_field (λ after. fields_from (length (f ∷ fs) + left - 1) after) r) (are.0.says (run_bytes fs ++ rest))
+    ∙ ap (λ k. attribute n f.1 ∷ fields_from k (run_bytes fs ++ rest)) longer
+    ∙ ap (λ xs. attribute n f.1 ∷ xs) (run_fields n fs are.1 left rest)
+
+eqb_same : (n : ℕ) → (n == n) ≡ true
+eqb_same n = eq-eqb n n refl
+
+pub contents_run : (n : ℕ) (ms : List (List ℕ)) (fs : List Field) → contents n (map (attribute n) ms ++ fs) ≡ ms ++ contents n fs
+unfolding contents
+contents_run n [] fs = refl
+contents_run n (m ∷ ms) fs =
+    ap (λ t. with_first (if t then Some m else None) (contents n (map (attribute n) ms ++ fs))) (eqb_same n) ∙ ap (λ xs. m ∷ xs) (contents_run n ms fs)
+
+pub others_run : (n : ℕ) (ms : List (List ℕ)) (fs : List Field) → others n (map (attribute n) ms ++ fs) ≡ others n fs
+others_run n [] fs = refl
+others_run n (m ∷ ms) fs =
+    ap (λ t. if t then others n (map (attribute n) ms ++ fs) else attribute n m ∷ others n (map (attribute n) ms ++ fs)) (eqb_same n) ∙ others_run n ms fs
+
+run_long : (n : ℕ) (fs : List (List ℕ × List ℕ)) → AreFields n fs → length fs ≤ length (run_bytes fs)
+run_long n [] are = omega arith
+run_long n (f ∷ fs) are =
+    let rest : length fs ≤ length (run_bytes fs) = run_long n fs are.1 in
+    let e : length (f ∷ fs) ≡ suc (length fs) = refl in
+    let some : 0 < length f.0 = are.0.some in
+    omega (arith, length-append f.0 (run_bytes fs))
+
+fields_none : (left : ℕ) → fields_from left [] ≡ []
+unfolding fields_from field_at key varint_from
+fields_none zero = refl
+fields_none (suc left) = refl
+
+no_contents : (n : ℕ) (ms : List (List ℕ)) → ms ++ contents n [] ≡ ms
+unfolding contents
+no_contents n ms = append-nil ms
+
+-- by themselves they are the same
+run_alone : (n : ℕ) (fs : List (List ℕ × List ℕ)) → AreFields n fs → contents n (fields (run_bytes fs)) ≡ map (λ (f : List ℕ × List ℕ). f.1) fs
+run_alone n fs are =
+    let ms : List (List ℕ) = map (λ (f : List ℕ × List ℕ). f.1) fs in
+    let long : length fs ≤ length (run_bytes fs) = run_long n fs are in
+    let more : length (run_bytes fs) ≡ length fs + (length (run_bytes fs) - length fs) = omega arith in
+    ap (λ k. contents n (fields_from k (run_bytes fs))) more
+    ∙ ap (λ xs. contents n (fields_from (length fs + (length (run_bytes fs) - length fs)) xs)) (sym (append-nil (run_bytes fs)))
+    ∙ ap (contents n) (run_fields n fs are (length (run_bytes fs) - length fs) [])
+    ∙ contents_run n ms (fields_from (length (run_bytes fs) - length fs) [])
+    ∙ ap (λ xs. ms ++ contents n xs) (fields_none (length (run_bytes fs) - length fs)) ∙ no_contents n ms
+
+pub run_says : (n size count : ℕ) (bytes run : List ℕ) → IsRun n size count bytes → run ≡ take size bytes → SaysRun n count run
+run_says n size count bytes run found is = λ left rest.
+    ap (λ k. fields_from (k + left) (run ++ rest)) (sym found.counted)
+    ∙ ap (λ xs. fields_from (length found.found + left) (xs ++ rest)) (is ∙ sym found.all)
+    ∙ run_fields n found.found found.are left rest
+    ∙ ap (λ ms. map (attribute n) ms ++ fields_from left rest) (sym (run_alone n found.found found.are) ∙ ap (λ xs. contents n (fields xs)) (found.all ∙ sym is))
+
+-- ---- the last value of another number
+
+newer_run : (n k : ℕ) (found : Option Value) (ms : List (List ℕ)) (fs : List Field) → (k ≡ n → ⊥) → gathered (newer k) found (map (attribute n) ms ++ fs) ≡ gathered (newer k) found fs
+newer_run n k found [] fs other = refl
+newer_run n k found (m ∷ ms) fs other =
+    ap (λ t. gathered (newer k) (if t then Some (bytes_value m) else found) (map (attribute n) ms ++ fs)) (ne_eqb n k (λ e. other (sym e)))
+    ∙ newer_run n k found ms fs other
+
+pub last_after : (n k size count : ℕ) (bytes : List ℕ) → IsRun n size count bytes → (k ≡ n → ⊥) → gathered (newer k) None (fields_from (length bytes - count) (drop size bytes)) ≡ last k bytes
+last_after n k size count bytes run other =
+    let few : count ≤ size = run.few in
+    let fits : size ≤ length bytes = run.fits in
+    let left : ℕ = length bytes - count in
+    let all : count + left ≡ length bytes = omega arith in
+    let front : List ℕ = take size bytes in
+    let after : List ℕ = drop size bytes in
+    sym (ap (λ xs. gathered (newer k) None (fields_from (length bytes) xs)) (sym (take-append-drop size bytes))
+    ∙ ap (λ m. gathered (newer k) None (fields_from m (front ++ after))) (sym all)
+    ∙ ap (gathered (newer k) None) (run_says n size count bytes front run refl left after)
+    ∙ newer_run n k None (contents n (fields front)) (fields_from left after) other)
+
+-- ---- the other fields
+
+number_ignored : (p : NumberPoint) (f : Field) → f.number ≡ 7 → take_number p f ≡ p
+unfolding take_number
+number_ignored p f is =
+    ap (λ n. if n == 2 then record p { start = Some (bits f.value) }
+    else (if n == 3 then record p { end = Some (bits f.value) }
+    else (if n == 4 then record p { double = Some (bits f.value); int = None }
+    else (if n == 6
+    then record p { double = None; int = Some (cast_signed w64 (bits f.value)) }
+    else (if n == 8 then record p { flags = Some (bits f.value % 2 ^ 32) } else p))))) is
+
+histogram_ignored : (p : HistogramPoint) (f : Field) → f.number ≡ 9 → take_histogram p f ≡ p
+unfolding take_histogram
+histogram_ignored p f is =
+    ap (λ n. if n == 2 then record p { start = Some (bits f.value) }
+    else (if n == 3 then record p { end = Some (bits f.value) }
+    else (if n == 4 then record p { count = Some (bits f.value) }
+    else (if n == 5 then record p { total = Some (bits f.value) }
+    else (if n == 10 then record p { flags = Some (bits f.value % 2 ^ 32) } else p))))) is
+
+pub others_is : (n : ℕ) (f : Field) (fs : List Field) → f.number ≡ n → others n (f ∷ fs) ≡ others n fs
+others_is n f fs is = ap (λ t. if t then others n fs else f ∷ others n fs) (eq-eqb f.number n is)
+
+pub others_not : (n : ℕ) (f : Field) (fs : List Field) → (f.number ≡ n → ⊥) → others n (f ∷ fs) ≡ f ∷ others n fs
+others_not n f fs not = ap (λ t. if t then others n fs else f ∷ others n fs) (ne_eqb f.number n not)
+
+pub contents_not : (n : ℕ) (f : Field) (fs : List Field) → (f.number ≡ n → ⊥) → contents n (f ∷ fs) ≡ contents n fs
+unfolding contents
+contents_not n f fs not = ap (λ t. with_first (if t then content f.value else None) (contents n fs)) (ne_eqb f.number n not)
+
+gathered_others : {A : Type 0} (takes : A → Field → A) (n : ℕ) → ((a : A) (f : Field) → f.number ≡ n → takes a f ≡ a) → (fs : List Field) (a : A) → gathered takes a (others n fs) ≡ gathered takes a fs
+gathered_others takes n ignores [] a = refl
+gathered_others {A} takes n ignores (f ∷ fs) a = by (cases_eq f.number n) (λ b. gathered_others takes n ignores fs b)
+  where
+    by : (f.number ≡ n) ⊎ (f.number ≡ n → ⊥) → ((b : A) → gathered takes b (others n fs) ≡ gathered takes b fs) → gathered takes a (others n (f ∷ fs)) ≡ gathered takes (takes a f) fs
+    by (inl is) more = ap (gathered takes a) (others_is n f fs is) ∙ more a ∙ ap (λ b. gathered takes b fs) (sym (ignores a f is))
+    by (inr not) more = ap (gathered takes a) (others_not n f fs not) ∙ more (takes a f)
+
+pub number_others : (fs : List Field) (p : NumberPoint) → gathered take_number p (others 7 fs) ≡ gathered take_number p fs
+number_others fs p = gathered_others take_number 7 ignored fs p
+  where
+    ignored : (a : NumberPoint) (f : Field) → f.number ≡ 7 → take_number a f ≡ a
+    ignored a f is = number_ignored a f is
+
+pub histogram_others : (fs : List Field) (p : HistogramPoint) → gathered take_histogram p (others 9 fs) ≡ gathered take_histogram p fs
+histogram_others fs p = gathered_others take_histogram 9 (λ a f is. histogram_ignored a f is) fs p
+
+pub numbers_others : (n k : ℕ) → (n ≡ k → ⊥) → (fs : List Field) → numbers k (others n fs) ≡ numbers k fs
+unfolding numbers
+numbers_others n k not [] = refl
+numbers_others n k not (f ∷ fs) = by (cases_eq f.number n) (numbers_others n k not fs)
+  where
+    by : (f.number ≡ n) ⊎ (f.number ≡ n → ⊥) → numbers k (others n fs) ≡ numbers k fs → numbers k (others n (f ∷ fs)) ≡ numbers_at k f ++ numbers k fs
+    by (inl is) more =
+        ap (numbers k) (others_is n f fs is) ∙ more
+        ∙ sym (ap (λ t. (if t then numbers_of f.value else []) ++ numbers k fs) (ne_eqb f.number k (λ e. not (sym is ∙ e))))
+    by (inr other) more = ap (numbers k) (others_not n f fs other) ∙ ap (λ ns. numbers_at k f ++ ns) more
+
+-- ---- what is seen of attributes
+
+pub sees_not : (n : ℕ) (known : List (List ℕ)) (seen : Seen) (fs : List Field) (f : Field) (rest : List Field) (all : List (List ℕ)) → fs ≡ f ∷ rest → (f.number ≡ n → ⊥)
+    → Sees known seen (contents n fs) all → Sees known seen (contents n rest) all
+sees_not n known seen fs f rest all is not so_far = subst (λ ms. Sees known seen ms all) (ap (contents n) is ∙ contents_not n f rest not) so_far
+
+pub sees_done : (n : ℕ) (known : List (List ℕ)) (seen : Seen) (fs : List Field) (all : List (List ℕ)) → fs ≡ [] → Sees known seen (contents n fs) all → Sees known seen [] all
+unfolding contents
+sees_done n known seen fs all none so_far = subst (λ ms. Sees known seen ms all) (ap (contents n) none) so_far

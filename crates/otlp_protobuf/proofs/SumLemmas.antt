@@ -20,10 +20,9 @@ use Rattle.otlp_protobuf.specs.inner.SumViews.{sum_fields_of}
 use Rattle.otlp_protobuf.proofs.PointLemmas.{sum_fields_are}
 
 -- the fields that were read are those of the point
-pub fields_said : (bytes : List ℕ) (nothing p : NumberPoint) (o : Option SumFields) (attributes : List Data) → nothing ≡ no_number → p ≡ gathered take_number nothing (fields bytes)
-    → o ≡ sum_fields_of p → o ≡ sum_fields (number_point_data (number_point_of bytes) attributes)
-fields_said bytes nothing p o attributes none said read =
-    read ∙ ap sum_fields_of (said ∙ ap (λ n. gathered take_number n (fields bytes)) none) ∙ sym (sum_fields_are (number_point_of bytes) attributes)
+pub fields_said : (bytes : List ℕ) (p : NumberPoint) (o : Option SumFields) (attributes : List Data) → p ≡ gathered take_number no_number (fields bytes) → o ≡ sum_fields_of p
+    → o ≡ sum_fields (number_point_data (number_point_of bytes) attributes)
+fields_said bytes p o attributes said read = read ∙ ap sum_fields_of said ∙ sym (sum_fields_are (number_point_of bytes) attributes)
 
 attributes_of : (p : NumberPoint) (attributes : List Data) → field (codes "attributes") (number_point_data p attributes) ≡ Some (list_data attributes)
 unfolding field number_point_data

@@ -8,7 +8,8 @@ pub mod RefViews
 pub mod PairViews
 pub mod Sets
 pub mod KindViews
-pub mod RoomViews
 pub mod SpotViews
 pub mod Parts
 pub mod Runs
+pub mod RunViews
+pub mod KeptViews

@@ -1,10 +1,14 @@
 //! The fields of a message, one after the other, where they are in its bytes.
 
-ghost use Rattle.std.specs.Prelude.{◌≡◌, ◌∷◌, [], MatchOption};
+ghost use Rattle.std.specs.Prelude.{◌≡◌, ◌∷◌, ◌++◌, [], IfSome, MatchOption, map};
+ghost use Rattle.otlp_protobuf.specs.inner.Runs.{attribute};
+ghost use Rattle.otlp_protobuf.specs.inner.RunViews.{run_messages};
 ghost use Rattle.otlp_protobuf.specs.Wire.{field_at, fields};
 ghost use Rattle.otlp_protobuf.specs.inner.Views.{Gives, payload_data, field_data, fields_data};
 
+use crate::known_run::KnownRun;
 use crate::malformed::Malformed;
+use crate::runs::after_run;
 use crate::wire::{Payload, key, payload_at};
 
 /// A field of a message.
@@ -42,6 +46,20 @@ impl<'a> Fields<'a> {
             rest: bytes,
             left: bytes.len(),
         }
+    }
+
+    /// The fields after known attributes at the front.
+    #[inline(always)]
+    pub fn after_run(self, run: &KnownRun) -> Option<Fields<'a>>
+        ensures { IfSome result (λ r. fields_data self.entry
+            ≡ map (attribute run.now.number) (run_messages run.now) ++ fields_data r) }
+    {
+        if self.left < run.count {
+            return None;
+        }
+        let rest = after_run(&run.bytes, self.rest)?;
+        let left = self.left - run.count;
+        Some(Fields { rest, left })
     }
 
     /// The next field.

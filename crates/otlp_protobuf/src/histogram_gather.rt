@@ -1,16 +1,18 @@
 //! Gathers what a histogram's point says, in one pass over its fields.
 
-ghost use Rattle.std.specs.Prelude.{◌≡◌, ◌++◌, [], ℕ, List};
+ghost use Rattle.std.specs.Prelude.{◌≡◌, ◌++◌, [], ℕ, IsTrue, List};
 ghost use Rattle.otlp_protobuf.specs.Wire.{fields};
 ghost use Rattle.otlp_protobuf.specs.Fields.{contents, gathered, numbers, numbers_at, packed};
 ghost use Rattle.otlp_protobuf.specs.Points.{no_histogram, take_histogram};
-ghost use Rattle.otlp_protobuf.specs.inner.RoomViews.{IsInRoom};
+ghost use Rattle.otlp_protobuf.specs.inner.RunViews.{messages_of};
 ghost use Rattle.otlp_protobuf.specs.inner.SpotViews.{IsSpot};
 ghost use Rattle.otlp_protobuf.specs.inner.Views.{field_data};
 
 use crate::fields::{Field, Fields};
 use crate::histogram_point::HistogramPoint;
-use crate::scan::{Gathered, content_at, put_content};
+use crate::known_run::KnownRun;
+use crate::others::{Seen, is_run, next_other};
+use crate::scan::Gathered;
 use crate::wire::Payload;
 
 /// The numbers of a point's buckets, bounds and attributes.
@@ -20,36 +22,30 @@ pub const BOUNDS: u32 = 7;
 
 pub const ATTRIBUTES: u32 = 9;
 
-/// What a point says; at the front of the room how many messages its attributes have, or `None` if
-/// they are more than there is room for; and its buckets and its bounds, each where one field has
-/// them all.
+/// What a point says; whether its attributes are those that are known; and its buckets and its
+/// bounds, each where one field has them all.
 #[inline(always)]
 pub fn gather_histogram<'a>(
     bytes: &'a [u8],
-    room: &mut [&'a [u8]],
-) -> (
-    HistogramPoint,
-    Option<usize>,
-    Option<&'a [u8]>,
-    Option<&'a [u8]>,
-)
+    known: Option<&KnownRun>,
+) -> (HistogramPoint, bool, Option<&'a [u8]>, Option<&'a [u8]>)
     ensures said { result.0 ≡ gathered take_histogram no_histogram (fields bytes.now) }
-    ensures messages { IsInRoom result.1 room.new [] (contents ATTRIBUTES (fields bytes.now)) }
+    ensures known { IsTrue result.1
+        → messages_of known.entry ≡ contents ATTRIBUTES (fields bytes.now) }
     ensures buckets { IsSpot result.2 [] (numbers BUCKETS (fields bytes.now)) }
     ensures bounds { IsSpot result.3 [] (numbers BOUNDS (fields bytes.now)) }
 {
     let mut found = HistogramPoint::new();
-    let mut count = Some(0);
     let mut buckets: Option<&'a [u8]> = Some(&[]);
     let mut bounds: Option<&'a [u8]> = Some(&[]);
     let mut rest = Fields::of(bytes);
-    while let Some(field) = rest.next() {
+    let mut seen = Seen::None;
+    while let Some(field) = next_other(&mut rest, &mut seen, ATTRIBUTES, known) {
         found = found.take(field);
-        count = put_content(room, count, content_at(ATTRIBUTES, field));
         buckets = put_numbers(BUCKETS, buckets, field);
         bounds = put_numbers(BOUNDS, bounds, field);
     }
-    (found, count, buckets, bounds)
+    (found, is_run(seen), buckets, bounds)
 }
 
 /// Where the numbers are after a field: still in one field, or `None`.

@@ -22,11 +22,11 @@ ghost use Rattle.otlp_protobuf.specs.inner.StreamViews.{stream_data};
 use crate::doubles::unsigned_double;
 use crate::histogram_gather::{ATTRIBUTES, BOUNDS, BUCKETS, gather_histogram};
 use crate::histogram_point::HistogramPoint;
-use crate::identity_cache::IdentityCache;
+use crate::identity_cache::{IdentityCache, run_of, share_if};
 use crate::kind_ref::KindRef;
 use crate::number_list::NumberList;
 use crate::numbers::numbers_in;
-use crate::point_attributes::{MOST_ATTRIBUTES, PointAttributes};
+use crate::point_attributes::PointAttributes;
 use crate::point_fields::{flags_fit, nanos_in};
 use crate::streams::{PointStream, Stream, series_of};
 use metric_events::point::{Point, PointFault};
@@ -97,7 +97,7 @@ impl PointStream for Option<Stream<'_>> {
     ) -> Result<Option<Point>, AllocError> {
         match self {
             None => Ok(None),
-            Some(stream) => histogram_point(alloc, cache, stream, bytes),
+            Some(stream) => histogram_point(alloc, cache, &stream, bytes),
         }
     }
 }
@@ -106,25 +106,29 @@ impl PointStream for Option<Stream<'_>> {
 fn histogram_point(
     alloc: Global,
     cache: &mut IdentityCache,
-    stream: Stream<'_>,
+    stream: &Stream<'_>,
     bytes: &[u8],
 ) -> Result<Option<Point>, AllocError>
     ensures { IfOk result (λ o. o
-        ≡ histogram_point (stream_data stream.entry) (point_shown bytes.now)) }
+        ≡ histogram_point (stream_data stream.now) (point_shown bytes.now)) }
 {
-    let mut room: [&[u8]; MOST_ATTRIBUTES] = [&[]; MOST_ATTRIBUTES];
-    let (point, count, buckets, bounds) = gather_histogram(bytes, &mut room);
+    let next = cache.next();
+    let (point, is_known, buckets, bounds) = gather_histogram(bytes, run_of(next));
     let Some(fields) = histogram_fields(point) else {
-        return Ok(None);
-    };
-    let Some(buckets) = numbers_in(alloc, NumberList::of(bytes, BUCKETS, buckets))? else {
         return Ok(None);
     };
     let kind = KindRef::Histogram {
         bounds: NumberList::of(bytes, BOUNDS, bounds),
     };
-    let attributes = PointAttributes::of(bytes, ATTRIBUTES, &room, count);
-    let Some(series) = series_of(alloc, cache, stream, kind, attributes)? else {
+    let known = share_if(next, is_known, stream, &kind);
+    let Some(buckets) = numbers_in(alloc, NumberList::of(bytes, BUCKETS, buckets))? else {
+        return Ok(None);
+    };
+    let attributes = PointAttributes {
+        bytes,
+        number: ATTRIBUTES,
+    };
+    let Some(series) = series_of(alloc, cache, known, stream, kind, attributes)? else {
         return Ok(None);
     };
     let HistogramFields {

@@ -2,6 +2,7 @@
 //! results of `otlp_read`: a message means what its JSON mapping means.
 #![tactic(auto)]
 
+mod after_points;
 mod attributes;
 mod byte_hash;
 mod checked_run;
@@ -17,6 +18,7 @@ mod identity_cache;
 mod kept;
 mod kept_series;
 mod kind_ref;
+mod known_run;
 mod known_runs;
 mod known_set;
 mod lists;
@@ -26,6 +28,7 @@ mod metrics;
 mod number_list;
 mod number_point;
 mod numbers;
+mod others;
 mod point_attributes;
 mod point_fields;
 mod reader;

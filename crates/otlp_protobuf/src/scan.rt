@@ -8,7 +8,6 @@ ghost use Rattle.otlp_protobuf.specs.Fields.{text_of, text_at, content_at, conte
 ghost use Rattle.otlp_protobuf.specs.Fields.{whole_at, with_first};
 ghost use Rattle.otlp_protobuf.specs.inner.Views.{payload_data, field_data, fields_data};
 ghost use Rattle.otlp_protobuf.specs.inner.Views.{whole_data};
-ghost use Rattle.otlp_protobuf.specs.inner.RoomViews.{IsInRoom};
 ghost use Rattle.otlp_protobuf.specs.inner.Parts.{part_with};
 
 use crate::fields::{Field, Fields};
@@ -25,54 +24,20 @@ pub trait Gathered: Copy {
         ensures { result ≡ takes self (field_data field.entry) };
 }
 
-/// What a message says, after what there is, and at the front of the room how many messages the
-/// fields of this number have; `None` if they are more than there is room for.
-pub fn gather_with<'a, G: Gathered>(
-    nothing: G,
-    bytes: &'a [u8],
-    number: u32,
-    room: &mut [&'a [u8]],
-) -> (G, Option<usize>)
-    ensures said { result.0 ≡ gathered G.takes nothing (fields bytes.now) }
-    ensures messages { IsInRoom result.1 room.new [] (contents number (fields bytes.now)) }
-{
-    let mut found = nothing;
-    let mut count = Some(0);
-    let mut rest = Fields::of(bytes);
-    while let Some(field) = rest.next() {
-        found = found.take(field);
-        count = put_content(room, count, content_at(number, field));
-    }
-    (found, count)
-}
-
-/// Puts a message behind those in the room, if it is there.
-#[inline(always)]
-pub fn put_content<'a>(
-    room: &mut [&'a [u8]],
-    count: Option<usize>,
-    content: Option<&'a [u8]>,
-) -> Option<usize>
-    ensures { (after all : List (List ℕ)) → IsInRoom count room.old
-        (with_first (option_map (λ b. b.now) content.entry) after) all
-        → IsInRoom result room.new after all }
-{
-    let (Some(count), Some(content)) = (count, content) else {
-        return count;
-    };
-    if count >= room.len() {
-        return None;
-    }
-    room[count] = content;
-    Some(count + 1)
-}
-
 /// The last value of this number.
 pub fn last<'a>(bytes: &'a [u8], number: u32) -> Option<Payload<'a>>
     ensures { option_map payload_data result ≡ last number bytes.now }
 {
+    last_of(Fields::of(bytes), number)
+}
+
+/// The last value of this number in fields.
+pub fn last_of<'a>(fields: Fields<'a>, number: u32) -> Option<Payload<'a>>
+    ensures { option_map payload_data result
+        ≡ gathered (newer number) None (fields_data fields.entry) }
+{
     let mut found = None;
-    let mut rest = Fields::of(bytes);
+    let mut rest = fields;
     while let Some(field) = rest.next() {
         found = newer(number, found, field);
     }
@@ -88,9 +53,23 @@ pub fn last_two<'a>(
     ensures one { option_map payload_data result.0 ≡ last one bytes.now }
     ensures other { option_map payload_data result.1 ≡ last other bytes.now }
 {
+    last_two_of(Fields::of(bytes), one, other)
+}
+
+/// The last values of two numbers in fields.
+pub fn last_two_of<'a>(
+    fields: Fields<'a>,
+    one: u32,
+    other: u32,
+) -> (Option<Payload<'a>>, Option<Payload<'a>>)
+    ensures one { option_map payload_data result.0
+        ≡ gathered (newer one) None (fields_data fields.entry) }
+    ensures other { option_map payload_data result.1
+        ≡ gathered (newer other) None (fields_data fields.entry) }
+{
     let mut first = None;
     let mut second = None;
-    let mut rest = Fields::of(bytes);
+    let mut rest = fields;
     while let Some(field) = rest.next() {
         first = newer(one, first, field);
         second = newer(other, second, field);
@@ -186,6 +165,7 @@ pub fn content_at<'a>(number: u32, field: Field<'a>) -> Option<&'a [u8]>
 }
 
 /// The bytes of the next field of this number. Others are passed over.
+#[inline(always)]
 #[tactic(auto, unfolding(crate::specs::Fields::contents))]
 pub fn next_content<'a>(rest: &mut Fields<'a>, number: u32) -> Option<&'a [u8]>
     ensures { MatchOption result (contents number (fields_data rest.old) ≡ [])

@@ -2,6 +2,7 @@
 //! attributes its series.
 
 ghost use Rattle.std.specs.Prelude.{◌≡◌, IfOk, List, ℕ, Option, option_and_then, option_map};
+ghost use Rattle.std.specs.Option.{ForSome};
 ghost use Rattle.serde_json.specs.Data.{Data};
 ghost use Rattle.metric_events.specs.DataPoint.{DataPoint};
 ghost use Rattle.otlp_read.specs.Streams.{series_in, series_of};
@@ -13,13 +14,14 @@ ghost use Rattle.otlp_protobuf.specs.inner.StreamViews.{resource_data, scope_dat
 ghost use Rattle.otlp_protobuf.specs.inner.StreamViews.{stream_data, stream_from, sum_stream_data};
 ghost use Rattle.otlp_protobuf.specs.inner.StreamViews.{sum_stream_from, truth_from};
 
+use crate::after_points::{last_after_points, last_two_after_points};
 use crate::attributes::{attributes_in, text_in};
 use crate::byte_hash::ByteHash;
 use crate::identity_cache::IdentityCache;
 use crate::kind_ref::KindRef;
 use crate::known_set::KnownSet;
 use crate::point_attributes::PointAttributes;
-use crate::scan::{bits, last, last_two, text_if};
+use crate::scan::{bits, last_two, text_if};
 use crate::wire::Payload;
 use metric_events::point::Point;
 use series_id::{AttrSet, Kind, SeriesId, SharedId, Text};
@@ -160,7 +162,11 @@ pub fn histogram_stream<'a>(
     ensures { option_map stream_data result ≡ histogram_stream_from
         (option_map scope_data scope.entry) metric.now histogram.now }
 {
-    stream_if(is_delta(last(histogram, TEMPORALITY)), scope, metric)
+    stream_if(
+        is_delta(last_after_points(histogram, TEMPORALITY)),
+        scope,
+        metric,
+    )
 }
 
 /// The stream of a metric's sum.
@@ -172,7 +178,7 @@ pub fn sum_stream<'a>(
     ensures { option_map sum_stream_data result ≡ sum_stream_from
         (option_map scope_data scope.entry) metric.now sum.now }
 {
-    let (temporality, monotonic) = last_two(sum, TEMPORALITY, MONOTONIC);
+    let (temporality, monotonic) = last_two_after_points(sum, TEMPORALITY, MONOTONIC);
     let stream = stream_if(is_delta(temporality), scope, metric)?;
     let monotonic = is_true(monotonic);
     Some(SumStream { stream, monotonic })
@@ -183,56 +189,68 @@ const TEMPORALITY: u32 = 2;
 
 const MONOTONIC: u32 = 3;
 
-/// The series of a stream with this kind and these attributes. One that is kept is shared. `None`
-/// if no series may have them.
+/// The series of a stream with this kind and these attributes: the one that came next, if it is
+/// known to be it.
 #[inline(always)]
 pub fn series_of(
     alloc: Global,
     cache: &mut IdentityCache,
-    stream: Stream<'_>,
+    known: Option<SharedId>,
+    stream: &Stream<'_>,
     kind: KindRef<'_>,
-    attributes: PointAttributes<'_, '_>,
+    attributes: PointAttributes<'_>,
 ) -> Result<Option<SharedId>, AllocError>
+    requires { ForSome known (λ s. option_and_then
+        (λ k. series_of (stream_data stream.now) k (said_list (attributes_data attributes)))
+        (kind_data kind) ≡ Some s) }
     ensures { IfOk result (λ o. o ≡ option_and_then
-        (λ k. series_of (stream_data stream.entry) k (said_list (attributes_data attributes.entry)))
+        (λ k. series_of (stream_data stream.now) k (said_list (attributes_data attributes.entry)))
         (kind_data kind.entry)) }
 {
-    let Some(messages) = attributes.found else {
-        return new_series(alloc, stream, kind, attributes);
-    };
-    if let Some(series) = cache.follow(stream, kind, messages) {
-        return Ok(Some(series));
+    match known {
+        Some(series) => {
+            cache.go_on();
+            Ok(Some(series))
+        }
+        None => other_series(alloc, cache, stream, kind, attributes),
     }
-    let hash = hash_of(stream.hash, messages);
-    if let Some(series) = cache.look_up(hash, stream, kind, messages) {
+}
+
+/// The same of another one. One that is kept is shared. `None` if no series may have them.
+#[inline(never)]
+fn other_series(
+    alloc: Global,
+    cache: &mut IdentityCache,
+    stream: &Stream<'_>,
+    kind: KindRef<'_>,
+    attributes: PointAttributes<'_>,
+) -> Result<Option<SharedId>, AllocError>
+    ensures { IfOk result (λ o. o ≡ option_and_then
+        (λ k. series_of (stream_data stream.now) k (said_list (attributes_data attributes.entry)))
+        (kind_data kind.entry)) }
+{
+    let (run, _) = attributes.run();
+    let hash = stream.hash.with(run);
+    if let Some(series) = cache.look_up(hash, stream, &kind, attributes) {
         return Ok(Some(series));
     }
     let Some(series) = new_series(alloc, stream, kind, attributes)? else {
         return Ok(None);
     };
-    cache.keep(alloc, hash, stream, kind, messages, &series);
+    cache.keep(alloc, hash, stream, kind, attributes, &series);
     Ok(Some(series))
-}
-
-/// The hash of a stream with the messages of a point's attributes.
-fn hash_of(stream: ByteHash, messages: &[&[u8]]) -> ByteHash {
-    let mut hash = stream;
-    for message in messages {
-        hash = hash.with(message);
-    }
-    hash
 }
 
 /// The same, made anew.
 #[tactic(auto, unfolding(otlp_read::specs::Streams::series_of))]
 fn new_series(
     alloc: Global,
-    stream: Stream<'_>,
+    stream: &Stream<'_>,
     kind: KindRef<'_>,
-    attributes: PointAttributes<'_, '_>,
+    attributes: PointAttributes<'_>,
 ) -> Result<Option<SharedId>, AllocError>
     ensures { IfOk result (λ o. o ≡ option_and_then
-        (λ k. series_of (stream_data stream.entry) k (said_list (attributes_data attributes.entry)))
+        (λ k. series_of (stream_data stream.now) k (said_list (attributes_data attributes.entry)))
         (kind_data kind.entry)) }
 {
     let Some(kind) = kind.to_kind(alloc)? else {
@@ -251,11 +269,11 @@ fn new_series(
 #[tactic(auto, unfolding(otlp_read::specs::Streams::series_in))]
 fn series_in(
     alloc: Global,
-    stream: Stream<'_>,
+    stream: &Stream<'_>,
     kind: Kind,
     attributes: AttrSet,
 ) -> Result<Option<SeriesId>, AllocError>
-    ensures { IfOk result (λ o. o ≡ series_in (stream_data stream.entry) kind attributes) }
+    ensures { IfOk result (λ o. o ≡ series_in (stream_data stream.now) kind attributes) }
 {
     let resource = stream.scope.resource.set.copy(alloc)?;
     let scope_name = text(alloc, stream.scope.name)?;

@@ -1,10 +1,11 @@
 -- Runs of a point's attributes: their fields, one after the other.
-use Rattle.std.specs.Prelude.{◌≡◌, ◌≤◌, ◌<◌, ◌+◌, ◌%◌, ◌/◌, ℕ, Ok}
-use Rattle.std.specs.Prelude.{List, [], ◌∷◌, ◌++◌, length, take}
+use Rattle.std.specs.Prelude.{◌≡◌, ◌≤◌, ◌<◌, ◌+◌, ◌%◌, ◌/◌, ◌==◌, if◌then◌else◌, ℕ, Ok}
+use Rattle.std.specs.Prelude.{List, [], ◌∷◌, ◌++◌, length, map, take}
 use Rattle.otlp_protobuf.specs.declared.schema.Message.{Message}
 use Rattle.otlp_protobuf.specs.declared.schema.Message.TheVariants.{KeyValue}
 use Rattle.otlp_protobuf.specs.declared.schema.Kind.TheVariants.{Inner}
-use Rattle.otlp_protobuf.specs.Wire.{Field, bytes_value, field_at}
+use Rattle.otlp_protobuf.specs.Wire.{Field, bytes_value, field_at, fields_from, fields}
+use Rattle.otlp_protobuf.specs.Fields.{contents}
 use Rattle.otlp_protobuf.specs.Schema.{kind_of}
 use Rattle.otlp_protobuf.specs.Checks.{checked_from}
 
@@ -52,3 +53,16 @@ pub record IsKey (m : Message) (key : ℕ) : Type 0 where
 abbrev pub Passes : Message → List ℕ → ℕ → ℕ → ℕ → Type 0
 Passes m run count levels fewest = (left : ℕ) → fewest ≤ left → (rest : List ℕ)
     → checked_from (count + left) levels m (run ++ rest) ≡ checked_from left levels m rest
+
+-- ---- the attributes of a point that are known
+
+-- the other fields
+abbrev pub others : ℕ → List Field → List Field
+others n [] = []
+others n (f ∷ fs) = if f.number == n then others n fs else f ∷ others n fs
+
+-- so many fields, of the attributes that they are by themselves, whatever comes behind them
+abbrev pub SaysRun : ℕ → ℕ → List ℕ → Type 0
+SaysRun n count run = (left : ℕ) → (rest : List ℕ)
+    → fields_from (count + left) (run ++ rest)
+    ≡ map (attribute n) (contents n (fields run)) ++ fields_from left rest

@@ -1,19 +1,5 @@
-use Rattle.std.proofs.Common.{ap, sym, ◌∙◌}
-use Rattle.otlp_protobuf.specs.inner.KindViews.{attributes_data, kind_data}
-use Rattle.otlp_protobuf.specs.inner.Sets.{said_list, set_said}
-use Rattle.otlp_protobuf.specs.inner.StreamViews.{stream_data}
-use Rattle.otlp_protobuf.proofs.KeptLemmas.{series_kind, series_parts}
+use Rattle.std.proofs.Common.{sym}
 use Rattle.otlp_protobuf.proofs.streams.series_of.Goals as goal
 
-pub keep-requires-clause-kind : goal.keep-requires-clause-kind
-keep-requires-clause-kind c =
-    series_kind (stream_data c.args.stream) (kind_data c.args.kind) (said_list (attributes_data c.args.attributes)) c.in-Some-2.series (sym c.in_ok-series.ensures ∙ c.in-Some-2.is)
-
-pub keep-requires-clause-stream : goal.keep-requires-clause-stream
-keep-requires-clause-stream c =
-    (series_parts (stream_data c.args.stream) (kind_data c.args.kind) (said_list (attributes_data c.args.attributes)) c.in-Some-2.series (sym c.in_ok-series.ensures ∙ c.in-Some-2.is)).resource
-
-pub keep-requires-clause-attributes : goal.keep-requires-clause-attributes
-keep-requires-clause-attributes c =
-    ap set_said (c.args.attributes.are_found c.in-Some.messages c.in-Some.is)
-    ∙ (series_parts (stream_data c.args.stream) (kind_data c.args.kind) (said_list (attributes_data c.args.attributes)) c.in-Some-2.series (sym c.in_ok-series.ensures ∙ c.in-Some-2.is)).attributes
+pub returns-in-Some : goal.returns-in-Some
+returns-in-Some c = sym (c.requires c.in-Some.series c.in-Some.is)
