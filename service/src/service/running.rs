@@ -34,11 +34,11 @@ impl Running {
     pub async fn ended(&mut self) -> Ended {
         loop {
             tokio::select! {
-                Some((slot, end)) = self.ends.recv() => match (end, &self.joined) {
-                    (End::Lost, _) => self.lost(slot),
-                    (End::Failed(why), Some(joined)) => joined.failed(slot, &why),
-                    (End::Failed(why), None) => return why,
-                },
+                Some((slot, end)) = self.ends.recv() => {
+                    if let Some(why) = self.ended_with(slot, end) {
+                        return why;
+                    }
+                }
                 end = &mut self.intake => return cause("the intake", end.map(Ok::<(), Fault>)),
                 end = &mut self.operate => return cause("the operator's address", end.map(Ok::<(), Fault>)),
                 cause = of_joined(&mut self.joined) => return cause,
@@ -46,11 +46,15 @@ impl Running {
         }
     }
 
-    fn lost(&self, slot: u16) {
-        match &self.joined {
-            Some(joined) => joined.lost(slot),
-            None => self.at_work.lose(slot),
+    /// What ends with a slot: all, where a folder has it and it failed, and else the slot alone.
+    fn ended_with(&self, slot: u16, end: End) -> Option<Ended> {
+        match (end, &self.joined) {
+            (End::Lost, Some(joined)) => joined.lost(slot),
+            (End::Lost, None) => self.at_work.lose(slot),
+            (End::Failed(why), Some(joined)) => joined.failed(slot, &why),
+            (End::Failed(why), None) => return Some(why),
         }
+        None
     }
 
     /// Nothing more is accepted, what was taken goes into the outbox.
@@ -61,11 +65,17 @@ impl Running {
         self.stop_intake.send_replace(true);
         let _ = tokio::time::timeout(LAST_POSTS, &mut self.intake).await; // who is slower was not answered
         self.stop_operate.send_replace(true);
-        let ended = self.at_work.stop_all().await;
-        if let Ok(true) = ended {
+        let ended = self.at_work.stop_all().await?;
+        // A slot that failed before it was told to end has said so here alone.
+        while let Ok((slot, end)) = self.ends.try_recv() {
+            if let Some(why) = self.ended_with(slot, end) {
+                return Err(why);
+            }
+        }
+        if ended {
             tracing::info!("ended");
         }
-        ended.map(drop)
+        Ok(())
     }
 }
 
@@ -90,24 +100,21 @@ impl Drop for Running {
 #[cfg(test)]
 mod tests {
     use super::super::unit::tests::{no_disk, unit};
+    use super::super::unit::Unit;
     use super::*;
     use crate::operate;
+    use std::future::Future;
 
-    /// As that of a call whose deadline has passed: no connection waits for it.
-    #[tokio::test]
-    async fn a_post_without_its_sender_goes_on_until_the_keeper_has_ended() {
-        let place = tempfile::tempdir().unwrap();
-        let (done, post) = tokio::sync::oneshot::channel();
+    /// With one unit, and an intake whose last posts are under way so long.
+    fn running(
+        unit: Unit,
+        threads: Arc<Threads>,
+        intake: impl Future<Output = ()> + Send + 'static,
+    ) -> Running {
         let (at_work, ends) = AtWork::new(operate::Units::of(1));
-        at_work.start(unit(place.path(), 0, async { post.await.map_err(|_| no_disk()) }));
-        let threads = Arc::new(Threads::new(1).unwrap());
-        let of_intake = threads.clone();
-        threads.place().0.spawn(async {
-            tokio::time::sleep(Duration::from_millis(200)).await;
-            done.send(())
-        });
-        let running = Running {
-            intake: tokio::spawn(async move { drop(of_intake) }),
+        at_work.start(unit);
+        Running {
+            intake: tokio::spawn(intake),
             operate: tokio::spawn(async {}),
             stop_intake: watch::channel(false).0,
             stop_operate: watch::channel(false).0,
@@ -115,8 +122,35 @@ mod tests {
             ends,
             joined: None,
             _threads: threads,
-        };
-        let ended = running.stop().await;
+        }
+    }
+
+    /// As that of a call whose deadline has passed: no connection waits for it.
+    #[tokio::test]
+    async fn a_post_without_its_sender_goes_on_until_the_keeper_has_ended() {
+        let place = tempfile::tempdir().unwrap();
+        let (done, post) = tokio::sync::oneshot::channel();
+        let threads = Arc::new(Threads::new(1).unwrap());
+        let of_intake = threads.clone();
+        threads.place().0.spawn(async {
+            tokio::time::sleep(Duration::from_millis(200)).await;
+            done.send(())
+        });
+        let unit = unit(place.path(), 0, async { post.await.map_err(|_| no_disk()) });
+        let ended = running(unit, threads, async move { drop(of_intake) })
+            .stop()
+            .await;
         assert!(ended.is_ok(), "the post was dropped: {ended:?}");
+    }
+
+    /// While posts that are under way are waited for, or just before the signal came.
+    #[tokio::test]
+    async fn a_fault_of_a_slot_that_nobody_has_told_to_end_yet_is_told() {
+        let place = tempfile::tempdir().unwrap();
+        let unit = unit(place.path(), 0, async { Ok(()) }).with_keeper(async { Err(no_disk()) });
+        let threads = Arc::new(Threads::new(1).unwrap());
+        let last_posts = tokio::time::sleep(Duration::from_millis(100));
+        let ended = running(unit, threads, last_posts).stop().await;
+        assert!(matches!(ended, Err(Ended::Disk(_))), "{ended:?}");
     }
 }

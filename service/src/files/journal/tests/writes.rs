@@ -97,26 +97,76 @@ fn a_turn_waits_for_a_write_that_is_under_way() {
     assert_eq!(there(folder.path()), ["a", "b"]);
 }
 
-/// What is behind a hole is there for no start.
-#[test]
-fn after_a_failed_write_nobody_else_writes() {
-    let folder = tempfile::tempdir().unwrap();
-    let (fails, later) = (Arc::new(AtomicBool::new(false)), Arc::new(AtomicUsize::new(0)));
-    let (failing, counts) = (fails.clone(), later.clone());
-    let disk = Disk::failing(move |call, _| match call == Call::Write && failing.load(SeqCst) {
-        true if counts.fetch_add(1, SeqCst) == 0 => Err(std::io::Error::other("no disk")),
-        _ => Ok(()),
+/// A disk of which the first write into a segment fails once `fails` is true, how many come from there on, and what has ended
+/// the process.
+struct Failing {
+    fails: Arc<AtomicBool>,
+    writes: Arc<AtomicUsize>,
+    told: mpsc::Receiver<String>,
+}
+
+fn failing() -> (Disk, Failing) {
+    let (fails, writes) = (Arc::new(AtomicBool::new(false)), Arc::new(AtomicUsize::new(0)));
+    let (failing, counts) = (fails.clone(), writes.clone());
+    let disk = Disk::failing(move |call, path| {
+        let is_of_segment = path.extension().is_some_and(|it| it == "seg");
+        match call == Call::Write && is_of_segment && failing.load(SeqCst) {
+            true if counts.fetch_add(1, SeqCst) == 0 => Err(std::io::Error::other("no disk")),
+            _ => Ok(()),
+        }
     });
     let (tell, told) = mpsc::channel();
     let disk = disk.ending(move |fault| tell.send(fault.to_string()).unwrap());
+    let of_test = Failing { fails, writes, told };
+    (disk, of_test)
+}
+
+fn append_another(journal: &Journal) {
+    append(journal, "b");
+}
+
+/// In a journal with a post in an earlier segment, of which the last record is marked, `writes` fails: then nobody writes any
+/// more. What is behind a hole is there for no start.
+fn nobody_writes_after(writes: fn(&Journal)) {
+    let folder = tempfile::tempdir().unwrap();
+    let (disk, failing) = failing();
     let journal = Arc::new(open_on(&disk, folder.path(), Durability::Process).unwrap());
-    fails.store(true, SeqCst);
-    for text in ["a", "b"] {
-        let writes = journal.clone();
-        std::thread::spawn(move || append(&writes, text));
-        std::thread::sleep(Duration::from_millis(100));
+    append(&journal, "a");
+    journal.turn();
+    journal.shared.sync();
+    while lock(&journal.shared.place).segment.needs_mark() {
+        std::thread::sleep(Duration::from_millis(1));
     }
-    assert!(told.recv().unwrap().contains("no disk"));
-    assert_eq!(later.load(SeqCst), 1);
+    failing.fails.store(true, SeqCst);
+    let begin = |writes: fn(&Journal)| {
+        let journal = journal.clone();
+        std::thread::spawn(move || writes(&journal));
+    };
+    begin(writes);
+    while failing.writes.load(SeqCst) == 0 {
+        std::thread::sleep(Duration::from_millis(1));
+    }
+    begin(append_another);
+    std::thread::sleep(Duration::from_millis(100));
+    let told = failing.told.recv_timeout(Duration::from_secs(5));
+    assert_eq!(failing.writes.load(SeqCst), 1);
+    assert!(told.unwrap().contains("no disk"));
     std::mem::forget(journal);
+}
+
+#[test]
+fn after_a_failed_write_nobody_else_writes() {
+    nobody_writes_after(append_another);
+}
+
+/// That the first segment is in groups.
+#[test]
+fn after_a_failed_mark_nobody_writes() {
+    nobody_writes_after(|journal| drop(journal.forget(2)));
+}
+
+/// Of what is held of a quarantined sender.
+#[test]
+fn after_a_failed_note_nobody_writes() {
+    nobody_writes_after(|journal| drop(journal.hold(&[post("a").sender].into(), 1, 2)));
 }
