@@ -5,9 +5,9 @@
 
 `rt ci` proves every crate from nothing, tries the edits of must-fail/ and runs the tests and the
 programs; then the library that the service is linked with is built over what it has proved. STEPS below are
-run after both, and alone where --without-prover is given. The line before the last says what processor time these parts took;
-the last one counts the crates, edits and steps that passed and failed, and the status is 0 where none failed. The logs are in
-out/logs.
+run after both, and alone where --without-prover is given. At the end a table has the processor time of each of these, and the
+line before the last one that of the parts; the last one counts the crates, edits and steps that passed and failed, and the
+status is 0 where none failed. The logs are in out/logs.
 """
 import os
 import re
@@ -301,6 +301,7 @@ def main(words):
         steps.run()
         passed, failed = passed + len(steps.passed), len(steps.failed)
         times.append(steps.processor)
+        steps.show_processor_times()
         for step in steps.failed:
             show_faults(step)
         print("beside the prover:" if words else "the gate, the prover's part and the steps beside it:")

@@ -1,8 +1,9 @@
 """Runs steps side by side, as many as processors and memory carry, and shows how each ended.
 
-A line for each step when it ends: how long it took, and the processor time of what it ran. What went on by itself, as
-a database's server does, and was waited for by nobody is not in it. On a terminal a last line moves with what runs. Of
-a step that fails the end of its log is shown, and the command that repeats it.
+A line for each step when it ends: how long it took, and the processor time of what it ran, which is also the last line of
+its log; `show_processor_times` shows those of all steps. What went on by itself, as a database's server does, and was
+waited for by nobody is not in it. On a terminal a last line moves with what runs. Of a step that fails the end of its log
+is shown, and the command that repeats it.
 """
 from __future__ import annotations
 
@@ -11,6 +12,7 @@ import fcntl
 import os
 import queue
 import re
+import resource
 import shutil
 import signal
 import subprocess
@@ -68,9 +70,13 @@ class Step:
         self.yields = False
         self.count = ""
         self.begun = time.monotonic()
-        self.processor = 0.0  # seconds
+        self.user = self.system = 0.0  # seconds of processor time
         self.say: Callable[[str], object] = print
         self.log = f"{LOGS}/{log or name}.log"
+
+    @property
+    def processor(self) -> float:
+        return self.user + self.system
 
     def needs(self, jobs: int) -> int:
         return self.memory + JOB_MEMORY * (jobs - 1) if self.memory else 0
@@ -88,8 +94,9 @@ class Step:
                 log.write(line)
                 if read_line:
                     read_line(line)
-            status, processor = CHILDREN.end(child)
-            self.processor += processor
+            status, used = CHILDREN.end(child)
+            self.user += used.ru_utime
+            self.system += used.ru_stime
             is_late = limit and not clock.is_alive()
             clock.cancel()
         if is_late:
@@ -116,15 +123,15 @@ class Children:
             self.running.add(child)
         return child
 
-    def end(self, child: subprocess.Popen[str]) -> tuple[int, float]:
-        """The status of a process, once it has ended, and the processor time of it and of all that was waited for below it."""
+    def end(self, child: subprocess.Popen[str]) -> tuple[int, resource.struct_rusage]:
+        """The status of a process, once it has ended, and what it and all that was waited for below it have used."""
         os.waitid(os.P_PID, child.pid, os.WEXITED | os.WNOWAIT)
         with self.lock:
             # From here on its number may be another's.
             self.running.discard(child)
             _, status, used = os.wait4(child.pid, 0)
         child.returncode = os.waitstatus_to_exitcode(status)
-        return child.returncode, used.ru_utime + used.ru_stime
+        return child.returncode, used
 
     def stop(self, child: subprocess.Popen[str]) -> None:
         """Ends a process and what it has started, as far as that is in its group."""
@@ -226,7 +233,7 @@ class Steps:
         self.running: dict[Step, threading.Thread] = {}
         self.passed: set[str] = set()
         self.failed: list[Step] = []
-        self.processor = 0.0  # seconds, of those that have ended
+        self.ends: list[Step] = []
         self.ended: queue.Queue[tuple[Step, float, bool, str]] = queue.Queue()
         self.processors = len(os.sched_getaffinity(0))
         self.memory = free_memory()
@@ -311,12 +318,25 @@ class Steps:
 
     def hear(self, step: Step, seconds: float, passed: bool, note: str) -> None:
         del self.running[step]
-        self.processor += step.processor
+        self.ends.append(step)
         if passed:
             self.passed.add(step.name)
         else:
             self.failed.append(step)
         self.board.show_end(step, seconds, note, passed)
+        with open(step.log, "a", encoding="utf-8") as log:
+            log.write(f"processor time: user {step.user:.1f} s, system {step.system:.1f} s\n")
+
+    @property
+    def processor(self) -> float:
+        """Seconds, of the steps that have ended."""
+        return sum(step.processor for step in self.ends)
+
+    def show_processor_times(self) -> None:
+        """A table of the steps that have ended, the dearest first."""
+        self.board.say(f"{'processor time':<24} {'all':>7} {'user':>7} {'system':>7}  in seconds")
+        for step in sorted(self.ends, key=lambda it: -it.processor):
+            self.board.say(f"{step.name:<24} {step.processor:7.1f} {step.user:7.1f} {step.system:7.1f}")
 
 
 def chains(steps: Sequence[Step]) -> dict[str, int]:
