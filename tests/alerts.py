@@ -6,8 +6,8 @@
 Prometheus scrapes three services, and an instance over a store in PostgreSQL, whose rules are those of operate/alerts.yml with
 minutes made seconds. What each alert is for is done to a service or the store; the alert has to fire, and to clear once the cause
 is gone. Each query of operate/dashboard.json is asked too, and names metrics that are on the page. `promtool` looks at the rules,
-by tests/alerts_by_time.yml at the times at which they fire, and at the page. Without Prometheus all is left out, with status 77,
-and what is of a store without PostgreSQL.
+by tests/alerts_by_time.yml and alerts_by_day.yml at the times at which they fire, and at the page. Without Prometheus all is
+left out, with status 77, and what is of a store without PostgreSQL.
 
 Each line is one check; the last line counts those that passed and failed, and the status is 0 where none failed.
 """
@@ -354,7 +354,8 @@ def main(program: str) -> int:
     missing = [name for name in ("prometheus", "promtool") if not shutil.which(name)]
     if checks.has("alerts and dashboard", *missing):
         promtool(checks, "the rules are rules", "check", "rules", "alerts.yml")
-        promtool(checks, "they fire and clear when they should", "test", "rules", f"{TESTS}/alerts_by_time.yml")
+        promtool(checks, "they fire and clear when they should", "test", "rules",
+                 f"{TESTS}/alerts_by_time.yml", f"{TESTS}/alerts_by_day.yml")
         with tempfile.TemporaryDirectory(prefix="alerts-", dir=FOLDERS) as folder, contextlib.ExitStack() as stack:
             own_disk(stack, folder, DISK)
             run(checks, program, folder)
