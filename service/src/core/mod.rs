@@ -159,7 +159,10 @@ impl Core {
 }
 
 impl Book {
+    /// What nobody has is given back first: a book has room for all that it may come to in a round, of which it uses little, and
+    /// what it never uses takes no memory only where nobody has used it.
     fn new(books: usize, across: Across) -> Result<Book, Refused> {
+        give_back_memory();
         Ok(Book {
             desk: Desk::new(books).ok_or(Refused::NoMemory)?,
             books,

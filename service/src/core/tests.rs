@@ -369,3 +369,18 @@ fn posts_at_once_are_all_taken_once() {
     assert_eq!(sums.len(), 40);
     assert!(sums.values().all(|sum| *sum == 300 * 301 / 2), "{sums:?}");
 }
+
+/// Else the room of a book, most of which it never uses, would be memory that somebody has used before.
+#[test]
+fn what_nobody_has_is_given_back_before_a_book_gets_its_room() {
+    const BLOCK: usize = 1 << 20;
+    const BLOCKS: usize = 128;
+    // One after the other is freed: by itself the allocator gives back one of many.
+    let block = || vec![1u8; BLOCK];
+    let (freed, _kept): (Vec<_>, Vec<_>) = (0..BLOCKS).map(|_| (block(), block())).unzip();
+    let before = given_back();
+    drop(freed);
+    let _core = Core::new(1).unwrap();
+    // Other tests free and use some meanwhile.
+    assert!(given_back() > before + BLOCK * BLOCKS / 2);
+}
