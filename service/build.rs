@@ -25,10 +25,7 @@ fn compare_versions() {
     let own = std::env::var("CARGO_PKG_VERSION").expect("cargo tells the version");
     match std::fs::read_to_string("../VERSION") {
         Ok(text) if text.trim() == own => {}
-        Ok(text) => panic!(
-            "VERSION says {}, service/Cargo.toml {own}: write one into both",
-            text.trim()
-        ),
+        Ok(text) => panic!("VERSION says {}, service/Cargo.toml {own}: write one into both", text.trim()),
         Err(error) => panic!("the file VERSION can't be read: {error}"),
     }
 }
@@ -55,10 +52,7 @@ fn link_book() {
         }
         // What only checks links nothing; what links fails behind this.
         None if !library.is_file() => {
-            println!(
-                "cargo:warning=there is no {}: tools/build.py book_c builds it",
-                library.display()
-            );
+            println!("cargo:warning=there is no {}: tools/build.py book_c builds it", library.display());
         }
         None => {}
     }

@@ -56,9 +56,7 @@ struct Lines {
 pub fn start(lost: IntCounter, form: Form) -> io::Result<Arc<Log>> {
     let log = Arc::new(Log::new(lost, form));
     let writing = log.clone();
-    std::thread::Builder::new()
-        .name("log".into())
-        .spawn(move || writing.write_to(io::stderr()))?;
+    std::thread::Builder::new().name("log".into()).spawn(move || writing.write_to(io::stderr()))?;
     std::panic::set_hook(Box::new(tell_panic));
     Ok(LOG.get_or_init(|| log).clone())
 }
@@ -95,12 +93,7 @@ fn tell_panic(panic: &PanicHookInfo) {
 
 impl Log {
     fn new(lost: IntCounter, form: Form) -> Log {
-        Log {
-            state: Mutex::default(),
-            changed: Condvar::new(),
-            lost,
-            form,
-        }
+        Log { state: Mutex::default(), changed: Condvar::new(), lost, form }
     }
 
     fn state(&self) -> MutexGuard<'_, State> {
@@ -122,11 +115,7 @@ impl Log {
     }
 
     fn write_to(&self, out: impl Write) {
-        let mut output = Output {
-            out,
-            form: self.form,
-            missing: 0,
-        };
+        let mut output = Output { out, form: self.form, missing: 0 };
         loop {
             let lines = self.next();
             self.lost.inc_by(output.write(&lines));
@@ -190,8 +179,7 @@ impl<W: Write> Output<W> {
         let missing = self.missing;
         if missing > 0 {
             let note = format!("lines of the log that are missing here: {missing}");
-            self.out
-                .write_all(self.form.note(Level::WARN, &note).as_bytes())?;
+            self.out.write_all(self.form.note(Level::WARN, &note).as_bytes())?;
             self.missing = 0;
         }
         Ok(())

@@ -111,10 +111,7 @@ impl Pass {
             return;
         }
         let name = passed.name();
-        self.metrics
-            .passed_points
-            .with_label_values(&[name])
-            .inc_by(points);
+        self.metrics.passed_points.with_label_values(&[name]).inc_by(points);
         if passed != Passed::Taken && self.rate_limit.is_due() {
             let url = self.url();
             tracing::warn!(

@@ -132,11 +132,9 @@ impl<T: Send + Sync + 'static> Files<T> {
             Ok(new) => {
                 match (self.reader.shut)(&new) {
                     None => tracing::info!(option, "{option} has changed, and was read anew"),
-                    Some(reason) => tracing::warn!(
-                        option,
-                        reason,
-                        "{option} has changed, and was read anew: {reason}"
-                    ),
+                    Some(reason) => {
+                        tracing::warn!(option, reason, "{option} has changed, and was read anew: {reason}")
+                    }
                 }
                 into.set(new);
                 self.stale.set(0);
@@ -168,10 +166,7 @@ fn contents(path: &Path) -> Result<Vec<u8>, String> {
     read.map_err(|error| format!("{} can't be read: {error}", path.display()))?;
     match bytes.len() as u64 <= MOST {
         true => Ok(bytes),
-        false => Err(format!(
-            "{} is longer than 4 MiB: name another file",
-            path.display()
-        )),
+        false => Err(format!("{} is longer than 4 MiB: name another file", path.display())),
     }
 }
 
@@ -214,11 +209,7 @@ mod tests {
     fn what_changes_is_used_within_a_second_and_what_is_broken_is_not() {
         let at = tempfile::tempdir().unwrap();
         let (path, metrics) = (at.path().join("number"), Metrics::new().unwrap());
-        assert!(number(&path, &metrics)
-            .err()
-            .unwrap()
-            .to_string()
-            .starts_with("--number can't be used: "));
+        assert!(number(&path, &metrics).err().unwrap().to_string().starts_with("--number can't be used: "));
         std::fs::write(&path, "x").unwrap();
         let refused = number(&path, &metrics).err().unwrap().to_string();
         assert_eq!(refused, "--number can't be used: write a number");
@@ -259,10 +250,7 @@ mod tests {
         std::fs::write(&path, "1").unwrap();
         let mut files = Files {
             files: vec![("--number", path.clone())],
-            reader: Reader {
-                read: Box::new(|contents| Ok(contents[0].clone())),
-                shut: |_| None,
-            },
+            reader: Reader { read: Box::new(|contents| Ok(contents[0].clone())), shut: |_| None },
             judged: vec![],
             seen: vec![],
             stale: metrics.stale_files.with_label_values(&["--number"]),
@@ -293,10 +281,7 @@ mod tests {
         }
         let mut files = Files {
             files,
-            reader: Reader {
-                read: Box::new(|contents| Ok(contents.concat())),
-                shut: |_| None,
-            },
+            reader: Reader { read: Box::new(|contents| Ok(contents.concat())), shut: |_| None },
             judged: Vec::new(),
             seen: Vec::new(),
             stale: metrics.stale_files.with_label_values(&["--tls-cert"]),
@@ -312,11 +297,7 @@ mod tests {
         };
         let write = |at: &Path, name: &str| std::fs::write(at.join(name), "2").unwrap();
         assert_eq!(changed(&|at| write(at, "--client-ca")), "--client-ca");
-        let pair = changed(&|at| {
-            ["--tls-cert", "--tls-key"]
-                .iter()
-                .for_each(|name| write(at, name))
-        });
+        let pair = changed(&|at| ["--tls-cert", "--tls-key"].iter().for_each(|name| write(at, name)));
         assert_eq!(pair, "--tls-cert, --tls-key");
         let gone = changed(&|at| std::fs::remove_file(at.join("--tls-key")).unwrap());
         assert_eq!(gone, "--tls-key");

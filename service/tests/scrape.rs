@@ -38,12 +38,7 @@ fn serve(data: &Path, sink: &[&str]) -> Service {
         .stderr(Stdio::null())
         .spawn()
         .unwrap();
-    let service = Service {
-        child,
-        listen,
-        operate,
-        data: data.to_path_buf(),
-    };
+    let service = Service { child, listen, operate, data: data.to_path_buf() };
     let begun = Instant::now();
     while !matches!(asked(&service.operate, "GET", "/ready", ""), Some((200, _))) {
         assert!(begun.elapsed() < Duration::from_secs(60), "it is not ready");
@@ -139,10 +134,7 @@ fn another_sink_has_no_page() {
     let service = serve(&folder.path().join("data"), &sink);
     let (status, text) = asked(&service.operate, "GET", "/totals", "").unwrap();
     assert_eq!(status, 404);
-    assert!(
-        text.contains("only a SQLite or PostgreSQL sink") && text.contains("127.0.0.1:1"),
-        "{text}"
-    );
+    assert!(text.contains("only a SQLite or PostgreSQL sink") && text.contains("127.0.0.1:1"), "{text}");
 }
 
 /// As who watches an address asks.

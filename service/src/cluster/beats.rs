@@ -47,19 +47,8 @@ impl<T: Terms + 'static, U: Units + 'static> Beats<T, U> {
     /// In the database of this number, of which `terms` are.
     pub fn new(cluster: Arc<Cluster>, number: usize, terms: Arc<T>, units: Arc<U>) -> Beats<T, U> {
         let (follow, following) = mpsc::channel(FOLLOWING);
-        let work = Work {
-            cluster,
-            number,
-            terms,
-            units,
-            follow,
-        };
-        Beats {
-            work: Arc::new(work),
-            last: HashMap::new(),
-            following,
-            between: BEAT,
-        }
+        let work = Work { cluster, number, terms, units, follow };
+        Beats { work: Arc::new(work), last: HashMap::new(), following, between: BEAT }
     }
 
     /// Faster, where a test has no time.
@@ -200,11 +189,7 @@ impl<T: Terms, U: Units> Work<T, U> {
             Step::Release { slot, term } => self.release(slot, term).await,
             Step::Drop { slot, term } => {
                 self.cluster.counts.lost();
-                tracing::warn!(
-                    slot,
-                    term,
-                    "slot {slot}: another instance has it, behind term {term}"
-                );
+                tracing::warn!(slot, term, "slot {slot}: another instance has it, behind term {term}");
                 self.units.drop_lost(slot, term).await;
             }
         }

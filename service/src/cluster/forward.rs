@@ -167,10 +167,7 @@ impl<H: Here> Forward<H> {
 
     /// Waits until an owner's answer can't be waited for any longer: it is late, or the owner has the slot no more.
     async fn no_answer(&self, slot: u16, owner: &Whose, until: Instant) {
-        if self
-            .has_moved(slot, owner, &mut self.cluster.places(), until)
-            .await
-        {
+        if self.has_moved(slot, owner, &mut self.cluster.places(), until).await {
             sleep_until(until.min(Instant::now() + AFTER_MOVE)).await;
         }
     }
@@ -199,11 +196,7 @@ impl<H: Here> Forward<H> {
         self.counts.broken.fetch_add(1, Relaxed);
         if peer.is_silent_since(began) && TOLD.is_due() {
             let reason = why.to_string();
-            tracing::warn!(
-                address,
-                reason,
-                "the instance at {address} has not answered for 10 s: {reason}"
-            );
+            tracing::warn!(address, reason, "the instance at {address} has not answered for 10 s: {reason}");
         }
         Some(unavailable(BROKEN))
     }
@@ -231,9 +224,7 @@ impl<H: Here> Forward<H> {
         let _room = peer.room(part.body.len()).await;
         let uri = format!("{}://{address}{PATH}", self.connections.scheme());
         let request = head.put(Request::post(uri), &self.secret);
-        let request = request
-            .body(Body::from(part.body.clone()))
-            .map_err(Broken::Address)?;
+        let request = request.body(Body::from(part.body.clone())).map_err(Broken::Address)?;
         let response = self.connections.asks().request(request).await;
         owner_answer::read(response.map_err(Broken::Wire)?).await
     }
@@ -284,10 +275,7 @@ enum Broken {
 }
 
 fn unavailable(why: &str) -> Outcome {
-    Outcome::Refused {
-        status: 503,
-        message: why.into(),
-    }
+    Outcome::Refused { status: 503, message: why.into() }
 }
 
 #[cfg(test)]

@@ -86,9 +86,7 @@ impl Cluster {
 
     /// Has the slots looked at again.
     pub fn look(&self) {
-        self.databases
-            .iter()
-            .for_each(|database| database.look.notify_one());
+        self.databases.iter().for_each(|database| database.look.notify_one());
     }
 
     /// Whether no database has taken a beat for so long that posts are turned away.
@@ -108,11 +106,7 @@ impl Cluster {
             true => "another instance takes it",
             false => "no other instance is left that could, so it is tried again",
         };
-        tracing::error!(
-            slot,
-            reason,
-            "slot {slot} can't be kept open here, {then}: {reason}"
-        );
+        tracing::error!(slot, reason, "slot {slot} can't be kept open here, {then}: {reason}");
         self.publish();
     }
 
@@ -126,10 +120,7 @@ impl Cluster {
     }
 
     pub fn status(&self) -> Status {
-        let mut status = Status {
-            counted: self.counts.counted(),
-            ..Status::default()
-        };
+        let mut status = Status { counted: self.counts.counted(), ..Status::default() };
         for database in &self.databases {
             database.add_to(&mut status);
         }
@@ -146,11 +137,8 @@ impl Cluster {
     #[cfg(test)]
     pub(crate) fn knows(&self, places: &[(u16, Whose)]) {
         let later = Instant::now() + Duration::from_secs(3600);
-        self.databases
-            .iter()
-            .for_each(|database| database.has_beaten(later));
-        self.places
-            .send_replace(Arc::new(places.iter().cloned().collect()));
+        self.databases.iter().for_each(|database| database.has_beaten(later));
+        self.places.send_replace(Arc::new(places.iter().cloned().collect()));
     }
 
     /// A beat of a test's, by which nothing is done.
@@ -162,9 +150,7 @@ impl Cluster {
     /// As where it ends: it hands over what it has.
     #[cfg(test)]
     pub(crate) fn leave(&self) {
-        self.databases
-            .iter()
-            .for_each(|database| database.owners().leave());
+        self.databases.iter().for_each(|database| database.owners().leave());
     }
 
     /// Says who has which slot, where that is new. It is found under the lock of what is said, so the last word is the latest.
@@ -201,10 +187,7 @@ impl Database {
 
     /// An own beat that was sent then is committed.
     pub fn has_beaten(&self, sent: Instant) {
-        *self.own_beats() = OwnBeats {
-            beaten: Some(sent),
-            why: None,
-        };
+        *self.own_beats() = OwnBeats { beaten: Some(sent), why: None };
     }
 
     /// Its last beat that is committed was so long ago.

@@ -125,10 +125,7 @@ impl Owners {
 
     /// By slot, of all that the store has.
     pub fn whose(&self) -> BTreeMap<u16, Whose> {
-        self.rows
-            .iter()
-            .map(|row| (row.slot, self.whose_is(row)))
-            .collect()
+        self.rows.iter().map(|row| (row.slot, self.whose_is(row))).collect()
     }
 
     fn whose_is(&self, row: &Row) -> Whose {
@@ -136,11 +133,9 @@ impl Owners {
             (Some(mine), _) if mine.phase == Phase::Serving && mine.term >= row.term => {
                 Whose::Here { term: mine.term }
             }
-            (_, Some(address)) => Whose::There {
-                name: row.owner.clone(),
-                address: address.into(),
-                term: row.term,
-            },
+            (_, Some(address)) => {
+                Whose::There { name: row.owner.clone(), address: address.into(), term: row.term }
+            }
             _ => Whose::Nobody,
         }
     }
@@ -183,9 +178,8 @@ impl Owners {
     /// Where each slot belongs: found anew where an instance has come or gone, or can't open one.
     fn note_living(&mut self) {
         let others = self.others.staying();
-        let mut living: BTreeMap<String, Refused> = others
-            .map(|(name, refused)| (name.into(), refused.clone()))
-            .collect();
+        let mut living: BTreeMap<String, Refused> =
+            others.map(|(name, refused)| (name.into(), refused.clone())).collect();
         let may_another = |slot| living.values().any(|refused| !refused.contains_key(&slot));
         self.refusals.beat(may_another);
         if self.stay == Stay::Here {
@@ -197,17 +191,13 @@ impl Owners {
         let slots: Vec<u16> = self.rows.iter().map(|row| row.slot).collect();
         let names: Vec<&str> = living.keys().map(String::as_str).collect();
         let places = places(&slots, &names, |slot, name| !living[name].contains_key(&slot));
-        let kept = places
-            .into_iter()
-            .map(|(slot, place)| (slot, place.map(String::from)));
+        let kept = places.into_iter().map(|(slot, place)| (slot, place.map(String::from)));
         self.places = kept.collect();
         self.living = living;
     }
 
     fn is_place(&self, slot: u16) -> bool {
-        self.places
-            .get(&slot)
-            .is_some_and(|place| place.as_ref() == Some(&self.me))
+        self.places.get(&slot).is_some_and(|place| place.as_ref() == Some(&self.me))
     }
 
     fn drop_lost(&mut self) -> Vec<Step> {
@@ -226,15 +216,8 @@ impl Owners {
 
     fn note_places(&mut self) {
         for (slot, mine) in &mut self.mine {
-            let is_here = self
-                .places
-                .get(slot)
-                .is_some_and(|place| place.as_ref() == Some(&self.me));
-            mine.elsewhere = if is_here {
-                0
-            } else {
-                mine.elsewhere.saturating_add(1)
-            };
+            let is_here = self.places.get(slot).is_some_and(|place| place.as_ref() == Some(&self.me));
+            mine.elsewhere = if is_here { 0 } else { mine.elsewhere.saturating_add(1) };
         }
     }
 
@@ -258,16 +241,8 @@ impl Owners {
         let is_due = |mine: &Mine| mine.phase == Phase::Serving && mine.elsewhere >= patience;
         let (slot, mine) = self.mine.iter_mut().find(|(_, mine)| is_due(mine))?;
         mine.phase = Phase::Closing;
-        self.handed = Some(Handed {
-            slot: *slot,
-            term: mine.term,
-            beats: 0,
-            is_released: false,
-        });
-        Some(Step::HandOver {
-            slot: *slot,
-            term: mine.term,
-        })
+        self.handed = Some(Handed { slot: *slot, term: mine.term, beats: 0, is_released: false });
+        Some(Step::HandOver { slot: *slot, term: mine.term })
     }
 
     // ----------------------------------------------------------------------------------------------------------------
@@ -275,8 +250,7 @@ impl Owners {
 
     fn take(&mut self) -> Vec<Step> {
         let rows = std::mem::take(&mut self.rows);
-        self.left_alone
-            .retain(|slot, _| rows.iter().any(|row| row.slot == *slot && row.owner == self.me));
+        self.left_alone.retain(|slot, _| rows.iter().any(|row| row.slot == *slot && row.owner == self.me));
         let mut steps = Vec::new();
         for row in &rows {
             if !self.mine.contains_key(&row.slot) {
@@ -302,21 +276,11 @@ impl Owners {
             let is_mine = row.owner == self.me;
             return is_mine.then_some(Step::Release { slot, term: row.term });
         }
-        let begun = self
-            .mine
-            .values()
-            .filter(|mine| matches!(mine.phase, Phase::Taking | Phase::Opening));
+        let begun = self.mine.values().filter(|mine| matches!(mine.phase, Phase::Taking | Phase::Opening));
         if begun.count() >= AT_ONCE {
             return None;
         }
-        self.mine.insert(
-            slot,
-            Mine {
-                term: row.term,
-                phase: Phase::Taking,
-                elsewhere: 0,
-            },
-        );
+        self.mine.insert(slot, Mine { term: row.term, phase: Phase::Taking, elsewhere: 0 });
         Some(Step::Take { slot, seen: row.term })
     }
 
@@ -364,9 +328,7 @@ impl Owners {
             self.refusals.failed(slot, reason);
             self.left_alone.insert(slot, (term, 1));
         }
-        self.others
-            .staying()
-            .any(|(_, refused)| !refused.contains_key(&slot))
+        self.others.staying().any(|(_, refused)| !refused.contains_key(&slot))
     }
 
     /// Another has it: seen by what writes to it. False where it was no more open here under that term.

@@ -16,10 +16,7 @@ pub fn places<'a>(
     let place = |slot: &u16| {
         let may = |name: &&str| may_have(*slot, name);
         let place = shares.give(*slot).filter(may);
-        (
-            *slot,
-            place.or_else(|| highest(*slot, names.iter().copied().filter(may))),
-        )
+        (*slot, place.or_else(|| highest(*slot, names.iter().copied().filter(may))))
     };
     slots.iter().map(place).collect()
 }

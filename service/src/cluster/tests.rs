@@ -42,9 +42,7 @@ impl Ledger {
     fn ends(&self, slot: u16) -> HashMap<String, u64> {
         let posts = self.posts.lock().unwrap();
         let of_slot = posts.iter().filter(|(of, _, _)| *of == slot);
-        of_slot
-            .map(|(_, sender, number)| (sender.clone(), *number))
-            .collect()
+        of_slot.map(|(_, sender, number)| (sender.clone(), *number)).collect()
     }
 }
 
@@ -104,10 +102,7 @@ impl Units for Slots {
             let ends = self.ledger.ends(slot);
             sleep(Duration::from_millis(5)).await;
             let pending = Vec::new();
-            self.open
-                .lock()
-                .unwrap()
-                .insert(slot, Book { term, ends, pending });
+            self.open.lock().unwrap().insert(slot, Book { term, ends, pending });
             Ok(())
         })
     }
@@ -145,10 +140,7 @@ impl Here for Open {
                 sleep(Duration::from_millis(number % 7)).await;
                 slots.sync(slot, term)
             });
-            let refused = |status| Outcome::Refused {
-                status,
-                message: "said".into(),
-            };
+            let refused = |status| Outcome::Refused { status, message: "said".into() };
             Some(match (writing.await.unwrap(), is_new) {
                 (false, _) => refused(503),
                 (true, true) => Outcome::taken(0),
@@ -171,32 +163,18 @@ async fn start(ledger: &Arc<Ledger>, name: &'static str) -> Node {
     let listener = TcpListener::bind("127.0.0.1:0").await.unwrap();
     let address = listener.local_addr().unwrap().to_string();
     let (cluster, secret) = (Cluster::new(name, 1), Secret::new("of these").unwrap());
-    let slots = Arc::new(Slots {
-        cluster: cluster.clone(),
-        ledger: ledger.clone(),
-        open: Mutex::default(),
-    });
+    let slots = Arc::new(Slots { cluster: cluster.clone(), ledger: ledger.clone(), open: Mutex::default() });
     let here = Arc::new(Open(slots.clone()));
     let forward = Arc::new(Forward::new(cluster.clone(), secret.clone(), Wire::Plain));
     forward.serve(here.clone());
-    let limits = Limits {
-        connections: 200,
-        head: Duration::from_secs(5),
-        idle: Duration::from_secs(60),
-    };
+    let limits = Limits { connections: 200, head: Duration::from_secs(5), idle: Duration::from_secs(60) };
     let (serves, served) = watch::channel(false);
     let internal = Internal::new(cluster.clone(), here, secret);
     tokio::spawn(serve(listener, limits, internal, served));
     let terms = Of(ledger.store.clone(), name, address);
     let beats = Beats::new(cluster.clone(), 0, Arc::new(terms), slots).each(BEAT);
     let (stop, stopped) = watch::channel(false);
-    Node {
-        forward,
-        cluster,
-        beats: tokio::spawn(beats.run(stopped)),
-        stop,
-        _serves: serves,
-    }
+    Node { forward, cluster, beats: tokio::spawn(beats.run(stopped)), stop, _serves: serves }
 }
 
 /// Where posts may come.
@@ -212,16 +190,10 @@ async fn load(sender: usize, doors: Doors, ends: Arc<AtomicBool>, forwarded: Arc
             doors[tries % doors.len()].clone()
         };
         tries += 1;
-        let part = Original {
-            encoding: Encoding::Json,
-            body: Bytes::from(number.to_string()),
-        };
+        let part = Original { encoding: Encoding::Json, body: Bytes::from(number.to_string()) };
         // A sender may go away before it is answered.
         let patience = Duration::from_millis(if tries.is_multiple_of(20) { 3 } else { 4000 });
-        match timeout(patience, door.post(slot, &name, part))
-            .await
-            .map(|outcome| outcome.status())
-        {
+        match timeout(patience, door.post(slot, &name, part)).await.map(|outcome| outcome.status()) {
             Ok(200 | 400) => number += 1,
             Ok(503) | Err(_) => sleep(Duration::from_millis(20)).await,
             Ok(other) => panic!("status {other}"),
@@ -233,10 +205,7 @@ async fn load(sender: usize, doors: Doors, ends: Arc<AtomicBool>, forwarded: Arc
 
 #[tokio::test(flavor = "multi_thread", worker_threads = 2)]
 async fn what_was_answered_is_there_once_while_instances_come_stop_and_stand_still() {
-    let ledger = Arc::new(Ledger {
-        store: Store::new(),
-        posts: Mutex::default(),
-    });
+    let ledger = Arc::new(Ledger { store: Store::new(), posts: Mutex::default() });
     let (doors, ends, tries) = (Doors::default(), Arc::new(AtomicBool::new(false)), Arc::default());
     let mut nodes = BTreeMap::new();
     for name in ["a", "b", "c"] {
@@ -263,10 +232,7 @@ async fn what_was_answered_is_there_once_while_instances_come_stop_and_stand_sti
         doors.lock().unwrap().push(node.forward.clone());
         pause().await;
         node.stop.send_replace(true);
-        timeout(Duration::from_secs(60), node.beats)
-            .await
-            .unwrap()
-            .unwrap();
+        timeout(Duration::from_secs(60), node.beats).await.unwrap().unwrap();
         doors.lock().unwrap().pop();
         pause().await;
     }
@@ -279,21 +245,11 @@ async fn what_was_answered_is_there_once_while_instances_come_stop_and_stand_sti
     for (sender, answered) in answered.into_iter().enumerate() {
         let of_sender = posts.iter().filter(|(_, name, _)| *name == format!("s{sender}"));
         let numbers: Vec<u64> = of_sender.map(|(_, _, number)| *number).collect();
-        assert!(
-            numbers.len() as u64 >= answered && answered > 10,
-            "{answered} answered, {}",
-            numbers.len()
-        );
-        assert!(
-            numbers.iter().copied().eq(1..=numbers.len() as u64),
-            "{numbers:?}"
-        );
+        assert!(numbers.len() as u64 >= answered && answered > 10, "{answered} answered, {}", numbers.len());
+        assert!(numbers.iter().copied().eq(1..=numbers.len() as u64), "{numbers:?}");
     }
     let forwarded: u64 = nodes.values().map(|node| node.forward.forwarded().answered).sum();
     let status = nodes["a"].cluster.status();
-    println!(
-        "{} posts, {tries:?} tries, {forwarded} forwarded, {status:?}",
-        posts.len()
-    );
+    println!("{} posts, {tries:?} tries, {forwarded} forwarded, {status:?}", posts.len());
     assert!(forwarded > 0 && status.counted.takeovers > 0);
 }

@@ -12,12 +12,7 @@ use std::path::{Path, PathBuf};
 #[derive(Args, Clone, Debug)]
 pub struct Address {
     /// The running service's folder: in it is the socket that takes orders
-    #[arg(
-        long,
-        env = "TOTXEGUN_DATA",
-        value_name = "DIR",
-        default_value = "/var/lib/totxegun"
-    )]
+    #[arg(long, env = "TOTXEGUN_DATA", value_name = "DIR", default_value = "/var/lib/totxegun")]
     data: PathBuf,
     /// Where to ask in its place: unix:PATH, or HOST:PORT, which takes orders with --token alone. Of the variable TOTXEGUN_OPERATE, as the service has it, only a socket counts
     #[arg(long, value_name = "ADDRESS", value_parser = operator)]
@@ -34,10 +29,7 @@ impl Address {
             return given.clone();
         }
         let of_service = std::env::var("TOTXEGUN_OPERATE").unwrap_or_default();
-        format!(
-            "{SOCKET}{}",
-            orders_at(of_service.split(','), &self.data).display()
-        )
+        format!("{SOCKET}{}", orders_at(of_service.split(','), &self.data).display())
     }
 
     pub fn token(&self) -> Result<Option<String>> {
@@ -95,14 +87,8 @@ pub fn flush(at: &Address, path: &str) -> Result<Vec<u8>> {
     let read: serde_json::Value = serde_json::from_slice(&body).unwrap_or_default();
     let requests = read["requests"].as_u64();
     Ok(match requests.with_context(|| client::another(&at.place()))? {
-        0 => line(format_args!(
-            "done: there was nothing to put into the outbox{}",
-            waits(at)
-        )),
-        requests => line(format_args!(
-            "done: {} went into the outbox",
-            counted(requests, "request")
-        )),
+        0 => line(format_args!("done: there was nothing to put into the outbox{}", waits(at))),
+        requests => line(format_args!("done: {} went into the outbox", counted(requests, "request"))),
     })
 }
 
@@ -110,10 +96,9 @@ pub fn flush(at: &Address, path: &str) -> Result<Vec<u8>> {
 fn waits(at: &Address) -> String {
     match client::status(at).map_or(0, |status| status.waiting()) {
         0 => String::new(),
-        waiting => format!(
-            ", where {} for the sink: `totxegun status` shows how it goes on",
-            waiting_shown(waiting)
-        ),
+        waiting => {
+            format!(", where {} for the sink: `totxegun status` shows how it goes on", waiting_shown(waiting))
+        }
     }
 }
 

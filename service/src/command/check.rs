@@ -142,11 +142,7 @@ fn lock(data: &Path) -> anyhow::Result<File> {
             data.join("version").display()
         );
     }
-    let path = if is_none("lock") {
-        data.to_path_buf()
-    } else {
-        data.join("lock")
-    };
+    let path = if is_none("lock") { data.to_path_buf() } else { data.join("lock") };
     let file = File::open(&path).with_context(|| format!("{} can't be read", path.display()))?;
     // A process that is just being started has the file open for a moment, though who started it has ended.
     let is_free = |try_number: u32| {
@@ -154,10 +150,7 @@ fn lock(data: &Path) -> anyhow::Result<File> {
         flock(file.as_raw_fd(), FlockArg::LockSharedNonblock).is_ok()
     };
     if !(0..TRIES).any(is_free) {
-        bail!(
-            "{} is in use by a running service: `totxegun status` shows how it is",
-            data.display()
-        );
+        bail!("{} is in use by a running service: `totxegun status` shows how it is", data.display());
     }
     Ok(file)
 }
@@ -204,9 +197,7 @@ fn found(copy: &Path) -> Result<CheckReport, Failure> {
         let held = journal.held();
         found.held_posts += held.posts;
         found.held_bytes += held.bytes;
-        found
-            .dropped
-            .extend(journal.dropped().iter().map(Dropped::to_string));
+        found.dropped.extend(journal.dropped().iter().map(Dropped::to_string));
         found.add(number, &outbox)?;
         count_posts(&journal, &outbox, &mut found, &mut senders)?;
     }
@@ -229,11 +220,9 @@ impl CheckReport {
         self.series += series.len();
         self.series_without_owner += series.values().filter(|series| series.owner.is_none()).count();
         self.quarantined.extend(outbox.quarantined());
-        self.dropped
-            .extend(outbox.dropped().iter().map(Dropped::to_string));
+        self.dropped.extend(outbox.dropped().iter().map(Dropped::to_string));
         let changed = outbox.find_changed()?.into_iter();
-        self.faults
-            .extend(changed.map(|fault| format!("slot {number}: {fault}")));
+        self.faults.extend(changed.map(|fault| format!("slot {number}: {fault}")));
         Ok(())
     }
 }
@@ -261,21 +250,14 @@ fn segments(folder: &Path) -> u64 {
 
 /// A fault names the file in the folder that was asked for, not in the copy.
 fn in_the_original(failure: Failure, copy: &Path, data: &Path) -> Failure {
-    let original = |path: PathBuf| {
-        path.strip_prefix(copy)
-            .map(|rest| data.join(rest))
-            .unwrap_or(path)
-    };
+    let original = |path: PathBuf| path.strip_prefix(copy).map(|rest| data.join(rest)).unwrap_or(path);
     match failure {
-        Failure::Disk(Fault::Io { path, source }) => Failure::Disk(Fault::Io {
-            path: original(path),
-            source,
-        }),
-        Failure::Disk(Fault::Damaged { path, at, what }) => Failure::Disk(Fault::Damaged {
-            path: original(path),
-            at,
-            what,
-        }),
+        Failure::Disk(Fault::Io { path, source }) => {
+            Failure::Disk(Fault::Io { path: original(path), source })
+        }
+        Failure::Disk(Fault::Damaged { path, at, what }) => {
+            Failure::Disk(Fault::Damaged { path: original(path), at, what })
+        }
         other => other,
     }
 }
@@ -295,14 +277,7 @@ fn text(found: &CheckReport, data: &Path) -> String {
     }
     row("slots", found.slots.to_string());
     row("sink", found.sink.clone().unwrap_or_else(|| "none yet".into()));
-    row(
-        "journal",
-        format!(
-            "{}, {}",
-            counted(found.segments, "segment"),
-            bytes(found.journal_bytes)
-        ),
-    );
+    row("journal", format!("{}, {}", counted(found.segments, "segment"), bytes(found.journal_bytes)));
     row(
         "posts not flushed",
         format!(
@@ -312,41 +287,22 @@ fn text(found: &CheckReport, data: &Path) -> String {
             bytes(found.post_bytes)
         ),
     );
-    row(
-        "requests for the sink",
-        format!("{}, {}", found.waiting, bytes(found.outbox_bytes)),
-    );
+    row("requests for the sink", format!("{}, {}", found.waiting, bytes(found.outbox_bytes)));
     row(
         "series",
-        format!(
-            "{}; the sender of {} is in the journal alone",
-            found.series, found.series_without_owner
-        ),
+        format!("{}; the sender of {} is in the journal alone", found.series, found.series_without_owner),
     );
     row("quarantined", values::senders_shown(&found.quarantined));
-    row(
-        "held back",
-        format!(
-            "{}, {}",
-            counted(found.held_posts, "post"),
-            bytes(found.held_bytes)
-        ),
-    );
+    row("held back", format!("{}, {}", counted(found.held_posts, "post"), bytes(found.held_bytes)));
     row("refused for good", counted(found.dead, "request"));
     if found.new_epoch {
-        row(
-            "keys",
-            "new ones from a start on: this folder was copied, or its lock is gone".into(),
-        );
+        row("keys", "new ones from a start on: this folder was copied, or its lock is gone".into());
     }
     for dropped in &found.dropped {
         row("left out", dropped.clone());
     }
     for fault in &found.faults {
-        row(
-            "fault",
-            format!("{fault}. A start goes on, but delivers no request of this slot from there on"),
-        );
+        row("fault", format!("{fault}. A start goes on, but delivers no request of this slot from there on"));
     }
     if found.faults.is_empty() {
         row("faults", "none".into());

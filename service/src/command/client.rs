@@ -92,9 +92,7 @@ async fn within<T>(patience: Duration, place: &str, asking: impl Future<Output =
         return Some(answered);
     }
     if soon < patience {
-        crate::complain(format_args!(
-            "{place} has not answered yet: its log says what it waits for"
-        ));
+        crate::complain(format_args!("{place} has not answered yet: its log says what it waits for"));
     }
     timeout(patience - soon, asking).await.ok()
 }
@@ -233,18 +231,12 @@ mod tests {
     fn an_answer_is_read_whole_or_not() {
         let busy = b"HTTP/1.1 503 Service Unavailable\r\nContent-Length: 2\r\n\r\n{}";
         let reply = get(&writes(busy), ANSWER).unwrap();
-        assert_eq!(
-            (reply.status, reply.is_json, &reply.body[..]),
-            (503, false, &b"{}"[..])
-        );
+        assert_eq!((reply.status, reply.is_json, &reply.body[..]), (503, false, &b"{}"[..]));
         let done = b"HTTP/1.1 200 OK\r\ncontent-type: application/json\r\ncontent-length: 0\r\n\r\n";
         assert!(get(&writes(done), ANSWER).unwrap().is_json);
         for (bytes, why) in [
             (&b""[..], "without an answer"),
-            (
-                b"HTTP/1.1 200 OK\r\ncontent-length: 2\r\n\r\n{",
-                "did not answer whole",
-            ),
+            (b"HTTP/1.1 200 OK\r\ncontent-length: 2\r\n\r\n{", "did not answer whole"),
             (b"SSH-2.0-OpenSSH\r\n", "no operators' address"),
         ] {
             let said = format!("{:#}", get(&writes(bytes), ANSWER).unwrap_err());
@@ -261,10 +253,7 @@ mod tests {
             format!("{:#}", tried.unwrap_err())
         };
         let order = said(Method::POST);
-        assert!(
-            order.contains("did not answer in 1 seconds. It goes on with the order"),
-            "{order}"
-        );
+        assert!(order.contains("did not answer in 1 seconds. It goes on with the order"), "{order}");
         let question = said(Method::GET);
         assert!(question.contains("in 1 seconds: ask again"), "{question}");
     }
@@ -289,10 +278,7 @@ mod tests {
         });
         let begun = Instant::now();
         let said = format!("{:#}", get(&place, Duration::from_secs(1)).unwrap_err());
-        assert!(
-            begun.elapsed() < Duration::from_secs(4),
-            "it was waited for: {said}"
-        );
+        assert!(begun.elapsed() < Duration::from_secs(4), "it was waited for: {said}");
     }
 
     fn at(place: &str) -> Address {
@@ -312,10 +298,7 @@ mod tests {
             b"HTTP/1.1 404 Not Found\r\nContent-Type: text/html\r\nContent-Length: 6\r\n\r\n<html>",
         ] {
             let place = writes(bytes);
-            let said = format!(
-                "{:#}",
-                ask(&at(&place), Method::POST, "/quarantine/A").unwrap_err()
-            );
+            let said = format!("{:#}", ask(&at(&place), Method::POST, "/quarantine/A").unwrap_err());
             assert_eq!(said, another(&place));
         }
     }
@@ -324,16 +307,10 @@ mod tests {
     fn who_does_not_answer_is_named_with_what_to_do() {
         for (place, why) in [
             ("127.0.0.1:1", "no service answers at 127.0.0.1:1: start it"),
-            (
-                "unix:/nowhere/operate",
-                "there is no unix:/nowhere/operate: start the service",
-            ),
+            ("unix:/nowhere/operate", "there is no unix:/nowhere/operate: start the service"),
         ] {
             let said = format!("{:#}", ask(&at(place), Method::GET, "/status").unwrap_err());
-            assert!(
-                said.contains(why) && said.contains("--data") && said.contains("--operate"),
-                "{said}"
-            );
+            assert!(said.contains(why) && said.contains("--data") && said.contains("--operate"), "{said}");
         }
         let closed = unreachable("unix:/d/operate", io::ErrorKind::PermissionDenied.into());
         assert!(format!("{closed:#}").contains("run this as root"), "{closed:#}");

@@ -69,9 +69,7 @@ fn read(file: &Path) -> std::io::Result<Vec<u8>> {
     let mut body = Vec::new();
     match file.to_str() {
         Some("-") => std::io::stdin().lock().take(MOST_READ).read_to_end(&mut body)?,
-        _ => std::fs::File::open(file)?
-            .take(MOST_READ)
-            .read_to_end(&mut body)?,
+        _ => std::fs::File::open(file)?.take(MOST_READ).read_to_end(&mut body)?,
     };
     Ok(body)
 }
@@ -81,18 +79,10 @@ fn found(body: Vec<u8>, reading: &Reading, clock: &Clock) -> anyhow::Result<Expl
     let (packed, body) = unpacked(not_too_long(body)?)?;
     let body = not_too_long(body)?;
     let bytes = body.len();
-    let encoding = if framed {
-        Encoding::Protobuf
-    } else {
-        Encoding::of(&body)
-    };
+    let encoding = if framed { Encoding::Protobuf } else { Encoding::of(&body) };
     let sender = otlp::sender(otlp::NO_NAME.into(), encoding, &body, reading).map_err(refused)?;
     // A header may name it: any name does here.
-    let name = if sender == otlp::NO_NAME {
-        "SENDER"
-    } else {
-        &sender
-    };
+    let name = if sender == otlp::NO_NAME { "SENDER" } else { &sender };
     let (body, named) = otlp::with_instance(name, encoding, body.into(), reading).map_err(refused)?;
     let prepared = otlp::prepare(encoding, body, reading).map_err(refused)?;
     let points = otlp::explained(&prepared.body, reading.profile(), clock.window())
@@ -130,12 +120,7 @@ fn not_too_long(body: Vec<u8>) -> anyhow::Result<Vec<u8>> {
 
 /// A message of gRPC begins with whether it is packed, and its length; neither JSON nor protobuf begins so.
 fn unframed(body: Vec<u8>) -> (bool, Vec<u8>) {
-    let length = |bytes: &[u8]| {
-        bytes
-            .try_into()
-            .map(u32::from_be_bytes)
-            .map(|length| length as usize)
-    };
+    let length = |bytes: &[u8]| bytes.try_into().map(u32::from_be_bytes).map(|length| length as usize);
     match body.get(1..5).map(length) {
         Some(Ok(length)) if body[0] < 2 && body.len() == 5 + length => (true, body[5..].to_vec()),
         _ => (false, body),
@@ -164,16 +149,11 @@ fn text(found: &Explanation) -> String {
         found.foreign
     );
     if found.sender != otlp::NO_NAME {
-        text.push_str(&format!(
-            "of the sender {}, where no header names another\n",
-            found.sender
-        ));
+        text.push_str(&format!("of the sender {}, where no header names another\n", found.sender));
     }
     if found.named > 0 {
         let resources = counted(found.named as u64, "resource");
-        text.push_str(&format!(
-            "{resources} without a service.instance.id: the sender's name is given\n"
-        ));
+        text.push_str(&format!("{resources} without a service.instance.id: the sender's name is given\n"));
     }
     for (rule, rounded) in &found.rounded {
         text.push_str(&format!(
@@ -186,11 +166,7 @@ fn text(found: &Explanation) -> String {
     }
     let mut table = Table::new(&["", "kind", "metric", "attributes", "why"]);
     for point in &found.points {
-        let said = if point.foreign.is_some() {
-            "foreign"
-        } else {
-            "taken"
-        };
+        let said = if point.foreign.is_some() { "foreign" } else { "taken" };
         let why = point.foreign.as_deref().unwrap_or("");
         table.row(&[said, point.kind, &point.metric, &point.attributes, why]);
     }
@@ -209,10 +185,7 @@ mod tests {
     fn each_point_is_told_of() {
         let found = found(BODY.into(), &Reading::default(), &Clock::default()).unwrap();
         let text = text(&found);
-        assert!(
-            text.starts_with("JSON, ") && text.contains("1 point taken, 1 foreign"),
-            "{text}"
-        );
+        assert!(text.starts_with("JSON, ") && text.contains("1 point taken, 1 foreign"), "{text}");
         let lines: Vec<&str> = text.lines().collect();
         assert!(lines[2].starts_with("taken    sum    a       route=/"), "{text}");
         assert!(lines[3].contains("gauges are not added up"), "{text}");
@@ -220,54 +193,32 @@ mod tests {
 
     #[test]
     fn a_point_that_is_off_by_its_clock_is_told_of() {
-        let ahead = BODY.replace(
-            "timeUnixNano\":\"2\"",
-            &format!("timeUnixNano\":\"{}\"", u64::MAX),
-        );
-        let clock = Clock {
-            most_ahead: Some(Duration::from_secs(600)),
-            most_behind: None,
-        };
+        let ahead = BODY.replace("timeUnixNano\":\"2\"", &format!("timeUnixNano\":\"{}\"", u64::MAX));
+        let clock = Clock { most_ahead: Some(Duration::from_secs(600)), most_behind: None };
         let told = text(&found(ahead.into(), &Reading::default(), &clock).unwrap());
-        assert!(
-            told.contains("0 points taken, 2 foreign") && told.contains("d ahead"),
-            "{told}"
-        );
+        assert!(told.contains("0 points taken, 2 foreign") && told.contains("d ahead"), "{told}");
         let old = text(&found(BODY.into(), &Reading::default(), &clock).unwrap());
         assert!(old.contains("1 point taken"), "{old}");
     }
 
     #[test]
     fn a_sender_is_found() {
-        let reading = Reading {
-            sender_from: Some("id".to_string()),
-            ..Reading::default()
-        };
+        let reading = Reading { sender_from: Some("id".to_string()), ..Reading::default() };
         let body =
             r#"{"resourceMetrics":[{"resource":{"attributes":[{"key":"id","value":{"stringValue":"a"}}]}}]}"#;
         let named = text(&found(body.into(), &reading, &Clock::default()).unwrap());
         assert!(named.contains("of the sender a,"), "{named}");
-        let error = found(
-            body.replace(r#""a""#, r#""""#).into(),
-            &reading,
-            &Clock::default(),
-        )
-        .unwrap_err()
-        .to_string();
+        let error = found(body.replace(r#""a""#, r#""""#).into(), &reading, &Clock::default())
+            .unwrap_err()
+            .to_string();
         assert!(error.contains("refused with 400: no sender"), "{error}");
     }
 
     #[test]
     fn a_resource_that_gets_the_senders_name_is_told_of() {
-        let reading = Reading {
-            instance_from_sender: true,
-            ..Reading::default()
-        };
+        let reading = Reading { instance_from_sender: true, ..Reading::default() };
         let told = text(&found(BODY.into(), &reading, &Clock::default()).unwrap());
-        assert!(
-            told.contains("1 resource without a service.instance.id: "),
-            "{told}"
-        );
+        assert!(told.contains("1 resource without a service.instance.id: "), "{told}");
     }
 
     #[test]
@@ -282,36 +233,20 @@ mod tests {
         let plain = found(body.clone(), &Reading::default(), &Clock::default()).unwrap();
         assert_eq!((plain.encoding, plain.taken), ("protobuf", 0));
         let message = [&[0, 0, 0, 0, body.len() as u8][..], &body].concat();
-        assert_eq!(
-            found(message, &Reading::default(), &Clock::default())
-                .unwrap()
-                .bytes,
-            body.len()
-        );
-        assert_eq!(
-            found(Vec::new(), &Reading::default(), &Clock::default())
-                .unwrap()
-                .encoding,
-            "protobuf"
-        );
+        assert_eq!(found(message, &Reading::default(), &Clock::default()).unwrap().bytes, body.len());
+        assert_eq!(found(Vec::new(), &Reading::default(), &Clock::default()).unwrap().encoding, "protobuf");
         let mut long = b"\x1f\x8b".to_vec();
         long.resize(MOST as usize + 1, 0);
-        let error = found(long, &Reading::default(), &Clock::default())
-            .unwrap_err()
-            .to_string();
+        let error = found(long, &Reading::default(), &Clock::default()).unwrap_err().to_string();
         assert_eq!(
             error, "refused with 413: body too long: over 4194304 bytes, packed or unpacked: post fewer points at a time",
             "also where it is packed"
         );
-        for (body, why) in [
-            ("{", "refused with 400: not JSON"),
-            ("\x1f\u{8b}", "400"),
-            ("x", "400: not protobuf"),
-        ] {
-            let error = format!(
-                "{:#}",
-                found(body.into(), &Reading::default(), &Clock::default()).unwrap_err()
-            );
+        for (body, why) in
+            [("{", "refused with 400: not JSON"), ("\x1f\u{8b}", "400"), ("x", "400: not protobuf")]
+        {
+            let error =
+                format!("{:#}", found(body.into(), &Reading::default(), &Clock::default()).unwrap_err());
             assert!(error.contains(why), "{error}");
         }
     }

@@ -61,9 +61,7 @@ impl Command {
                 let body = client::ask(&at, Method::GET, &format!("/dead/{}", checked(&key)?))?;
                 Ok(with_end(body))
             }
-            Command::Resend {
-                key: Some(key), at, ..
-            } => resend(&key, &at),
+            Command::Resend { key: Some(key), at, .. } => resend(&key, &at),
             Command::Resend { key: None, at, .. } => resend_all(&at),
             Command::Drop { key, at } => {
                 client::ask(&at, Method::POST, &format!("/dead/{}/drop", checked(&key)?))?;
@@ -82,9 +80,7 @@ fn list(at: &Address, form: Form) -> Result<Vec<u8>> {
     if letters.is_empty() {
         return Ok(line(NONE));
     }
-    let now = std::time::SystemTime::now()
-        .duration_since(std::time::UNIX_EPOCH)?
-        .as_secs();
+    let now = std::time::SystemTime::now().duration_since(std::time::UNIX_EPOCH)?.as_secs();
     let mut table = Table::new(&["key", "age", "size", "reason"]);
     for letter in letters {
         let age = values::seconds_shown(now.saturating_sub(letter.since));
@@ -149,11 +145,7 @@ fn resend(key: &str, at: &Address) -> Result<Vec<u8>> {
 
 /// A key goes into a path.
 fn checked(key: &str) -> Result<&str> {
-    if key.is_empty()
-        || !key
-            .bytes()
-            .all(|byte| byte.is_ascii_alphanumeric() || b"._-".contains(&byte))
-    {
+    if key.is_empty() || !key.bytes().all(|byte| byte.is_ascii_alphanumeric() || b"._-".contains(&byte)) {
         bail!("{key:?} is no key: `totxegun dead list` shows them");
     }
     Ok(key)

@@ -155,9 +155,9 @@ pub fn run() -> ExitCode {
 /// A sink's or a store's address, and headers, may have a password: what is wrong with them is said without them.
 fn without_secrets(mut error: clap::Error) -> clap::Error {
     let is_secret = match error.get(ContextKind::InvalidArg) {
-        Some(ContextValue::String(option)) => ["--sink", "--store", "<ADDRESS>"]
-            .iter()
-            .any(|name| option.starts_with(name)),
+        Some(ContextValue::String(option)) => {
+            ["--sink", "--store", "<ADDRESS>"].iter().any(|name| option.starts_with(name))
+        }
         _ => false,
     };
     if is_secret {
@@ -254,11 +254,7 @@ mod tests {
             ("explain", "json", None),
             ("explain", "whole", Some("Options of reading")),
         ] {
-            assert_eq!(
-                heading(command, option).as_deref(),
-                wanted,
-                "{command} --{option}"
-            );
+            assert_eq!(heading(command, option).as_deref(), wanted, "{command} --{option}");
         }
     }
 
@@ -289,14 +285,8 @@ mod tests {
             ("store init", "<ADDRESS>"),
             ("serve --data d --store postgres://u@h/d --instance a", "--peer"),
             ("serve --data d --instance a", "--store"),
-            (
-                "serve --data d --store postgres://u@h/d --instance a --peer h:1 --peer-cert c",
-                "--peer-key",
-            ),
-            (
-                "serve --data d --store postgres://u@h/d --peer h:1 --instance a/b",
-                "--instance",
-            ),
+            ("serve --data d --store postgres://u@h/d --instance a --peer h:1 --peer-cert c", "--peer-key"),
+            ("serve --data d --store postgres://u@h/d --peer h:1 --instance a/b", "--instance"),
             ("store init mysql://h/d", "a store is postgres://"),
             ("store init postgres://u@h/d --slots 0", "--slots"),
             ("serve --data d --listen nowhere", "--listen"),
@@ -318,10 +308,7 @@ mod tests {
             ("close 2026-11 --flush --anyway", "--anyway"),
             ("open november", "no period"),
             ("correct 7 2026-11-05T13 1.5 x", "'1.5'"),
-            (
-                "correct 7 2026-11-05T13 -2.5 x",
-                "write a whole number, in the unit",
-            ),
+            ("correct 7 2026-11-05T13 -2.5 x", "write a whole number, in the unit"),
             ("correct 7 2026-11-05T13 -1", "<REASON>"),
             ("repair a --to yesterday", "--to"),
             ("repair a", "--to"),
@@ -339,27 +326,18 @@ mod tests {
         ] {
             let error =
                 Line::try_parse_from([&["totxegun"], &words.split(' ').collect::<Vec<_>>()[..]].concat());
-            let text = error
-                .err()
-                .unwrap_or_else(|| panic!("{words} was taken"))
-                .to_string();
+            let text = error.err().unwrap_or_else(|| panic!("{words} was taken")).to_string();
             assert!(text.contains(part), "{words}: {text}");
         }
     }
 
     #[test]
     fn what_is_wrong_with_an_address_is_said_without_its_password() {
-        for words in [
-            "store init postgres://u:secret@h",
-            "serve --data d --sink postgres://u:secret@h",
-        ] {
+        for words in ["store init postgres://u:secret@h", "serve --data d --sink postgres://u:secret@h"] {
             let line = [&["totxegun"], &words.split(' ').collect::<Vec<_>>()[..]].concat();
             let error = Line::try_parse_from(line).err().map(without_secrets);
             let text = error.map_or_else(|| panic!("{words} was taken"), |error| error.to_string());
-            assert!(
-                text.contains("no database") && !text.contains("secret"),
-                "{words}: {text}"
-            );
+            assert!(text.contains("no database") && !text.contains("secret"), "{words}: {text}");
         }
     }
 }

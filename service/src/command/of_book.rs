@@ -20,9 +20,7 @@ pub struct OfBook {
 
 impl OfBook {
     pub fn memory(&self) -> u64 {
-        let most = self
-            .book_memory
-            .unwrap_or_else(|| (machine_memory() / 2).max(LEAST_MEMORY));
+        let most = self.book_memory.unwrap_or_else(|| (machine_memory() / 2).max(LEAST_MEMORY));
         tracing::info!("the book has {} of memory at most", bytes_shown(most));
         most
     }

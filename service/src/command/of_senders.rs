@@ -48,22 +48,15 @@ impl OfSenders {
 
     /// What each may have that has no line of its own.
     pub fn of_each(&self) -> Share {
-        Share {
-            series: self.sender_series,
-            points: self.sender_points,
-        }
+        Share { series: self.sender_series, points: self.sender_points }
     }
 
     /// Reads the files.
     pub fn door(self, metrics: &Arc<Metrics>) -> anyhow::Result<Door> {
         let (client_ca, tokens) = (self.client_ca, self.tokens);
         let both = self.tls_cert.zip(self.tls_key);
-        let tls = both.map(|(certificate, key)| Files {
-            named: Named::OF_SENDERS,
-            certificate,
-            key,
-            client_ca,
-        });
+        let tls =
+            both.map(|(certificate, key)| Files { named: Named::OF_SENDERS, certificate, key, client_ca });
         Door::open(&Options { tls, tokens }, metrics)
     }
 }

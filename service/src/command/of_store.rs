@@ -110,11 +110,7 @@ impl OfStore {
             }
         };
         Ok(Some(Files {
-            named: Named {
-                certificate: of_pair[0],
-                key: of_pair[1],
-                roots: "--peer-ca",
-            },
+            named: Named { certificate: of_pair[0], key: of_pair[1], roots: "--peer-ca" },
             certificate: pair.0,
             key: pair.1,
             client_ca: Some(ca),
@@ -174,10 +170,7 @@ mod tests {
         let refused = |words: &str| settings(words).err().unwrap();
         assert!(refused("--peer-plain").contains("give --store"));
         assert!(refused(&format!("{STORE} --peer-plain --peer-ca c")).contains("--peer-ca"));
-        assert!(
-            refused(&format!("{STORE} --peer-plain")).contains("SQLite"),
-            "that passes"
-        );
+        assert!(refused(&format!("{STORE} --peer-plain")).contains("SQLite"), "that passes");
         assert!(settings("").unwrap().is_none());
     }
 }

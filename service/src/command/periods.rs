@@ -82,9 +82,7 @@ impl Correct {
             reason: self.reason.trim().into(),
         };
         correction.check().map_err(|why| anyhow!(why))?;
-        let Correction {
-            series, hour, value, ..
-        } = &correction;
+        let Correction { series, hour, value, .. } = &correction;
         let set = percent_encoding::NON_ALPHANUMERIC;
         let reason = percent_encoding::utf8_percent_encode(&correction.reason, set);
         let path = format!("/correct/{series}/{}/{value}?reason={reason}", written(hour));

@@ -42,12 +42,7 @@ fn visible(command: &Command) -> Command {
     let shown = command.get_subcommands().filter(|it| !it.is_hide_set());
     let mut copy = Command::new(command.get_name().to_string())
         .about(command.get_about().cloned().unwrap_or_default())
-        .visible_aliases(
-            command
-                .get_visible_aliases()
-                .map(str::to_string)
-                .collect::<Vec<_>>(),
-        )
+        .visible_aliases(command.get_visible_aliases().map(str::to_string).collect::<Vec<_>>())
         .args(command.get_arguments().filter(|it| !it.is_hide_set()).cloned());
     for below in shown {
         copy = copy.subcommand(visible(below));
@@ -100,23 +95,13 @@ impl Word {
         let has_value = arg.get_action().takes_values();
         let values = arg.get_possible_values();
         let defaults = arg.get_default_values().iter();
-        let default = defaults
-            .map(|it| it.to_string_lossy().into_owned())
-            .collect::<Vec<_>>();
+        let default = defaults.map(|it| it.to_string_lossy().into_owned()).collect::<Vec<_>>();
         Word {
             long: arg.get_long().map(str::to_string),
             value: has_value
-                .then(|| {
-                    arg.get_value_names()
-                        .and_then(|names| names.first())
-                        .map(ToString::to_string)
-                })
+                .then(|| arg.get_value_names().and_then(|names| names.first()).map(ToString::to_string))
                 .flatten(),
-            one_of: values
-                .iter()
-                .filter(|_| has_value)
-                .map(|it| it.get_name().to_string())
-                .collect(),
+            one_of: values.iter().filter(|_| has_value).map(|it| it.get_name().to_string()).collect(),
             default: (!default.is_empty() && has_value).then(|| default.join(",")),
             variable: arg.get_env().map(|it| it.to_string_lossy().into_owned()),
             heading: arg.get_help_heading().map(str::to_string),

@@ -33,45 +33,25 @@ pub(super) struct OfReading {
     #[arg(long, env = "TOTXEGUN_MOST_BEHIND", value_name = "TIME", default_value = "off", value_parser = time_or_off)]
     most_behind: MayBeOff,
     /// Takes cumulative sums and histograms, as SDKs send them by default: deltas are made of them
-    #[arg(
-        long,
-        env = "TOTXEGUN_CUMULATIVE",
-        value_name = "WHETHER",
-        default_value = "on",
-        value_enum
-    )]
+    #[arg(long, env = "TOTXEGUN_CUMULATIVE", value_name = "WHETHER", default_value = "on", value_enum)]
     cumulative: Cumulative,
     /// Gives a resource that has no service.instance.id its sender's name as one, so that two processes that don't name themselves have series of their own
     #[arg(long, env = "TOTXEGUN_INSTANCE_FROM_SENDER")]
     instance_from_sender: bool,
     /// Takes exponential histograms in buckets of these bounds, in their own unit: 1,2,4,8. Points with values in a bucket that has a bound within are not taken
-    #[arg(
-        long,
-        env = "TOTXEGUN_EXPONENTIAL",
-        value_name = "BOUNDS",
-        allow_hyphen_values = true
-    )]
+    #[arg(long, env = "TOTXEGUN_EXPONENTIAL", value_name = "BOUNDS", allow_hyphen_values = true)]
     exponential: Option<Bounds>,
 }
 
 impl OfReading {
     pub fn clock(&self) -> Clock {
-        Clock {
-            most_ahead: self.most_ahead.0,
-            most_behind: self.most_behind.0,
-        }
+        Clock { most_ahead: self.most_ahead.0, most_behind: self.most_behind.0 }
     }
 
     /// What the meaning of posts hangs on.
     pub fn likeness(&self, across: Across) -> String {
         let sender_from = self.sender_from.as_deref();
-        let likeness = likeness(
-            &self.whole,
-            &self.drop_attributes,
-            sender_from,
-            self.cumulative,
-            across,
-        );
+        let likeness = likeness(&self.whole, &self.drop_attributes, sender_from, self.cumulative, across);
         let (instance, exponential) = (self.instance_from_sender, &self.exponential);
         format!("{likeness} instance-from-sender={instance} exponential={exponential:?}")
     }
@@ -90,9 +70,6 @@ impl OfReading {
             exponential: self.exponential,
         };
         let profile = reading.profile();
-        Ok(Reading {
-            finer_units: reading.finer_units.with_profile(profile),
-            ..reading
-        })
+        Ok(Reading { finer_units: reading.finer_units.with_profile(profile), ..reading })
     }
 }

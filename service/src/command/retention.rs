@@ -58,25 +58,11 @@ mod tests {
     fn spans_go_after_35_days_and_the_rest_stays() {
         let days = |days| Some(Duration::from_secs(days * DAY));
         let found = keep("sqlite:a", &[]).unwrap();
-        let wanted = Retention {
-            spans: days(35),
-            ..Retention::default()
-        };
+        let wanted = Retention { spans: days(35), ..Retention::default() };
         assert_eq!(found, wanted);
-        let options = [
-            "--keep-spans",
-            "forever",
-            "--keep-hours",
-            "730d",
-            "--keep-series",
-            "48h",
-        ];
+        let options = ["--keep-spans", "forever", "--keep-hours", "730d", "--keep-series", "48h"];
         let found = keep("postgres://u@h/d", &options).unwrap();
-        let wanted = Retention {
-            spans: None,
-            hours: days(730),
-            series: days(2),
-        };
+        let wanted = Retention { spans: None, hours: days(730), series: days(2) };
         assert_eq!(found, wanted);
     }
 

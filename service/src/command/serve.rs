@@ -82,22 +82,10 @@ pub struct Options {
     #[arg(long, env = "TOTXEGUN_FLUSH_EVERY", value_name = "TIME", default_value = "10s", value_parser = time)]
     flush_every: Duration,
     /// What a point that is delivered never covers two of, in UTC, but where a point that was posted does itself
-    #[arg(
-        long,
-        env = "TOTXEGUN_NEVER_ACROSS",
-        value_name = "WHAT",
-        default_value = "hour",
-        value_enum
-    )]
+    #[arg(long, env = "TOTXEGUN_NEVER_ACROSS", value_name = "WHAT", default_value = "hour", value_enum)]
     never_across: Across,
     /// What a post survives once it is answered: `disk` a loss of power, `process` the end of the process
-    #[arg(
-        long,
-        env = "TOTXEGUN_DURABLE",
-        value_name = "WHAT",
-        default_value = "disk",
-        value_enum
-    )]
+    #[arg(long, env = "TOTXEGUN_DURABLE", value_name = "WHAT", default_value = "disk", value_enum)]
     durable: Durability,
     /// How long a series is kept that nobody posts to where there are too many, or `never` to forget none
     #[arg(long, env = "TOTXEGUN_FORGET_SERIES", value_name = "TIME", default_value = "7d", value_parser = time_or_never)]
@@ -106,13 +94,7 @@ pub struct Options {
     #[arg(long, env = "TOTXEGUN_LOG_FOREIGN", value_name = "N", default_value_t = 0, value_parser = value_parser!(u32).range(..=1000))]
     log_foreign: u32,
     /// What is meant to be left out, and so is counted by itself and not alerted on
-    #[arg(
-        long,
-        env = "TOTXEGUN_EXPECT_FOREIGN",
-        value_name = "CAUSE",
-        value_delimiter = ',',
-        value_enum
-    )]
+    #[arg(long, env = "TOTXEGUN_EXPECT_FOREIGN", value_name = "CAUSE", value_delimiter = ',', value_enum)]
     expect_foreign: Vec<Cause>,
     /// Hands points that are outside the profile to another OTLP receiver, http://HOST:PORT, at most once: so they are no fault
     #[arg(long, env = "TOTXEGUN_PASS", value_name = "ADDRESS")]
@@ -166,12 +148,7 @@ impl OfSink {
         match sink {
             Address::Otlp { url, .. } => {
                 let (protobuf, gzip, headers) = (self.sink_protobuf, self.sink_gzip, self.sink_headers);
-                Ok(Address::Otlp {
-                    url,
-                    protobuf,
-                    gzip,
-                    headers,
-                })
+                Ok(Address::Otlp { url, protobuf, gzip, headers })
             }
             Address::Sqlite(_) | Address::Postgres(_)
                 if self.sink_protobuf || self.sink_gzip || !self.sink_headers.is_empty() =>
@@ -204,10 +181,7 @@ fn look_at_names() -> Result<(), Failure> {
     let set = std::env::vars_os().map(|(name, _)| name.to_string_lossy().into_owned());
     let names = Names::of(&super::Line::command(), set);
     for name in names.gone {
-        tracing::warn!(
-            name,
-            "{name} is set, and is no setting any more: it changes nothing"
-        );
+        tracing::warn!(name, "{name} is set, and is no setting any more: it changes nothing");
     }
     match names.unknown {
         Some(unknown) => Err(Failure::Line(anyhow!(unknown))),
@@ -217,9 +191,7 @@ fn look_at_names() -> Result<(), Failure> {
 
 /// What gets into the log. Libraries warn of single frames and headers that a sender may send at any rate.
 fn told() -> Targets {
-    Targets::new()
-        .with_target("totxegun", LevelFilter::INFO)
-        .with_default(LevelFilter::ERROR)
+    Targets::new().with_target("totxegun", LevelFilter::INFO).with_default(LevelFilter::ERROR)
 }
 
 impl Options {
@@ -228,9 +200,7 @@ impl Options {
         let metrics = Arc::new(Metrics::new().context("metrics")?);
         let log = log::start(metrics.log_lines_lost.clone(), log::Form::new(self.log_json))
             .context("no thread could be started for the log")?;
-        tracing_subscriber::registry()
-            .with(log::Events(log).with_filter(told()))
-            .init();
+        tracing_subscriber::registry().with(log::Events(log).with_filter(told())).init();
         let most_files = raise_open_files();
         tracing::info!("{Versions}");
         look_at_names()?;
@@ -291,9 +261,7 @@ impl Options {
         }
         let mut operate = operate(&self.operate, &data).map_err(Failure::Line)?;
         let tokens = self.operate_tokens;
-        operate.tokens = tokens
-            .map(|path| identity::operators(path, &metrics))
-            .transpose()?;
+        operate.tokens = tokens.map(|path| identity::operators(path, &metrics)).transpose()?;
         let (behind_proxy, of_each) = (self.of_senders.behind_proxy, self.of_senders.of_each());
         let pass = self.pass.map(|address| Pass::to(&address, metrics.clone()));
         let pass = pass.transpose().map_err(|bad| Failure::Line(bad.into()))?;

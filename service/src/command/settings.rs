@@ -51,17 +51,11 @@ impl Names {
 /// The settings of all commands: one file may be for several.
 fn known(line: &Command) -> BTreeSet<String> {
     let options = line.get_subcommands().flat_map(Command::get_arguments);
-    options
-        .filter_map(|option| option.get_env())
-        .map(|name| name.to_string_lossy().into_owned())
-        .collect()
+    options.filter_map(|option| option.get_env()).map(|name| name.to_string_lossy().into_owned()).collect()
 }
 
 fn said(name: &str, known: &BTreeSet<String>) -> String {
-    let nearest = known
-        .iter()
-        .min_by_key(|it| strsim::levenshtein(it, name))
-        .map_or("", String::as_str);
+    let nearest = known.iter().min_by_key(|it| strsim::levenshtein(it, name)).map_or("", String::as_str);
     format!("{name} is set, and is no setting: take it out, or write {nearest} if that is meant")
 }
 
@@ -84,16 +78,9 @@ mod tests {
 
     #[test]
     fn what_is_gone_or_of_somebody_else_is_no_fault() {
-        let found = names(&[
-            "TOTXEGUN_SLOTS",
-            "TOTXEGUN_SERVICE_HOST",
-            "TOTXEGUN_PORT_4318_TCP",
-            "TOTXEGUN_BOOK",
-        ]);
-        let wanted = Names {
-            gone: vec!["TOTXEGUN_SLOTS".into()],
-            unknown: None,
-        };
+        let found =
+            names(&["TOTXEGUN_SLOTS", "TOTXEGUN_SERVICE_HOST", "TOTXEGUN_PORT_4318_TCP", "TOTXEGUN_BOOK"]);
+        let wanted = Names { gone: vec!["TOTXEGUN_SLOTS".into()], unknown: None };
         assert_eq!(found, wanted);
     }
 }

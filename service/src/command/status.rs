@@ -131,9 +131,7 @@ fn rounding(of: &RoundedStatus) -> String {
 /// The series that were rounded by most, of each rule, where there are some.
 fn rounded_series(rounded: &[RoundedStatus]) -> String {
     let mut table = Table::new(&["rounded by at most", "values", "metric", "attributes", "resource"]);
-    let all = rounded
-        .iter()
-        .flat_map(|of| of.greatest.iter().map(move |one| (of, one)));
+    let all = rounded.iter().flat_map(|of| of.greatest.iter().map(move |one| (of, one)));
     for (of, series) in all.clone() {
         table.row(&[
             &units(of, series.together),
@@ -234,10 +232,7 @@ mod tests {
             assert!(text.starts_with(wanted), "{text}");
         };
         let mut told = status(&[]);
-        begins(
-            &told,
-            "totxegun 0        ready, up 2 s, process 1\nsenders post to",
-        );
+        begins(&told, "totxegun 0        ready, up 2 s, process 1\nsenders post to");
         told.ready = false;
         told.unavailable = Some(NO_ROOM.into());
         begins(
@@ -261,21 +256,14 @@ mod tests {
         let line = |quarantined: &[&str]| text(&status(quarantined)).lines().last().map(str::to_string);
         let slot = "0     0       0 B      0 requests  0 B     ";
         assert_eq!(line(&[]).unwrap(), format!("{slot}none"));
-        assert_eq!(
-            line(&["-"]).unwrap(),
-            format!("{slot}1 sender: - (who names none)")
-        );
+        assert_eq!(line(&["-"]).unwrap(), format!("{slot}1 sender: - (who names none)"));
     }
 
     #[test]
     fn what_is_kept_back_and_what_is_stuck_is_shown() {
         let mut told = status(&["A"]);
         let (senders, posts, bytes) = (1, 3, 2048);
-        told.slots[0].held = Held {
-            senders,
-            posts,
-            bytes,
-        };
+        told.slots[0].held = Held { senders, posts, bytes };
         told.slots[0].stuck = Some("1.seg, byte 9: was changed".into());
         let text = text(&told);
         let kept = "kept back         3 posts of 1 quarantined sender, 2.0 KiB";
@@ -302,13 +290,7 @@ mod tests {
     }
 
     fn rounded(rule: &str, greatest: Vec<RoundedSeriesStatus>) -> RoundedStatus {
-        RoundedStatus {
-            rule: rule.into(),
-            values: 12,
-            together: 3.00001,
-            series: 2,
-            greatest,
-        }
+        RoundedStatus { rule: rule.into(), values: 12, together: 3.00001, series: 2, greatest }
     }
 
     #[test]
@@ -320,14 +302,8 @@ mod tests {
             values: 6,
             together,
         };
-        let one = rounded(
-            "s=1000000:us",
-            vec![series("wait", "", 2.5), series("wait", "route=/", 0.50001)],
-        );
-        assert_eq!(
-            rounding(&one),
-            "12 values of 2 series by s=1000000:us, together by at most 3.001 us"
-        );
+        let one = rounded("s=1000000:us", vec![series("wait", "", 2.5), series("wait", "route=/", 0.50001)]);
+        assert_eq!(rounding(&one), "12 values of 2 series by s=1000000:us, together by at most 3.001 us");
         let shown = rounded_series(&[one, rounded("=1:", vec![series("", "", 0.25)])]);
         assert_eq!(
             shown,

@@ -89,16 +89,12 @@ impl Move {
                 let counts = from.as_ref().map_or(store, |from| from.display().to_string());
                 Ok(line(format!("given up: {counts} counts, as before")))
             }
-            (Some(from), None) => Ok(said(
-                from_folder(from, &self.databases, copies)?,
-                &from.display().to_string(),
-                &store,
-            )),
-            (_, Some(to)) => Ok(said(
-                to_folder(to, &self.databases, copies)?,
-                &store,
-                &to.display().to_string(),
-            )),
+            (Some(from), None) => {
+                Ok(said(from_folder(from, &self.databases, copies)?, &from.display().to_string(), &store))
+            }
+            (_, Some(to)) => {
+                Ok(said(to_folder(to, &self.databases, copies)?, &store, &to.display().to_string()))
+            }
             (None, None) => bail!("give --from DIR or --to DIR"),
         }
     }
@@ -124,10 +120,7 @@ impl Check {
         let databases = shown(&self.databases);
         Ok(line(match standing.refusal() {
             None if standing.id.is_empty() => format!("the store in {databases} counts"),
-            None => format!(
-                "the store in {databases} counts: it has all of the folder {}",
-                standing.folder
-            ),
+            None => format!("the store in {databases} counts: it has all of the folder {}", standing.folder),
             Some(why) => format!("no service starts on the store in {databases}: {why}"),
         }))
     }

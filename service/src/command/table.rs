@@ -20,8 +20,7 @@ impl Table {
     }
 
     pub fn row<T: AsRef<str>>(&mut self, texts: &[T]) {
-        self.rows
-            .push(texts.iter().map(|text| all_shown(text.as_ref())).collect());
+        self.rows.push(texts.iter().map(|text| all_shown(text.as_ref())).collect());
     }
 }
 
@@ -29,20 +28,13 @@ impl fmt::Display for Table {
     fn fmt(&self, to: &mut fmt::Formatter<'_>) -> fmt::Result {
         let columns = self.rows.iter().map(Vec::len).max().unwrap_or(0);
         let width = |column: usize| {
-            self.rows
-                .iter()
-                .filter_map(|row| row.get(column))
-                .map(|text| text.chars().count())
-                .max()
+            self.rows.iter().filter_map(|row| row.get(column)).map(|text| text.chars().count()).max()
         };
         let widths = (0..columns).map(|column| width(column).unwrap_or(0).min(WIDEST));
         let widths: Vec<usize> = widths.collect();
         for row in &self.rows {
-            let cells: Vec<String> = row
-                .iter()
-                .zip(&widths)
-                .map(|(text, width)| format!("{text:width$}"))
-                .collect();
+            let cells: Vec<String> =
+                row.iter().zip(&widths).map(|(text, width)| format!("{text:width$}")).collect();
             writeln!(to, "{}", cells.join("  ").trim_end())?;
         }
         Ok(())

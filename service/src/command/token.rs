@@ -32,10 +32,7 @@ pub fn run(options: &Options) -> Result<Vec<u8>> {
     drawn.context("no token can be drawn: /dev/urandom can't be read")?;
     let token = base64::encode_config(bytes, base64::URL_SAFE_NO_PAD);
     let owner = &options.owner;
-    writeln!(
-        io::stderr(),
-        "the token of {owner}, which nothing shows again:\n{token}"
-    )
-    .context("the token can't be shown: standard error can't be written")?;
+    writeln!(io::stderr(), "the token of {owner}, which nothing shows again:\n{token}")
+        .context("the token can't be shown: standard error can't be written")?;
     Ok(line(identity::line(owner, &token)))
 }

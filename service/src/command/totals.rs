@@ -12,18 +12,8 @@ use rusqlite::{Connection, OpenFlags, Row};
 use serde_json::json;
 use std::path::{Path, PathBuf};
 
-const COLUMNS: [&str; 10] = [
-    "name",
-    "attributes",
-    "kind",
-    "unit",
-    "points",
-    "total",
-    "count",
-    "since",
-    "until",
-    "resource",
-];
+const COLUMNS: [&str; 10] =
+    ["name", "attributes", "kind", "unit", "points", "total", "count", "since", "until", "resource"];
 
 const IN_POSTGRES: &str =
     "only a SQLite sink has totals here; of a PostgreSQL sink ask psql: select * from totxegun.totals";
@@ -73,10 +63,7 @@ impl Options {
         }
         match status.sink.strip_prefix("sqlite ") {
             Some(path) => Ok(path.into()),
-            None => bail!(
-                "the service delivers to {}, which has no totals here: ask it",
-                status.sink
-            ),
+            None => bail!("the service delivers to {}, which has no totals here: ask it", status.sink),
         }
     }
 }
@@ -85,10 +72,8 @@ impl Options {
 fn rows(path: &Path) -> Result<Vec<Vec<Value>>> {
     std::fs::File::open(path)?; // it says in fewer words than SQLite why that can't be
     let file = Connection::open_with_flags(path, OpenFlags::SQLITE_OPEN_READ_ONLY)?;
-    let mut query = file.prepare(&format!(
-        "select {} from totals order by name, attributes, resource",
-        COLUMNS.join(", ")
-    ))?;
+    let mut query = file
+        .prepare(&format!("select {} from totals order by name, attributes, resource", COLUMNS.join(", ")))?;
     let read = |row: &Row| (0..COLUMNS.len()).map(|column| row.get(column)).collect();
     let rows: rusqlite::Result<Vec<Vec<Value>>> = query.query_map([], read)?.collect();
     Ok(rows?)
@@ -112,11 +97,7 @@ fn in_json(row: &[Value]) -> serde_json::Value {
         Value::Text(text) => json!(text),
         other => json!(shown(other)),
     };
-    COLUMNS
-        .iter()
-        .zip(row)
-        .map(|(name, found)| (name.to_string(), value(found)))
-        .collect()
+    COLUMNS.iter().zip(row).map(|(name, found)| (name.to_string(), value(found))).collect()
 }
 
 #[cfg(test)]
@@ -129,19 +110,11 @@ mod tests {
         let path = folder.path().join("sink.db");
         let file = Connection::open(&path).unwrap();
         let columns = COLUMNS.map(|name| format!("{name} text")).join(", ");
-        file.execute_batch(&format!("create table totals ({columns})"))
-            .unwrap();
-        file.execute(
-            "insert into totals (name, total) values ('b', '9'), ('a', null)",
-            [],
-        )
-        .unwrap();
+        file.execute_batch(&format!("create table totals ({columns})")).unwrap();
+        file.execute("insert into totals (name, total) values ('b', '9'), ('a', null)", []).unwrap();
         let rows = rows(&path).unwrap();
         assert_eq!(rows.len(), 2);
-        assert_eq!(
-            [shown(&rows[0][0]), shown(&rows[0][5]), shown(&rows[1][5])],
-            ["a", "-", "9"]
-        );
+        assert_eq!([shown(&rows[0][0]), shown(&rows[0][5]), shown(&rows[1][5])], ["a", "-", "9"]);
         assert_eq!(in_json(&rows[1])["total"], "9");
     }
 

@@ -3,13 +3,7 @@
 use std::path::{Path, PathBuf};
 use std::time::Duration;
 
-const TIMES: [(&str, u64); 5] = [
-    ("ms", 1),
-    ("s", 1000),
-    ("m", 60_000),
-    ("h", 3_600_000),
-    ("d", 86_400_000),
-];
+const TIMES: [(&str, u64); 5] = [("ms", 1), ("s", 1000), ("m", 60_000), ("h", 3_600_000), ("d", 86_400_000)];
 const SIZES: [(&str, u64); 8] = [
     ("", 1),
     ("B", 1),
@@ -57,9 +51,7 @@ fn time_or(word: &str, text: &str) -> Result<Option<Duration>, String> {
     if text == word {
         return Ok(None);
     }
-    time(text)
-        .map(Some)
-        .map_err(|error| format!("{error}, or {word}"))
+    time(text).map(Some).map_err(|error| format!("{error}, or {word}"))
 }
 
 /// `256MiB`, `1G`, `1048576`: bytes.
@@ -98,9 +90,7 @@ pub fn orders_at<'a>(mut operate: impl Iterator<Item = &'a str>, data: &Path) ->
 }
 
 fn scaled(text: &str, units: &[(&str, u64)]) -> Option<u64> {
-    let digits = text
-        .find(|letter: char| !letter.is_ascii_digit())
-        .unwrap_or(text.len());
+    let digits = text.find(|letter: char| !letter.is_ascii_digit()).unwrap_or(text.len());
     let (number, unit) = text.split_at(digits);
     let (_, scale) = units.iter().find(|(name, _)| name.eq_ignore_ascii_case(unit))?;
     number.parse::<u64>().ok()?.checked_mul(*scale)
@@ -158,22 +148,11 @@ mod tests {
     fn times_are_read() {
         assert_eq!(time("10s"), Ok(Duration::from_secs(10)));
         assert_eq!(time("250ms"), Ok(Duration::from_millis(250)));
-        assert_eq!(
-            time_or_never("7d"),
-            Ok(MayBeNever(Some(Duration::from_secs(7 * 86_400))))
-        );
+        assert_eq!(time_or_never("7d"), Ok(MayBeNever(Some(Duration::from_secs(7 * 86_400)))));
         assert_eq!(time_or_never("never"), Ok(MayBeNever(None)));
-        for text in [
-            "",
-            "10",
-            "s",
-            "0s",
-            "-1s",
-            "1.5s",
-            "1 s",
-            "99999999999999999999s",
-            "18446744073709551615d",
-        ] {
+        for text in
+            ["", "10", "s", "0s", "-1s", "1.5s", "1 s", "99999999999999999999s", "18446744073709551615d"]
+        {
             assert!(time(text).is_err(), "{text}");
         }
     }

@@ -16,10 +16,7 @@ pub struct Flushed {
 
 impl Flushed {
     pub(super) fn of(flushes: Flushes, count: usize) -> Flushed {
-        Flushed {
-            earlier: Vec::new(),
-            parts: vec![(flushes, count)],
-        }
+        Flushed { earlier: Vec::new(), parts: vec![(flushes, count)] }
     }
 
     /// How many requests there are to be written.

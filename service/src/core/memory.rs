@@ -108,8 +108,7 @@ fn fits(bytes: i64, most: &AtomicI64) -> bool {
 pub(super) fn take(bytes: usize) -> bool {
     let bytes = i64::try_from(bytes).unwrap_or(i64::MAX);
     // A thread that ends has none of its own any more.
-    OWN.try_with(|own| own.take(bytes))
-        .unwrap_or_else(|_| fits(bytes, &MOST))
+    OWN.try_with(|own| own.take(bytes)).unwrap_or_else(|_| fits(bytes, &MOST))
 }
 
 pub(super) fn give(bytes: usize) {
@@ -172,10 +171,7 @@ pub(super) fn reserve(series: usize) {
 
 /// How many bytes it has, and may have.
 pub fn used() -> (u64, u64) {
-    (
-        USED.load(Relaxed).max(0).unsigned_abs(),
-        MOST.load(Relaxed).unsigned_abs(),
-    )
+    (USED.load(Relaxed).max(0).unsigned_abs(), MOST.load(Relaxed).unsigned_abs())
 }
 
 /// From now on this thread gets so many more blocks, and then one is refused.
@@ -207,9 +203,6 @@ impl Tried {
 
     pub(super) fn not() -> Tried {
         note_refusal();
-        Tried {
-            ok: false,
-            at: (&raw const NO_BLOCK).cast_mut(),
-        }
+        Tried { ok: false, at: (&raw const NO_BLOCK).cast_mut() }
     }
 }

@@ -99,11 +99,7 @@ impl Core {
     /// The same, of other stretches of time.
     pub fn apart(series: usize, across: Across) -> Result<Arc<Core>, Refused> {
         let books = series.div_ceil(SERIES_OF_A_BOOK).max(1);
-        Ok(Arc::new(Core {
-            books,
-            across,
-            book: Mutex::new(Book::new(books, across)?),
-        }))
+        Ok(Arc::new(Core { books, across, book: Mutex::new(Book::new(books, across)?) }))
     }
 
     /// How many books of the library it has.
@@ -255,10 +251,7 @@ impl Book {
 
     /// Takes all that may be forwarded, or nothing. Until it is settled no round can be closed.
     pub fn take_all(&mut self) -> Result<Flushed, Refused> {
-        let mut taken = Flushed {
-            earlier: Vec::new(),
-            parts: Vec::new(),
-        };
+        let mut taken = Flushed { earlier: Vec::new(), parts: Vec::new() };
         loop {
             match self.take(MOST_TAKEN) {
                 Ok(part) => taken.parts.push(part),

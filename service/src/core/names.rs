@@ -59,10 +59,7 @@ impl Named {
 
     fn words_of(&self, number: usize) -> Option<usize> {
         let words = || self.texts.get(number).and_then(|text| words_of(&text));
-        let found = *self
-            .words
-            .get(number)?
-            .get_or_init(|| words().unwrap_or(0) as u32);
+        let found = *self.words.get(number)?.get_or_init(|| words().unwrap_or(0) as u32);
         (found > 0).then_some(found as usize)
     }
 }
@@ -201,9 +198,7 @@ impl files::Names for Names {
     }
 
     fn text(&self, number: u64) -> Bytes {
-        let text = usize::try_from(number)
-            .ok()
-            .and_then(|number| self.named().texts.get(number));
+        let text = usize::try_from(number).ok().and_then(|number| self.named().texts.get(number));
         text.unwrap_or_default().into()
     }
 }

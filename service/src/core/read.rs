@@ -40,11 +40,7 @@ impl Read {
             Body::Text(text) => Some(text.clone()),
             Body::Points(_) => None,
         };
-        let post = Post {
-            sender,
-            foreign: left_out,
-            body,
-        };
+        let post = Post { sender, foreign: left_out, body };
         Read {
             reader: None,
             text,
@@ -122,8 +118,7 @@ impl Read {
     /// The first stretch in which a point of it ends, and the last.
     pub(super) fn first_and_last(&self) -> Option<(u64, u64)> {
         let across = self.across;
-        self.ends
-            .map(|(first, last)| (across.stretch(first), across.stretch(last)))
+        self.ends.map(|(first, last)| (across.stretch(first), across.stretch(last)))
     }
 
     /// Whether its points are of several stretches: then it goes into the book by number.

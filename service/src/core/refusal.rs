@@ -59,10 +59,7 @@ const BY_NUMBER: [Option<Refused>; 16] = [
     Some(Refused::Quarantined),
     Some(Refused::Full),
     Some(Refused::OtherWriter { point: 0 }),
-    Some(Refused::OutOfOrder {
-        point: 0,
-        frontier: 0,
-    }),
+    Some(Refused::OutOfOrder { point: 0, frontier: 0 }),
     Some(Refused::TooManySeries),
     Some(Refused::TooLarge),
     Some(Refused::NoMemory),
@@ -116,15 +113,8 @@ mod tests {
     #[test]
     fn each_number_has_its_text_and_status() {
         let said = |status| {
-            let answer = Answer {
-                status,
-                number: 7,
-                at: 2,
-                frontier: 50,
-            };
-            check(answer)
-                .map(|it| it.number)
-                .map_err(|it| (it.status(), it.to_string()))
+            let answer = Answer { status, number: 7, at: 2, frontier: 50 };
+            check(answer).map(|it| it.number).map_err(|it| (it.status(), it.to_string()))
         };
         assert_eq!(said(0), Ok(7));
         let wanted = [

@@ -70,8 +70,7 @@ impl Rounds {
             self.begin();
         }
         let book = self.being_closed()?;
-        self.are_past(book as u64, PART * self.books as u64)
-            .then_some(book)
+        self.are_past(book as u64, PART * self.books as u64).then_some(book)
     }
 
     /// The one that comes next, however few posts came since the one before it.
@@ -155,14 +154,7 @@ mod tests {
     fn where_none_can_be_closed_it_is_tried_again_soon() {
         let mut rounds = Rounds::new(2);
         let tries = behind(&mut rounds, 3_500, false);
-        let wanted = [
-            (2_000, 0),
-            (2_500, 1),
-            (2_501, 0),
-            (2_626, 1),
-            (3_001, 0),
-            (3_126, 1),
-        ];
+        let wanted = [(2_000, 0), (2_500, 1), (2_501, 0), (2_626, 1), (3_001, 0), (3_126, 1)];
         assert_eq!(tries, wanted);
         assert_eq!(rounds.closed(), 0);
     }

@@ -67,11 +67,7 @@ mod tests {
             let ends = |part: &Points| part.each().map(|point| (point[0], point[2])).collect::<Vec<_>>();
             parts.iter().map(ends).collect::<Vec<_>>()
         };
-        let wanted = [
-            vec![(8, 1), (9, HOUR)],
-            vec![(7, 2 * HOUR), (8, HOUR + 1)],
-            vec![(7, 2 * HOUR + 1)],
-        ];
+        let wanted = [vec![(8, 1), (9, HOUR)], vec![(7, 2 * HOUR), (8, HOUR + 1)], vec![(7, 2 * HOUR + 1)]];
         assert_eq!(of(Across::Hour), wanted);
         assert_eq!(of(Across::Day).len(), 1);
     }

@@ -19,10 +19,7 @@ pub(crate) fn points(names: &[String], start: u64, value: i64) -> String {
         )
     };
     let metrics: Vec<String> = names.iter().map(metric).collect();
-    format!(
-        "{{\"resourceMetrics\":[{{\"scopeMetrics\":[{{\"metrics\":[{}]}}]}}]}}",
-        metrics.join(",")
-    )
+    format!("{{\"resourceMetrics\":[{{\"scopeMetrics\":[{{\"metrics\":[{}]}}]}}]}}", metrics.join(","))
 }
 
 fn names(prefix: &str, count: usize) -> Vec<String> {
@@ -41,9 +38,7 @@ fn taken(core: &Arc<Core>) -> BTreeMap<String, (i64, u64)> {
     let mut all = BTreeMap::new();
     for number in 0..flushed.count() {
         for point in forwarded(&flushed.text(number).unwrap()).unwrap() {
-            let Value::Sum(value) = point.value else {
-                panic!("{point:?}")
-            };
+            let Value::Sum(value) = point.value else { panic!("{point:?}") };
             let name = point.series.parts().unwrap().name;
             assert!(all.insert(name, (value, point.end)).is_none(), "it came twice");
         }
@@ -61,10 +56,7 @@ fn what_is_taken_is_forwarded_once_and_refusals_have_their_places() {
         let ab = names("s", 30);
         assert_eq!(post(&core, "A", &points(&ab, 10, 5)), Ok(0));
         assert_eq!(post(&core, "A", &points(&ab, 20, 6)), Ok(0));
-        let late = Err(Refused::OutOfOrder {
-            point: 0,
-            frontier: 30,
-        });
+        let late = Err(Refused::OutOfOrder { point: 0, frontier: 30 });
         assert_eq!(post(&core, "A", &points(&ab, 20, 6)), late);
         let other = Err(Refused::OtherWriter { point: 2 });
         let mixed = [&names("n", 2)[..], &names("s", 2)[..]].concat();
@@ -101,10 +93,7 @@ fn a_quarantine_is_in_all_books_or_in_none() {
     assert_eq!(core.lock().lift("A"), Ok(()));
     assert_eq!(post(&core, "A", &more), Ok(0));
     let all = taken(&core);
-    assert!(
-        all.len() == 20 && all.values().all(|one| *one == (2, 30)),
-        "{all:?}"
-    );
+    assert!(all.len() == 20 && all.values().all(|one| *one == (2, 30)), "{all:?}");
 }
 
 #[test]
@@ -115,10 +104,7 @@ fn too_many_series_are_refused_and_nothing_is_kept_of_them() {
         assert_eq!(post(&core, "A", &points(part, 10, 1)), Ok(0));
     }
     let one_more = [&all[..1], &names("t", 1)[..]].concat();
-    assert_eq!(
-        post(&core, "A", &points(&one_more, 20, 1)),
-        Err(Refused::TooManySeries)
-    );
+    assert_eq!(post(&core, "A", &points(&one_more, 20, 1)), Err(Refused::TooManySeries));
     assert_eq!(post(&core, "A", &points(&all[..1], 20, 1)), Ok(0));
     assert_eq!(core.lock().series(), 10_000);
     assert_eq!(taken(&core).len(), 10_000);
@@ -146,9 +132,7 @@ fn a_thread_has_the_stack_for_what_nests_to_127() {
     };
     let run = move || {
         let core = Core::new(1).unwrap();
-        let deepest = (1..60)
-            .rev()
-            .find(|depth| post(&core, "A", &nested(*depth)).is_ok());
+        let deepest = (1..60).rev().find(|depth| post(&core, "A", &nested(*depth)).is_ok());
         assert_eq!(deepest, Some(38), "of 127 levels 13 are around it");
         let brackets = |depth: usize| format!("{}{}", "[".repeat(depth), "]".repeat(depth));
         assert_eq!(post(&core, "A", &brackets(127)), Err(Refused::WrongShape));
@@ -227,10 +211,7 @@ fn a_block_that_is_refused_changes_nothing() {
     assert!(blocks > 5, "{blocks} blocks to report");
     assert_eq!(post(&core, "A", &points(&known, 30, 1)), Ok(0));
     let all = taken(&core);
-    assert!(
-        all.len() == 6 && all.values().all(|one| *one == (1, 40)),
-        "{all:?}"
-    );
+    assert!(all.len() == 6 && all.values().all(|one| *one == (1, 40)), "{all:?}");
 }
 
 /// Without a second try.
@@ -247,11 +228,7 @@ fn what_is_written_in_parts_is_there_once_also_after_faults() {
     assert_eq!(post(&core, "A", &points(&known, 10, 5)), Ok(0));
     let mut texts = Vec::new();
     let (blocks, ()) = each_block_fails(false, || core.lock().write_all(&mut texts));
-    assert!(
-        texts.len() >= 12 && blocks > 50,
-        "{} texts, {blocks} blocks",
-        texts.len()
-    );
+    assert!(texts.len() >= 12 && blocks > 50, "{} texts, {blocks} blocks", texts.len());
     let points: Vec<_> = texts.iter().flat_map(|text| forwarded(text).unwrap()).collect();
     let series: std::collections::HashSet<_> = points.iter().map(|point| &point.series).collect();
     assert_eq!((points.len(), series.len()), (120, 120));
@@ -275,11 +252,7 @@ fn posts_are_read_alike_on_both_sides() {
                 let texts = flushed.texts().unwrap();
                 let points = texts.iter().flat_map(|text| forwarded(text).unwrap());
                 let ends = points.map(|point| (point.series, point.end));
-                assert_eq!(
-                    ends.collect::<std::collections::HashMap<_, _>>(),
-                    posted.series,
-                    "{number}"
-                );
+                assert_eq!(ends.collect::<std::collections::HashMap<_, _>>(), posted.series, "{number}");
                 fresh.lock().settle(flushed).unwrap();
             }
         }
@@ -331,11 +304,7 @@ fn how_long_the_lock_is_held() {
         );
         let began = Instant::now();
         core.lock().close_rounds();
-        eprintln!(
-            "  rounds closed in {:?}; memory {:?}",
-            began.elapsed(),
-            memory_used()
-        );
+        eprintln!("  rounds closed in {:?}; memory {:?}", began.elapsed(), memory_used());
     }
 }
 

@@ -80,10 +80,7 @@ mod tests {
             assert_eq!(texts.get(number).as_ref(), Some(text), "{number}");
             assert_eq!(texts.length(number), Some(text.len()));
         }
-        assert_eq!(
-            (texts.count(), texts.get(all.len()), texts.length(all.len())),
-            (107, None, None)
-        );
+        assert_eq!((texts.count(), texts.get(all.len()), texts.length(all.len())), (107, None, None));
     }
 
     #[test]
@@ -93,10 +90,6 @@ mod tests {
         for number in 0..1600 {
             texts.push(format!("{common}{number:04}{common}").as_bytes());
         }
-        assert!(
-            texts.bytes.len() < 1600 * 4 + 100 * 2000 + 100,
-            "{}",
-            texts.bytes.len()
-        );
+        assert!(texts.bytes.len() < 1600 * 4 + 100 * 2000 + 100, "{}", texts.bytes.len());
     }
 }

@@ -53,12 +53,7 @@ impl Dead {
         disk.make_folder(folder)?;
         disk.order_folder(folder)?;
         let changing = Mutex::new(());
-        let dead = Dead {
-            disk: disk.clone(),
-            folder: folder.into(),
-            changing,
-            count: AtomicU64::new(0),
-        };
+        let dead = Dead { disk: disk.clone(), folder: folder.into(), changing, count: AtomicU64::new(0) };
         dead.keys()?;
         Ok(dead)
     }
@@ -71,10 +66,7 @@ impl Dead {
     fn keys(&self) -> Result<Vec<String>, Fault> {
         let mut keys = Vec::new();
         for name in self.disk.names(&self.folder)? {
-            let key = name
-                .to_str()
-                .and_then(|name| name.strip_suffix(".json"))
-                .filter(|key| is_key(key));
+            let key = name.to_str().and_then(|name| name.strip_suffix(".json")).filter(|key| is_key(key));
             keys.extend(key.map(String::from));
         }
         self.count.store(keys.len() as u64, Relaxed);
@@ -110,9 +102,7 @@ impl Dead {
             reason: reason.chars().take(REASON).collect(),
             bytes: body.len() as u64,
         };
-        let mut bytes = serde_json::to_vec(&letter)
-            .map_err(io::Error::from)
-            .map_err(io_fault(&path))?;
+        let mut bytes = serde_json::to_vec(&letter).map_err(io::Error::from).map_err(io_fault(&path))?;
         bytes.push(b'\n');
         bytes.extend_from_slice(body);
         self.disk.put_file(&path, &bytes)?;
@@ -198,10 +188,7 @@ impl Dead {
         };
         let mut file = BufReader::new(Cursor { file, at: 0 });
         let mut head = Vec::new();
-        file.by_ref()
-            .take(LONGEST_HEAD)
-            .read_until(b'\n', &mut head)
-            .map_err(io_fault(&path))?;
+        file.by_ref().take(LONGEST_HEAD).read_until(b'\n', &mut head).map_err(io_fault(&path))?;
         let letter: Letter = serde_json::from_slice(&head).map_err(|_| damaged(path.clone()))?;
         if letter.key != key {
             return Err(damaged(path));
@@ -242,8 +229,7 @@ impl Dead {
     /// Puts a letter as another's file has it. Durable when this returns.
     pub fn put(&self, key: &str, bytes: &[u8]) -> Result<(), Fault> {
         let _one = lock(&self.changing);
-        self.disk
-            .put_file(&self.folder.join(format!("{key}.json")), bytes)?;
+        self.disk.put_file(&self.folder.join(format!("{key}.json")), bytes)?;
         self.keys().map(drop)
     }
 
@@ -254,11 +240,7 @@ impl Dead {
 
 fn damaged(path: PathBuf) -> Fault {
     let what = "is not a request as it was put aside: put a copy of this file in its place, or move it out of this folder";
-    Fault::Damaged {
-        path,
-        at: 0,
-        what: what.into(),
-    }
+    Fault::Damaged { path, at: 0, what: what.into() }
 }
 
 #[cfg(test)]

@@ -70,39 +70,25 @@ pub const FAILED: i32 = 70;
 pub fn io_fault(path: &Path) -> impl FnOnce(io::Error) -> Fault + '_ {
     move |source| match is_lost(&source) {
         true => Fault::Lost(Lost),
-        false => Fault::Io {
-            path: path.into(),
-            source,
-        },
+        false => Fault::Io { path: path.into(), source },
     }
 }
 
 impl Disk {
     /// The files of a slot whose drive was taken just now.
     pub fn of_drive(drive: Arc<dyn Drive>) -> Disk {
-        Disk {
-            place: Place::Drive(Arc::new(Owned::new(drive))),
-            ..Disk::default()
-        }
+        Disk { place: Place::Drive(Arc::new(Owned::new(drive))), ..Disk::default() }
     }
 
     /// A folder that is locked so.
     pub fn locked(&self, locks: &Arc<super::folder::Locks>) -> Disk {
-        Disk {
-            place: Place::Folder {
-                _locks: Some(locks.clone()),
-            },
-            ..self.clone()
-        }
+        Disk { place: Place::Folder { _locks: Some(locks.clone()) }, ..self.clone() }
     }
 
     /// Asks `hook` before each call.
     #[cfg(test)]
     pub fn failing(hook: impl Fn(Call, &Path) -> io::Result<()> + Send + Sync + 'static) -> Disk {
-        Disk {
-            hook: Some(Arc::new(hook)),
-            ..Disk::default()
-        }
+        Disk { hook: Some(Arc::new(hook)), ..Disk::default() }
     }
 
     /// Each sync waits until `open` is true.
@@ -125,10 +111,7 @@ impl Disk {
 
     /// The same disk for who has its calls looked at beside those of others.
     pub fn of_its_own(&self) -> Disk {
-        Disk {
-            under_way: Arc::default(),
-            ..self.clone()
-        }
+        Disk { under_way: Arc::default(), ..self.clone() }
     }
 
     /// How long the call that began first has been under way; zero where none is.
@@ -234,9 +217,8 @@ impl Disk {
     /// A drive needs none.
     pub fn make_folder(&self, path: &Path) -> Result<(), Fault> {
         match &self.place {
-            Place::Folder { .. } => self.call(Call::MakeFolder, path, || {
-                DirBuilder::new().recursive(true).mode(0o700).create(path)
-            }),
+            Place::Folder { .. } => self
+                .call(Call::MakeFolder, path, || DirBuilder::new().recursive(true).mode(0o700).create(path)),
             Place::Drive(_) => Ok(()),
         }
     }

@@ -82,8 +82,7 @@ impl Folder {
         usable::look_at(path)?;
         // Where that file is, an earlier start has made the folder to its end.
         if !path.join("version").exists() {
-            disk.make_lasting_folder(path)
-                .map_err(|fault| usable::named(fault, path))?;
+            disk.make_lasting_folder(path).map_err(|fault| usable::named(fault, path))?;
         }
         let locks = Arc::new(locked(path)?);
         let free_space = Arc::new(FreeSpace::new(path)?);
@@ -145,9 +144,7 @@ impl Folder {
     pub fn renew_epoch(&self) -> Result<String, Fault> {
         let source = Path::new("/dev/urandom");
         let mut random = [0; 8];
-        File::open(source)
-            .and_then(|mut file| file.read_exact(&mut random))
-            .map_err(io_fault(source))?;
+        File::open(source).and_then(|mut file| file.read_exact(&mut random)).map_err(io_fault(source))?;
         let epoch = format!("{:016x}", u64::from_le_bytes(random));
         let lock = self.identity()?;
         self.change(|version| (version.epoch, version.lock) = (epoch.clone(), lock))?;
@@ -195,11 +192,7 @@ impl Folder {
             &self.of_slot(number).join("journal"),
             self.durability,
             self.free_space.clone(),
-            &Expected {
-                reach: outbox.journal(),
-                begun,
-                by: outbox.ended(),
-            },
+            &Expected { reach: outbox.journal(), begun, by: outbox.ended() },
         )?;
         if begun != Some(journal.begun()) {
             self.change(|version| {
@@ -214,11 +207,7 @@ impl Folder {
         let slot = self.of_slot(number);
         let (journal, outbox) = (slot.join("journal"), slot.join("outbox"));
         if lock(&self.version).begun.contains_key(&number) && !self.has_segments(&outbox)? {
-            return Err(Fault::Damaged {
-                path: outbox,
-                at: 0,
-                what: LOST_SLOT.into(),
-            });
+            return Err(Fault::Damaged { path: outbox, at: 0, what: LOST_SLOT.into() });
         }
         for path in [&slot, &journal, &outbox] {
             self.disk.make_folder(path)?;
@@ -247,9 +236,7 @@ impl Folder {
         let mut found = Vec::new();
         for entry in std::fs::read_dir(&self.path).map_err(io_fault(&self.path))? {
             let name = entry.map_err(io_fault(&self.path))?.file_name();
-            let number = name
-                .to_str()
-                .and_then(|name| name.strip_prefix("slot-")?.parse().ok());
+            let number = name.to_str().and_then(|name| name.strip_prefix("slot-")?.parse().ok());
             found.extend(number.filter(|number| self.of_slot(*number).ends_with(&name)));
         }
         found.extend(lock(&self.version).begun.keys());
@@ -287,10 +274,7 @@ fn locked(folder: &Path) -> Result<Locks, FolderFault> {
     match take_lock(&itself) {
         Err(Errno::EWOULDBLOCK) => Err(FolderFault::InUse(folder.into())),
         // Not every file system locks folders.
-        Ok(()) | Err(_) => Ok(Locks {
-            file,
-            _itself: itself,
-        }),
+        Ok(()) | Err(_) => Ok(Locks { file, _itself: itself }),
     }
 }
 
@@ -309,16 +293,9 @@ fn take_lock(file: &File) -> Result<(), Errno> {
 fn check_new(folder: &Path) -> Result<(), Fault> {
     for entry in std::fs::read_dir(folder).map_err(io_fault(folder))? {
         let name = entry.map_err(io_fault(folder))?.file_name();
-        if name
-            .to_str()
-            .is_some_and(|name| name.starts_with("slot-") || name == "dead")
-        {
+        if name.to_str().is_some_and(|name| name.starts_with("slot-") || name == "dead") {
             let what = "this file is missing, and the folder is not new: put it back".into();
-            return Err(Fault::Damaged {
-                path: folder.join("version"),
-                at: 0,
-                what,
-            });
+            return Err(Fault::Damaged { path: folder.join("version"), at: 0, what });
         }
     }
     Ok(())

@@ -48,11 +48,7 @@ impl FreeSpace {
         FreeSpace::with(move || {
             let disk = nix::sys::statvfs::statvfs(&folder)?;
             let unit = disk.fragment_size();
-            let files = if disk.files() == 0 {
-                u64::MAX
-            } else {
-                disk.files_available()
-            };
+            let files = if disk.files() == 0 { u64::MAX } else { disk.files_available() };
             Ok((disk.blocks_available() * unit, disk.blocks() * unit, files))
         })
         .map_err(io_fault(path))
@@ -97,21 +93,13 @@ impl FreeSpace {
         let (left, bytes) = (self.left(), bytes as i64);
         let more = |reserved| (reserved < left).then_some(reserved + bytes);
         self.reserved.fetch_update(Relaxed, Relaxed, more).ok()?;
-        Some(Reservation {
-            free_space: self,
-            bytes,
-        })
+        Some(Reservation { free_space: self, bytes })
     }
 
     fn left(&self) -> i64 {
         let now = self.began.elapsed().as_millis() as u64;
         let looked = self.looked.load(Relaxed);
-        if now >= looked + LOOK
-            && self
-                .looked
-                .compare_exchange(looked, now, Relaxed, Relaxed)
-                .is_ok()
-        {
+        if now >= looked + LOOK && self.looked.compare_exchange(looked, now, Relaxed, Relaxed).is_ok() {
             self.look_again();
         }
         self.left.load(Relaxed)
@@ -125,11 +113,7 @@ impl FreeSpace {
         let left = match (self.look)() {
             Ok((free, all, files)) => {
                 let kept = (all / 20).clamp(LEAST, MOST);
-                let left = if files >= FILES {
-                    free as i64 - kept as i64
-                } else {
-                    0
-                };
+                let left = if files >= FILES { free as i64 - kept as i64 } else { 0 };
                 self.tell(left <= 0, free, kept, files);
                 left
             }
@@ -179,10 +163,7 @@ mod tests {
     fn what_is_kept_back_is_not_for_posts() {
         assert!(!space(Arc::new(AtomicU64::new(MOST)), 1000).is_left());
         assert!(space(Arc::new(AtomicU64::new(MOST + 1)), 1000).is_left());
-        assert!(
-            !space(Arc::new(AtomicU64::new(2 * MOST)), FILES - 1).is_left(),
-            "no file can be made"
-        );
+        assert!(!space(Arc::new(AtomicU64::new(2 * MOST)), FILES - 1).is_left(), "no file can be made");
     }
 
     #[test]

@@ -127,11 +127,7 @@ struct Size {
 impl Expected {
     /// Of a folder of which nothing is known.
     pub fn of_none() -> Expected {
-        Expected {
-            reach: 1,
-            begun: None,
-            by: (PathBuf::new(), 0),
-        }
+        Expected { reach: 1, begun: None, by: (PathBuf::new(), 0) }
     }
 }
 
@@ -311,13 +307,7 @@ impl Shared {
                 if let Some(other) = other {
                     self.disk.remove(&other.path)?;
                 }
-                prepare(
-                    &self.disk,
-                    &self.folder,
-                    number,
-                    self.durability,
-                    place.segment.forgotten(),
-                )?
+                prepare(&self.disk, &self.folder, number, self.durability, place.segment.forgotten())?
             }
         };
         drop(prepared);
@@ -328,11 +318,7 @@ impl Shared {
         place.said = NamedNumbers::default();
         place.ticket += 1;
         place.kept = place.ticket;
-        lock(&self.sizes).push(Size {
-            number,
-            bytes: 0,
-            first: None,
-        });
+        lock(&self.sizes).push(Size { number, bytes: 0, first: None });
         Ok(())
     }
 }

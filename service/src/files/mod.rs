@@ -41,17 +41,10 @@ pub enum Durability {
 #[derive(Debug, thiserror::Error)]
 pub enum Fault {
     #[error("{path}: {source}")]
-    Io {
-        path: std::path::PathBuf,
-        source: std::io::Error,
-    },
+    Io { path: std::path::PathBuf, source: std::io::Error },
     /// Something in the middle of a file was changed, or is of a later version. Nothing was deleted.
     #[error("{path}, byte {at}: {what}")]
-    Damaged {
-        path: std::path::PathBuf,
-        at: u64,
-        what: String,
-    },
+    Damaged { path: std::path::PathBuf, at: u64, what: String },
     /// The slot is another instance's: it ends here, and nothing else does.
     #[error(transparent)]
     Lost(#[from] Lost),
@@ -64,9 +57,7 @@ fn lock<T>(mutex: &Mutex<T>) -> MutexGuard<'_, T> {
 
 /// Seconds since 1970.
 fn seconds() -> u64 {
-    std::time::SystemTime::now()
-        .duration_since(std::time::UNIX_EPOCH)
-        .map_or(0, |since| since.as_secs())
+    std::time::SystemTime::now().duration_since(std::time::UNIX_EPOCH).map_or(0, |since| since.as_secs())
 }
 
 /// The same in nanoseconds.
@@ -83,12 +74,5 @@ pub(crate) fn held_journal(
 ) -> Journal {
     let free_space = std::sync::Arc::new(free_space::FreeSpace::new(folder).unwrap());
     let disk = disk::Disk::held(open);
-    Journal::open(
-        &disk,
-        folder,
-        Durability::Disk,
-        free_space,
-        &journal::Expected::of_none(),
-    )
-    .unwrap()
+    Journal::open(&disk, folder, Durability::Disk, free_space, &journal::Expected::of_none()).unwrap()
 }

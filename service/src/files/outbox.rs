@@ -95,10 +95,7 @@ pub struct Outbox {
 
 /// The ends of the points, as the book's own request tells them.
 fn ends(body: &[u8]) -> Result<Vec<(SeriesKey, u64)>, NotForwarded> {
-    Ok(series::forwarded(body)?
-        .into_iter()
-        .map(|point| (point.series, point.end))
-        .collect())
+    Ok(series::forwarded(body)?.into_iter().map(|point| (point.series, point.end)).collect())
 }
 
 impl Outbox {
@@ -196,11 +193,7 @@ impl Outbox {
     /// How many requests wait, how many bytes they take on disk, and the first of them.
     pub fn waiting(&self) -> (u64, u64, Option<Waiting>) {
         let state = lock(&self.state);
-        (
-            state.next - 1 - state.acknowledged,
-            state.bytes,
-            state.front().map(|front| front.waiting),
-        )
+        (state.next - 1 - state.acknowledged, state.bytes, state.front().map(|front| front.waiting))
     }
 
     /// Which segment the last run wrote to, and up to where it counts.
@@ -289,10 +282,7 @@ impl Outbox {
                 io::ErrorKind::InvalidInput,
                 format!("request {number} is not the first that waits"),
             );
-            return Err(Fault::Io {
-                path: self.folder.clone(),
-                source,
-            });
+            return Err(Fault::Io { path: self.folder.clone(), source });
         };
         let length = rows::item_length(&self.disk, &segment::path(&self.folder, front.segment), &front)?;
         let taken = self.change(false, |state| {

@@ -17,9 +17,7 @@ type Names = BTreeMap<PathBuf, u64>;
 
 fn names(folder: &Path) -> Names {
     let entries = std::fs::read_dir(folder).unwrap().map(|entry| entry.unwrap());
-    entries
-        .map(|entry| (entry.file_name().into(), entry.metadata().unwrap().ino()))
-        .collect()
+    entries.map(|entry| (entry.file_name().into(), entry.metadata().unwrap().ino())).collect()
 }
 
 /// What is known of a folder's disk.
@@ -52,12 +50,7 @@ impl Shadow {
         if self.names.last() != Some(&now) {
             self.names.push(now);
         }
-        let file = || {
-            (
-                std::fs::metadata(path).unwrap().ino(),
-                std::fs::read(path).unwrap(),
-            )
-        };
+        let file = || (std::fs::metadata(path).unwrap().ino(), std::fs::read(path).unwrap());
         match call {
             Call::Sync => self.synced.extend([file()]),
             Call::Remove => self.deleted.extend([file()]),

@@ -67,16 +67,7 @@ pub fn head(kind: u8, parts: &[&[u8]]) -> [u8; HEAD] {
 
 pub fn header(which: Which, number: u64) -> Vec<u8> {
     let mut out = Vec::new();
-    put(
-        &mut out,
-        HEADER,
-        &[
-            MAGIC,
-            &which.version().to_le_bytes(),
-            &[which as u8],
-            &number.to_le_bytes(),
-        ],
-    );
+    put(&mut out, HEADER, &[MAGIC, &which.version().to_le_bytes(), &[which as u8], &number.to_le_bytes()]);
     out
 }
 
@@ -183,20 +174,13 @@ impl Reader {
             return Err(self.damaged(0, &what));
         }
         if bytes[10..] != [&[which as u8][..], &number.to_le_bytes()].concat() {
-            return Err(self.damaged(
-                0,
-                "is another file than its name says; put it back in its own place",
-            ));
+            return Err(self.damaged(0, "is another file than its name says; put it back in its own place"));
         }
         Ok(())
     }
 
     pub fn damaged(&self, at: u64, what: &str) -> Fault {
-        Fault::Damaged {
-            path: self.path.clone(),
-            at,
-            what: what.into(),
-        }
+        Fault::Damaged { path: self.path.clone(), at, what: what.into() }
     }
 
     /// The next record that is no mark.

@@ -35,9 +35,7 @@ pub enum Ahead {
 pub fn numbers(disk: &Disk, folder: &Path) -> Result<Vec<u64>, Fault> {
     let mut numbers = Vec::new();
     for name in disk.names(folder)? {
-        let number = name
-            .to_str()
-            .and_then(|name| name.strip_suffix(".seg")?.parse().ok());
+        let number = name.to_str().and_then(|name| name.strip_suffix(".seg")?.parse().ok());
         numbers.extend(number.filter(|number| path(folder, *number).ends_with(&name)));
     }
     numbers.sort_unstable();
@@ -67,9 +65,7 @@ pub fn settle(disk: &Disk, folder: &Path, first: u64, durable: impl Fn(u64) -> u
         if is_doubtful {
             let from = durable(number) / PIECE as u64 * PIECE as u64;
             // The same bytes at the same places. Zeros are what was there before.
-            each_piece(&file, &path, from, |at, piece| {
-                disk.write_at(&file, &path, &[piece], at)
-            })?;
+            each_piece(&file, &path, from, |at, piece| disk.write_at(&file, &path, &[piece], at))?;
         }
         disk.sync(&file, &path)?;
     }
@@ -107,20 +103,14 @@ pub fn check_row(folder: &Path, numbers: &[u64]) -> Result<(), Fault> {
 
 pub fn missing(folder: &Path, number: u64) -> Fault {
     let what = "this file is missing. Nothing was deleted: put it back, or move the folder away and start with a new one";
-    Fault::Damaged {
-        path: path(folder, number),
-        at: 0,
-        what: what.into(),
-    }
+    Fault::Damaged { path: path(folder, number), at: 0, what: what.into() }
 }
 
 /// Closes the last segment of an earlier run at `at`. What was torn behind becomes zeros, and the file stays as long:
 /// one that is shorter than it was made is a fault.
 pub fn close_at(disk: &Disk, path: &Path, at: u64) -> Result<(), Fault> {
     let file = disk.open_to_write(path)?;
-    each_piece(&file, path, at, |at, piece| {
-        disk.write_at(&file, path, &[&ZEROS[..piece.len()]], at)
-    })?;
+    each_piece(&file, path, at, |at, piece| disk.write_at(&file, path, &[&ZEROS[..piece.len()]], at))?;
     disk.order(&file, path)?;
     disk.write_at(&file, path, &[&mark(END, &[at])], at)?;
     disk.order(&file, path)
@@ -224,9 +214,7 @@ impl Segment {
     /// Puts records behind the others, for the next write.
     pub fn append<const N: usize>(&mut self, parts: &[&[u8]; N]) -> Result<(), Fault> {
         let (_, end) = self.make_room(parts)?;
-        parts
-            .iter()
-            .for_each(|part| self.unwritten.extend_from_slice(part));
+        parts.iter().for_each(|part| self.unwritten.extend_from_slice(part));
         self.end_record(end);
         Ok(())
     }
@@ -318,8 +306,7 @@ impl Segment {
             Ahead::Zeros(filled) => {
                 let wanted = end + PIECE as u64 / 2;
                 while *filled < wanted || *filled % PIECE as u64 > 0 {
-                    self.disk
-                        .write_at(&self.file, &self.path, &[&ZEROS[..FILL]], *filled)?;
+                    self.disk.write_at(&self.file, &self.path, &[&ZEROS[..FILL]], *filled)?;
                     *filled += FILL as u64;
                 }
             }

@@ -22,11 +22,7 @@ pub const CHANGED: &str =
 pub fn check_torn(disk: &Disk, path: &Path, at: u64) -> Result<(), Fault> {
     let rest = disk.open(path)?.read_from(at).map_err(io_fault(path))?;
     if was_changed(at, &rest) {
-        return Err(Fault::Damaged {
-            path: path.into(),
-            at,
-            what: CHANGED.into(),
-        });
+        return Err(Fault::Damaged { path: path.into(), at, what: CHANGED.into() });
     }
     Ok(())
 }
@@ -102,10 +98,7 @@ mod tests {
         rest.extend(record(OWN, 20));
         assert!(was_changed(300, &rest));
         rest[212..724].fill(0);
-        assert!(
-            !was_changed(300, &rest),
-            "bytes 512 to 1024 of the file were lost"
-        );
+        assert!(!was_changed(300, &rest), "bytes 512 to 1024 of the file were lost");
         assert!(was_changed(301, &rest), "no whole sector was");
     }
 

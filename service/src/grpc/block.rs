@@ -170,15 +170,7 @@ mod tests {
     fn a_status_is_seen_however_it_is_written() {
         let method = vec![0x83];
         let long = [vec![0x0f, 0x80 | 46, 0], text(b"x", 0)].concat(); // the name at place 61
-        let sound = [
-            vec![0x3f, 0xe1, 31],
-            method,
-            other(0),
-            other(0x10),
-            other(0x40),
-            long,
-        ]
-        .concat();
+        let sound = [vec![0x3f, 0xe1, 31], method, other(0), other(0x10), other(0x40), long].concat();
         assert_eq!(is_of_request(&sound), Some(true));
         let literal = |first: u8, name: Vec<u8>| [vec![first], name, text(b"100", 0)].concat();
         let mut statuses = vec![vec![0x88], vec![0x8e]];

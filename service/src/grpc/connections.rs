@@ -40,13 +40,7 @@ impl Calls {
     }
 
     fn idle(&self) -> Duration {
-        self.with(|(calls, last)| {
-            if *calls == 0 {
-                last.elapsed()
-            } else {
-                Duration::ZERO
-            }
-        })
+        self.with(|(calls, last)| if *calls == 0 { last.elapsed() } else { Duration::ZERO })
     }
 }
 

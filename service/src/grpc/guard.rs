@@ -88,9 +88,7 @@ impl Frames {
             }
             let (head, behind) = behind.split_at_mut((HEAD - self.of_head).min(behind.len()));
             self.head[self.of_head..self.of_head + head.len()].copy_from_slice(head);
-            let kind = KIND
-                .checked_sub(self.of_head)
-                .and_then(|place| head.get_mut(place));
+            let kind = KIND.checked_sub(self.of_head).and_then(|place| head.get_mut(place));
             if let Some(kind) = kind.filter(|kind| **kind == GOAWAY) {
                 *kind = UNKNOWN;
             }
@@ -135,11 +133,7 @@ impl Frames {
                 self.idle += 1;
             }
         }
-        let block = if self.is_of_block {
-            self.block.length() + length
-        } else {
-            0
-        };
+        let block = if self.is_of_block { self.block.length() + length } else { 0 };
         block <= BLOCK && self.block.frames() <= BLOCK_FRAMES && self.idle <= IDLE_FRAMES
     }
 }
@@ -152,10 +146,7 @@ pub struct Guarded<S> {
 
 impl<S> Guarded<S> {
     pub fn new(stream: S) -> Guarded<S> {
-        Guarded {
-            stream,
-            frames: Frames::new(),
-        }
+        Guarded { stream, frames: Frames::new() }
     }
 }
 
@@ -168,10 +159,7 @@ impl<S: AsyncRead + Unpin> AsyncRead for Guarded<S> {
         let before = into.filled().len();
         ready!(Pin::new(&mut self.stream).poll_read(context, into))?;
         if !self.frames.may_go_on(&mut into.filled_mut()[before..]) {
-            return Poll::Ready(Err(Error::new(
-                ErrorKind::InvalidData,
-                "frames that no client may send",
-            )));
+            return Poll::Ready(Err(Error::new(ErrorKind::InvalidData, "frames that no client may send")));
         }
         Poll::Ready(Ok(()))
     }
@@ -240,10 +228,7 @@ mod tests {
         let (short, mut end) = ([frame(HEADERS, 30), frame(DATA, 5)].concat(), frame(DATA, 0));
         end[4] = END_STREAM;
         assert!(may_go_on(&vec![[&short[..], &end].concat(); 3000]));
-        assert!(!may_go_on(&vec![
-            [&short[..], &end, &end].concat();
-            IDLE_FRAMES + 1
-        ]));
+        assert!(!may_go_on(&vec![[&short[..], &end, &end].concat(); IDLE_FRAMES + 1]));
         assert!(may_go_on(&[frame(HEADERS, 16384), frame(CONTINUATION, 16384)]));
         for (kind, length) in [(DATA, 0), (3, 4), (4, 0), (6, 8)] {
             assert!(may_go_on(&vec![frame(kind, length); IDLE_FRAMES]), "{kind}");
@@ -277,12 +262,7 @@ mod tests {
         assert!(may_go_on(&[whole(sound), frame(DATA, 0x88), whole(sound)]));
         assert!(!may_go_on(&[whole(sound), whole(status)]));
         assert!(may_go_on(&[whole(b"")]));
-        let second = |block: &[u8]| {
-            [
-                headers(HEADERS, 0, sound),
-                headers(CONTINUATION, END_HEADERS, block),
-            ]
-        };
+        let second = |block: &[u8]| [headers(HEADERS, 0, sound), headers(CONTINUATION, END_HEADERS, block)];
         assert!(may_go_on(&second(sound)) && may_go_on(&second(b"")) && !may_go_on(&second(status)));
         assert!(!may_go_on(&[frame(PUSH_PROMISE, 8)]));
     }
@@ -291,13 +271,7 @@ mod tests {
     fn the_library_is_not_told_that_a_client_goes_away() {
         let bytes = [vec![0; PREFACE], frame(PING, 8), frame(GOAWAY, 8), frame(PING, 8)].concat();
         for part in [1, 2, 3, 4, 5, bytes.len()] {
-            let wanted = [
-                vec![0; PREFACE],
-                frame(PING, 8),
-                frame(UNKNOWN, 8),
-                frame(PING, 8),
-            ]
-            .concat();
+            let wanted = [vec![0; PREFACE], frame(PING, 8), frame(UNKNOWN, 8), frame(PING, 8)].concat();
             assert_eq!(passed_on(&bytes, part), (true, wanted), "{part}");
         }
         assert!(!may_go_on(&vec![frame(GOAWAY, 8); IDLE_FRAMES + 1]));

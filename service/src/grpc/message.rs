@@ -42,10 +42,9 @@ pub async fn receive(body: &mut Body, hold: &mut Hold) -> Result<Message, Refusa
     // Most messages come in one part: nothing is copied.
     let whole = first.unwrap_or_else(|| whole.into());
     match length(&whole)? {
-        Some(length) if whole.len() == PREFIX + length => Ok(Message {
-            is_packed: whole[0] == 1,
-            bytes: whole.slice(PREFIX..),
-        }),
+        Some(length) if whole.len() == PREFIX + length => {
+            Ok(Message { is_packed: whole[0] == 1, bytes: whole.slice(PREFIX..) })
+        }
         _ => Err(Refusal::Malformed),
     }
 }
@@ -132,11 +131,7 @@ mod tests {
             (vec![0, 0, 0x40, 0, 1], TOO_LONG),
             (vec![0, 255, 255, 255, 255, 1], TOO_LONG),
         ] {
-            assert_eq!(
-                received(vec![body.clone()]).await,
-                Err(why.to_string()),
-                "{body:?}"
-            );
+            assert_eq!(received(vec![body.clone()]).await, Err(why.to_string()), "{body:?}");
         }
     }
 }

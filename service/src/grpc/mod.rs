@@ -64,10 +64,7 @@ async fn answer<T: Taker>(intake: Arc<Intake<T>>, who: &Who, request: Request<Bo
 }
 
 fn refused(status: u16, message: &str) -> Outcome {
-    Outcome::Refused {
-        status,
-        message: message.into(),
-    }
+    Outcome::Refused { status, message: message.into() }
 }
 
 /// `application/grpc`, with or without `+proto`.
@@ -89,11 +86,7 @@ fn call(parts: &Parts, who: &Who) -> Result<Head, Turned> {
         Some(b"gzip") => Packing::Gzip,
         Some(_) => return Err(Turned::new(sender, Refusal::ContentEncoding)),
     };
-    Ok(Head {
-        sender,
-        encoding: Encoding::Protobuf,
-        packing,
-    })
+    Ok(Head { sender, encoding: Encoding::Protobuf, packing })
 }
 
 async fn take<T: Taker>(intake: &Arc<Intake<T>>, mut head: Head, body: &mut Body) -> Outcome {

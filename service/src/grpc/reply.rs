@@ -22,10 +22,7 @@ pub struct Reply {
 
 impl Reply {
     pub fn nothing() -> Reply {
-        Reply {
-            data: None,
-            trailers: None,
-        }
+        Reply { data: None, trailers: None }
     }
 }
 
@@ -105,10 +102,7 @@ pub fn response(outcome: &Outcome) -> Response<Reply> {
         Outcome::Taken { .. } => {
             let mut trailers = HeaderMap::new();
             put(&mut trailers, "grpc-status", "0");
-            Reply {
-                data: Some(framed(&outcome.body(Encoding::Protobuf))),
-                trailers: Some(trailers),
-            }
+            Reply { data: Some(framed(&outcome.body(Encoding::Protobuf))), trailers: Some(trailers) }
         }
         Outcome::Refused { message, .. } | Outcome::Later { message, .. } => {
             put_refusal(&mut headers, outcome, message);
@@ -136,11 +130,7 @@ fn put(headers: &mut HeaderMap, name: &'static str, value: &str) {
 fn put_refusal(headers: &mut HeaderMap, outcome: &Outcome, message: &str) {
     let code = code(outcome.status());
     put(headers, "grpc-status", &code.to_string());
-    put(
-        headers,
-        "grpc-message",
-        &utf8_percent_encode(message, ESCAPED).to_string(),
-    );
+    put(headers, "grpc-message", &utf8_percent_encode(message, ESCAPED).to_string());
     if outcome.status() == 415 {
         put(headers, "grpc-accept-encoding", "identity,gzip");
     }
@@ -152,12 +142,7 @@ fn put_refusal(headers: &mut HeaderMap, outcome: &Outcome, message: &str) {
             value: RetryInfo { retry_delay }.encode_to_vec(),
         }];
         let message = message.to_string();
-        let whole = Status {
-            code,
-            message,
-            details,
-        }
-        .encode_to_vec();
+        let whole = Status { code, message, details }.encode_to_vec();
         let text = base64::encode_config(whole, base64::STANDARD_NO_PAD);
         put(headers, "grpc-status-details-bin", &text);
     }

@@ -66,11 +66,7 @@ impl Served {
     }
 
     async fn behind(door: Door, outcome: Option<Outcome>, most_bytes: usize) -> Served {
-        let kept = Arc::new(Kept {
-            posts: Mutex::new(Vec::new()),
-            turned: Mutex::new(Vec::new()),
-            outcome,
-        });
+        let kept = Arc::new(Kept { posts: Mutex::new(Vec::new()), turned: Mutex::new(Vec::new()), outcome });
         let budget = Budget::new(most_bytes);
         let metrics = Arc::new(Metrics::new().unwrap());
         let intake = Intake::of(
@@ -82,22 +78,13 @@ impl Served {
         );
         let listener = TcpListener::bind("127.0.0.1:0").await.unwrap();
         let address = listener.local_addr().unwrap();
-        let limits = Limits {
-            connections: 4,
-            head: Duration::from_millis(200),
-            idle: Duration::from_millis(800),
-        };
+        let limits =
+            Limits { connections: 4, head: Duration::from_millis(200), idle: Duration::from_millis(800) };
         let (stop, stopped) = watch::channel(false);
         let threads = Arc::new(Threads::new(2).unwrap());
         let shared = Shared::new(limits, door, Arc::new(intake), stopped);
         let task = tokio::spawn(spread::<Grpc, _>(listener, shared, threads));
-        Served {
-            address,
-            kept,
-            budget,
-            stop,
-            task,
-        }
+        Served { address, kept, budget, stop, task }
     }
 
     async fn start() -> Served {
@@ -107,31 +94,21 @@ impl Served {
     /// One call on a connection of its own.
     async fn call(&self, path: &str, headers: &[(&str, &str)], body: Vec<u8>) -> Answer {
         let stream = TcpStream::connect(self.address).await.unwrap();
-        let (mut calls, connection) = hyper::client::conn::Builder::new()
-            .http2_only(true)
-            .handshake(stream)
-            .await
-            .unwrap();
+        let (mut calls, connection) =
+            hyper::client::conn::Builder::new().http2_only(true).handshake(stream).await.unwrap();
         tokio::spawn(connection);
         let mut request = Request::post(format!("http://h{path}")).header("te", "trailers");
         for (name, value) in headers {
             request = request.header(*name, *value);
         }
-        let response = calls
-            .send_request(request.body(Body::from(body)).unwrap())
-            .await
-            .unwrap();
+        let response = calls.send_request(request.body(Body::from(body)).unwrap()).await.unwrap();
         let (parts, mut body) = response.into_parts();
         let mut data = Vec::new();
         while let Some(part) = body.data().await {
             data.extend_from_slice(&part.unwrap());
         }
         let trailers = body.trailers().await.unwrap().unwrap_or(parts.headers);
-        Answer {
-            status: parts.status.as_u16(),
-            trailers,
-            data,
-        }
+        Answer { status: parts.status.as_u16(), trailers, data }
     }
 
     async fn export(&self, more: &[(&str, &str)], body: Vec<u8>) -> Answer {
@@ -159,9 +136,7 @@ struct Answer {
 
 impl Answer {
     fn text(&self, name: &str) -> &str {
-        self.trailers
-            .get(name)
-            .map_or("", |value| value.to_str().unwrap())
+        self.trailers.get(name).map_or("", |value| value.to_str().unwrap())
     }
 
     fn code(&self) -> i32 {
@@ -190,10 +165,7 @@ async fn a_call_goes_the_way_of_a_post() {
         (&[("grpc-encoding", "gzip")], frame(0, &request)),
     ] {
         let answer = served.export(more, body).await;
-        assert_eq!(
-            (answer.status, answer.code(), answer.data),
-            (200, 0, frame(0, b""))
-        );
+        assert_eq!((answer.status, answer.code(), answer.data), (200, 0, frame(0, b"")));
     }
     let posts = served.kept.posts.lock().unwrap().clone();
     let wanted = crate::otlp::prepare(Encoding::Protobuf, request.into(), &Reading::default());
@@ -208,19 +180,13 @@ async fn what_a_slot_says_is_said_as_grpc_does() {
     let partial = Served::with(Some(Outcome::taken(7)), 1 << 20).await;
     let answer = partial.export(&[], frame(0, b"")).await;
     assert_eq!(answer.data, frame(0, &Outcome::taken(7).body(Encoding::Protobuf)));
-    let later = Outcome::Later {
-        seconds: 7,
-        message: "50% \u{fc}ber".into(),
-    };
+    let later = Outcome::Later { seconds: 7, message: "50% \u{fc}ber".into() };
     let refused = [400, 403, 503].map(|status| refused(status, "50% \u{fc}ber"));
     for (outcome, wanted) in refused.into_iter().chain([later]).zip([3, 7, 14, 8]) {
         let again = outcome.again_in();
         let served = Served::with(Some(outcome), 1 << 20).await;
         let answer = served.export(&[], frame(0, b"")).await;
-        assert_eq!(
-            (answer.status, answer.code(), answer.data.len()),
-            (200, wanted, 0)
-        );
+        assert_eq!((answer.status, answer.code(), answer.data.len()), (200, wanted, 0));
         assert_eq!(answer.text("grpc-message"), "50%25 %C3%BCber");
         let details = answer.text("grpc-status-details-bin");
         assert_eq!(details.is_empty(), again.is_none());
@@ -228,10 +194,7 @@ async fn what_a_slot_says_is_said_as_grpc_does() {
             let bytes = base64::decode_config(details, base64::STANDARD_NO_PAD).unwrap();
             let status = Status::decode(&bytes[..]).unwrap();
             assert_eq!((status.code, status.message.as_str()), (wanted, "50% \u{fc}ber"));
-            assert_eq!(
-                status.details[0].type_url,
-                "type.googleapis.com/google.rpc.RetryInfo"
-            );
+            assert_eq!(status.details[0].type_url, "type.googleapis.com/google.rpc.RetryInfo");
             let retry = RetryInfo::decode(&status.details[0].value[..]).unwrap();
             assert_eq!(retry.retry_delay.unwrap().seconds as u64, seconds);
         }
@@ -244,33 +207,17 @@ async fn what_is_no_call_of_the_method_is_refused() {
     let served = Served::start().await;
     let kind = ("content-type", "application/grpc+proto");
     let answer = served.call("/a.B/Export", &[kind], frame(0, b"")).await;
-    assert_eq!(
-        (answer.code(), answer.text("grpc-message")),
-        (12, "no such method")
-    );
-    for kind in [
-        "application/json",
-        "application/grpc+json",
-        "application/grpc-web",
-    ] {
-        let answer = served
-            .call(METHOD, &[("content-type", kind)], frame(0, b""))
-            .await;
+    assert_eq!((answer.code(), answer.text("grpc-message")), (12, "no such method"));
+    for kind in ["application/json", "application/grpc+json", "application/grpc-web"] {
+        let answer = served.call(METHOD, &[("content-type", kind)], frame(0, b"")).await;
         assert_eq!((answer.status, answer.code()), (415, -1), "{kind}");
     }
     let answer = served.export(&[("grpc-encoding", "zstd")], frame(1, b"x")).await;
-    assert_eq!(
-        (answer.code(), answer.text("grpc-accept-encoding")),
-        (12, "identity,gzip")
-    );
+    assert_eq!((answer.code(), answer.text("grpc-accept-encoding")), (12, "identity,gzip"));
     for (more, body, wanted) in [
         (&[][..], frame(1, &gzip(b"")), 3),
         (&[("grpc-encoding", "gzip")], frame(1, b"no gzip"), 3),
-        (
-            &[("grpc-encoding", "gzip")],
-            frame(1, &gzip(&vec![0; 100 << 20])),
-            8,
-        ),
+        (&[("grpc-encoding", "gzip")], frame(1, &gzip(&vec![0; 100 << 20])), 8),
         (&[("x-sender", "a b")], frame(0, b""), 3),
         (&[], vec![], 3),
         (&[], frame(0, b"\xff"), 3),
@@ -296,10 +243,7 @@ async fn a_stranger_is_told_so() {
     let at = tempfile::tempdir().unwrap();
     let (path, metrics) = (at.path().join("tokens"), Arc::new(Metrics::new().unwrap()));
     std::fs::write(&path, crate::identity::line("shop-1/shop-*", "t0ken")).unwrap();
-    let options = Options {
-        tokens: Some(path),
-        tls: None,
-    };
+    let options = Options { tokens: Some(path), tls: None };
     let door = Door::open(&options, &metrics).unwrap();
     let served = Served::behind(door, Some(Outcome::taken(0)), 1 << 20).await;
     let token = ("authorization", "Bearer t0ken");
@@ -308,11 +252,7 @@ async fn a_stranger_is_told_so() {
         (&[token, ("x-sender", "shop-2")], 0, ""),
         (&[token, ("x-sender", "other")], 7, "shop-1 may not post as other"),
         (&[token, ("x-sender", "a b")], 3, "bad sender"),
-        (
-            &[("authorization", "Bearer t0ken2")],
-            16,
-            "the token is not known",
-        ),
+        (&[("authorization", "Bearer t0ken2")], 16, "the token is not known"),
         (&[token, token], 16, "no token"),
         (&[("x-sender", "shop-1")], 16, "no token"),
     ] {
@@ -332,10 +272,7 @@ async fn a_stranger_is_told_so() {
 async fn a_deadline_ends_the_call_and_not_the_post() {
     let served = Served::with(None, 1 << 20).await;
     let answer = served.export(&[("grpc-timeout", "50m")], frame(0, b"")).await;
-    assert_eq!(
-        (answer.code(), answer.text("grpc-message")),
-        (4, "the deadline has passed")
-    );
+    assert_eq!((answer.code(), answer.text("grpc-message")), (4, "the deadline has passed"));
     assert_eq!(served.kept.posts.lock().unwrap().len(), 1);
 }
 
@@ -366,12 +303,7 @@ async fn silent_and_stopped_connections_end() {
     let read = tokio::time::timeout(Duration::from_secs(8), silent.read_to_end(&mut nothing)).await;
     assert!(read.is_ok(), "a connection without a preface goes on");
     let address = served.address;
-    let under_way = async {
-        served
-            .export(&[("grpc-timeout", "500m")], frame(0, b""))
-            .await
-            .code()
-    };
+    let under_way = async { served.export(&[("grpc-timeout", "500m")], frame(0, b"")).await.code() };
     let stopping = async {
         while served.kept.posts.lock().unwrap().is_empty() {
             tokio::time::sleep(Duration::from_millis(5)).await;
@@ -380,9 +312,6 @@ async fn silent_and_stopped_connections_end() {
     };
     let (code, ()) = tokio::join!(under_way, stopping);
     assert_eq!(code, 4, "a call that is under way is answered");
-    tokio::time::timeout(Duration::from_secs(10), served.task)
-        .await
-        .unwrap()
-        .unwrap();
+    tokio::time::timeout(Duration::from_secs(10), served.task).await.unwrap().unwrap();
     assert!(TcpStream::connect(address).await.is_err());
 }

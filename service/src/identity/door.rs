@@ -43,9 +43,7 @@ impl Door {
             None => WithoutCertificate::Refused,
         };
         let tls = options.tls.as_ref();
-        let tls = tls
-            .map(|files| Tls::open(files, without, metrics.clone()))
-            .transpose()?;
+        let tls = tls.map(|files| Tls::open(files, without, metrics.clone())).transpose()?;
         let reader = || Reader {
             read: Box::new(|contents: &[Vec<u8>]| Tokens::read(&contents.concat())),
             shut: Tokens::shut,
@@ -54,10 +52,7 @@ impl Door {
         let tokens = tokens.map(|path| Reloaded::open(vec![("--tokens", path.clone())], reader(), metrics));
         Ok(Door {
             tls: tls.map(Arc::new),
-            by_certificate: options
-                .tls
-                .as_ref()
-                .is_some_and(|files| files.client_ca.is_some()),
+            by_certificate: options.tls.as_ref().is_some_and(|files| files.client_ca.is_some()),
             tokens: tokens.transpose()?,
         })
     }

@@ -92,10 +92,7 @@ impl Tokens {
             return Err("its name has series= or points= in a line already");
         }
         match proof {
-            Proof::Token(digest) => self.tokens.push(Token {
-                digest,
-                owner: sender.into(),
-            }),
+            Proof::Token(digest) => self.tokens.push(Token { digest, owner: sender.into() }),
             Proof::Certificate if sender.others.is_empty() => {}
             Proof::Certificate if self.certified.contains_key(&name) => {
                 return Err("its name has a line for certificates already")
@@ -117,10 +114,10 @@ impl Tokens {
         let has_names_alone = self.certified.is_empty() && self.shares.is_empty();
         match has_names_alone && !self.tokens.iter().any(is_of_senders) {
             true => Ok(self),
-            false => Err(
-                "it has a line for senders: write `NAME sha256:HEX`, as `totxegun token NAME` prints it"
-                    .into(),
-            ),
+            false => {
+                Err("it has a line for senders: write `NAME sha256:HEX`, as `totxegun token NAME` prints it"
+                    .into())
+            }
         }
     }
 
@@ -189,10 +186,7 @@ fn read_share<'l>(words: impl Iterator<Item = &'l str>) -> Result<Share, &'stati
     let mut share = Share::default();
     for word in words {
         let (what, number) = word.split_once('=').unwrap_or((word, ""));
-        let number = number
-            .parse()
-            .ok()
-            .filter(|number| (1..=MOST_POINTS).contains(number));
+        let number = number.parse().ok().filter(|number| (1..=MOST_POINTS).contains(number));
         let of = match what {
             "series" => &mut share.series,
             "points" => &mut share.points,
@@ -222,10 +216,7 @@ fn digest(proof: &str) -> Option<[u8; 32]> {
 
 /// The line of a token for the file.
 pub fn line(name: &str, token: &str) -> String {
-    let digits = Sha256::digest(token)
-        .iter()
-        .map(|byte| format!("{byte:02x}"))
-        .collect::<String>();
+    let digits = Sha256::digest(token).iter().map(|byte| format!("{byte:02x}")).collect::<String>();
     format!("{name} {DIGEST}{digits}")
 }
 
@@ -259,15 +250,9 @@ mod tests {
         let tokens = Tokens::read(text.as_bytes()).unwrap();
         let of = |sender: Arc<Sender>, names: [&str; 5]| names.map(|name| sender.may_be(name));
         let names = ["a", "b-", "b-1", "b", "e"];
-        assert_eq!(
-            of(tokens.owner(b"abc").unwrap(), names),
-            [true, true, true, false, false]
-        );
+        assert_eq!(of(tokens.owner(b"abc").unwrap(), names), [true, true, true, false, false]);
         assert_eq!(of(tokens.certified("c").unwrap(), names), [true; 5]);
-        assert_eq!(
-            of(tokens.certified("d").unwrap(), names),
-            [false, false, false, false, true]
-        );
+        assert_eq!(of(tokens.certified("d").unwrap(), names), [false, false, false, false, true]);
         assert!(tokens.certified("a").is_none());
     }
 
@@ -277,25 +262,13 @@ mod tests {
         for (text, why) in [
             ("\na s3cret", "line 2: behind the name write sha256:"),
             ("a sha256:s3cret", "line 1: behind the name"),
-            (
-                &format!("a {}", &OF_ABC[..OF_ABC.len() - 1]),
-                "line 1: behind the name",
-            ),
+            (&format!("a {}", &OF_ABC[..OF_ABC.len() - 1]), "line 1: behind the name"),
             ("s3cret", "line 1: write `NAME sha256:HEX`"),
-            (
-                &format!("a {OF_ABC} s3cret"),
-                "line 1: behind the digest write series=N",
-            ),
-            (
-                &format!("a {OF_ABC} series=s3cret"),
-                "line 1: write series=N and points=N once each",
-            ),
+            (&format!("a {OF_ABC} s3cret"), "line 1: behind the digest write series=N"),
+            (&format!("a {OF_ABC} series=s3cret"), "line 1: write series=N and points=N once each"),
             (&format!("a {OF_ABC} points=0"), "line 1: write series=N"),
             (&format!("a {OF_ABC} points=1 points=2"), "line 1: write series=N"),
-            (
-                &format!("a {OF_ABC} series=1\na - points=1"),
-                "line 2: its name has series=",
-            ),
+            (&format!("a {OF_ABC} series=1\na - points=1"), "line 2: its name has series="),
             ("a -", "line 1: a certificate needs"),
             ("a/* - series=1", "line 1: behind NAME/PATTERN"),
             (&format!("s3cret+ {OF_ABC}"), "line 1: a sender's name"),
@@ -307,10 +280,7 @@ mod tests {
             (&twice, "line 2: its token has a line"),
         ] {
             let found = refused(text);
-            assert!(
-                found.contains(why) && !found.contains("s3cret"),
-                "{text}: {found}"
-            );
+            assert!(found.contains(why) && !found.contains("s3cret"), "{text}: {found}");
         }
         assert!(Tokens::read(b"\xff").is_err());
     }

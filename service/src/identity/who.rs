@@ -102,10 +102,9 @@ impl Proved {
             (Proved::Anybody, own) => Ok(own.unwrap_or(NO_NAME).to_string()),
             (Proved::Sender(sender), None) => Ok(sender.name.clone()),
             (Proved::Sender(sender), Some(own)) if sender.may_be(own) => Ok(own.to_string()),
-            (Proved::Sender(sender), Some(own)) => Err(Stranger::OtherName {
-                name: sender.name.clone(),
-                other: own.to_string(),
-            }),
+            (Proved::Sender(sender), Some(own)) => {
+                Err(Stranger::OtherName { name: sender.name.clone(), other: own.to_string() })
+            }
         }
     }
 }
@@ -151,10 +150,7 @@ impl Certified {
         let read = chain.first().and_then(|first| Certificate::read(&first.0));
         let ends = read.as_ref().map_or(0, |read| read.ends);
         let name = read.and_then(|read| read.name).map(|name| otlp::legal(&name));
-        let sender = name.map(|name| Sender {
-            name,
-            others: Vec::new(),
-        });
+        let sender = name.map(|name| Sender { name, others: Vec::new() });
         Certified {
             chain,
             sender: sender.map(Arc::new),
@@ -170,10 +166,7 @@ impl Certified {
             return Err(Stranger::NotBelieved);
         }
         let sender = self.sender.as_ref().ok_or(Stranger::Nameless)?;
-        let with_others = self
-            .tokens
-            .as_ref()
-            .and_then(|tokens| tokens.now().certified(&sender.name));
+        let with_others = self.tokens.as_ref().and_then(|tokens| tokens.now().certified(&sender.name));
         Ok(with_others.unwrap_or_else(|| sender.clone()))
     }
 
@@ -204,13 +197,7 @@ mod tests {
         let at = folder();
         server(at.path());
         let tls = tls(at.path(), Some(WithoutCertificate::Refused));
-        let made = Made {
-            name: "c",
-            subject,
-            names,
-            by: Some("ca"),
-            ..Made::default()
-        };
+        let made = Made { name: "c", subject, names, by: Some("ca"), ..Made::default() };
         let chain = vec![rustls::Certificate(certificate(at.path(), made))];
         Certified::new(chain, tls.contexts(), tls, None)
     }

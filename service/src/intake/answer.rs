@@ -15,9 +15,7 @@ pub fn write(out: &mut Vec<u8>, outcome: &Outcome, encoding: Encoding, connectio
     let is_usual =
         encoding == Encoding::Json && connection == Connection::Kept && *outcome == Outcome::taken(0);
     with_date(|date| match is_usual {
-        true => [TAKEN, date, "\r\n\r\n{}"]
-            .iter()
-            .for_each(|part| out.extend_from_slice(part.as_bytes())),
+        true => [TAKEN, date, "\r\n\r\n{}"].iter().for_each(|part| out.extend_from_slice(part.as_bytes())),
         false => write_any(out, outcome, encoding, connection, date),
     });
 }
@@ -47,9 +45,7 @@ fn write_any(out: &mut Vec<u8>, outcome: &Outcome, encoding: Encoding, connectio
         Connection::KeptIfSaid => "connection: keep-alive\r\n",
         Connection::Closed => "connection: close\r\n",
     };
-    let reason = StatusCode::from_u16(status)
-        .ok()
-        .and_then(|status| status.canonical_reason());
+    let reason = StatusCode::from_u16(status).ok().and_then(|status| status.canonical_reason());
     // Writing into a vector never fails.
     let _ = write!(
         out,
@@ -66,9 +62,7 @@ thread_local! {
 }
 
 fn with_date(write: impl FnOnce(&str)) {
-    let now = SystemTime::now()
-        .duration_since(UNIX_EPOCH)
-        .map_or(0, |since| since.as_secs());
+    let now = SystemTime::now().duration_since(UNIX_EPOCH).map_or(0, |since| since.as_secs());
     DATE.with_borrow_mut(|(second, text)| {
         if *second != now || text.is_empty() {
             *second = now;
@@ -98,10 +92,7 @@ mod tests {
         let mut out = Vec::new();
         with_date(|date| write_any(&mut out, &any, Encoding::Json, Connection::Kept, date));
         assert_eq!(out.len(), taken.len(), "the usual answer is as any other");
-        let refused = |status| Outcome::Refused {
-            status,
-            message: "why".into(),
-        };
+        let refused = |status| Outcome::Refused { status, message: "why".into() };
         let busy = written(&refused(503), Encoding::Json, Connection::KeptIfSaid);
         assert!(
             busy.starts_with("HTTP/1.1 503 Service Unavailable\r\n")
@@ -111,24 +102,15 @@ mod tests {
             busy.contains("\r\nconnection: keep-alive\r\n") && busy.contains("\"message\":\"why\""),
             "{busy}"
         );
-        let later = Outcome::Later {
-            seconds: 7,
-            message: "why".into(),
-        };
+        let later = Outcome::Later { seconds: 7, message: "why".into() };
         let later = written(&later, Encoding::Json, Connection::Kept);
         assert!(later.starts_with("HTTP/1.1 429 Too Many Requests\r\n"), "{later}");
-        assert!(
-            later.contains("\r\nretry-after: 7\r\n") && later.contains("\"message\":\"why\""),
-            "{later}"
-        );
+        assert!(later.contains("\r\nretry-after: 7\r\n") && later.contains("\"message\":\"why\""), "{later}");
         let wrong = written(&refused(405), Encoding::Protobuf, Connection::Closed);
         assert!(
             wrong.contains("\r\nallow: POST\r\n") && wrong.contains("\r\nconnection: close\r\n"),
             "{wrong}"
         );
-        assert!(
-            wrong.contains("\r\ncontent-type: application/x-protobuf\r\n"),
-            "{wrong}"
-        );
+        assert!(wrong.contains("\r\ncontent-type: application/x-protobuf\r\n"), "{wrong}");
     }
 }

@@ -151,10 +151,7 @@ pub(super) mod tests {
 
     #[test]
     fn what_is_packed_twice_is_unpacked_twice() {
-        assert_eq!(
-            read(gzip(&gzip(b"text")), 64 << 20),
-            Ok(Bytes::from_static(b"text"))
-        );
+        assert_eq!(read(gzip(&gzip(b"text")), 64 << 20), Ok(Bytes::from_static(b"text")));
         assert_eq!(read(gzip(&gzip(&vec![0; MOST + 1])), 64 << 20), Err(413));
         assert_eq!(read(gzip(&gzip(b"text")[..9]), 64 << 20), Err(400));
         let three = gzip(&gzip(&gzip(b"text")));
@@ -217,16 +214,10 @@ pub(super) mod tests {
     #[tokio::test]
     async fn a_body_is_received_whole_or_refused() {
         let most = 64 << 20;
-        assert_eq!(
-            received(Framing::Length(2), &[b"a", b"b"], most).await,
-            Ok(Bytes::from_static(b"ab"))
-        );
+        assert_eq!(received(Framing::Length(2), &[b"a", b"b"], most).await, Ok(Bytes::from_static(b"ab")));
         assert_eq!(received(Framing::Length(0), &[], most).await, Ok(Bytes::new()));
         assert_eq!(received(Framing::Length(2), &[b"a"], most).await, Err(400));
-        assert_eq!(
-            received(Framing::Length(MOST as u64 + 1), &[], most).await,
-            Err(413)
-        );
+        assert_eq!(received(Framing::Length(MOST as u64 + 1), &[], most).await, Err(413));
         assert_eq!(received(Framing::Length(100), &[&[0; 100]], 100).await, Err(413));
         let long = vec![7; MOST];
         assert_eq!(
@@ -244,11 +235,7 @@ pub(super) mod tests {
         let bytes: Vec<&[u8]> = chunks.chunks(1).collect();
         assert_eq!(received(Framing::Line, &bytes, most).await, expected);
         for cut in 0..chunks.len() {
-            assert_eq!(
-                received(Framing::Line, &[&chunks[..cut]], most).await,
-                Err(400),
-                "{cut}"
-            );
+            assert_eq!(received(Framing::Line, &[&chunks[..cut]], most).await, Err(400), "{cut}");
         }
         for wrong in [
             &b"x\r\n"[..],
@@ -259,20 +246,10 @@ pub(super) mod tests {
             b"1\r\na\r\n;a\r\n\r\n",
             b"1;a\nb\r\na\r\n0\r\n\r\n",
         ] {
-            assert_eq!(
-                received(Framing::Line, &[wrong], most).await,
-                Err(400),
-                "{wrong:?}"
-            );
+            assert_eq!(received(Framing::Line, &[wrong], most).await, Err(400), "{wrong:?}");
         }
-        assert_eq!(
-            received(Framing::Line, &[b"1;", &[b'a'; 8 << 10]], most).await,
-            Err(400)
-        );
+        assert_eq!(received(Framing::Line, &[b"1;", &[b'a'; 8 << 10]], most).await, Err(400));
         let (long, end) = (vec![0; MOST], &b"\r\n1\r\na\r\n0\r\n\r\n"[..]);
-        assert_eq!(
-            received(Framing::Line, &[b"400000\r\n", &long, end], most).await,
-            Err(413)
-        );
+        assert_eq!(received(Framing::Line, &[b"400000\r\n", &long, end], most).await, Err(413));
     }
 }

@@ -168,13 +168,7 @@ impl<T: Taker> Shared<T> {
         intake: Arc<Intake<T>>,
         stop: watch::Receiver<bool>,
     ) -> Arc<Shared<T>> {
-        Arc::new(Shared {
-            permits: ConnectionPermits::new(limits.connections),
-            limits,
-            door,
-            intake,
-            stop,
-        })
+        Arc::new(Shared { permits: ConnectionPermits::new(limits.connections), limits, door, intake, stop })
     }
 }
 
@@ -194,10 +188,7 @@ pub async fn spread<P: Protocol, T: Taker>(
         match shared.door.tls.clone() {
             Some(tls) => {
                 let runtime = tls.runtime();
-                open.spawn_on(
-                    over_tls::<P, T>(stream, peer, shared, threads, tls, held),
-                    &runtime,
-                );
+                open.spawn_on(over_tls::<P, T>(stream, peer, shared, threads, tls, held), &runtime);
             }
             None => {
                 let (thread, place) = threads.place();
@@ -252,14 +243,8 @@ pub async fn serve<L: Listener, H: Handler>(
     let (stopped, of_address) = (stop.clone(), permits.clone());
     let begin = |open: &mut JoinSet<()>, stream: L::Stream, held: Held| {
         let user = L::user(&stream);
-        let serving = connection(
-            stream,
-            user,
-            of_address.clone(),
-            limits.clone(),
-            handler.clone(),
-            stopped.clone(),
-        );
+        let serving =
+            connection(stream, user, of_address.clone(), limits.clone(), handler.clone(), stopped.clone());
         open.spawn(async move {
             serving.await;
             drop(held);
@@ -350,10 +335,7 @@ async fn connection<S: Transport, H: Handler>(
         })
     });
     let mut http = Http::new();
-    http.http1_only(true)
-        .http1_half_close(true)
-        .http1_writev(false)
-        .max_buf_size(READ_AHEAD);
+    http.http1_only(true).http1_half_close(true).http1_writev(false).max_buf_size(READ_AHEAD);
     let mut served = http.serve_connection(Watched::new(stream, pace.clone()), service);
     let mut closing = false;
     loop {

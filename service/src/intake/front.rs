@@ -152,12 +152,7 @@ struct Waiting {
 impl Waiting {
     fn new<T>(shared: &Shared<T>) -> Waiting {
         let limits = &shared.limits;
-        Waiting::of(
-            limits.head,
-            limits.idle,
-            shared.stop.clone(),
-            shared.permits.clone(),
-        )
+        Waiting::of(limits.head, limits.idle, shared.stop.clone(), shared.permits.clone())
     }
 
     fn of(

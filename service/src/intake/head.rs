@@ -90,11 +90,7 @@ impl Head {
         let sender = sender(who, of("authorization"), of("x-sender"))?;
         match content(request.headers) {
             Err(refusal) => Err(Turned { sender, refusal }),
-            Ok((encoding, packing)) => Ok(Head {
-                sender,
-                encoding,
-                packing,
-            }),
+            Ok((encoding, packing)) => Ok(Head { sender, encoding, packing }),
         }
     }
 }
@@ -121,9 +117,7 @@ fn is_of_metrics(target: &str) -> bool {
 }
 
 fn named<'a>(headers: &'a [Header<'a>], name: &'a str) -> impl Iterator<Item = &'a [u8]> + 'a {
-    let found = headers
-        .iter()
-        .filter(move |header| header.name.eq_ignore_ascii_case(name));
+    let found = headers.iter().filter(move |header| header.name.eq_ignore_ascii_case(name));
     found.map(|header| header.value)
 }
 
@@ -131,11 +125,7 @@ fn named<'a>(headers: &'a [Header<'a>], name: &'a str) -> impl Iterator<Item = &
 /// word that nothing is.
 fn words<'a>(headers: &'a [Header<'a>], name: &'a str) -> impl Iterator<Item = &'a str> + 'a {
     named(headers, name).flat_map(|value| {
-        std::str::from_utf8(value)
-            .unwrap_or("?")
-            .split(',')
-            .map(str::trim)
-            .filter(|word| !word.is_empty())
+        std::str::from_utf8(value).unwrap_or("?").split(',').map(str::trim).filter(|word| !word.is_empty())
     })
 }
 
@@ -162,9 +152,7 @@ fn has_length(headers: &[Header]) -> bool {
 fn length(value: &[u8]) -> Result<u64, Refusal> {
     let text = std::str::from_utf8(value).ok();
     let digits = text.filter(|text| text.bytes().all(|byte| byte.is_ascii_digit()));
-    digits
-        .and_then(|text| text.parse().ok())
-        .ok_or(Refusal::Malformed)
+    digits.and_then(|text| text.parse().ok()).ok_or(Refusal::Malformed)
 }
 
 fn expects(headers: &[Header]) -> bool {

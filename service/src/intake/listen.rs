@@ -69,8 +69,7 @@ impl Listener for TcpListener {
     }
 
     fn shown(&self) -> String {
-        self.local_addr()
-            .map_or_else(|error| error.to_string(), |address| address.to_string())
+        self.local_addr().map_or_else(|error| error.to_string(), |address| address.to_string())
     }
 }
 

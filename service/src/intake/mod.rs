@@ -135,13 +135,7 @@ pub struct Intake<T> {
 impl<T: Taker> Intake<T> {
     /// With one slot.
     pub fn new(taker: Arc<T>, reading: Reading, budget: Arc<Budget>, metrics: Arc<Metrics>) -> Intake<T> {
-        Intake::of(
-            Slots::one(taker),
-            Arc::new(()),
-            Arc::new(reading),
-            budget,
-            metrics,
-        )
+        Intake::of(Slots::one(taker), Arc::new(()), Arc::new(reading), budget, metrics)
     }
 
     pub fn of(
@@ -226,8 +220,7 @@ impl<T: Taker> Intake<T> {
             return post::prepare(head, body, hold, &self.slots, &self.reading, &self.metrics);
         }
         let (slots, reading, metrics) = (self.slots.clone(), self.reading.clone(), self.metrics.clone());
-        self.read_beside(move || post::prepare(head, body, hold, &slots, &reading, &metrics))
-            .await
+        self.read_beside(move || post::prepare(head, body, hold, &slots, &reading, &metrics)).await
     }
 
     /// Reads what is long on a thread beside the runtime's.
@@ -285,11 +278,7 @@ impl<T: Taker> Intake<T> {
                     unknown()
                 }
             };
-            of_parts.push(OfPart {
-                outcome,
-                part,
-                resources,
-            });
+            of_parts.push(OfPart { outcome, part, resources });
         }
         while let Some(answered) = asking.join_next().await {
             // One that panicked stays unknown.
@@ -345,10 +334,7 @@ impl<T: Taker> Intake<T> {
 
 /// Of a part that nobody has answered: it may have been taken.
 fn unknown() -> Outcome {
-    Outcome::Refused {
-        status: 503,
-        message: "no answer".into(),
-    }
+    Outcome::Refused { status: 503, message: "no answer".into() }
 }
 
 /// Whether a body is short, which is unpacked then. A few kilobytes may be packed megabytes.
@@ -371,11 +357,7 @@ mod tests {
     /// How a body goes on, and whether it is read in place.
     fn seen(packing: Packing, body: Bytes) -> (Packing, usize, bool) {
         let (sender, encoding) = ("-".to_string(), Encoding::Json);
-        let mut head = Head {
-            sender,
-            encoding,
-            packing,
-        };
+        let mut head = Head { sender, encoding, packing };
         let mut body = body;
         let is_short = is_short(&mut head, &mut body, &mut Budget::new(1 << 20).hold()).unwrap();
         (head.packing, body.len(), is_short)

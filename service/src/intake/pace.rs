@@ -37,9 +37,7 @@ pub struct Pace(Mutex<Phase>);
 
 impl Pace {
     pub fn new() -> Arc<Pace> {
-        Arc::new(Pace(Mutex::new(Phase::New {
-            since: Instant::now(),
-        })))
+        Arc::new(Pace(Mutex::new(Phase::New { since: Instant::now() })))
     }
 
     pub fn request_begins(&self) {
@@ -47,9 +45,7 @@ impl Pace {
     }
 
     pub fn request_ends(&self) {
-        self.set(|_| Phase::Idle {
-            since: Instant::now(),
-        });
+        self.set(|_| Phase::Idle { since: Instant::now() });
     }
 
     /// Whether nothing came yet, so that nothing is owed.
@@ -83,9 +79,9 @@ impl Pace {
 
     fn bytes_came(&self) {
         self.set(|phase| match phase {
-            Phase::New { .. } | Phase::Idle { .. } | Phase::Unread { .. } => Phase::Head {
-                since: Instant::now(),
-            },
+            Phase::New { .. } | Phase::Idle { .. } | Phase::Unread { .. } => {
+                Phase::Head { since: Instant::now() }
+            }
             other => other,
         });
     }
@@ -165,11 +161,7 @@ mod tests {
 
     #[test]
     fn only_what_waits_for_the_sender_is_overdue() {
-        let at_once = Limits {
-            connections: 1,
-            head: Duration::ZERO,
-            idle: Duration::from_secs(60),
-        };
+        let at_once = Limits { connections: 1, head: Duration::ZERO, idle: Duration::from_secs(60) };
         let pace = Pace::new();
         assert_eq!(pace.overdue(&at_once, false), None);
         assert!(pace.is_new());
@@ -182,19 +174,12 @@ mod tests {
         pace.request_ends();
         assert_eq!(pace.overdue(&at_once, false), None);
         let idle = Duration::ZERO;
-        assert_eq!(
-            pace.overdue(&Limits { idle, ..at_once }, false),
-            Some(Overdue::Idle)
-        );
+        assert_eq!(pace.overdue(&Limits { idle, ..at_once }, false), Some(Overdue::Idle));
     }
 
     #[test]
     fn who_does_not_read_idles() {
-        let limits = Limits {
-            connections: 1,
-            head: Duration::ZERO,
-            idle: Duration::from_secs(60),
-        };
+        let limits = Limits { connections: 1, head: Duration::ZERO, idle: Duration::from_secs(60) };
         let pace = Pace::new();
         let is_overdue = |is_full| pace.overdue(&limits, is_full).is_some();
         pace.request_begins();

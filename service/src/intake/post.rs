@@ -48,18 +48,16 @@ pub(super) enum Ask<T> {
         rounded: Rounded,
     },
     /// Its owner reads the part.
-    Away { slot: u16, part: Original },
+    Away {
+        slot: u16,
+        part: Original,
+    },
 }
 
 impl<T: Taker> Ask<T> {
     pub async fn answered(self, sender: &str, slots: &Slots<T>, metrics: &Metrics) -> Outcome {
         match self {
-            Ask::Here {
-                taker,
-                request,
-                original,
-                rounded,
-            } => {
+            Ask::Here { taker, request, original, rounded } => {
                 let outcome = taker.post_with(sender, request, original).await;
                 if let Outcome::Taken { .. } = outcome {
                     metrics.rounded(&rounded);
@@ -73,12 +71,7 @@ impl<T: Taker> Ask<T> {
     /// Of memory.
     fn bytes(&self) -> usize {
         match self {
-            Ask::Here {
-                request,
-                original,
-                rounded,
-                ..
-            } => {
+            Ask::Here { request, original, rounded, .. } => {
                 let came = original.as_ref().map_or(0, |original| original.body.len());
                 request.bytes() + rounded.bytes() + came
             }
@@ -160,12 +153,7 @@ impl<'r> Reader<'r> {
         reading: &'r Arc<Reading>,
         hold: &'r mut Hold,
     ) -> Result<Reader<'r>, Refusal> {
-        let mut reader = Reader {
-            encoding,
-            reading,
-            hold,
-            most: 0,
-        };
+        let mut reader = Reader { encoding, reading, hold, most: 0 };
         reader.takes(length)?;
         Ok(reader)
     }
@@ -183,11 +171,7 @@ impl<'r> Reader<'r> {
 
     /// What can't be read is refused by its slot; what there is no memory for is refused with all of its request.
     fn part<T: Taker>(&mut self, part: Part, slots: &Slots<T>) -> Result<AskedPart<T>, Refusal> {
-        let Part {
-            slot,
-            body,
-            resources,
-        } = part;
+        let Part { slot, body, resources } = part;
         let encoding = self.encoding;
         let part = Original { encoding, body };
         let ask = match slots.here(slot) {
@@ -195,20 +179,14 @@ impl<'r> Reader<'r> {
                 Err(Refusal::Unreadable(why)) => Err(Refusal::Unreadable(why)),
                 read => Ok(read?),
             },
-            None => Ok(Ask::Away {
-                slot,
-                part: part.clone(),
-            }),
+            None => Ok(Ask::Away { slot, part: part.clone() }),
         };
         Ok(AskedPart { part, resources, ask })
     }
 
     fn here<T: Taker>(&mut self, taker: Arc<T>, body: Bytes) -> Result<Ask<T>, Refusal> {
         let encoding = self.encoding;
-        let original = taker.wants_originals().then(|| Original {
-            encoding,
-            body: body.clone(),
-        });
+        let original = taker.wants_originals().then(|| Original { encoding, body: body.clone() });
         let reading = taker.reading(self.reading);
         let numbered = match encoding {
             Encoding::Json => None,
@@ -221,12 +199,7 @@ impl<'r> Reader<'r> {
             }
             None => self.written(&*taker, reading, body)?,
         };
-        Ok(Ask::Here {
-            taker,
-            request,
-            original,
-            rounded,
-        })
+        Ok(Ask::Here { taker, request, original, rounded })
     }
 
     fn written(
@@ -239,11 +212,8 @@ impl<'r> Reader<'r> {
             let both = self.most + WHILE_READ_JSON * more;
             self.hold.set(both).map_err(Refusal::from)
         };
-        let Prepared {
-            body,
-            rounded,
-            is_cumulative,
-        } = otlp::prepare_with(self.encoding, body, reading, room)?;
+        let Prepared { body, rounded, is_cumulative } =
+            otlp::prepare_with(self.encoding, body, reading, room)?;
         let numbered = match is_cumulative && reading.cumulative == Cumulative::On {
             true => taker.numbered_text(&body).map_err(|_| Refusal::NoMemory)?,
             false => None,

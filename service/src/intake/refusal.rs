@@ -110,9 +110,6 @@ impl From<Refused> for Refusal {
 
 impl From<&Refusal> for Outcome {
     fn from(refusal: &Refusal) -> Outcome {
-        Outcome::Refused {
-            status: refusal.status(),
-            message: refusal.to_string(),
-        }
+        Outcome::Refused { status: refusal.status(), message: refusal.to_string() }
     }
 }

@@ -51,21 +51,14 @@ impl Threads {
 
 impl Thread {
     fn start(name: String) -> Result<Thread> {
-        let runtime = Builder::new_current_thread()
-            .max_blocking_threads(LONG_WORK)
-            .enable_all()
-            .build()?;
+        let runtime = Builder::new_current_thread().max_blocking_threads(LONG_WORK).enable_all().build()?;
         let handle = runtime.handle().clone();
         let (end, ended) = oneshot::channel::<()>();
         std::thread::Builder::new().name(name).spawn(move || {
             runtime.block_on(rest_until(ended));
             runtime.shutdown_background(); // who still waits for a disk or a sender is not waited for
         })?;
-        Ok(Thread {
-            runtime: handle,
-            connections: Arc::default(),
-            _end: end,
-        })
+        Ok(Thread { runtime: handle, connections: Arc::default(), _end: end })
     }
 }
 
@@ -90,13 +83,7 @@ mod tests {
     #[test]
     fn places_are_spread() {
         let threads = Threads::new(2).unwrap();
-        let loads = || {
-            threads
-                .0
-                .iter()
-                .map(|thread| thread.connections.load(Relaxed))
-                .collect::<Vec<_>>()
-        };
+        let loads = || threads.0.iter().map(|thread| thread.connections.load(Relaxed)).collect::<Vec<_>>();
         let mut places: Vec<Place> = (0..4).map(|_| threads.place().1).collect();
         assert_eq!(loads(), [2, 2]);
         places.remove(0);

@@ -20,10 +20,7 @@ pub enum Full {
 
 impl Budget {
     pub fn new(most: usize) -> Arc<Budget> {
-        Arc::new(Budget {
-            most,
-            used: AtomicUsize::new(0),
-        })
+        Arc::new(Budget { most, used: AtomicUsize::new(0) })
     }
 
     pub fn most(&self) -> usize {
@@ -36,18 +33,12 @@ impl Budget {
 
     /// A part of the budget, of no bytes yet.
     pub fn hold(self: &Arc<Self>) -> Hold {
-        Hold {
-            budget: self.clone(),
-            bytes: 0,
-        }
+        Hold { budget: self.clone(), bytes: 0 }
     }
 
     fn take(&self, bytes: usize) -> Result<(), Full> {
         let room = |used: usize| used.checked_add(bytes).filter(|sum| *sum <= self.most);
-        self.used
-            .fetch_update(Relaxed, Relaxed, room)
-            .map(|_| ())
-            .map_err(|_| Full::Now)
+        self.used.fetch_update(Relaxed, Relaxed, room).map(|_| ()).map_err(|_| Full::Now)
     }
 }
 

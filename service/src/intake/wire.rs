@@ -143,9 +143,7 @@ impl<S: AsyncRead + AsyncWrite + Unpin> Wire<S> {
         while self.input.len() < wanted {
             self.some_more().await?;
         }
-        let piece = self
-            .input
-            .split_to(wanted.max(self.input.len().min(left as usize)));
+        let piece = self.input.split_to(wanted.max(self.input.len().min(left as usize)));
         self.body = match left - piece.len() as u64 {
             0 => end,
             left => rest(left),

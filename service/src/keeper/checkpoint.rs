@@ -143,24 +143,14 @@ pub(super) fn flush_in_parts(
 /// Under the lock that took all of the book, and that of the runs: so they are those of the group's posts.
 fn turn(slot: &Slot, runs: &State) -> Group {
     let (next, turned) = slot.journal.turn();
-    Group {
-        posts: slot.ungrouped(),
-        next,
-        turned,
-        runs: runs.changed(),
-    }
+    Group { posts: slot.ungrouped(), next, turned, runs: runs.changed() }
 }
 
 /// Journal first, then outbox: a group is committed once all its posts are on the disk, and so is what no flush takes. How many
 /// requests it has, and which runs. Where a drive keeps that order by itself, nothing is waited for: who has a lock may call
 /// it, and settles the outbox without.
 pub(super) fn commit(slot: &Slot, bodies: &[Vec<u8>], group: Group) -> Result<(u64, Runs), Fault> {
-    let Group {
-        posts,
-        next,
-        turned,
-        runs,
-    } = group;
+    let Group { posts, next, turned, runs } = group;
     let first = slot.outbox.journal();
     slot.journal.settle(turned);
     let held = slot.outbox.quarantined();

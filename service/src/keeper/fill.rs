@@ -52,10 +52,7 @@ pub(super) fn fill(
         fresh: Fresh {
             slot,
             book,
-            filled: Filled {
-                runs: State::of(&slot.outbox),
-                ..Filled::default()
-            },
+            filled: Filled { runs: State::of(&slot.outbox), ..Filled::default() },
             shown: Instant::now(),
         },
         stops,
@@ -170,11 +167,7 @@ impl<S: Fn() -> bool> Filling<'_, S> {
 
 impl Priming {
     fn of(owner: &str, series: &[(SeriesKey, u64)]) -> Priming {
-        Priming {
-            owner: owner.into(),
-            series: series.to_vec(),
-            posts: Ok(Vec::new()),
-        }
+        Priming { owner: owner.into(), series: series.to_vec(), posts: Ok(Vec::new()) }
     }
 
     fn be_read(&mut self, core: &Core) {
@@ -197,12 +190,7 @@ impl Again {
             queue.wait_until_empty();
             read = numbers.unread(&post);
         }
-        Again {
-            sender: post.sender,
-            foreign: post.foreign,
-            said: Ok(()),
-            read,
-        }
+        Again { sender: post.sender, foreign: post.foreign, said: Ok(()), read }
     }
 
     /// What was read of it.
@@ -309,11 +297,7 @@ impl Fresh<'_> {
         if self.shown.elapsed() >= PROGRESS {
             self.shown = Instant::now();
             let (slot, posts) = (self.slot.number(), self.filled.posts);
-            tracing::info!(
-                slot,
-                posts,
-                "slot {slot}: the book has {posts} posts of the journal so far"
-            );
+            tracing::info!(slot, posts, "slot {slot}: the book has {posts} posts of the journal so far");
         }
     }
 }

@@ -84,9 +84,7 @@ fn renew<T>(slot: &Arc<Slot>, change: impl FnOnce(&Slot) -> Result<T, Fault>) ->
     };
     commit(slot, &bodies, group)?;
     let changed = change(slot)?;
-    let filled = fill(slot, &mut fresh, || false)
-        .map_err(not_filled)?
-        .unwrap_or_default();
+    let filled = fill(slot, &mut fresh, || false).map_err(not_filled)?.unwrap_or_default();
     let old = std::mem::replace(&mut *book, fresh);
     slot.runs.put(&mut runs, filled.runs);
     slot.set_ungrouped(filled.posts);
@@ -123,12 +121,7 @@ fn with_posts(slot: &Slot) -> Result<HashSet<SeriesKey>, Fault> {
     let mut found = HashSet::new();
     let mut series = SeriesOfPosts::default();
     slot.journal.posts(slot.outbox.journal(), u64::MAX, |post| {
-        found.extend(
-            series
-                .of(&post)
-                .into_iter()
-                .flat_map(|posted| posted.series.into_keys()),
-        );
+        found.extend(series.of(&post).into_iter().flat_map(|posted| posted.series.into_keys()));
         true
     })?;
     Ok(found)

@@ -32,11 +32,7 @@ pub(super) enum Number {
 
 impl Numbers {
     pub fn new(core: Arc<Core>) -> Numbers {
-        Numbers {
-            core,
-            own: Arc::default(),
-            of_file: HashMap::new(),
-        }
+        Numbers { core, own: Arc::default(), of_file: HashMap::new() }
     }
 
     pub fn own(&self) -> Arc<Own> {

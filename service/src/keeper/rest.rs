@@ -18,10 +18,7 @@ pub(super) struct Rest {
 
 impl Rest {
     pub fn new() -> Rest {
-        Rest {
-            next: Instant::now() + LOOK,
-            came: 0,
-        }
+        Rest { next: Instant::now() + LOOK, came: 0 }
     }
 }
 

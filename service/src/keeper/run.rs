@@ -197,9 +197,7 @@ pub(crate) fn settle(slot: &Slot) -> Result<(), Fault> {
 /// Of such series right points are refused.
 fn tell_ahead(slot: &Slot) {
     let now = SystemTime::now().duration_since(UNIX_EPOCH).unwrap_or_default() + AHEAD;
-    let (series_count, last) = slot
-        .outbox
-        .ahead_of(u64::try_from(now.as_nanos()).unwrap_or(u64::MAX));
+    let (series_count, last) = slot.outbox.ahead_of(u64::try_from(now.as_nanos()).unwrap_or(u64::MAX));
     if let Some(last) = last {
         let (slot, series) = (slot.number(), shown(&last.0, SERIES_SHOWN));
         tracing::warn!(
@@ -231,11 +229,7 @@ mod tests {
             (1, bytes, false),
             (1, bytes + 1, true),
         ] {
-            assert_eq!(
-                are_many_in_store(posts, bytes),
-                are_many,
-                "{posts} posts, {bytes} bytes"
-            );
+            assert_eq!(are_many_in_store(posts, bytes), are_many, "{posts} posts, {bytes} bytes");
         }
     }
 }

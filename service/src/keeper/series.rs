@@ -19,10 +19,9 @@ impl SeriesOfPosts {
         }
         match &read.post.body {
             Body::Text(body) => posted(body),
-            Body::Points(points) => Some(Posted {
-                series: self.of_points(points)?,
-                foreign: read.post.foreign,
-            }),
+            Body::Points(points) => {
+                Some(Posted { series: self.of_points(points)?, foreign: read.post.foreign })
+            }
         }
     }
 
@@ -53,16 +52,9 @@ mod tests {
     }
 
     fn of(series: &mut SeriesOfPosts, body: Body, named: &[(u64, &str)]) -> Option<Vec<(String, u64)>> {
-        let post = Post {
-            sender: "s".into(),
-            foreign: 0,
-            body,
-        };
+        let post = Post { sender: "s".into(), foreign: 0, body };
         let named = named.iter().map(|(number, name)| (*number, text(name, 2)));
-        let posted = series.of(&Replayed {
-            post,
-            named: named.collect(),
-        })?;
+        let posted = series.of(&Replayed { post, named: named.collect() })?;
         let names = posted.series.into_iter();
         let mut names: Vec<_> = names.map(|(key, end)| (key.parts().unwrap().name, end)).collect();
         names.sort();
@@ -81,11 +73,7 @@ mod tests {
     fn a_number_stands_for_what_was_said_last() {
         let mut series = SeriesOfPosts::default();
         let pair = |name: &str, end| (name.to_string(), end);
-        let both = of(
-            &mut series,
-            points(&[(0, 9), (7, 8), (0, 7)]),
-            &[(7, "b"), (0, "a")],
-        );
+        let both = of(&mut series, points(&[(0, 9), (7, 8), (0, 7)]), &[(7, "b"), (0, "a")]);
         assert_eq!(both, Some(vec![pair("a", 9), pair("b", 8)]));
         let one = of(&mut series, Body::Text(text("c", 6)), &[(0, "d")]);
         assert_eq!(one, Some(vec![pair("c", 6)]));

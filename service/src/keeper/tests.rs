@@ -49,12 +49,7 @@ impl Run {
         let (keeper, orders) = Keeper::new(slot.clone(), settings);
         let (stop, stopped) = watch::channel(false);
         let running = tokio::spawn(keeper.run(stopped));
-        Run {
-            slot,
-            orders,
-            stop,
-            running,
-        }
+        Run { slot, orders, stop, running }
     }
 
     /// A point of a series after those before.
@@ -117,10 +112,7 @@ fn long_point(series: usize, length: usize) -> String {
 
 /// A keeper that orders nothing by itself.
 pub(crate) fn settings() -> Settings {
-    Settings {
-        every: Duration::from_secs(3600),
-        forget: None,
-    }
+    Settings { every: Duration::from_secs(3600), forget: None }
 }
 
 fn is_in(part: &str, path: &Path) -> bool {

@@ -31,10 +31,7 @@ impl Form {
     /// That of this process.
     pub fn new(is_json: bool) -> Form {
         let named = std::env::var(JOURNAL).unwrap_or_default();
-        Form {
-            is_json,
-            has_priority: is_standard_error(&named),
-        }
+        Form { is_json, has_priority: is_standard_error(&named) }
     }
 
     /// A line of what has happened.
@@ -54,11 +51,7 @@ impl Form {
     }
 
     fn object(self, level: Level, text: &str, fields: &[(&str, Value)]) -> String {
-        let own = [
-            ("time", now()),
-            ("level", level.to_string()),
-            ("text", all_shown(text)),
-        ];
+        let own = [("time", now()), ("level", level.to_string()), ("text", all_shown(text))];
         let own = own.map(|(name, value)| (name, Value::from(value)));
         let members = own.iter().chain(fields);
         let members = members.map(|(name, value)| format!("{}:{value}", Value::from(*name)));
@@ -162,20 +155,12 @@ mod tests {
 
     /// What is written of one warning.
     fn written(is_json: bool, has_priority: bool) -> String {
-        let form = Form {
-            is_json,
-            has_priority,
-        };
+        let form = Form { is_json, has_priority };
         let log = Arc::new(Log::new(IntCounter::new("lost", "lost").unwrap(), form));
         let registry = tracing_subscriber::registry().with(Events(log.clone()));
         tracing::subscriber::with_default(registry, || {
             let (sender, reason) = ("a", "x\u{1b}[2J \"y\"");
-            tracing::warn!(
-                sender,
-                reason,
-                points = 7,
-                "points of {sender}\n<3>are not taken: {reason}"
-            );
+            tracing::warn!(sender, reason, points = 7, "points of {sender}\n<3>are not taken: {reason}");
             tracing::error!(target: "h2::codec", stream = 5, "lost");
         });
         let text = String::from_utf8(log.state().waiting.text.clone()).unwrap();
@@ -187,10 +172,7 @@ mod tests {
         let text = written(false, false);
         let lines: Vec<&str> = text.lines().collect();
         assert_eq!(lines.len(), 2, "{text}");
-        assert!(
-            lines[0].ends_with("Z  WARN points of a <3>are not taken: x [2J \"y\""),
-            "{text}"
-        );
+        assert!(lines[0].ends_with("Z  WARN points of a <3>are not taken: x [2J \"y\""), "{text}");
         assert!(lines[1].ends_with("Z ERROR lost stream=5"), "{text}");
     }
 
@@ -215,10 +197,7 @@ mod tests {
             let begins: Vec<&str> = text.lines().map(|line| &line[..3]).collect();
             assert_eq!(begins, ["<4>", "<3>"], "{text}");
         }
-        let form = Form {
-            is_json: false,
-            has_priority: true,
-        };
+        let form = Form { is_json: false, has_priority: true };
         assert_eq!(form.note(Level::ERROR, "a\nb"), "<3>totxegun: a\n<3>b\n");
         assert_eq!(priority(Level::INFO), 5);
     }

@@ -16,10 +16,7 @@ impl RateLimit {
     }
 
     pub const fn every(between: Duration) -> RateLimit {
-        RateLimit {
-            between,
-            last: Mutex::new(None),
-        }
+        RateLimit { between, last: Mutex::new(None) }
     }
 
     /// Whether it may be told now.

@@ -12,9 +12,7 @@ pub fn all_shown(text: &str) -> String {
 
 /// The first characters of a text.
 pub fn cut(text: &str, most: usize) -> &str {
-    text.char_indices()
-        .nth(most)
-        .map_or(text, |(end, _)| &text[..end])
+    text.char_indices().nth(most).map_or(text, |(end, _)| &text[..end])
 }
 
 /// A blank in the place of what ends a line, moves a cursor, or turns the direction of what follows.
@@ -32,10 +30,7 @@ mod tests {
 
     #[test]
     fn it_is_one_short_line() {
-        assert_eq!(
-            shown(" a\nb\u{1b}[2J\u{7f}\u{9b}2J\u{2028}c\u{202e} ", 300),
-            "a b [2J  2J c "
-        );
+        assert_eq!(shown(" a\nb\u{1b}[2J\u{7f}\u{9b}2J\u{2028}c\u{202e} ", 300), "a b [2J  2J c ");
         assert_eq!(shown(&"\u{e9}".repeat(1000), 7), "\u{e9}".repeat(7));
         assert_eq!(all_shown("a\r\nb "), "a  b ");
     }

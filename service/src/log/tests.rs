@@ -5,10 +5,7 @@ use std::io::Read;
 use std::sync::atomic::{AtomicBool, Ordering::Relaxed};
 
 fn log() -> Arc<Log> {
-    Arc::new(Log::new(
-        IntCounter::new("lost", "lost").unwrap(),
-        Form::default(),
-    ))
+    Arc::new(Log::new(IntCounter::new("lost", "lost").unwrap(), Form::default()))
 }
 
 fn line(number: usize) -> String {
@@ -27,9 +24,7 @@ fn wait(log: &Log) {
 
 /// The number in a line that says how many are missing.
 fn missing(line: &str) -> Option<u64> {
-    line.strip_prefix("totxegun: lines of the log that are missing here: ")?
-        .parse()
-        .ok()
+    line.strip_prefix("totxegun: lines of the log that are missing here: ")?.parse().ok()
 }
 
 #[test]
@@ -103,10 +98,7 @@ fn what_can_not_be_written_is_missed_in_its_place() {
     say("fourth\n");
     let text = String::from_utf8(out.text.lock().unwrap().clone()).unwrap();
     let lines: Vec<&str> = text.lines().collect();
-    assert_eq!(
-        (lines[0], missing(lines[1]), &lines[2..]),
-        ("first", Some(2), &["fourth"][..])
-    );
+    assert_eq!((lines[0], missing(lines[1]), &lines[2..]), ("first", Some(2), &["fourth"][..]));
     assert_eq!(log.lost.get(), 2);
 }
 

@@ -51,10 +51,7 @@ impl Maker<'_> {
     }
 
     fn gauges(&self, name: &str, help: &str, label: &str) -> Result<IntGaugeVec> {
-        self.made(IntGaugeVec::new(
-            Opts::new(format!("totxegun_{name}"), help),
-            &[label],
-        ))
+        self.made(IntGaugeVec::new(Opts::new(format!("totxegun_{name}"), help), &[label]))
     }
 
     fn counter(&self, name: &str, help: &str) -> Result<IntCounter> {
@@ -62,10 +59,7 @@ impl Maker<'_> {
     }
 
     fn counters(&self, name: &str, help: &str, label: &str) -> Result<IntCounterVec> {
-        self.made(IntCounterVec::new(
-            Opts::new(format!("totxegun_{name}"), help),
-            &[label],
-        ))
+        self.made(IntCounterVec::new(Opts::new(format!("totxegun_{name}"), help), &[label]))
     }
 }
 
@@ -80,10 +74,8 @@ impl OfCluster {
                 "The term of each slot that is here: it goes up whenever a slot is taken",
                 "slot",
             )?,
-            without_owner: maker.gauge(
-                "slots_without_owner",
-                "Slots that no instance serves, as far as this one knows",
-            )?,
+            without_owner: maker
+                .gauge("slots_without_owner", "Slots that no instance serves, as far as this one knows")?,
             longest_without_owner: maker.seconds(
                 "longest_without_owner_seconds",
                 "For how long no instance has served the slot of these for which it is longest",
@@ -98,14 +90,9 @@ impl OfCluster {
                 "On how many servers what is committed in a database is; not there where it is not known",
                 "database",
             )?,
-            copies_asked: maker.gauge(
-                "store_copies_asked",
-                "On how many it has to be, by --store-copies",
-            )?,
-            doubt: maker.made(GaugeVec::new(
-                Opts::new("totxegun_store_doubt_seconds", doubt),
-                &["database"],
-            ))?,
+            copies_asked: maker.gauge("store_copies_asked", "On how many it has to be, by --store-copies")?,
+            doubt: maker
+                .made(GaugeVec::new(Opts::new("totxegun_store_doubt_seconds", doubt), &["database"]))?,
             forwarded: maker.counters(
                 "forwarded_posts_total",
                 "Posts, or parts of them, that were brought to the instance of their slot, by what came back",
@@ -118,10 +105,7 @@ impl OfCluster {
             )?,
             takeovers: maker.counter("takeovers_total", "Slots that this instance has taken")?,
             hand_overs: maker.counter("hand_overs_total", "Slots that it has handed over")?,
-            lost: maker.counter(
-                "slots_lost_total",
-                "Slots that another has taken while they were here",
-            )?,
+            lost: maker.counter("slots_lost_total", "Slots that another has taken while they were here")?,
             setting: Mutex::default(),
         })
     }
@@ -139,22 +123,16 @@ impl OfCluster {
         self.slots_owned.set(owned as i64);
         self.slot_term.reset();
         for (slot, term) in &seen.terms {
-            self.slot_term
-                .with_label_values(&[&slot.to_string()])
-                .set(*term as i64);
+            self.slot_term.with_label_values(&[&slot.to_string()]).set(*term as i64);
         }
         self.without_owner.set(seen.without_owner as i64);
-        self.longest_without_owner
-            .set(seen.longest_without_owner.as_secs_f64());
+        self.longest_without_owner.set(seen.longest_without_owner.as_secs_f64());
         self.instances.set(seen.instances() as i64);
-        self.beat_age
-            .set(seen.beat_age().unwrap_or_default().as_secs_f64());
+        self.beat_age.set(seen.beat_age().unwrap_or_default().as_secs_f64());
         self.set_databases(databases);
-        for (result, count) in [
-            ("answered", forwarded.answered),
-            ("not_mine", forwarded.not_mine),
-            ("broken", forwarded.broken),
-        ] {
+        for (result, count) in
+            [("answered", forwarded.answered), ("not_mine", forwarded.not_mine), ("broken", forwarded.broken)]
+        {
             bring(&self.forwarded.with_label_values(&[result]), count);
         }
         for (outcome, count) in [
@@ -178,9 +156,7 @@ impl OfCluster {
                 self.copies.with_label_values(&label).set(copies as i64);
             }
             self.copies_asked.set(database.copies_asked as i64);
-            self.doubt
-                .with_label_values(&label)
-                .set(database.doubt_seconds as f64);
+            self.doubt.with_label_values(&label).set(database.doubt_seconds as f64);
         }
     }
 }
@@ -206,53 +182,26 @@ mod tests {
             longest_without_owner: Duration::from_millis(31_500),
             terms: terms.iter().copied().collect::<BTreeMap<_, _>>(),
             beat_ages: vec![Some(Duration::from_millis(250))],
-            counted: Counted {
-                takeovers,
-                hand_overs: 1,
-                lost: 0,
-            },
+            counted: Counted { takeovers, hand_overs: 1, lost: 0 },
             ..Status::default()
         }
     }
 
     fn other(name: &str, is_gone: bool) -> OtherInstance {
-        OtherInstance {
-            name: name.into(),
-            is_gone,
-            ..OtherInstance::default()
-        }
+        OtherInstance { name: name.into(), is_gone, ..OtherInstance::default() }
     }
 
     fn database(copies: Option<u64>) -> DatabaseStatus {
-        DatabaseStatus {
-            database: "db/x".into(),
-            copies,
-            copies_asked: 2,
-            why: None,
-            doubt_seconds: 12,
-        }
+        DatabaseStatus { database: "db/x".into(), copies, copies_asked: 2, why: None, doubt_seconds: 12 }
     }
 
     #[test]
     fn the_page_has_what_is_seen_now_and_counters_as_they_are() {
         let metrics = Metrics::new().unwrap();
         let of_cluster = OfCluster::new(&metrics.registry).unwrap();
-        let (writes, forwarded) = (
-            Counts::default(),
-            Forwarded {
-                answered: 7,
-                not_mine: 2,
-                broken: 1,
-            },
-        );
+        let (writes, forwarded) = (Counts::default(), Forwarded { answered: 7, not_mine: 2, broken: 1 });
         writes.commits.store(40, Relaxed);
-        of_cluster.set(
-            2,
-            &seen(&[(3, 5), (4, 9)], 2),
-            &[database(Some(1))],
-            forwarded,
-            &writes,
-        );
+        of_cluster.set(2, &seen(&[(3, 5), (4, 9)], 2), &[database(Some(1))], forwarded, &writes);
         of_cluster.set(1, &seen(&[(4, 10)], 3), &[database(Some(1))], forwarded, &writes);
         let page = || String::from_utf8(metrics.page()).unwrap();
         let has = |line: &str| page().lines().any(|found| found == line);

@@ -10,12 +10,7 @@ use std::collections::HashSet;
 use std::sync::Mutex;
 
 /// Kinds of what must never be.
-const FAULTS: [&[&str]; 4] = [
-    &["reading"],
-    &["owner"],
-    &["replay"],
-    &["points_rejected_by_sink"],
-];
+const FAULTS: [&[&str]; 4] = [&["reading"], &["owner"], &["replay"], &["points_rejected_by_sink"]];
 
 const SECONDS: [f64; 10] = [0.001, 0.003, 0.01, 0.03, 0.1, 0.3, 1.0, 3.0, 10.0, 30.0];
 
@@ -84,10 +79,8 @@ pub fn metrics() -> Result<Metrics> {
             "noted_runs_total",
             "Cumulative series that count from their first point here on: what they had before is left out",
         )?,
-        forgotten_series: maker.counter(
-            "forgotten_series_total",
-            "Series that were forgotten for their age",
-        )?,
+        forgotten_series: maker
+            .counter("forgotten_series_total", "Series that were forgotten for their age")?,
         log_lines_lost: maker.counter(
             "log_lines_lost_total",
             "Lines of the log that nobody took in time, or that could not be written",
@@ -120,32 +113,18 @@ pub fn metrics() -> Result<Metrics> {
 fn levels(maker: &Maker) -> Result<Levels> {
     Ok(Levels {
         ready: maker.gauge("ready", "1 while posts are taken, 0 while they are answered 503")?,
-        post_bytes_in_flight: maker.gauge(
-            "post_bytes_in_flight",
-            "Memory that posts hold until they are answered",
-        )?,
+        post_bytes_in_flight: maker
+            .gauge("post_bytes_in_flight", "Memory that posts hold until they are answered")?,
         journal_bytes: maker.gauge("journal_bytes", "Bytes of the journal's segments")?,
-        journal_age_seconds: maker.gauge(
-            "journal_age_seconds",
-            "Age of the oldest post that may not be flushed yet",
-        )?,
+        journal_age_seconds: maker
+            .gauge("journal_age_seconds", "Age of the oldest post that may not be flushed yet")?,
         outbox_requests: maker.gauge("outbox_requests", "Requests that the sink does not have")?,
-        outbox_bytes: maker.gauge(
-            "outbox_bytes",
-            "Bytes on disk of requests that the sink does not have",
-        )?,
-        outbox_age_seconds: maker.gauge(
-            "outbox_age_seconds",
-            "Age of the oldest request that the sink does not have",
-        )?,
-        dead_requests: maker.gauge(
-            "dead_requests",
-            "Requests that the sink refused for good, kept aside",
-        )?,
-        quarantined_senders: maker.gauge(
-            "quarantined_senders",
-            "Senders whose points are kept back and whose posts are refused",
-        )?,
+        outbox_bytes: maker.gauge("outbox_bytes", "Bytes on disk of requests that the sink does not have")?,
+        outbox_age_seconds: maker
+            .gauge("outbox_age_seconds", "Age of the oldest request that the sink does not have")?,
+        dead_requests: maker.gauge("dead_requests", "Requests that the sink refused for good, kept aside")?,
+        quarantined_senders: maker
+            .gauge("quarantined_senders", "Senders whose points are kept back and whose posts are refused")?,
         held_posts: maker.gauge("held_posts", "Posts of quarantined senders that are kept back")?,
         held_bytes: maker.gauge("held_bytes", "Bytes on disk of these posts")?,
         delivery_stuck: maker.gauge(
@@ -153,10 +132,8 @@ fn levels(maker: &Maker) -> Result<Levels> {
             "1 while a request that waits can't be delivered since its file was changed",
         )?,
         disk_call_seconds: maker.call_seconds()?,
-        disk_free_bytes: maker.gauge(
-            "disk_free_bytes",
-            "Bytes that are free on the file system of the folder",
-        )?,
+        disk_free_bytes: maker
+            .gauge("disk_free_bytes", "Bytes that are free on the file system of the folder")?,
         series: maker.gauge("series", "Series that are known")?,
         cumulative_series: maker.gauge("cumulative_series", "Series whose points come cumulative")?,
         most_series: maker.gauge("most_series", "So many series fit for sure")?,

@@ -121,14 +121,10 @@ impl Metrics {
         for (cause, points) in causes.iter() {
             let name = cause.name();
             if expected.contains(&cause) {
-                self.expected_foreign_points
-                    .with_label_values(&[&name])
-                    .inc_by(points);
+                self.expected_foreign_points.with_label_values(&[&name]).inc_by(points);
             } else {
                 let label = if self.has_label(sender) { sender } else { "other" };
-                self.foreign_points
-                    .with_label_values(&[label, &name])
-                    .inc_by(points);
+                self.foreign_points.with_label_values(&[label, &name]).inc_by(points);
             }
         }
     }
@@ -158,9 +154,7 @@ impl Metrics {
     /// Counts what was rounded of a post that was taken.
     pub fn rounded(&self, rounded: &Rounded) {
         for (rule, rounding) in &rounded.by_rule {
-            self.rounded_values
-                .with_label_values(&[rule])
-                .inc_by(rounding.values);
+            self.rounded_values.with_label_values(&[rule]).inc_by(rounding.values);
             self.rounding.with_label_values(&[rule]).inc_by(rounding.together);
         }
         self.by_series.add(rounded);
@@ -243,10 +237,8 @@ mod tests {
         metrics.foreign("unseen", &other(0), &[]);
         metrics.foreign("unseen", &other(5), &[Cause::Other]);
         let page = page(&metrics);
-        let lines: Vec<&str> = page
-            .lines()
-            .filter(|line| line.starts_with("totxegun_foreign_points_total{"))
-            .collect();
+        let lines: Vec<&str> =
+            page.lines().filter(|line| line.starts_with("totxegun_foreign_points_total{")).collect();
         assert_eq!(lines.len(), SENDERS + 1);
         assert!(lines.contains(&"totxegun_foreign_points_total{cause=\"other\",sender=\"sender0\"} 3"));
         assert!(lines.contains(&"totxegun_foreign_points_total{cause=\"other\",sender=\"other\"} 1872"));
@@ -256,29 +248,14 @@ mod tests {
     fn what_is_rounded_is_counted_by_rule() {
         let metrics = Metrics::new().unwrap();
         assert_eq!(metrics.all_rounded(), []);
-        let (rule, once) = (
-            "s=1000:ms".to_string(),
-            Rounding {
-                values: 2,
-                together: 0.75,
-            },
-        );
-        let rounded = Rounded {
-            by_rule: [(rule.clone(), once)].into(),
-            ..Rounded::default()
-        };
+        let (rule, once) = ("s=1000:ms".to_string(), Rounding { values: 2, together: 0.75 });
+        let rounded = Rounded { by_rule: [(rule.clone(), once)].into(), ..Rounded::default() };
         metrics.rounded(&rounded);
         metrics.rounded(&rounded);
-        let twice = Rounding {
-            values: 4,
-            together: 1.5,
-        };
+        let twice = Rounding { values: 4, together: 1.5 };
         assert_eq!(metrics.all_rounded(), [(rule, twice)]);
         let page = page(&metrics);
-        assert!(
-            page.contains("totxegun_rounding_units_total{whole=\"s=1000:ms\"} 1.5"),
-            "{page}"
-        );
+        assert!(page.contains("totxegun_rounding_units_total{whole=\"s=1000:ms\"} 1.5"), "{page}");
     }
 
     #[test]
@@ -306,11 +283,7 @@ mod tests {
             "totxegun_disk_call_seconds 0",
             "totxegun_ready 0",
             "totxegun_log_lines_lost_total 0",
-            concat!(
-                "totxegun_build_info{version=\"",
-                env!("CARGO_PKG_VERSION"),
-                "\"} 1"
-            ),
+            concat!("totxegun_build_info{version=\"", env!("CARGO_PKG_VERSION"), "\"} 1"),
         ] {
             assert!(page.lines().any(|found| found == line), "{line} in\n{page}");
         }

@@ -152,10 +152,10 @@ fn begins(message: &str, reason: &str) -> bool {
 /// What an operator does about a reason.
 pub fn to_do(reason: &str) -> &'static str {
     let found = REASONS.iter().find(|(listed, _)| *listed == reason);
-    found.map_or(
-        "the text says what can't be read: totxegun explain FILE on a captured body",
-        |(_, to_do)| to_do,
-    )
+    found
+        .map_or("the text says what can't be read: totxegun explain FILE on a captured body", |(_, to_do)| {
+            to_do
+        })
 }
 
 #[cfg(test)]
@@ -167,10 +167,7 @@ mod tests {
     use crate::slot::{MOVED, NO_ANSWER, NO_OWNER, NO_ROOM, NO_STORE};
 
     fn said(message: impl ToString) -> Option<&'static str> {
-        of(&Outcome::Refused {
-            status: 400,
-            message: message.to_string(),
-        })
+        of(&Outcome::Refused { status: 400, message: message.to_string() })
     }
 
     /// Else a text that is changed would be counted as one that nobody can read.
@@ -203,19 +200,8 @@ mod tests {
             Refusal::TooLong,
             Refusal::TooManyBytes,
         ];
-        let of_slot = [
-            NO_ANSWER,
-            NO_STORE,
-            NO_OWNER,
-            NO_ROOM,
-            MOVED,
-            "recovering",
-            "stopping",
-        ];
-        let other = |name: &str| Stranger::OtherName {
-            name: name.into(),
-            other: "shop-2".into(),
-        };
+        let of_slot = [NO_ANSWER, NO_STORE, NO_OWNER, NO_ROOM, MOVED, "recovering", "stopping"];
+        let other = |name: &str| Stranger::OtherName { name: name.into(), other: "shop-2".into() };
         let of_strangers = [
             Stranger::NoToken,
             Stranger::WrongToken,
@@ -232,15 +218,9 @@ mod tests {
         assert!(!reasons.contains(&Some(UNREADABLE)), "{reasons:?}");
         assert_eq!(said(Refused::BadSender), said(Refusal::BadSender));
         let as_token = Stranger::TokenAsName { name: "full".into() };
-        assert_eq!(
-            (said(other("full")), said(as_token)),
-            (Some(OTHER_NAME), Some(OTHER_NAME))
-        );
+        assert_eq!((said(other("full")), said(as_token)), (Some(OTHER_NAME), Some(OTHER_NAME)));
         assert_eq!(said(Refusal::TooLongForMemory), said(Refusal::TooLong));
-        assert_eq!(
-            said(Refusal::Unreadable("resourceMetrics is twice".into())),
-            Some(UNREADABLE)
-        );
+        assert_eq!(said(Refusal::Unreadable("resourceMetrics is twice".into())), Some(UNREADABLE));
         assert_eq!(said("fuller"), Some(UNREADABLE));
         assert_eq!(of(&Outcome::taken(5)), None);
     }

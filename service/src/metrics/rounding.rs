@@ -49,10 +49,7 @@ struct Table {
 
 impl RoundingBySeries {
     pub fn new() -> RoundingBySeries {
-        RoundingBySeries {
-            most: AtomicUsize::new(SERIES),
-            table: Mutex::new(Table::default()),
-        }
+        RoundingBySeries { most: AtomicUsize::new(SERIES), table: Mutex::new(Table::default()) }
     }
 
     /// There is room for so many series.
@@ -96,10 +93,7 @@ impl RoundingBySeries {
             all.truncate(SHOWN);
         }
         all.sort_unstable_by(by_greatest);
-        SeriesOfRule {
-            count: series.len(),
-            greatest: all.into_iter().cloned().collect(),
-        }
+        SeriesOfRule { count: series.len(), greatest: all.into_iter().cloned().collect() }
     }
 
     fn table(&self) -> MutexGuard<'_, Table> {
@@ -180,33 +174,19 @@ mod tests {
 
     fn names(found: &SeriesOfRule) -> Vec<(&str, u64, f64)> {
         let shown = |one: &RoundedSeries| (one.rounding.values, one.rounding.together);
-        found
-            .greatest
-            .iter()
-            .map(|one| (one.metric.as_str(), shown(one).0, shown(one).1))
-            .collect()
+        found.greatest.iter().map(|one| (one.metric.as_str(), shown(one).0, shown(one).1)).collect()
     }
 
     #[test]
     fn each_series_has_what_it_was_rounded_by() {
         let table = RoundingBySeries::new();
         let one = |name: &str, value| (name.to_string(), value);
-        table.add(&post(&[
-            one("a", "0.0105"),
-            one("b", "0.01025"),
-            one("c", "0.01"),
-        ]));
+        table.add(&post(&[one("a", "0.0105"), one("b", "0.01025"), one("c", "0.01")]));
         table.add(&post(&[one("b", "0.0005"), one("a", "0.01025")]));
         table.add(&Rounded::default());
         let found = table.of_rule("s=1000:ms");
-        assert_eq!(
-            (found.count, names(&found)),
-            (2, vec![("a", 2, 0.75), ("b", 2, 0.75)])
-        );
-        assert_eq!(
-            (&*found.greatest[0].attributes, &*found.greatest[0].resource),
-            ("a=5", "r=x")
-        );
+        assert_eq!((found.count, names(&found)), (2, vec![("a", 2, 0.75), ("b", 2, 0.75)]));
+        assert_eq!((&*found.greatest[0].attributes, &*found.greatest[0].resource), ("a=5", "r=x"));
         table.add(&post(&[one("b", "0.01025")]));
         assert_eq!(table.greatest(), [("s=1000:ms".into(), 1.0)]);
         assert_eq!(names(&table.of_rule("s=1000:ms"))[0], ("b", 3, 1.0));

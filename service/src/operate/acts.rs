@@ -75,20 +75,13 @@ struct Written<'a> {
 
 impl Act {
     pub fn new(actor: Actor, what: &'static str, of: &str) -> Act {
-        Act {
-            who: actor.name(),
-            what,
-            of: all_shown(cut(of, SHOWN)),
-        }
+        Act { who: actor.name(), what, of: all_shown(cut(of, SHOWN)) }
     }
 }
 
 impl Acts {
     pub fn in_folder(folder: &Path) -> Acts {
-        Acts {
-            folder: folder.into(),
-            file: Mutex::new(()),
-        }
+        Acts { folder: folder.into(), file: Mutex::new(()) }
     }
 
     /// It is about to be carried out.
@@ -105,13 +98,7 @@ impl Acts {
     }
 
     fn put(&self, act: &Act, outcome: Option<&str>) {
-        let line = Written {
-            time: crate::log::now(),
-            who: &act.who,
-            act: act.what,
-            of: &act.of,
-            outcome,
-        };
+        let line = Written { time: crate::log::now(), who: &act.who, act: act.what, of: &act.of, outcome };
         let _one = self.file.lock().unwrap_or_else(PoisonError::into_inner); // the file is sound at any time
         if let Err(error) = self.append(&line, outcome.is_none()) {
             let (file, reason) = (self.folder.join(NAME).display().to_string(), error.to_string());
@@ -198,9 +185,7 @@ mod tests {
 
     fn lines(folder: &Path, name: &str) -> Vec<serde_json::Value> {
         let text = std::fs::read_to_string(folder.join(name)).unwrap();
-        text.lines()
-            .map(|line| serde_json::from_str(line).unwrap())
-            .collect()
+        text.lines().map(|line| serde_json::from_str(line).unwrap()).collect()
     }
 
     #[test]
@@ -210,10 +195,7 @@ mod tests {
         let act = Act::new(Actor::User(None), "dead drop", "0-a-1\n{\"who\":\"root\"}");
         acts.begins(&act);
         let first = lines(folder.path(), NAME);
-        assert_eq!(
-            (&first[0]["who"], &first[0]["act"]),
-            (&"operator".into(), &"dead drop".into())
-        );
+        assert_eq!((&first[0]["who"], &first[0]["act"]), (&"operator".into(), &"dead drop".into()));
         assert!(first[0].get("outcome").is_none() && first.len() == 1, "{first:?}");
         acts.ended(&act, "no such\u{1b}request");
         let both = lines(folder.path(), NAME);
@@ -228,10 +210,7 @@ mod tests {
         let act = Act::new(Actor::User(None), "lift", "A");
         for fill in [MOST, MOST] {
             acts.begins(&act);
-            let file = OpenOptions::new()
-                .write(true)
-                .open(folder.path().join(NAME))
-                .unwrap();
+            let file = OpenOptions::new().write(true).open(folder.path().join(NAME)).unwrap();
             file.set_len(fill).unwrap();
             acts.begins(&act);
             assert_eq!(lines(folder.path(), NAME).len(), 1);

@@ -102,22 +102,10 @@ async fn look(store: Arc<PostgresStore>, databases: Weak<Databases>, number: usi
         // While it does not answer it is not known.
         let counting = tokio::time::timeout(EVERY, store.copies(number)).await;
         let seen = match counting {
-            Ok(Ok(Some(copies))) => Seen {
-                copies: Some(copies),
-                why: None,
-            },
-            Ok(Ok(None)) => Seen {
-                copies: None,
-                why: Some(NOT_SEEN.into()),
-            },
-            Ok(Err(doubt)) => Seen {
-                copies: None,
-                why: Some(doubt.to_string()),
-            },
-            Err(_) => Seen {
-                copies: None,
-                why: Some("it does not answer".into()),
-            },
+            Ok(Ok(Some(copies))) => Seen { copies: Some(copies), why: None },
+            Ok(Ok(None)) => Seen { copies: None, why: Some(NOT_SEEN.into()) },
+            Ok(Err(doubt)) => Seen { copies: None, why: Some(doubt.to_string()) },
+            Err(_) => Seen { copies: None, why: Some("it does not answer".into()) },
         };
         let Some(databases) = databases.upgrade() else {
             return;

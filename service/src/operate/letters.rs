@@ -67,10 +67,7 @@ impl Desk {
         key: String,
     ) -> Response<Body> {
         let (what, of) = command.act().unwrap_or(("dead", key.clone())); // each has its name
-        self.act_by(actor, what, of, |who| async move {
-            self.of_key(&who, &key, command).await
-        })
-        .await
+        self.act_by(actor, what, of, |who| async move { self.of_key(&who, &key, command).await }).await
     }
 
     pub(super) async fn letters_of(&self, unit: &Unit) -> Answer {
@@ -108,11 +105,7 @@ impl Desk {
         };
         let (reason, later) = match self.sink.deliver(&request).await {
             Fate::Taken => (None, false),
-            Fate::TakenPartly {
-                rejected,
-                reason,
-                left,
-            } => {
+            Fate::TakenPartly { rejected, reason, left } => {
                 let reason = of_part(rejected, &reason, left.is_some());
                 return keep_part(unit, key, left.unwrap_or(request.body), reason).await;
             }
@@ -127,20 +120,13 @@ impl Desk {
             }
             tracing::info!(key, "the sink has taken {key}, which was put aside");
         }
-        told(Resent {
-            key: key.into(),
-            taken: reason.is_none(),
-            reason,
-            later,
-        })
+        told(Resent { key: key.into(), taken: reason.is_none(), reason, later })
     }
 }
 
 /// The oldest first: each list is in order, and letters of one time stay in theirs.
 fn in_order(answers: &[(u16, Answer)]) -> Vec<Letter> {
-    let lists = answers
-        .iter()
-        .map(|(_, answer)| serde_json::from_str::<Vec<Letter>>(&answer.body));
+    let lists = answers.iter().map(|(_, answer)| serde_json::from_str::<Vec<Letter>>(&answer.body));
     let mut letters: Vec<Letter> = lists.flatten().flatten().collect();
     letters.sort_by_key(|letter| letter.since);
     letters
@@ -195,12 +181,7 @@ async fn keep_part(unit: &Unit, key: &str, left: Vec<u8>, reason: String) -> Ans
     if let Err(fault) = of_dead(unit, key, keep).await {
         return faulty(&fault);
     }
-    told(Resent {
-        key: key.into(),
-        taken: true,
-        reason: Some(reason),
-        later: false,
-    })
+    told(Resent { key: key.into(), taken: true, reason: Some(reason), later: false })
 }
 
 fn told(resent: Resent) -> Answer {
@@ -216,12 +197,8 @@ fn forwarded(name: &str, body: Vec<u8>) -> Option<Forwarded> {
     let key = sent_as(name);
     let (slot, rest) = key.split_once('-')?;
     let (epoch, number) = rest.rsplit_once('-')?;
-    let made = Forwarded {
-        slot: slot.parse().ok()?,
-        epoch: epoch.into(),
-        number: number.parse().ok()?,
-        body,
-    };
+    let made =
+        Forwarded { slot: slot.parse().ok()?, epoch: epoch.into(), number: number.parse().ok()?, body };
     (made.key() == key).then_some(made)
 }
 
@@ -242,14 +219,7 @@ mod tests {
         assert_eq!((made.slot, made.epoch.as_str(), made.number), (0, "1f-e2", 17));
         let beside = forwarded("0-1f-e2-17_2", b"{}".to_vec());
         assert_eq!(beside, Some(made));
-        for key in [
-            "0-a-1_",
-            "0-a-1_1",
-            "0-a-1_x",
-            "0-a-1_2-partial",
-            "0-a-1-partial_2",
-            "0-a-1_2_2",
-        ] {
+        for key in ["0-a-1_", "0-a-1_1", "0-a-1_x", "0-a-1_2-partial", "0-a-1-partial_2", "0-a-1_2_2"] {
             assert_eq!(forwarded(key, Vec::new()), None, "{key}");
         }
         for key in ["", "0-a", "0-a-", "0-a-01", "x-a-1", "70000-a-1", "0-a-1 "] {

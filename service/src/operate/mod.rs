@@ -135,18 +135,14 @@ impl Route {
     /// Whether it changes something, or shows what senders have sent.
     fn is_order(&self) -> bool {
         use Route::*;
-        matches!(
-            self,
-            Order(_) | Letters | Letter(_) | Resend(_) | Drop(_) | Period(_) | Amend(_)
-        )
+        matches!(self, Order(_) | Letters | Letter(_) | Resend(_) | Drop(_) | Period(_) | Amend(_))
     }
 }
 
 impl Handler for Desk {
     async fn answer(self: Arc<Self>, request: Request<Body>) -> Response<Body> {
         let actor = Actor::User(request.extensions().get::<User>().copied());
-        self.answer_to(actor, Route::of(request.uri().path()), request)
-            .await
+        self.answer_to(actor, Route::of(request.uri().path()), request).await
     }
 }
 
@@ -162,22 +158,13 @@ impl Desk {
             Some((method, route)) if is_met(&method, request.method()) => {
                 match self.stranger(&route, &request) {
                     Some(why) => message(403, &why),
-                    None => {
-                        self.go(route, actor, request.uri().query().unwrap_or_default())
-                            .await
-                    }
+                    None => self.go(route, actor, request.uri().query().unwrap_or_default()).await,
                 }
             }
             Some((method, _)) => {
                 let mut response = message(405, "wrong method");
-                let allow = if method == Method::POST {
-                    "POST"
-                } else {
-                    "GET, HEAD"
-                };
-                response
-                    .headers_mut()
-                    .insert(ALLOW, HeaderValue::from_static(allow));
+                let allow = if method == Method::POST { "POST" } else { "GET, HEAD" };
+                response.headers_mut().insert(ALLOW, HeaderValue::from_static(allow));
                 response
             }
         }
@@ -199,13 +186,7 @@ impl Desk {
             Route::Order(order) => match order.act() {
                 None => self.order("", &order).await,
                 Some((what, of)) => {
-                    self.act_by(
-                        actor,
-                        what,
-                        of,
-                        |who| async move { self.order(&who, &order).await },
-                    )
-                    .await
+                    self.act_by(actor, what, of, |who| async move { self.order(&who, &order).await }).await
                 }
             },
             Route::Report => self.report().await,
@@ -250,9 +231,7 @@ fn message(status: u16, text: &str) -> Response<Body> {
 fn reply(status: u16, kind: &'static str, body: impl Into<Body>) -> Response<Body> {
     let mut response = Response::new(body.into());
     *response.status_mut() = StatusCode::from_u16(status).unwrap_or(StatusCode::INTERNAL_SERVER_ERROR);
-    response
-        .headers_mut()
-        .insert(CONTENT_TYPE, HeaderValue::from_static(kind));
+    response.headers_mut().insert(CONTENT_TYPE, HeaderValue::from_static(kind));
     response
 }
 

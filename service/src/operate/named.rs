@@ -58,12 +58,7 @@ fn pairs(written: &str) -> Option<Vec<(String, String)>> {
     let mut rest = written.trim_start();
     if rest.is_empty() || rest.starts_with('"') {
         let object: Map<String, Value> = serde_json::from_str(&format!("{{{rest}}}")).ok()?;
-        return Some(
-            object
-                .iter()
-                .map(|(key, value)| (key.clone(), text(value)))
-                .collect(),
-        );
+        return Some(object.iter().map(|(key, value)| (key.clone(), text(value))).collect());
     }
     let mut pairs = Vec::new();
     while !rest.is_empty() {

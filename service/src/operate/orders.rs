@@ -84,9 +84,8 @@ mod tests {
     fn what_slots_say_is_one_answer() {
         let of = |answers: &[(u16, &str)]| {
             let answers = (0..).zip(answers);
-            let all: Vec<_> = answers
-                .map(|(slot, (status, body))| (slot, Answer::new(*status, *body)))
-                .collect();
+            let all: Vec<_> =
+                answers.map(|(slot, (status, body))| (slot, Answer::new(*status, *body))).collect();
             let told = together(&all);
             (told.status, told.body)
         };

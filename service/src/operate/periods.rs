@@ -23,8 +23,7 @@ impl Desk {
             Err(why) => return message(400, &why),
         };
         let is_anyway = query == ANYWAY;
-        self.act_by(actor, what, of, |who| self.settle(who, deed, is_anyway))
-            .await
+        self.act_by(actor, what, of, |who| self.settle(who, deed, is_anyway)).await
     }
 
     async fn settle(self: &Arc<Self>, who: String, deed: Deed, is_anyway: bool) -> Response<Body> {
@@ -70,10 +69,7 @@ fn not_in_the_sink(status: &Status) -> Option<String> {
 fn kept_back(status: &Status) -> String {
     let held = status.slots.iter().map(|slot| slot.held.posts).sum();
     let mut text = String::new();
-    for (count, what) in [
-        (status.dead, "requests in dead/"),
-        (held, "posts of quarantined senders"),
-    ] {
+    for (count, what) in [(status.dead, "requests in dead/"), (held, "posts of quarantined senders")] {
         if count > 0 {
             text += &format!("; {count} {what} would come late");
         }
@@ -128,25 +124,11 @@ mod tests {
     fn what_is_asked_for_is_read() {
         let hour = "2026-11-05T13".parse().unwrap();
         let reason = "counted twice, by hand".to_string();
+        assert_eq!(of("close/2026-11", ANYWAY), Ok(Deed::Close("2026-11".parse().unwrap())));
+        assert_eq!(of("open/2026-11-05", ""), Ok(Deed::Open("2026-11-05".parse().unwrap())));
         assert_eq!(
-            of("close/2026-11", ANYWAY),
-            Ok(Deed::Close("2026-11".parse().unwrap()))
-        );
-        assert_eq!(
-            of("open/2026-11-05", ""),
-            Ok(Deed::Open("2026-11-05".parse().unwrap()))
-        );
-        assert_eq!(
-            of(
-                "correct/7/2026-11-05T13/-250",
-                "reason=counted%20twice%2C%20by%20hand"
-            ),
-            Ok(Deed::Correct(Correction {
-                series: 7,
-                hour,
-                value: -250,
-                reason
-            }))
+            of("correct/7/2026-11-05T13/-250", "reason=counted%20twice%2C%20by%20hand"),
+            Ok(Deed::Correct(Correction { series: 7, hour, value: -250, reason }))
         );
     }
 

@@ -159,10 +159,7 @@ pub struct Stock {
 
 impl Stock {
     fn new(bytes: u64, since: Option<u64>) -> Stock {
-        Stock {
-            bytes,
-            age_seconds: since.map(|since| now().saturating_sub(since)),
-        }
+        Stock { bytes, age_seconds: since.map(|since| now().saturating_sub(since)) }
     }
 }
 
@@ -223,11 +220,7 @@ impl Desk {
                 values: rounding.values,
                 together: rounding.together,
                 series: of_rule.count,
-                greatest: of_rule
-                    .greatest
-                    .into_iter()
-                    .map(RoundedSeriesStatus::from)
-                    .collect(),
+                greatest: of_rule.greatest.into_iter().map(RoundedSeriesStatus::from).collect(),
             }
         })
         .collect()
@@ -292,9 +285,7 @@ impl Desk {
         let levels = &self.metrics.levels;
         // What a store has not answered is of its databases.
         let calls = self.others.is_none().then(|| self.units.disk_call());
-        levels
-            .disk_call_seconds
-            .set(calls.unwrap_or_default().as_secs_f64());
+        levels.disk_call_seconds.set(calls.unwrap_or_default().as_secs_f64());
         // A disk that stalls may not say either how much it has.
         let free = self.units.disk_answers().then(|| free_bytes(&self.data));
         if let Some(free) = free.flatten() {
@@ -319,11 +310,7 @@ impl SlotStatus {
     fn of(undelivered: &Undelivered) -> SlotStatus {
         let outbox = &undelivered.outbox;
         let (waiting, bytes, first) = outbox.waiting();
-        let delivery = undelivered
-            .delivery
-            .lock()
-            .unwrap_or_else(PoisonError::into_inner)
-            .clone(); // a copy is sound
+        let delivery = undelivered.delivery.lock().unwrap_or_else(PoisonError::into_inner).clone(); // a copy is sound
         SlotStatus {
             slot: undelivered.number,
             series: outbox.series_count(),
@@ -356,9 +343,7 @@ fn free_bytes(folder: &str) -> Option<u64> {
 }
 
 fn now() -> u64 {
-    SystemTime::now()
-        .duration_since(UNIX_EPOCH)
-        .map_or(0, |since| since.as_secs())
+    SystemTime::now().duration_since(UNIX_EPOCH).map_or(0, |since| since.as_secs())
 }
 
 #[cfg(test)]
@@ -373,13 +358,7 @@ mod tests {
 
     #[test]
     fn a_clock_that_was_set_back_gives_no_age_below_zero() {
-        assert_eq!(
-            Stock::new(1, Some(u64::MAX)),
-            Stock {
-                bytes: 1,
-                age_seconds: Some(0)
-            }
-        );
+        assert_eq!(Stock::new(1, Some(u64::MAX)), Stock { bytes: 1, age_seconds: Some(0) });
         assert_eq!(Stock::new(0, None).age_seconds, None);
     }
 }

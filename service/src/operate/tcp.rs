@@ -49,9 +49,7 @@ impl AtTcp {
         };
         let values = request.headers().get_all(AUTHORIZATION).iter();
         let operator = by_token(&tokens.now(), values.map(HeaderValue::as_bytes));
-        operator
-            .map(|operator| operator.name.clone())
-            .map_err(Refused::Unknown)
+        operator.map(|operator| operator.name.clone()).map_err(Refused::Unknown)
     }
 }
 

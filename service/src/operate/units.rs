@@ -37,10 +37,7 @@ pub struct Units {
 
 impl Units {
     pub fn of(slots: u16) -> Arc<Units> {
-        Arc::new(Units {
-            slots,
-            here: RwLock::default(),
-        })
+        Arc::new(Units { slots, here: RwLock::default() })
     }
 
     pub fn put(&self, unit: Arc<Unit>) {

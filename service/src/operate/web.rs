@@ -102,10 +102,7 @@ mod tests {
         let by_hand = [("host", "127.0.0.1:4319"), ("sec-fetch-site", "none")];
         assert_eq!(refused("/totals", &by_hand), None);
         assert_eq!(refused("/flush", &[]), None, "HTTP/1.0 may have no Host");
-        assert_eq!(
-            refused("http://localhost:4319/flush", &[("host", "localhost:4319")]),
-            None
-        );
+        assert_eq!(refused("http://localhost:4319/flush", &[("host", "localhost:4319")]), None);
     }
 
     #[test]

@@ -50,14 +50,8 @@ pub(super) fn body(outcome: &Outcome, encoding: Encoding) -> Vec<u8> {
 
 fn json(outcome: &Outcome) -> String {
     match outcome {
-        Outcome::Taken {
-            rejected: 0,
-            message: None,
-            ..
-        } => "{}".to_string(),
-        Outcome::Taken {
-            rejected, message, ..
-        } => {
+        Outcome::Taken { rejected: 0, message: None, .. } => "{}".to_string(),
+        Outcome::Taken { rejected, message, .. } => {
             let mut text = r#"{"partialSuccess":{"errorMessage":"#.to_string();
             write_text(&mut text, message.as_deref().unwrap_or(OUTSIDE));
             text.push_str(&format!(r#","rejectedDataPoints":"{rejected}"}}}}"#));
@@ -74,9 +68,7 @@ fn json(outcome: &Outcome) -> String {
 
 fn protobuf(outcome: &Outcome) -> Vec<u8> {
     match outcome {
-        Outcome::Taken {
-            rejected, message, ..
-        } => {
+        Outcome::Taken { rejected, message, .. } => {
             let is_partial = *rejected > 0 || message.is_some();
             let partial_success = is_partial.then(|| ExportMetricsPartialSuccess {
                 rejected_data_points: i64::try_from(*rejected).unwrap_or(i64::MAX),
@@ -84,11 +76,9 @@ fn protobuf(outcome: &Outcome) -> Vec<u8> {
             });
             ExportMetricsServiceResponse { partial_success }.encode_to_vec()
         }
-        Outcome::Refused { message, .. } | Outcome::Later { message, .. } => Status {
-            code: code(outcome.status()),
-            message: message.clone(),
+        Outcome::Refused { message, .. } | Outcome::Later { message, .. } => {
+            Status { code: code(outcome.status()), message: message.clone() }.encode_to_vec()
         }
-        .encode_to_vec(),
     }
 }
 

@@ -232,10 +232,7 @@ impl Cause {
                 "point of a run that began before the last point of another",
                 "points of runs that began before the last point of another",
             ],
-            Cause::WentDown => [
-                "cumulative point that went down",
-                "cumulative points that went down",
-            ],
+            Cause::WentDown => ["cumulative point that went down", "cumulative points that went down"],
             Cause::Mixed => [
                 "cumulative point of a series with delta points",
                 "cumulative points of series with delta points",
@@ -244,10 +241,7 @@ impl Cause {
                 "cumulative point from before series were forgotten",
                 "cumulative points from before series were forgotten",
             ],
-            Cause::Leap => [
-                "cumulative sum that leapt too far",
-                "cumulative sums that leapt too far",
-            ],
+            Cause::Leap => ["cumulative sum that leapt too far", "cumulative sums that leapt too far"],
             Cause::Other => ["point of another form", "points of another form"],
         }
     }
@@ -289,8 +283,6 @@ impl Cause {
 /// Whether the sum of a metric only goes up.
 pub(super) fn is_monotonic(metric: Value<'_>) -> bool {
     let sum = metric.named(["sum"]).and_then(|[sum]| sum);
-    let found = sum
-        .and_then(|sum| sum.named(["isMonotonic"]))
-        .and_then(|[found]| found);
+    let found = sum.and_then(|sum| sum.named(["isMonotonic"])).and_then(|[found]| found);
     found.and_then(Value::truth) == Some(true)
 }

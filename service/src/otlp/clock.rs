@@ -147,10 +147,7 @@ mod tests {
         assert_eq!((off.ahead, off.behind, off.points()), (2, 2, 4));
         let said = "its clock is 365d ahead, and its clock is 19675d behind, or it comes late";
         assert_eq!(off.to_string(), said);
-        assert_eq!(
-            window.off(last + 1).unwrap().to_string(),
-            "its clock is 10m ahead"
-        );
+        assert_eq!(window.off(last + 1).unwrap().to_string(), "its clock is 10m ahead");
     }
 
     #[test]
@@ -159,10 +156,7 @@ mod tests {
             let window = Clock::default().window_at(now);
             assert!(window.has_all(0, u64::MAX));
         }
-        let ahead = Clock {
-            most_ahead: Some(Duration::MAX),
-            most_behind: None,
-        };
+        let ahead = Clock { most_ahead: Some(Duration::MAX), most_behind: None };
         assert!(ahead.window_at(5).has_all(0, u64::MAX));
     }
 }

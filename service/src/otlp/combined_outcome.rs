@@ -30,11 +30,7 @@ pub fn combined(parts: &[OfPart], reading: &Reading) -> Outcome {
     if let Some(again) = again(parts) {
         return again.clone();
     }
-    let whole = Whole {
-        parts,
-        reading,
-        points: OnceCell::new(),
-    };
+    let whole = Whole { parts, reading, points: OnceCell::new() };
     let is_taken = |part: &OfPart| matches!(part.outcome, Outcome::Taken { .. });
     match (parts.iter().any(is_taken), parts.first()) {
         (false, Some(first)) => whole.refused(first),
@@ -71,9 +67,7 @@ impl Whole<'_> {
     }
 
     fn placed(&self, part: &OfPart, message: &str) -> Option<String> {
-        let (begin, rest) = PLACED
-            .iter()
-            .find_map(|begin| Some((begin, message.strip_prefix(begin)?)))?;
+        let (begin, rest) = PLACED.iter().find_map(|begin| Some((begin, message.strip_prefix(begin)?)))?;
         let digits = rest.bytes().take_while(u8::is_ascii_digit).count();
         let (place, behind) = rest.split_at(digits);
         let place = self.place(part, place.parse().ok()?)?;
@@ -114,11 +108,7 @@ impl Whole<'_> {
         let (mut rejected, mut reasons) = (0, Reasons::default());
         for part in self.parts {
             match self.refused(part) {
-                Outcome::Taken {
-                    rejected: of_part,
-                    message,
-                    ..
-                } => {
+                Outcome::Taken { rejected: of_part, message, .. } => {
                     rejected += of_part;
                     reasons.not_taken(of_part, message);
                 }

@@ -52,11 +52,7 @@ impl Explained {
     /// A point that would be taken, and is off by its clock.
     fn but(self, off: Option<Off>) -> Explained {
         let Some(off) = off else { return self };
-        Explained {
-            foreign: Some(off.to_string()),
-            cause: Some(Cause::of_clock(off)),
-            ..self
-        }
+        Explained { foreign: Some(off.to_string()), cause: Some(Cause::of_clock(off)), ..self }
     }
 }
 
@@ -117,9 +113,7 @@ fn shown(value: Value<'_>) -> String {
     let inner = value.members().and_then(|mut members| members.next());
     let text = match inner.map(|member| member.1) {
         None => String::new(),
-        Some(inner) => inner
-            .text()
-            .map_or_else(|| inner.raw().to_string(), |text| text.into_owned()),
+        Some(inner) => inner.text().map_or_else(|| inner.raw().to_string(), |text| text.into_owned()),
     };
     text.chars().take(SHOWN).collect()
 }

@@ -40,10 +40,7 @@ impl FromStr for Bounds {
             return Err(format!("there are at most {MOST} bounds"));
         }
         match bounds.windows(2).find(|two| two[0].double >= two[1].double) {
-            Some(two) => Err(format!(
-                "bounds ascend, and after {} comes {}",
-                two[0].double, two[1].double
-            )),
+            Some(two) => Err(format!("bounds ascend, and after {} comes {}", two[0].double, two[1].double)),
             None => Ok(Bounds(bounds.into())),
         }
     }
@@ -60,11 +57,7 @@ impl FromStr for Bound {
                 Some(Edge::of(number).ok_or_else(|| format!("{text} is too near to an edge of a bucket"))?)
             }
         };
-        Ok(Bound {
-            double: number.double(),
-            is_double: number.is_double(),
-            edge,
-        })
+        Ok(Bound { double: number.double(), is_double: number.is_double(), edge })
     }
 }
 

@@ -98,10 +98,7 @@ impl Rule {
 }
 
 fn factor_of(text: &str) -> Result<u64, String> {
-    let factor = text
-        .parse()
-        .ok()
-        .filter(|factor| (1..=MAX_FACTOR).contains(factor));
+    let factor = text.parse().ok().filter(|factor| (1..=MAX_FACTOR).contains(factor));
     factor.ok_or_else(|| {
         format!("a factor is a whole number from 1 to {MAX_FACTOR}, and this is none: `{text}`")
     })
@@ -116,12 +113,8 @@ fn known_factor(from: &str, to: &str) -> Result<u64, String> {
     let pair = |units| Some((size(units, from)?, size(units, to)?));
     match pair(&TIMES).or_else(|| pair(&BYTES)).or_else(|| pair(&PARTS)) {
         Some((from, to)) if from % to == 0 => Ok(from / to),
-        Some(_) => Err(format!(
-            "`{to}` is not finer than `{from}`, or no whole part of it"
-        )),
-        None => Err(format!(
-            "how many `{to}` is one `{from}`? Write {from}=FACTOR:{to}"
-        )),
+        Some(_) => Err(format!("`{to}` is not finer than `{from}`, or no whole part of it")),
+        None => Err(format!("how many `{to}` is one `{from}`? Write {from}=FACTOR:{to}")),
     }
 }
 
@@ -170,11 +163,7 @@ impl FinerUnits {
                 return Err(format!("--whole has two rules for the unit `{}`", other.from));
             }
         }
-        Ok(FinerUnits {
-            rules: all,
-            units: None,
-            profile: Profile::default(),
-        })
+        Ok(FinerUnits { rules: all, units: None, profile: Profile::default() })
     }
 
     /// As the option has it: `auto` unless it is off.
@@ -190,10 +179,7 @@ impl FinerUnits {
         match said {
             [true, true] => Err("--whole is both auto and off: leave one out".to_string()),
             [_, true] => FinerUnits::new(rules),
-            _ => Ok(FinerUnits {
-                units: Some(Arc::default()),
-                ..FinerUnits::new(rules)?
-            }),
+            _ => Ok(FinerUnits { units: Some(Arc::default()), ..FinerUnits::new(rules)? }),
         }
     }
 
@@ -205,10 +191,7 @@ impl FinerUnits {
     /// The same for a slot of several, which decides by what it has itself.
     pub fn of_slot(&self) -> FinerUnits {
         let units = self.units.clone();
-        FinerUnits {
-            units: units.map(|of_all| Arc::new(Units::of_slot(of_all))),
-            ..self.clone()
-        }
+        FinerUnits { units: units.map(|of_all| Arc::new(Units::of_slot(of_all))), ..self.clone() }
     }
 
     /// Whose decisions these are: 0 where all slots have the same.
@@ -241,10 +224,7 @@ impl FinerUnits {
 impl fmt::Debug for FinerUnits {
     fn fmt(&self, out: &mut fmt::Formatter<'_>) -> fmt::Result {
         let auto = if self.units.is_some() { "auto" } else { "off" };
-        out.debug_tuple("FinerUnits")
-            .field(&auto)
-            .field(&self.rules)
-            .finish()
+        out.debug_tuple("FinerUnits").field(&auto).field(&self.rules).finish()
     }
 }
 

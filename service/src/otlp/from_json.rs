@@ -29,15 +29,9 @@ pub fn read_as_it_is(document: &Document<'_>, reading: &Reading) -> Result<Optio
     if document.is_near_range() || reading.finer_units.has_no_unit() {
         return Ok(None);
     }
-    let mut walk = Walk {
-        out: None,
-        reading,
-        is_cumulative: false,
-    };
+    let mut walk = Walk { out: None, reading, is_cumulative: false };
     match walk.body(document) {
-        Ok(()) => Ok(Some(AsItIs {
-            is_cumulative: walk.is_cumulative,
-        })),
+        Ok(()) => Ok(Some(AsItIs { is_cumulative: walk.is_cumulative })),
         Err(Stop::Changed) => Ok(None),
         Err(Stop::Refused(refused)) => Err(refused),
     }
@@ -45,12 +39,7 @@ pub fn read_as_it_is(document: &Document<'_>, reading: &Reading) -> Result<Optio
 
 pub fn written(document: &Document<'_>, reading: &Reading) -> Result<Written, Refused> {
     let mut out = Output::new(document.root().raw().len(), reading);
-    let walked = Walk {
-        out: Some(&mut out),
-        reading,
-        is_cumulative: false,
-    }
-    .body(document);
+    let walked = Walk { out: Some(&mut out), reading, is_cumulative: false }.body(document);
     match walked {
         Ok(()) => Ok(out.written()),
         Err(Stop::Refused(refused)) => Err(refused),
@@ -67,10 +56,7 @@ struct Walk<'o, 'r> {
 }
 
 fn refused(of: &Message, what: impl std::fmt::Display) -> Stop {
-    Stop::Refused(Refused::Unreadable(format!(
-        "not JSON of OTLP: {}: {what}",
-        of.name
-    )))
+    Stop::Refused(Refused::Unreadable(format!("not JSON of OTLP: {}: {what}", of.name)))
 }
 
 impl Walk<'_, '_> {
@@ -104,10 +90,7 @@ impl Walk<'_, '_> {
         let inside = self.length();
         let mut found: u32 = 0;
         for (name, member) in value.members().into_iter().flatten() {
-            let place = of
-                .fields
-                .iter()
-                .position(|field| field.name == name || field.proto_name == name);
+            let place = of.fields.iter().position(|field| field.name == name || field.proto_name == name);
             let Some(place) = place else {
                 not_lost(of, &name, member)?;
                 continue;
@@ -148,9 +131,7 @@ impl Walk<'_, '_> {
                 self.container(of, name, inner, value)
             }
             Kind::Messages(inner) => {
-                let sound = value
-                    .elements()
-                    .map(|mut all| all.all(|one| one.members().is_some()));
+                let sound = value.elements().map(|mut all| all.all(|one| one.members().is_some()));
                 if sound != Some(true) {
                     return Err(refused(of, format_args!("{name} is no array of objects")));
                 }
@@ -236,11 +217,7 @@ impl Walk<'_, '_> {
             }
             Kind::Unit => self.unit(value),
             // A number is as wrong a truth as any.
-            Kind::Bool => self.push(
-                value
-                    .truth()
-                    .map_or("0", |truth| if truth { "true" } else { "false" }),
-            ),
+            Kind::Bool => self.push(value.truth().map_or("0", |truth| if truth { "true" } else { "false" })),
             Kind::Temporality => self.temporality(value)?,
             Kind::Whole(_) => self.whole(value)?,
             Kind::Wholes | Kind::Numbers => self.list(value, Self::whole)?,

@@ -194,11 +194,7 @@ impl<'a, 'r> Writer<'a, 'r> {
             let here = fields;
             let Some(next) = fields.next() else { return Ok(()) };
             let (number, payload) = next.map_err(|malformed| refused(of, malformed))?;
-            let Some(place) = of
-                .fields
-                .iter()
-                .position(|field| u32::from(field.number) == number)
-            else {
+            let Some(place) = of.fields.iter().position(|field| u32::from(field.number) == number) else {
                 not_lost(of, number)?;
                 continue;
             };
@@ -223,15 +219,7 @@ impl<'a, 'r> Writer<'a, 'r> {
                     known.times += times;
                     known.last = payload;
                 }
-                _ => self.found.insert(
-                    index,
-                    FoundField {
-                        place,
-                        times,
-                        fields: here,
-                        last: payload,
-                    },
-                ),
+                _ => self.found.insert(index, FoundField { place, times, fields: here, last: payload }),
             }
         }
     }

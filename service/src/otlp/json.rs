@@ -70,11 +70,7 @@ impl<'a> Document<'a> {
     }
 
     pub fn root(&self) -> Value<'_> {
-        Value {
-            text: self.text,
-            entries: &self.entries,
-            index: 0,
-        }
+        Value { text: self.text, entries: &self.entries, index: 0 }
     }
 
     /// Whether a number is so near to the range of a double that readers may differ on whether it is in it.
@@ -140,18 +136,12 @@ impl<'d> Value<'d> {
 
     /// The elements of an array.
     pub fn elements(self) -> Option<Elements<'d>> {
-        (self.kind() == Kind::Array).then(|| Elements {
-            of: self,
-            index: self.index + 1,
-        })
+        (self.kind() == Kind::Array).then(|| Elements { of: self, index: self.index + 1 })
     }
 
     /// The names and values of an object, in order; a name may be there more than once.
     pub fn members(self) -> Option<Members<'d>> {
-        (self.kind() == Kind::Object).then(|| Members {
-            of: self,
-            index: self.index + 1,
-        })
+        (self.kind() == Kind::Object).then(|| Members { of: self, index: self.index + 1 })
     }
 
     /// The values of these names, each its last one; `null` is absent. `None` of what is no object.
@@ -344,10 +334,7 @@ fn first_of_words(
             Some(place) => bytes.len() - 8 + place,
             None => bytes.len(),
         },
-        None => bytes
-            .iter()
-            .position(|byte| is_looked_for(*byte))
-            .unwrap_or(bytes.len()),
+        None => bytes.iter().position(|byte| is_looked_for(*byte)).unwrap_or(bytes.len()),
     }
 }
 

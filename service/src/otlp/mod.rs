@@ -112,10 +112,7 @@ pub enum Cumulative {
 impl Reading {
     /// The same for a slot of several.
     pub fn of_slot(&self) -> Reading {
-        Reading {
-            finer_units: self.finer_units.of_slot(),
-            ..self.clone()
-        }
+        Reading { finer_units: self.finer_units.of_slot(), ..self.clone() }
     }
 
     /// Which points are taken.
@@ -139,11 +136,7 @@ pub struct Prepared {
 
 impl Prepared {
     fn as_it_is(body: Bytes, is_cumulative: bool) -> Prepared {
-        Prepared {
-            body,
-            is_cumulative,
-            ..Prepared::default()
-        }
+        Prepared { body, is_cumulative, ..Prepared::default() }
     }
 }
 
@@ -184,11 +177,7 @@ pub fn prepare_with<E: From<Refused>>(
         false => (written.text, Rounded::default()),
     };
     rounded.unfit = unfit.or(rounded.unfit);
-    Ok(Prepared {
-        body: Bytes::from(text),
-        rounded,
-        is_cumulative: written.is_cumulative,
-    })
+    Ok(Prepared { body: Bytes::from(text), rounded, is_cumulative: written.is_cumulative })
 }
 
 /// A request in the book's form but for its units.
@@ -208,9 +197,7 @@ fn form(encoding: Encoding, body: &Bytes, reading: &Reading) -> Result<Form, Ref
     let document = json::Document::parse(body)?;
     if may_go_on {
         if let Some(read) = from_json::read_as_it_is(&document, reading)? {
-            return Ok(Form::AsItCame {
-                is_cumulative: read.is_cumulative,
-            });
+            return Ok(Form::AsItCame { is_cumulative: read.is_cumulative });
         }
     }
     from_json::written(&document, reading).map(Form::Written)
@@ -221,12 +208,7 @@ fn form(encoding: Encoding, body: &Bytes, reading: &Reading) -> Result<Form, Ref
 pub enum Outcome {
     /// All points were taken but these; 0 where all were. Some may be off by their clock, and of some more it is known why;
     /// without a message the others are outside the profile.
-    Taken {
-        rejected: u64,
-        off: OffClock,
-        known: Causes,
-        message: Option<String>,
-    },
+    Taken { rejected: u64, off: OffClock, known: Causes, message: Option<String> },
     /// With this HTTP status and for this reason nothing was taken.
     Refused { status: u16, message: String },
     /// Nothing was taken either: its sender has used up its share, and may have more in so many seconds.
@@ -241,25 +223,15 @@ impl Outcome {
 
     /// The same, and but those that are off by their clock.
     pub fn taken_but(foreign: u64, off: OffClock) -> Outcome {
-        Outcome::Taken {
-            rejected: foreign + off.points(),
-            off,
-            known: Causes::default(),
-            message: None,
-        }
+        Outcome::Taken { rejected: foreign + off.points(), off, known: Causes::default(), message: None }
     }
 
     /// The same, and how many points are not taken by which cause.
     pub fn with_causes(self, causes: &Causes) -> Outcome {
         match self {
-            Outcome::Taken {
-                rejected, off, known, ..
-            } if rejected > 0 => Outcome::Taken {
-                rejected,
-                off,
-                known,
-                message: Some(answers::outside(causes, off)),
-            },
+            Outcome::Taken { rejected, off, known, .. } if rejected > 0 => {
+                Outcome::Taken { rejected, off, known, message: Some(answers::outside(causes, off)) }
+            }
             other => other,
         }
     }
@@ -267,23 +239,10 @@ impl Outcome {
     /// The same, and why points are outside the profile that were to be taken in a finer unit.
     pub fn with(self, rounded: &Rounded) -> Outcome {
         match (self, &rounded.unfit) {
-            (
-                Outcome::Taken {
-                    rejected,
-                    off,
-                    known,
-                    message,
-                },
-                Some(unfit),
-            ) if rejected > 0 => {
+            (Outcome::Taken { rejected, off, known, message }, Some(unfit)) if rejected > 0 => {
                 let before = message.unwrap_or_else(|| answers::OUTSIDE.to_string());
                 let message = Some(format!("{before}: {unfit}"));
-                Outcome::Taken {
-                    rejected,
-                    off,
-                    known,
-                    message,
-                }
+                Outcome::Taken { rejected, off, known, message }
             }
             (other, _) => other,
         }

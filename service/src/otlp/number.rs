@@ -13,9 +13,7 @@ pub fn book_whole(value: Value<'_>) -> Option<i128> {
             return None;
         }
         let whole: i128 = number.parse().ok()?;
-        return (i128::from(i64::MIN)..=i128::from(u64::MAX))
-            .contains(&whole)
-            .then_some(whole);
+        return (i128::from(i64::MIN)..=i128::from(u64::MAX)).contains(&whole).then_some(whole);
     }
     let text = value.text()?;
     let digits = text.strip_prefix('-').unwrap_or(&text);

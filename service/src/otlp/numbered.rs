@@ -57,11 +57,7 @@ pub struct Series {
 impl Series {
     /// It takes about so many bytes of memory at most.
     pub fn new(reading: Arc<Reading>, most: usize) -> Series {
-        Series {
-            reading,
-            levels: RwLock::new(Levels::new(most)),
-            is_full: AtomicBool::new(false),
-        }
+        Series { reading, levels: RwLock::new(Levels::new(most)), is_full: AtomicBool::new(false) }
     }
 
     /// Of how requests are read, beside what they say themselves.
@@ -75,11 +71,7 @@ impl Series {
 
     /// Takes room for a series that is known elsewhere, by a name of so many bytes: whether there is so much.
     pub fn take_room(&self, name: usize) -> bool {
-        let taken = self
-            .levels
-            .write()
-            .unwrap_or_else(PoisonError::into_inner)
-            .take_room(&[], name);
+        let taken = self.levels.write().unwrap_or_else(PoisonError::into_inner).take_room(&[], name);
         self.is_full.fetch_or(taken.is_err(), Relaxed);
         taken.is_ok()
     }
@@ -116,12 +108,7 @@ impl Series {
     }
 
     fn learner<'s>(&'s self, reading: &'s Reading, learn: &'s Learn<'s>) -> Learner<'s> {
-        Learner {
-            levels: &self.levels,
-            reading,
-            is_full: &self.is_full,
-            learn,
-        }
+        Learner { levels: &self.levels, reading, is_full: &self.is_full, learn }
     }
 }
 

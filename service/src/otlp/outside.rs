@@ -48,11 +48,7 @@ struct Kind {
 
 impl Kind {
     const fn new(name: &'static str, proto_name: &'static str, number: u32) -> Kind {
-        Kind {
-            name,
-            proto_name,
-            number,
-        }
+        Kind { name, proto_name, number }
     }
 }
 
@@ -121,11 +117,7 @@ impl Original {
 
     fn made(&self, body: Option<Vec<u8>>, points: u64) -> Option<Outside> {
         let (encoding, body) = (self.encoding, body?.into());
-        Some(Outside {
-            encoding,
-            body,
-            points,
-        })
+        Some(Outside { encoding, body, points })
     }
 }
 
@@ -153,10 +145,7 @@ fn points(text: &[u8], profile: Profile) -> Option<Vec<Point>> {
     let document = Document::parse(text).ok()?;
     let mut points = Vec::new();
     visit_with(&document, profile, |seen| {
-        points.push(Point {
-            is_of_no_series: is_of_no_series(seen.kind),
-            cause: Cause::of(&seen),
-        });
+        points.push(Point { is_of_no_series: is_of_no_series(seen.kind), cause: Cause::of(&seen) });
     })?;
     Some(points)
 }

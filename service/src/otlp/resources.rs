@@ -84,11 +84,7 @@ type PlacedResource = (u16, Range<usize>);
 
 impl Resources {
     pub fn new(slots: u16, reading: Arc<Reading>) -> Resources {
-        Resources {
-            slots,
-            reading,
-            known: Default::default(),
-        }
+        Resources { slots, reading, known: Default::default() }
     }
 
     /// How many there are.
@@ -219,9 +215,7 @@ fn parts(encoding: Encoding, body: &Bytes, found: &[PlacedResource]) -> Vec<Part
         }
     }
     let made = parts.into_iter().map(|(slot, resources)| {
-        let raw = resources
-            .iter()
-            .map(|place| &body[found[*place as usize].1.clone()]);
+        let raw = resources.iter().map(|place| &body[found[*place as usize].1.clone()]);
         let body = match encoding {
             Encoding::Protobuf => raw.collect::<Vec<&[u8]>>().concat(),
             Encoding::Json => {
@@ -229,11 +223,7 @@ fn parts(encoding: Encoding, body: &Bytes, found: &[PlacedResource]) -> Vec<Part
                 [br#"{"resourceMetrics":["#, &elements[..], b"]}"].concat()
             }
         };
-        Part {
-            slot,
-            body: body.into(),
-            resources,
-        }
+        Part { slot, body: body.into(), resources }
     });
     made.collect()
 }

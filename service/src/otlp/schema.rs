@@ -105,12 +105,7 @@ const OLD: &str = "is of an old version of OTLP and can't be read: send it with 
 
 pub static REQUEST: Message = Message {
     name: "ExportMetricsServiceRequest",
-    fields: &[field!(
-        "resourceMetrics",
-        "resource_metrics",
-        1,
-        Kind::Messages(&RESOURCE_METRICS),
-    )],
+    fields: &[field!("resourceMetrics", "resource_metrics", 1, Kind::Messages(&RESOURCE_METRICS),)],
     one_of: &[],
     refused: &[
         refused(&["resourceSpans", "resource_spans"], 0, OTHER_SIGNAL),
@@ -118,16 +113,8 @@ pub static REQUEST: Message = Message {
         refused(&["resourceProfiles", "resource_profiles"], 0, OTHER_SIGNAL),
         refused(&["resource", "scopeMetrics", "scope_metrics"], 0, MISPLACED),
         refused(&["scope", "metrics", "dataPoints", "data_points"], 0, MISPLACED),
-        refused(
-            &["gauge", "sum", "histogram", "exponentialHistogram", "summary"],
-            0,
-            MISPLACED,
-        ),
-        refused(
-            &["instrumentationLibraryMetrics", "instrumentation_library_metrics"],
-            0,
-            OLD,
-        ),
+        refused(&["gauge", "sum", "histogram", "exponentialHistogram", "summary"], 0, MISPLACED),
+        refused(&["instrumentationLibraryMetrics", "instrumentation_library_metrics"], 0, OLD),
     ],
 };
 
@@ -139,21 +126,9 @@ pub static RESOURCE_METRICS: Message = Message {
     ],
     one_of: &[],
     refused: &[
-        refused(
-            &["instrumentationLibraryMetrics", "instrumentation_library_metrics"],
-            1000,
-            OLD,
-        ),
-        refused(
-            &["scopeSpans", "scope_spans", "scopeLogs", "scope_logs"],
-            0,
-            OTHER_SIGNAL,
-        ),
-        refused(
-            &["metrics"],
-            0,
-            "is not in ResourceMetrics: it belongs into scopeMetrics",
-        ),
+        refused(&["instrumentationLibraryMetrics", "instrumentation_library_metrics"], 1000, OLD),
+        refused(&["scopeSpans", "scope_spans", "scopeLogs", "scope_logs"], 0, OTHER_SIGNAL),
+        refused(&["metrics"], 0, "is not in ResourceMetrics: it belongs into scopeMetrics"),
     ],
 };
 
@@ -171,11 +146,7 @@ pub static SCOPE_METRICS: Message = Message {
         field!("metrics", "metrics", 2, Kind::Messages(&METRIC)),
     ],
     one_of: &[],
-    refused: &[refused(
-        &["instrumentationLibrary", "instrumentation_library"],
-        0,
-        OLD,
-    )],
+    refused: &[refused(&["instrumentationLibrary", "instrumentation_library"], 0, OLD)],
 };
 
 static SCOPE: Message = Message {
@@ -197,12 +168,7 @@ pub static METRIC: Message = Message {
         field!("gauge", "gauge", 5, Kind::Message(&OTHER_DATA)),
         field!("sum", "sum", 7, Kind::Message(&SUM)),
         field!("histogram", "histogram", 9, Kind::Message(&HISTOGRAM)),
-        field!(
-            "exponentialHistogram",
-            "exponential_histogram",
-            10,
-            Kind::Exponential,
-        ),
+        field!("exponentialHistogram", "exponential_histogram", 10, Kind::Exponential,),
         field!("summary", "summary", 11, Kind::Message(&OTHER_DATA)),
     ],
     one_of: &[],
@@ -210,21 +176,8 @@ pub static METRIC: Message = Message {
         refused(&["intGauge", "int_gauge"], 4, OLD),
         refused(&["intSum", "int_sum"], 6, OLD),
         refused(&["intHistogram", "int_histogram"], 8, OLD),
-        refused(
-            &["doubleGauge", "double_gauge", "doubleSum", "double_sum"],
-            0,
-            OLD,
-        ),
-        refused(
-            &[
-                "doubleHistogram",
-                "double_histogram",
-                "doubleSummary",
-                "double_summary",
-            ],
-            0,
-            OLD,
-        ),
+        refused(&["doubleGauge", "double_gauge", "doubleSum", "double_sum"], 0, OLD),
+        refused(&["doubleHistogram", "double_histogram", "doubleSummary", "double_summary"], 0, OLD),
     ],
 };
 
@@ -236,23 +189,13 @@ static OTHER_DATA: Message = Message {
     refused: &[],
 };
 
-static COUNTED: Message = Message {
-    name: "DataPoint",
-    fields: &[],
-    one_of: &[],
-    refused: &[],
-};
+static COUNTED: Message = Message { name: "DataPoint", fields: &[], one_of: &[], refused: &[] };
 
 static SUM: Message = Message {
     name: "Sum",
     fields: &[
         field!("dataPoints", "data_points", 1, Kind::Messages(&NUMBER_POINT)),
-        field!(
-            "aggregationTemporality",
-            "aggregation_temporality",
-            2,
-            Kind::Temporality,
-        ),
+        field!("aggregationTemporality", "aggregation_temporality", 2, Kind::Temporality,),
         field!("isMonotonic", "is_monotonic", 3, Kind::Bool),
     ],
     one_of: &[],
@@ -262,12 +205,7 @@ static SUM: Message = Message {
 pub static NUMBER_POINT: Message = Message {
     name: "NumberDataPoint",
     fields: &[
-        field!(
-            "startTimeUnixNano",
-            "start_time_unix_nano",
-            2,
-            Kind::Whole(Wire::Fixed64),
-        ),
+        field!("startTimeUnixNano", "start_time_unix_nano", 2, Kind::Whole(Wire::Fixed64),),
         field!("timeUnixNano", "time_unix_nano", 3, Kind::Whole(Wire::Fixed64)),
         field!("asDouble", "as_double", 4, Kind::Fraction),
         field!("exemplars", "exemplars", 5, Kind::Exemplars),
@@ -283,12 +221,7 @@ static HISTOGRAM: Message = Message {
     name: "Histogram",
     fields: &[
         field!("dataPoints", "data_points", 1, Kind::Messages(&HISTOGRAM_POINT)),
-        field!(
-            "aggregationTemporality",
-            "aggregation_temporality",
-            2,
-            Kind::Temporality,
-        ),
+        field!("aggregationTemporality", "aggregation_temporality", 2, Kind::Temporality,),
     ],
     one_of: &[],
     refused: &[],
@@ -297,12 +230,7 @@ static HISTOGRAM: Message = Message {
 pub static HISTOGRAM_POINT: Message = Message {
     name: "HistogramDataPoint",
     fields: &[
-        field!(
-            "startTimeUnixNano",
-            "start_time_unix_nano",
-            2,
-            Kind::Whole(Wire::Fixed64),
-        ),
+        field!("startTimeUnixNano", "start_time_unix_nano", 2, Kind::Whole(Wire::Fixed64),),
         field!("timeUnixNano", "time_unix_nano", 3, Kind::Whole(Wire::Fixed64)),
         field!("count", "count", 4, Kind::Whole(Wire::Fixed64)),
         field!("sum", "sum", 5, Kind::Double),
@@ -324,12 +252,7 @@ pub static EXEMPLAR: Message = Message {
         field!("spanId", "span_id", 4, Kind::Bytes),
         field!("traceId", "trace_id", 5, Kind::Bytes),
         field!("asInt", "as_int", 6, Kind::Whole(Wire::Sfixed64)),
-        field!(
-            "filteredAttributes",
-            "filtered_attributes",
-            7,
-            Kind::Parts(&KEY_VALUE),
-        ),
+        field!("filteredAttributes", "filtered_attributes", 7, Kind::Parts(&KEY_VALUE),),
     ],
     one_of: &[3, 6],
     refused: &[],
@@ -337,10 +260,7 @@ pub static EXEMPLAR: Message = Message {
 
 pub static KEY_VALUE: Message = Message {
     name: "KeyValue",
-    fields: &[
-        field!("key", "key", 1, Kind::Text),
-        field!("value", "value", 2, Kind::Part(&ANY_VALUE)),
-    ],
+    fields: &[field!("key", "key", 1, Kind::Text), field!("value", "value", 2, Kind::Part(&ANY_VALUE))],
     one_of: &[],
     refused: &[],
 };

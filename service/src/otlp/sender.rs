@@ -172,26 +172,19 @@ mod tests {
     fn request(resources: &[&[(&str, Any)]]) -> [(Encoding, Vec<u8>); 2] {
         let pair = |pair: &(&str, Any)| KeyValue {
             key: pair.0.to_string(),
-            value: Some(AnyValue {
-                value: Some(pair.1.clone()),
-            }),
+            value: Some(AnyValue { value: Some(pair.1.clone()) }),
         };
         let request = ExportMetricsServiceRequest {
             resource_metrics: resources
                 .iter()
                 .map(|pairs| ResourceMetrics {
-                    resource: Some(Resource {
-                        attributes: pairs.iter().map(pair).collect(),
-                    }),
+                    resource: Some(Resource { attributes: pairs.iter().map(pair).collect() }),
                     scope_metrics: Vec::new(),
                 })
                 .collect(),
         };
         let json = crate::otlp::tests::in_json(&request);
-        [
-            (Encoding::Protobuf, request.encode_to_vec()),
-            (Encoding::Json, json.into_bytes()),
-        ]
+        [(Encoding::Protobuf, request.encode_to_vec()), (Encoding::Json, json.into_bytes())]
     }
 
     fn text(text: &str) -> Any {
@@ -199,10 +192,7 @@ mod tests {
     }
 
     fn named(resources: &[&[(&str, Any)]]) -> Result<String, String> {
-        let reading = Reading {
-            sender_from: Some("id".to_string()),
-            ..Reading::default()
-        };
+        let reading = Reading { sender_from: Some("id".to_string()), ..Reading::default() };
         let read = |(encoding, body): (Encoding, Vec<u8>)| {
             sender(NO_NAME.to_string(), encoding, &body, &reading).map_err(|refused| refused.to_string())
         };
@@ -213,10 +203,7 @@ mod tests {
 
     #[test]
     fn a_resource_names_its_sender() {
-        assert_eq!(
-            named(&[&[("a", text("b")), ("id", text("shop-1"))]]).unwrap(),
-            "shop-1"
-        );
+        assert_eq!(named(&[&[("a", text("b")), ("id", text("shop-1"))]]).unwrap(), "shop-1");
         let same = [("id", text("shop-1"))];
         assert_eq!(named(&[&same, &same]).unwrap(), "shop-1");
         for nobody in [&[][..], &[&[][..]][..], &[&[("ide", text("x"))][..]][..]] {
@@ -229,10 +216,7 @@ mod tests {
         let (one, other) = ([("id", text("a"))], [("id", text("b"))]);
         for several in [[&one[..], &other[..]], [&one[..], &[]], [&[], &one[..]]] {
             let why = named(&several).unwrap_err();
-            assert!(
-                why.contains("more than one id: name the sender by the header"),
-                "{why}"
-            );
+            assert!(why.contains("more than one id: name the sender by the header"), "{why}");
         }
         for value in [Any::Int(5), text(""), Any::Double(0.5)] {
             let why = named(&[&[("id", value)]]).unwrap_err();
@@ -248,9 +232,7 @@ mod tests {
             let resource = [&[0x0a, pair.len() as u8][..], &pair].concat();
             let resources = [&[0x0a, resource.len() as u8][..], &resource].concat();
             let body = [&[0x0a, resources.len() as u8][..], &resources].concat();
-            in_protobuf(&body, "id")
-                .map(|found| format!("{:?}", found.unwrap()))
-                .collect::<String>()
+            in_protobuf(&body, "id").map(|found| format!("{:?}", found.unwrap())).collect::<String>()
         };
         assert_eq!(with(&[&text[..], int].concat()), "NoText");
         assert_eq!(with(&[&int[..], text].concat()), "Name(\"a\")");
@@ -261,10 +243,7 @@ mod tests {
     fn a_resource_that_is_cut_names_nobody() {
         let field = |number: u8, bytes: &[u8]| [&[number << 3 | 2, bytes.len() as u8], bytes].concat();
         let text = field(1, b"shop-1");
-        let reading = Reading {
-            sender_from: Some("id".to_string()),
-            ..Reading::default()
-        };
+        let reading = Reading { sender_from: Some("id".to_string()), ..Reading::default() };
         let named = |resource: &[u8]| {
             let body = field(1, resource);
             let named = sender(NO_NAME.to_string(), Encoding::Protobuf, &body, &reading);
@@ -288,16 +267,10 @@ mod tests {
 
     #[test]
     fn a_header_goes_before() {
-        let reading = Reading {
-            sender_from: Some("id".to_string()),
-            ..Reading::default()
-        };
+        let reading = Reading { sender_from: Some("id".to_string()), ..Reading::default() };
         for (encoding, body) in request(&[&[("id", text("a"))], &[("id", text("b"))]]) {
             assert_eq!(sender("x".to_string(), encoding, &body, &reading).unwrap(), "x");
-            assert_eq!(
-                sender(NO_NAME.to_string(), encoding, &body, &Reading::default()).unwrap(),
-                NO_NAME
-            );
+            assert_eq!(sender(NO_NAME.to_string(), encoding, &body, &Reading::default()).unwrap(), NO_NAME);
         }
     }
 
@@ -305,9 +278,8 @@ mod tests {
     fn each_value_has_a_name_of_its_own() {
         let long = "x".repeat(65);
         let mut names = std::collections::HashSet::new();
-        let mut values: Vec<String> = ["-", "a b", "a-b", "a/b", "é", "host:1", &long, &"x".repeat(64)]
-            .map(String::from)
-            .into();
+        let mut values: Vec<String> =
+            ["-", "a b", "a-b", "a/b", "é", "host:1", &long, &"x".repeat(64)].map(String::from).into();
         // Names that were made are values too.
         for _ in 0..3 {
             values.extend(values.clone().iter().map(|value| legal(value)));

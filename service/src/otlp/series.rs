@@ -91,8 +91,7 @@ pub struct Posted {
 
 impl SeriesKey {
     pub fn parts(&self) -> Result<SeriesParts, NotForwarded> {
-        self.parts_of()
-            .ok_or_else(|| NotForwarded(format!("the key {}", self.0)))
+        self.parts_of().ok_or_else(|| NotForwarded(format!("the key {}", self.0)))
     }
 
     fn parts_of(&self) -> Option<SeriesParts> {

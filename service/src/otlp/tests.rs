@@ -39,9 +39,7 @@ fn request(metric: &str) -> String {
 }
 
 fn sum(point: &str) -> String {
-    request(&format!(
-        r#"{{"sum":{{"aggregationTemporality":1,"dataPoints":[{point}]}}}}"#
-    ))
+    request(&format!(r#"{{"sum":{{"aggregationTemporality":1,"dataPoints":[{point}]}}}}"#))
 }
 
 /// A field of protobuf that has a length.
@@ -99,26 +97,14 @@ fn json_of_any_encoder_is_written_as_the_book_reads_it() {
             sum(r#"{"start_time_unix_nano":1.0,"time_unix_nano":"2e0","as_int":50e-1,"unknown":{}}"#),
             delta.clone(),
         ),
-        (
-            sum(r#"{"startTimeUnixNano":0.1E1,"timeUnixNano":2,"asInt":"5.0","flags":null}"#),
-            delta.clone(),
-        ),
-        (
-            delta.replace("\"aggregationTemporality\":1", "\"aggregation_temporality\":1.0"),
-            delta.clone(),
-        ),
-        (
-            delta.replace("ity\":1", "ity\":\"AGGREGATION_TEMPORALITY_DELTA\""),
-            delta.clone(),
-        ),
+        (sum(r#"{"startTimeUnixNano":0.1E1,"timeUnixNano":2,"asInt":"5.0","flags":null}"#), delta.clone()),
+        (delta.replace("\"aggregationTemporality\":1", "\"aggregation_temporality\":1.0"), delta.clone()),
+        (delta.replace("ity\":1", "ity\":\"AGGREGATION_TEMPORALITY_DELTA\""), delta.clone()),
         (
             delta.replace("ity\":1", "ity\":\"AGGREGATION_TEMPORALITY_CUMULATIVE\""),
             delta.replace("ity\":1", "ity\":2"),
         ),
-        (
-            delta.replace("resourceMetrics", "resource_metrics"),
-            delta.clone(),
-        ),
+        (delta.replace("resourceMetrics", "resource_metrics"), delta.clone()),
         (delta.replace("\"5\"", "-0"), delta.replace("\"5\"", "\"0\"")),
         (
             delta.replace("\"5\"", "-9223372036854775808.0"),
@@ -148,18 +134,11 @@ fn json_of_any_encoder_is_written_as_the_book_reads_it() {
             request(r#"{"gauge":{"data_points":[{"asDouble":1.7976931348623157e308},{}]},"name":null}"#),
             request(r#"{"gauge":{"dataPoints":[{},{}]}}"#),
         ),
-        (
-            request(r#"{"sum":{"is_monotonic":"true"}}"#),
-            request(r#"{"sum":{"isMonotonic":0}}"#),
-        ),
+        (request(r#"{"sum":{"is_monotonic":"true"}}"#), request(r#"{"sum":{"isMonotonic":0}}"#)),
         (sum(r#"{"asDouble":1.5e308}"#), sum(r#"{"asDouble":"1.5e308"}"#)),
     ];
     for (body, expected) in cases {
-        assert_eq!(
-            json(&body),
-            serde_json::from_str::<serde_json::Value>(&expected).unwrap(),
-            "{body}"
-        );
+        assert_eq!(json(&body), serde_json::from_str::<serde_json::Value>(&expected).unwrap(), "{body}");
     }
 }
 
@@ -177,29 +156,13 @@ fn protobuf_is_written_as_the_book_reads_it() {
     .concat();
     let double = [&[0x21][..], &5.0f64.to_le_bytes()].concat();
     // A text, a map and a list within a list; of two names the last counts.
-    let values = [
-        bytes(1, b"\"\n"),
-        bytes(6, b""),
-        bytes(5, &bytes(1, &bytes(5, b""))),
-    ]
-    .map(|value| bytes(7, &bytes(2, &value)))
-    .concat();
-    let sum = [
-        bytes(1, &number),
-        bytes(1, &double),
-        bytes(1, &values),
-        vec![0x10, 1, 0x18, 1],
-    ]
-    .concat();
+    let values = [bytes(1, b"\"\n"), bytes(6, b""), bytes(5, &bytes(1, &bytes(5, b"")))]
+        .map(|value| bytes(7, &bytes(2, &value)))
+        .concat();
+    let sum = [bytes(1, &number), bytes(1, &double), bytes(1, &values), vec![0x10, 1, 0x18, 1]].concat();
     let packed = [3.0f64, 0.5].map(f64::to_le_bytes).concat();
-    let histogram = [
-        &bytes(7, &packed)[..],
-        &[0x31],
-        &7u64.to_le_bytes(),
-        &[0x29],
-        &2.0f64.to_le_bytes(),
-    ]
-    .concat();
+    let histogram =
+        [&bytes(7, &packed)[..], &[0x31], &7u64.to_le_bytes(), &[0x29], &2.0f64.to_le_bytes()].concat();
     let cases = [
         (
             [bytes(1, b"x"), bytes(1, b"m"), bytes(2, b"d"), bytes(7, &sum)].concat(),
@@ -223,10 +186,7 @@ fn protobuf_is_written_as_the_book_reads_it() {
     for (metric, expected) in cases {
         let written = prepared(Encoding::Protobuf, within_request(&metric)).unwrap();
         let expected: serde_json::Value = serde_json::from_str(&request(&expected)).unwrap();
-        assert_eq!(
-            serde_json::from_slice::<serde_json::Value>(&written).unwrap(),
-            expected
-        );
+        assert_eq!(serde_json::from_slice::<serde_json::Value>(&written).unwrap(), expected);
     }
     assert_eq!(prepared(Encoding::Protobuf, ""), Ok(Bytes::from("{}")));
 }
@@ -245,62 +205,39 @@ fn attributes_in_protobuf_may_come_in_any_form() {
     let with_text = r#"[{"key":"k","value":{"stringValue":"t"}}]"#;
     let (other_key, other, longer) = (bytes(1, b"x"), bytes(9, b"x"), [&[24, 4][..], &[24, 5]].concat());
     assert_eq!(written(&[key.clone(), text.clone()].concat()), with_text);
-    for parts in [
-        [&text, &key, &other],
-        [&other_key, &key, &text],
-        [&key, &text, &other],
-        [&other, &key, &text],
-    ] {
+    for parts in
+        [[&text, &key, &other], [&other_key, &key, &text], [&key, &text, &other], [&other, &key, &text]]
+    {
         assert_eq!(written(&parts.map(|part| &part[..]).concat()), with_text);
     }
     let with_whole = r#"[{"key":"k","value":{"intValue":5}}]"#;
     for whole in [whole, bytes(2, &longer)] {
         assert_eq!(written(&[key.clone(), whole].concat()), with_whole);
     }
-    let without = [
-        (key.clone(), r#"[{"key":"k"}]"#),
-        (text.clone(), r#"[{"value":{"stringValue":"t"}}]"#),
-    ];
+    let without = [(key.clone(), r#"[{"key":"k"}]"#), (text.clone(), r#"[{"value":{"stringValue":"t"}}]"#)];
     for (one, expected) in without {
         assert_eq!(written(&one), expected);
     }
     let of_two = bytes(2, &[bytes(1, b"t"), vec![24, 5]].concat());
-    assert_eq!(
-        written(&[key, of_two].concat()),
-        with_whole,
-        "the last one counts"
-    );
+    assert_eq!(written(&[key, of_two].concat()), with_whole, "the last one counts");
 }
 
 #[test]
 fn resource_attributes_are_dropped() {
-    let reading = Reading {
-        dropped: vec!["service.instance.id".to_string(), "é".to_string()],
-        ..Reading::default()
-    };
+    let reading =
+        Reading { dropped: vec!["service.instance.id".to_string(), "é".to_string()], ..Reading::default() };
     let body = r#"{"resourceMetrics":[{"resource":{"attributes":[{"key":"service.instance.id","value":{"stringValue":"1"}},{"key":"a"},{"value":{},"key":"\u00e9"},{"key":"b"}]},"scopeMetrics":[{"scope":{"attributes":[{"key":"é"}]}}]}]}"#;
     let expected = r#"{"resourceMetrics":[{"resource":{"attributes":[{"key":"a"},{"key":"b"}]},"scopeMetrics":[{"scope":{"attributes":[{"key":"é"}]}}]}]}"#;
-    assert_eq!(
-        prepare(Encoding::Json, body.into(), &reading).unwrap().body,
-        expected
-    );
-    let pairs = ["é", "a", "service.instance.id"]
-        .map(|key| bytes(1, &bytes(1, key.as_bytes())))
-        .concat();
+    assert_eq!(prepare(Encoding::Json, body.into(), &reading).unwrap().body, expected);
+    let pairs = ["é", "a", "service.instance.id"].map(|key| bytes(1, &bytes(1, key.as_bytes()))).concat();
     let written = prepare(Encoding::Protobuf, bytes(1, &bytes(1, &pairs)).into(), &reading).unwrap();
-    assert_eq!(
-        written.body,
-        r#"{"resourceMetrics":[{"resource":{"attributes":[{"key":"a"}]}}]}"#
-    );
+    assert_eq!(written.body, r#"{"resourceMetrics":[{"resource":{"attributes":[{"key":"a"}]}}]}"#);
 }
 
 #[test]
 fn answers_are_of_the_request_s_kind() {
     let all = Outcome::taken(0);
-    assert_eq!(
-        (all.body(Encoding::Json), all.body(Encoding::Protobuf)),
-        (b"{}".to_vec(), Vec::new())
-    );
+    assert_eq!((all.body(Encoding::Json), all.body(Encoding::Protobuf)), (b"{}".to_vec(), Vec::new()));
     let some = Outcome::taken(7);
     let text =
         br#"{"partialSuccess":{"errorMessage":"points outside the profile","rejectedDataPoints":"7"}}"#;
@@ -309,10 +246,7 @@ fn answers_are_of_the_request_s_kind() {
         .unwrap()
         .partial_success
         .unwrap();
-    assert_eq!(
-        (partial.rejected_data_points, &*partial.error_message),
-        (7, "points outside the profile")
-    );
+    assert_eq!((partial.rejected_data_points, &*partial.error_message), (7, "points outside the profile"));
     let said = Outcome::Taken {
         known: Causes::default(),
         rejected: 2,
@@ -327,59 +261,29 @@ fn answers_are_of_the_request_s_kind() {
         .unwrap()
         .partial_success
         .unwrap();
-    assert_eq!(
-        (partial.rejected_data_points, &*partial.error_message),
-        (2, "a \"b\"")
-    );
-    for (status, code) in [
-        (400, 3),
-        (403, 7),
-        (404, 5),
-        (408, 4),
-        (413, 3),
-        (415, 3),
-        (503, 14),
-    ] {
-        let refused = Outcome::Refused {
-            status,
-            message: "a \"b\"".to_string(),
-        };
+    assert_eq!((partial.rejected_data_points, &*partial.error_message), (2, "a \"b\""));
+    for (status, code) in [(400, 3), (403, 7), (404, 5), (408, 4), (413, 3), (415, 3), (503, 14)] {
+        let refused = Outcome::Refused { status, message: "a \"b\"".to_string() };
         assert_eq!(
             refused.body(Encoding::Json),
             format!(r#"{{"code":{code},"message":"a \"b\""}}"#).into_bytes()
         );
         let found = Status::decode(&refused.body(Encoding::Protobuf)[..]).unwrap();
-        assert_eq!(
-            found,
-            Status {
-                code,
-                message: "a \"b\"".to_string()
-            }
-        );
+        assert_eq!(found, Status { code, message: "a \"b\"".to_string() });
     }
 }
 
 /// A request in JSON, as most encoders write it.
 pub(super) fn in_json(request: &messages::ExportMetricsServiceRequest) -> String {
-    let spelling = mapping::Spelling {
-        proto_names: false,
-        numbers: false,
-        enum_names: false,
-    };
+    let spelling = mapping::Spelling { proto_names: false, numbers: false, enum_names: false };
     spelling.request(request)
 }
 
 /// A request of one point.
 pub(super) fn a_request() -> Vec<u8> {
-    let point = [
-        &[0x11][..],
-        &1u64.to_le_bytes(),
-        &[0x19],
-        &2u64.to_le_bytes(),
-        &[0x31],
-        &5i64.to_le_bytes(),
-    ]
-    .concat();
+    let point =
+        [&[0x11][..], &1u64.to_le_bytes(), &[0x19], &2u64.to_le_bytes(), &[0x31], &5i64.to_le_bytes()]
+            .concat();
     let sum = [bytes(1, &point), vec![0x10, 1, 0x18, 1]].concat();
     within_request(&[bytes(1, b"m"), bytes(7, &sum)].concat())
 }

@@ -201,11 +201,7 @@ impl<'a> Fields<'a> {
                 return Ok(number);
             }
         }
-        Err(if self.rest.len() < 10 {
-            Malformed::Cut
-        } else {
-            Malformed::LongNumber
-        })
+        Err(if self.rest.len() < 10 { Malformed::Cut } else { Malformed::LongNumber })
     }
 }
 

@@ -109,9 +109,9 @@ async fn said(response: Response<Body>, encoding: Encoding) -> Result<Said, hype
     }
     let partial = match encoding {
         Encoding::Json => partial_success(&text),
-        Encoding::Protobuf => ExportMetricsServiceResponse::decode(&text[..])
-            .ok()
-            .and_then(|taken| taken.partial_success),
+        Encoding::Protobuf => {
+            ExportMetricsServiceResponse::decode(&text[..]).ok().and_then(|taken| taken.partial_success)
+        }
     };
     Ok(match partial {
         Some(partial) if partial.rejected_data_points > 0 => {

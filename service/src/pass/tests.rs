@@ -5,11 +5,7 @@ use std::io::{Read, Write};
 use std::net::TcpListener;
 
 fn outside(body: &[u8], points: u64) -> Outside {
-    Outside {
-        encoding: Encoding::Protobuf,
-        body: Bytes::copy_from_slice(body),
-        points,
-    }
+    Outside { encoding: Encoding::Protobuf, body: Bytes::copy_from_slice(body), points }
 }
 
 fn counted(metrics: &Metrics) -> [u64; 4] {
@@ -32,17 +28,13 @@ fn what_waits_has_a_bound() {
 #[test]
 fn several_of_protobuf_are_one_request() {
     let mut waiting = Waiting::default();
-    let json = Outside {
-        encoding: Encoding::Json,
-        ..outside(b"{}", 1)
-    };
+    let json = Outside { encoding: Encoding::Json, ..outside(b"{}", 1) };
     let bodies = [outside(b"a", 1), outside(b"b", 2), json, outside(b"c", 4)];
     let long = vec![0; MOST_OF_A_REQUEST];
     assert!(bodies.into_iter().all(|one| waiting.put(one)));
     assert!(waiting.put(outside(&long, 8)));
-    let taken: Vec<(usize, u64)> = std::iter::from_fn(|| waiting.take())
-        .map(|one| (one.body.len(), one.points))
-        .collect();
+    let taken: Vec<(usize, u64)> =
+        std::iter::from_fn(|| waiting.take()).map(|one| (one.body.len(), one.points)).collect();
     assert_eq!(taken, [(2, 3), (2, 1), (1, 4), (long.len(), 8)]);
     assert_eq!(waiting.bytes, 0);
 }
@@ -60,10 +52,8 @@ fn answering(answers: &'static [(&'static str, &'static [u8])]) -> String {
                 stream.read_exact(&mut byte).unwrap();
                 read.push(byte[0]);
             }
-            let head = format!(
-                "HTTP/1.1 {status}\r\nContent-Length: {}\r\nConnection: close\r\n\r\n",
-                body.len()
-            );
+            let head =
+                format!("HTTP/1.1 {status}\r\nContent-Length: {}\r\nConnection: close\r\n\r\n", body.len());
             stream.write_all(head.as_bytes()).unwrap();
             stream.write_all(body).unwrap();
         }

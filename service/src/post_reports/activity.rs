@@ -76,9 +76,7 @@ impl SenderActivity {
         let mut last: Vec<(&String, &OfSender)> = all.iter().collect();
         last.sort_by(|(a, of_a), (b, of_b)| of_b.last.cmp(&of_a.last).then(a.cmp(b)));
         last.truncate(most);
-        last.into_iter()
-            .map(|(name, of)| (name.clone(), of.clone()))
-            .collect()
+        last.into_iter().map(|(name, of)| (name.clone(), of.clone())).collect()
     }
 
     /// How many senders are known.
@@ -108,9 +106,7 @@ fn make_room(all: &mut HashMap<String, OfSender>) {
 }
 
 fn now() -> u64 {
-    SystemTime::now()
-        .duration_since(UNIX_EPOCH)
-        .map_or(0, |since| since.as_secs())
+    SystemTime::now().duration_since(UNIX_EPOCH).map_or(0, |since| since.as_secs())
 }
 
 #[cfg(test)]
@@ -118,10 +114,7 @@ mod tests {
     use super::*;
 
     fn refused(message: &str) -> Outcome {
-        Outcome::Refused {
-            status: 400,
-            message: message.into(),
-        }
+        Outcome::Refused { status: 400, message: message.into() }
     }
 
     #[test]
@@ -130,33 +123,16 @@ mod tests {
         assert_eq!(activity.note_at("A", &Outcome::taken(2), 5), None);
         let first = activity.note_at("A", &refused("out of order: point 0, frontier 5"), 6);
         assert_eq!(first, Some("out of order"));
-        assert_eq!(
-            activity.note_at("A", &refused("out of order: point 9, frontier 7"), 7),
-            None
-        );
+        assert_eq!(activity.note_at("A", &refused("out of order: point 9, frontier 7"), 7), None);
         assert_eq!(
             activity.note_at("B", &refused("out of order: point 9, frontier 7"), 6),
             Some("out of order")
         );
         let last = activity.last(9);
-        assert_eq!(
-            last.iter().map(|(name, _)| &**name).collect::<Vec<_>>(),
-            ["A", "B"]
-        );
-        let wanted = OfReason {
-            status: 400,
-            posts: 2,
-            last: 7,
-            text: "out of order: point 9, frontier 7".into(),
-        };
-        assert_eq!(
-            (
-                last[0].1.taken,
-                last[0].1.last,
-                &last[0].1.refused["out of order"]
-            ),
-            (1, 7, &wanted)
-        );
+        assert_eq!(last.iter().map(|(name, _)| &**name).collect::<Vec<_>>(), ["A", "B"]);
+        let wanted =
+            OfReason { status: 400, posts: 2, last: 7, text: "out of order: point 9, frontier 7".into() };
+        assert_eq!((last[0].1.taken, last[0].1.last, &last[0].1.refused["out of order"]), (1, 7, &wanted));
     }
 
     /// Else names that somebody makes up would fill the memory, or push out who posts.

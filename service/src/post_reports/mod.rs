@@ -95,11 +95,7 @@ enum Report {
 
 impl<T: Taker> Reported<T> {
     pub fn new(taker: Arc<T>, owners: impl Owners, reporter: Arc<Reporter>) -> Arc<Reported<T>> {
-        Arc::new(Reported {
-            taker,
-            owners: Box::new(owners),
-            reporter,
-        })
+        Arc::new(Reported { taker, owners: Box::new(owners), reporter })
     }
 
     fn tell(&self, report: Report, sender: &str, source: Source) {
@@ -153,12 +149,7 @@ impl Reporter {
     ) -> Outcome {
         match outcome {
             Outcome::Taken { rejected: 0, .. } => outcome,
-            Outcome::Taken {
-                rejected,
-                off,
-                ref known,
-                ..
-            } => {
+            Outcome::Taken { rejected, off, ref known, .. } => {
                 let foreign = rejected - off.points() - known.count();
                 let causes = match foreign {
                     0 => Causes::default(),
@@ -176,9 +167,7 @@ impl Reporter {
                     return Outcome::Refused { status, message };
                 };
                 let profile = self.options.profile;
-                let said = self
-                    .read(source, move |body| of_other_writer(body, profile, place))
-                    .await;
+                let said = self.read(source, move |body| of_other_writer(body, profile, place)).await;
                 let message = message + &said.flatten().unwrap_or_default();
                 Outcome::Refused { status, message }
             }
@@ -210,8 +199,7 @@ impl Reporter {
     ) -> Option<R> {
         let source = source.clone();
         let length = source.length();
-        self.work(length, move || source.text().map(|body| read(&body)))
-            .await
+        self.work(length, move || source.text().map(|body| read(&body))).await
     }
 
     /// Does what takes time by the length of a body.
@@ -234,12 +222,7 @@ impl Reporter {
             logged.refusals += 1;
             drop(logged);
             let answer = shown(message, ANSWER_SHOWN);
-            tracing::warn!(
-                sender,
-                reason,
-                status,
-                "a post of {sender} is refused with {status}: {answer}"
-            );
+            tracing::warn!(sender, reason, status, "a post of {sender} is refused with {status}: {answer}");
         }
     }
 
@@ -255,12 +238,7 @@ impl Reporter {
         if logged.clocks.len() < REMEMBERED && logged.clocks.insert(sender.to_string()) {
             drop(logged);
             let (points, reason) = (off.points(), off.to_string());
-            tracing::warn!(
-                sender,
-                points,
-                reason,
-                "points of {sender} are not taken: {reason}"
-            );
+            tracing::warn!(sender, points, reason, "points of {sender} are not taken: {reason}");
         }
     }
 

@@ -45,16 +45,10 @@ async fn told(
     log_foreign: usize,
     posts: &[Bytes],
 ) -> (Vec<String>, usize, usize) {
-    let options = ReportOptions {
-        log_foreign,
-        ..ReportOptions::default()
-    };
+    let options = ReportOptions { log_foreign, ..ReportOptions::default() };
     let reported = reported(outcome.clone(), owner, options);
     for body in posts {
-        assert_eq!(
-            reported.post("a".into(), body.clone().into()).await.status(),
-            outcome.status()
-        );
+        assert_eq!(reported.post("a".into(), body.clone().into()).await.status(), outcome.status());
         while reported.reporter.is_reading.load(Relaxed) {
             tokio::time::sleep(Duration::from_millis(1)).await;
         }
@@ -75,16 +69,9 @@ async fn the_first_reasons_of_a_sender_are_told() {
     let posts = [body(GAUGES), body(GAUGES)];
     let (reasons, read, _) = told(foreign.clone(), None, 9, &posts).await;
     assert_eq!(read, 2);
-    assert!(
-        reasons[0].starts_with("gauge `g`: gauges are not") && reasons.len() == 2,
-        "{reasons:?}"
-    );
+    assert!(reasons[0].starts_with("gauge `g`: gauges are not") && reasons.len() == 2, "{reasons:?}");
     let (reasons, read, _) = told(foreign.clone(), None, 1, &posts).await;
-    assert_eq!(
-        (reasons.len(), read),
-        (1, 1),
-        "no post is read after the last reason"
-    );
+    assert_eq!((reasons.len(), read), (1, 1), "no post is read after the last reason");
     assert_eq!(told(foreign.clone(), None, 0, &posts).await, (vec![], 0, 0));
     assert_eq!(told(Outcome::taken(0), None, 9, &posts).await, (vec![], 0, 0));
     let many = vec![body(GAUGES); MOST_READ + 5];
@@ -97,11 +84,7 @@ async fn what_is_told_of_a_point_is_one_short_line() {
     let name = "\\n2026-11-26 WARN a line of its own".to_string() + &"x".repeat(1 << 20);
     let long = body(&format!(r#"{{"name":"{name}","gauge":{{"dataPoints":[{{}}]}}}}"#));
     let (reasons, _, _) = told(Outcome::taken(1), None, 9, &[long]).await;
-    assert!(
-        reasons[0].len() < 300 && !reasons[0].contains('\n'),
-        "{}",
-        reasons[0]
-    );
+    assert!(reasons[0].len() < 300 && !reasons[0].contains('\n'), "{}", reasons[0]);
 }
 
 /// Else a sender could fill the disk, or have the terminal of who reads the log do something.
@@ -113,33 +96,22 @@ fn what_is_told_of_another_s_series_is_one_short_line() {
         line.starts_with("posts of b are refused, since the series is a's:") && line.len() < 2200,
         "{line}"
     );
-    assert!(
-        line.contains("[[],\"  2Jxx") && !line.contains(char::is_control),
-        "{line}"
-    );
+    assert!(line.contains("[[],\"  2Jxx") && !line.contains(char::is_control), "{line}");
 }
 
 #[tokio::test]
 async fn a_series_of_another_is_told_once_it_is_known() {
     let point = r#"{"startTimeUnixNano":"1","timeUnixNano":"2","asInt":"1"}"#;
     let metric = |name| {
-        body(&format!(
-            r#"{{"name":"{name}","sum":{{"aggregationTemporality":1,"dataPoints":[{point}]}}}}"#
-        ))
+        body(&format!(r#"{{"name":"{name}","sum":{{"aggregationTemporality":1,"dataPoints":[{point}]}}}}"#))
     };
     let posts = [metric("m"), metric("m"), metric("n")];
-    let refused = |message: &str| Outcome::Refused {
-        status: 400,
-        message: message.into(),
-    };
+    let refused = |message: &str| Outcome::Refused { status: 400, message: message.into() };
     let series = async |outcome, owner| told(outcome, owner, 9, &posts).await.2;
     assert_eq!(series(refused("other writer: point 0"), Some("b")).await, 2);
     assert_eq!(series(refused("other writer: point 0"), None).await, 0);
     assert_eq!(series(refused("other writer: point 1"), Some("b")).await, 0);
-    assert_eq!(
-        series(refused("out of order: point 0, frontier 5"), Some("b")).await,
-        0
-    );
+    assert_eq!(series(refused("out of order: point 0, frontier 5"), Some("b")).await, 0);
 }
 
 const SPAN: &str = r#""startTimeUnixNano":"1","timeUnixNano":"2""#;
@@ -162,18 +134,10 @@ async fn a_sender_is_told_what_is_not_taken() {
     let taken = format!(
         r#"{{"name":"t","sum":{{"aggregationTemporality":1,"dataPoints":[{{{SPAN},"asInt":"1"}}]}}}}"#
     );
-    let metrics = [
-        GAUGES,
-        &counter("c", r#","isMonotonic":true"#),
-        &counter("u", ""),
-        &counter("v", ""),
-        &taken,
-    ]
-    .join(",");
-    let options = ReportOptions {
-        expected: vec![Cause::Gauge],
-        ..ReportOptions::default()
-    };
+    let metrics =
+        [GAUGES, &counter("c", r#","isMonotonic":true"#), &counter("u", ""), &counter("v", ""), &taken]
+            .join(",");
+    let options = ReportOptions { expected: vec![Cause::Gauge], ..ReportOptions::default() };
     let all = reported(Outcome::taken(6), None, options);
     assert_eq!(
         answered(&all, &metrics).await,
@@ -187,49 +151,30 @@ async fn a_sender_is_told_what_is_not_taken() {
     ] {
         assert!(page.lines().any(|found| found == line), "{line} in\n{page}");
     }
-    assert!(
-        !page.contains("totxegun_foreign_points_total{cause=\"gauge\""),
-        "{page}"
-    );
+    assert!(!page.contains("totxegun_foreign_points_total{cause=\"gauge\""), "{page}");
     // A long body is read beside, to the same answer; and the book alone says how many points it did not take.
     let long = format!(r#"{{"name":"{}"}},{metrics}"#, "x".repeat(SHORT));
     let answer = answered(&all, &long).await;
-    assert!(
-        answer.contains(": 3 gauges, 2 UpDownCounters, 1 cumulative sum: "),
-        "{answer}"
-    );
+    assert!(answer.contains(": 3 gauges, 2 UpDownCounters, 1 cumulative sum: "), "{answer}");
     let more = reported(Outcome::taken(9), None, ReportOptions::default());
     let answer = answered(&more, &metrics).await;
     assert!(answer.contains("3 points of another form"), "{answer}");
     let all_taken = reported(Outcome::taken(0), None, ReportOptions::default());
-    assert_eq!(
-        all_taken.post("a".into(), body(&metrics).into()).await,
-        Outcome::taken(0)
-    );
+    assert_eq!(all_taken.post("a".into(), body(&metrics).into()).await, Outcome::taken(0));
 }
 
 /// Points by which clock is not in what the book says, nor in a body.
 #[tokio::test]
 async fn a_sender_whose_clock_is_off_is_told_by_how_much() {
-    let clock = Clock {
-        most_ahead: Some(Duration::from_secs(600)),
-        most_behind: None,
-    };
+    let clock = Clock { most_ahead: Some(Duration::from_secs(600)), most_behind: None };
     let (mut off, window) = (OffClock::default(), clock.window());
     off.count(window.off(u64::MAX).unwrap());
     let reported = reported(Outcome::taken_but(3, off), None, ReportOptions::default());
     let answer = answered(&reported, GAUGES).await;
     let wanted = "points outside the profile: 3 gauges, 1 point ahead of time: its clock is ";
-    assert!(
-        answer.starts_with(wanted) && answer.contains("d ahead: see"),
-        "{answer}"
-    );
+    assert!(answer.starts_with(wanted) && answer.contains("d ahead: see"), "{answer}");
     answered(&reported, GAUGES).await;
-    assert_eq!(
-        reported.reporter.logged().clocks.len(),
-        1,
-        "it is in the log once"
-    );
+    assert_eq!(reported.reporter.logged().clocks.len(), 1, "it is in the log once");
     let page = String::from_utf8(reported.reporter.metrics.page()).unwrap();
     let line = "totxegun_foreign_points_total{cause=\"clock-ahead\",sender=\"a\"} 2";
     assert!(page.lines().any(|found| found == line), "{page}");
@@ -244,10 +189,7 @@ async fn who_posts_to_another_s_series_is_told_which_it_is() {
         point(""),
         point(route)
     );
-    let refused = |message: &str| Outcome::Refused {
-        status: 400,
-        message: message.into(),
-    };
+    let refused = |message: &str| Outcome::Refused { status: 400, message: message.into() };
     let second = reported(refused("other writer: point 1"), None, ReportOptions::default());
     assert_eq!(
         answered(&second, &metric).await,
@@ -257,10 +199,7 @@ async fn who_posts_to_another_s_series_is_told_which_it_is() {
     assert_eq!(answered(&none, &metric).await, "other writer: point 2");
     let hostile = metric.replace(r#""m""#, &format!(r#""\u001b[2J{}""#, "x".repeat(9000)));
     let answer = answered(&second, &hostile).await;
-    assert!(
-        answer.len() < 700 && !answer.contains(char::is_control),
-        "{answer}"
-    );
+    assert!(answer.len() < 700 && !answer.contains(char::is_control), "{answer}");
 }
 
 /// Nobody reads nanoseconds.
@@ -268,58 +207,33 @@ async fn who_posts_to_another_s_series_is_told_which_it_is() {
 async fn a_late_sender_is_told_the_time() {
     let refused = |message: &str| {
         let message = message.into();
-        reported(
-            Outcome::Refused { status: 400, message },
-            None,
-            ReportOptions::default(),
-        )
+        reported(Outcome::Refused { status: 400, message }, None, ReportOptions::default())
     };
     let late = "out of order: point 2, frontier 1795808400500000000";
     let said = answered(&refused(late), GAUGES).await;
     let begin = format!("{late}: the point begins before 2026-11-27T19:40:00.500000Z, ");
-    assert!(
-        said.starts_with(&begin) && said.contains("clock was set back"),
-        "{said}"
-    );
+    assert!(said.starts_with(&begin) && said.contains("clock was set back"), "{said}");
     assert_eq!(answered(&refused("not JSON"), GAUGES).await, "not JSON");
 }
 
 /// What is expected is not told; and what is refused is noted, once for the log.
 #[tokio::test]
 async fn refusals_are_noted() {
-    let options = ReportOptions {
-        log_foreign: 9,
-        expected: vec![Cause::Gauge],
-        ..ReportOptions::default()
-    };
+    let options = ReportOptions { log_foreign: 9, expected: vec![Cause::Gauge], ..ReportOptions::default() };
     let expected = reported(Outcome::taken(3), None, options);
     answered(&expected, GAUGES).await;
     while expected.reporter.is_reading.load(Relaxed) {
         tokio::time::sleep(Duration::from_millis(1)).await;
     }
     assert!(expected.reporter.logged().foreign["a"].reasons.is_empty());
-    let late = Outcome::Refused {
-        status: 400,
-        message: "out of order: point 0, frontier 5".into(),
-    };
-    let busy = Outcome::Refused {
-        status: 503,
-        message: "too many bytes in flight".into(),
-    };
-    let refused = reported(late.clone(), None, ReportOptions::default())
-        .reporter
-        .clone();
+    let late = Outcome::Refused { status: 400, message: "out of order: point 0, frontier 5".into() };
+    let busy = Outcome::Refused { status: 503, message: "too many bytes in flight".into() };
+    let refused = reported(late.clone(), None, ReportOptions::default()).reporter.clone();
     refused.answered("a", &late);
     refused.part_refused("a", &late);
     refused.answered("b", &busy);
     assert_eq!(refused.logged().refusals, 1, "503 is not the sender's");
-    let of_a = &refused
-        .activity
-        .last(9)
-        .into_iter()
-        .find(|(name, _)| name == "a")
-        .unwrap()
-        .1;
+    let of_a = &refused.activity.last(9).into_iter().find(|(name, _)| name == "a").unwrap().1;
     assert_eq!((of_a.taken, of_a.refused["out of order"].posts), (0, 2));
 }
 
@@ -327,27 +241,14 @@ async fn refusals_are_noted() {
 #[tokio::test]
 async fn so_many_strangers_are_told_of() {
     let reported = reported(Outcome::taken(0), None, ReportOptions::default());
-    let unknown = Outcome::Refused {
-        status: 401,
-        message: "the token is not known".into(),
-    };
+    let unknown = Outcome::Refused { status: 401, message: "the token is not known".into() };
     for number in 0..5 * STRANGERS {
-        reported.reporter.answered(
-            &format!("address 10.0.{}.{}", number / 256, number % 256),
-            &unknown,
-        );
+        reported.reporter.answered(&format!("address 10.0.{}.{}", number / 256, number % 256), &unknown);
     }
     reported.reporter.answered("shop-1", &unknown);
     assert_eq!(reported.reporter.logged().refusals, STRANGERS + 2);
     let activity = reported.reporter.activity.last(1000);
-    let of = |name: &str| {
-        activity
-            .iter()
-            .find(|(activity, _)| activity == name)
-            .unwrap()
-            .1
-            .clone()
-    };
+    let of = |name: &str| activity.iter().find(|(activity, _)| activity == name).unwrap().1.clone();
     let posts = |name: &str| of(name).refused["the token is not known"].posts;
     assert_eq!((posts("address 10.0.0.7"), posts("shop-1")), (1, 1));
     assert_eq!(posts(NO_NAME), 4 * STRANGERS as u64);
@@ -356,10 +257,7 @@ async fn so_many_strangers_are_told_of() {
 /// Cumulative points that are refused by name count, beside foreign ones and alone.
 #[tokio::test]
 async fn what_is_refused_of_runs_is_counted() {
-    let turned = Turned {
-        by: [(Refused::WentDown, 2)].into(),
-        first: None,
-    };
+    let turned = Turned { by: [(Refused::WentDown, 2)].into(), first: None };
     for (gauges, metrics) in [(0, ""), (3, GAUGES)] {
         let outcome = Outcome::Taken {
             rejected: 2 + gauges,
@@ -369,18 +267,10 @@ async fn what_is_refused_of_runs_is_counted() {
         };
         let reported = reported(outcome, None, ReportOptions::default());
         let said = reported.post("a".into(), body(metrics).into()).await;
-        let Outcome::Taken {
-            rejected,
-            message: Some(message),
-            ..
-        } = said
-        else {
+        let Outcome::Taken { rejected, message: Some(message), .. } = said else {
             panic!("{said:?}");
         };
         assert_eq!(rejected, 2 + gauges);
-        assert!(
-            message.contains("2 cumulative points that went down"),
-            "{message}"
-        );
+        assert!(message.contains("2 cumulative points that went down"), "{message}");
     }
 }

@@ -108,10 +108,8 @@ impl Server {
             all.get_password().map(|password| config.password(password));
             all.get_dbname().map(|name| config.dbname(name));
             all.get_options().map(|options| config.options(options));
-            all.get_application_name()
-                .map(|name| config.application_name(name));
-            all.get_connect_timeout()
-                .map(|limit| config.connect_timeout(*limit));
+            all.get_application_name().map(|name| config.application_name(name));
+            all.get_connect_timeout().map(|limit| config.connect_timeout(*limit));
             config
                 .ssl_mode(all.get_ssl_mode())
                 .channel_binding(all.get_channel_binding())
@@ -140,12 +138,7 @@ fn check_hosts(config: &Config) -> Result<(), &'static str> {
 
 impl std::fmt::Display for Server {
     fn fmt(&self, formatter: &mut std::fmt::Formatter<'_>) -> std::fmt::Result {
-        write!(
-            formatter,
-            "{}@{}",
-            self.0.get_user().unwrap_or_default(),
-            self.place()
-        )
+        write!(formatter, "{}@{}", self.0.get_user().unwrap_or_default(), self.place())
     }
 }
 
@@ -176,9 +169,7 @@ mod tests {
         let server = Server::read_hosts(rest).expect(rest);
         assert_eq!(server.to_string(), "u@h1:5433,h2:5434/d");
         let each = server.each_host();
-        let [one, other] = &each[..] else {
-            panic!("{each:?}")
-        };
+        let [one, other] = &each[..] else { panic!("{each:?}") };
         for (config, host, port) in [(one, "h1", 5433), (other, "h2", 5434)] {
             assert_eq!(config.get_hosts(), [Host::Tcp(host.into())]);
             assert_eq!(config.get_ports(), [port]);
@@ -221,10 +212,7 @@ mod tests {
             ("//u:secret@h/d?channel_binding=require", "channel_binding"),
         ] {
             let error = Server::read(rest).expect_err(rest);
-            assert!(
-                error.contains(part) && !error.contains("secret"),
-                "{rest}: {error}"
-            );
+            assert!(error.contains(part) && !error.contains("secret"), "{rest}: {error}");
         }
     }
 }

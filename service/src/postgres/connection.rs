@@ -29,16 +29,10 @@ pub(crate) async fn connect(server: &Server, config: &Config) -> Result<Connecte
     if server.wants_tls() {
         let tls = Tls::new(roots::client_config(roots::of_machine()?));
         let (client, connection) = config.connect(tls).await?;
-        Ok(Connected {
-            client,
-            driver: Driver::of(connection),
-        })
+        Ok(Connected { client, driver: Driver::of(connection) })
     } else {
         let (client, connection) = config.connect(NoTls).await?;
-        Ok(Connected {
-            client,
-            driver: Driver::of(connection),
-        })
+        Ok(Connected { client, driver: Driver::of(connection) })
     }
 }
 

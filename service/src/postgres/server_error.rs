@@ -12,9 +12,7 @@ pub(crate) fn shown(error: &Error) -> String {
     let Some(said) = error.as_db_error() else {
         return error.to_string();
     };
-    let detail = said
-        .detail()
-        .map_or(String::new(), |detail| format!(" ({detail})"));
+    let detail = said.detail().map_or(String::new(), |detail| format!(" ({detail})"));
     let text = log::shown(&format!("{}{detail}", said.message()), LONGEST);
     let text = format!("{text} [{}]", said.code().code());
     match what_to_do(said) {

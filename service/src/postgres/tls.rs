@@ -42,10 +42,7 @@ where
                 format!("TLS needs a host's name, and {host} is none"),
             )
         };
-        Ok(To {
-            connector: self.0.clone().into(),
-            host: host.try_into().map_err(no_name)?,
-        })
+        Ok(To { connector: self.0.clone().into(), host: host.try_into().map_err(no_name)? })
     }
 }
 

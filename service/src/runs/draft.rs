@@ -134,10 +134,7 @@ impl Draft<'_> {
         let series = &self.runs.series[place as usize];
         if let Entry::Noted(run) = &entry {
             let series = series.key.clone();
-            self.noted.push(Noted {
-                series,
-                run: run.clone(),
-            });
+            self.noted.push(Noted { series, run: run.clone() });
         }
         if let Some(run) = &series.run {
             self.was.extend([run.start, run.time]);
@@ -262,22 +259,13 @@ impl Run {
 impl Entry {
     /// By what the journal says of a point.
     pub fn of(of_run: &OfRun, point: &[u64]) -> Entry {
-        let added = || Added {
-            from: point[1],
-            time: point[2],
-            words: point[3..].to_vec(),
-        };
+        let added = || Added { from: point[1], time: point[2], words: point[3..].to_vec() };
         match of_run {
             OfRun::More => Entry::More(added()),
-            OfRun::Began(start) => Entry::Counted {
-                start: *start,
-                added: added(),
-            },
-            OfRun::Noted { start, words } => Entry::Noted(Run {
-                start: *start,
-                time: point[2],
-                words: words.clone(),
-            }),
+            OfRun::Began(start) => Entry::Counted { start: *start, added: added() },
+            OfRun::Noted { start, words } => {
+                Entry::Noted(Run { start: *start, time: point[2], words: words.clone() })
+            }
         }
     }
 
@@ -293,14 +281,7 @@ impl Entry {
                 }
                 let from = time - 1; // a sound point ends behind 1
                 let words_of_run = OfRun::Noted { start, words };
-                (
-                    words_of_run,
-                    Added {
-                        from,
-                        time,
-                        words: zeros,
-                    },
-                )
+                (words_of_run, Added { from, time, words: zeros })
             }
         };
         let at = points.count() as u32;

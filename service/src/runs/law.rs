@@ -122,12 +122,10 @@ pub fn entry(
         if point.time <= since.forgotten {
             return Err(Refused::Forgotten);
         }
-        return Ok(Some(
-            match since.counts(options.first, point.start) && !is_instant(point) {
-                true => counted(point, point.start),
-                false => Entry::Noted(point.clone()),
-            },
-        ));
+        return Ok(Some(match since.counts(options.first, point.start) && !is_instant(point) {
+            true => counted(point, point.start),
+            false => Entry::Noted(point.clone()),
+        }));
     };
     if point.time <= known.time {
         return Ok(None);
@@ -150,10 +148,7 @@ fn is_instant(point: &Run) -> bool {
 
 fn counted(point: &Run, from: u64) -> Entry {
     let (time, words) = (point.time, point.words.clone());
-    Entry::Counted {
-        start: point.start,
-        added: Added { from, time, words },
-    }
+    Entry::Counted { start: point.start, added: Added { from, time, words } }
 }
 
 /// A later point of the same start.
@@ -179,10 +174,7 @@ fn goes_down(before: &[u64], now: &[u64]) -> bool {
                 || sum_falls
                 || buckets.iter().zip(now_buckets).any(|(before, now)| now < before)
         }
-        (before, now) => before
-            .iter()
-            .zip(now)
-            .any(|(before, now)| (*now as i64) < (*before as i64)),
+        (before, now) => before.iter().zip(now).any(|(before, now)| (*now as i64) < (*before as i64)),
     }
 }
 
@@ -209,11 +201,7 @@ fn difference(kind: Kind, before: &[u64], now: &[u64]) -> Option<Vec<u64>> {
 
 /// Adds up what a run was and what came to it.
 fn sum(kind: Kind, before: &[u64], added: &[u64]) -> Vec<u64> {
-    let mut words: Vec<u64> = before
-        .iter()
-        .zip(added)
-        .map(|(one, other)| one.wrapping_add(*other))
-        .collect();
+    let mut words: Vec<u64> = before.iter().zip(added).map(|(one, other)| one.wrapping_add(*other)).collect();
     if let (Kind::Histogram, [_, has, sum, ..]) = (kind, &mut words[..]) {
         // One that was without a sum has none any more: what came before is not known.
         *has = u64::from(before[1] != 0 && added[1] != 0);
@@ -230,11 +218,9 @@ impl Entry {
         }
         match self {
             Entry::Noted(run) => Some(run.clone()),
-            Entry::Counted { start, added } => Some(Run {
-                start: *start,
-                time: added.time,
-                words: added.words.clone(),
-            }),
+            Entry::Counted { start, added } => {
+                Some(Run { start: *start, time: added.time, words: added.words.clone() })
+            }
             Entry::More(added) => known.map(|known| Run {
                 start: known.start,
                 time: added.time,

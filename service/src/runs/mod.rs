@@ -92,10 +92,7 @@ impl Runs {
 impl State {
     /// What an outbox knows.
     pub fn of(outbox: &Outbox) -> State {
-        let mut state = State {
-            since: outbox.since(),
-            ..State::default()
-        };
+        let mut state = State { since: outbox.since(), ..State::default() };
         for (key, known) in outbox.with_run() {
             if let (Some(run), Some(mut series)) = (known.run, Series::new(key, known.frontier)) {
                 series.run = Some(run);
@@ -241,13 +238,7 @@ impl Series {
             series::Kind::Monotonic => Kind::Monotonic,
             series::Kind::Histogram { .. } => Kind::Histogram,
         };
-        Some(Series {
-            key,
-            kind,
-            run: None,
-            is_changed: false,
-            frontier,
-        })
+        Some(Series { key, kind, run: None, is_changed: false, frontier })
     }
 
     /// What a point of it adds. Where the book has more of it than its run, that is of delta points: what begins before these

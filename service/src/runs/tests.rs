@@ -24,10 +24,7 @@ fn noted(start: u64, time: u64, words: &[u64]) -> Result<Option<Entry>, Refused>
     Ok(Some(Entry::Noted(run(start, time, words))))
 }
 
-const SINCE: Since = Since {
-    made: 100,
-    forgotten: 50,
-};
+const SINCE: Since = Since { made: 100, forgotten: 50 };
 
 fn options(first: First, reset: Reset) -> Options {
     Options { first, reset }
@@ -64,13 +61,7 @@ fn a_later_point_adds_what_its_run_has_more_or_all_of_a_new_run() {
     let known = run(110, 200, &[7]);
     let next = |reset, kind, start, time, value: i64| {
         let options = options(First::Auto, reset);
-        entry(
-            options,
-            SINCE,
-            kind,
-            Some(&known),
-            &run(start, time, &[value as u64]),
-        )
+        entry(options, SINCE, kind, Some(&known), &run(start, time, &[value as u64]))
     };
     let refuse = |start, time, value| next(Reset::Refuse, Kind::Monotonic, start, time, value);
     assert_eq!(refuse(110, 210, 9), more(200, 210, &[2]));
@@ -100,15 +91,8 @@ fn a_later_point_adds_what_its_run_has_more_or_all_of_a_new_run() {
 #[test]
 fn without_a_start_a_word_that_goes_down_begins_the_run_anew() {
     let known = run(0, 200, &[7]);
-    let next = |value| {
-        entry(
-            Options::default(),
-            SINCE,
-            Kind::Monotonic,
-            Some(&known),
-            &run(0, 210, &[value]),
-        )
-    };
+    let next =
+        |value| entry(Options::default(), SINCE, Kind::Monotonic, Some(&known), &run(0, 210, &[value]));
     assert_eq!(next(9), more(200, 210, &[2]));
     assert_eq!(next(6), counted(0, 200, 210, &[6]));
 }
@@ -117,36 +101,17 @@ fn without_a_start_a_word_that_goes_down_begins_the_run_anew() {
 fn a_histogram_has_a_sum_more_where_both_points_have_one() {
     let next = |before: &[u64], now: &[u64]| {
         let known = run(110, 200, before);
-        let entry = entry(
-            Options::default(),
-            SINCE,
-            Kind::Histogram,
-            Some(&known),
-            &run(110, 210, now),
-        );
-        let after = entry
-            .clone()
-            .ok()
-            .flatten()
-            .and_then(|entry| entry.after(Kind::Histogram, Some(&known)));
+        let entry = entry(Options::default(), SINCE, Kind::Histogram, Some(&known), &run(110, 210, now));
+        let after = entry.clone().ok().flatten().and_then(|entry| entry.after(Kind::Histogram, Some(&known)));
         (entry, after.map(|run| run.words))
     };
     let both = next(&[3, 1, 30, 1, 2], &[5, 1, 70, 2, 3]);
-    assert_eq!(
-        both,
-        (more(200, 210, &[2, 1, 40, 1, 1]), Some(vec![5, 1, 70, 2, 3]))
-    );
+    assert_eq!(both, (more(200, 210, &[2, 1, 40, 1, 1]), Some(vec![5, 1, 70, 2, 3])));
     let lost = next(&[3, 1, 30, 1, 2], &[5, 0, 0, 2, 3]);
-    assert_eq!(
-        lost,
-        (more(200, 210, &[2, 0, 0, 1, 1]), Some(vec![5, 0, 0, 2, 3]))
-    );
+    assert_eq!(lost, (more(200, 210, &[2, 0, 0, 1, 1]), Some(vec![5, 0, 0, 2, 3])));
     // What a start reads again is what was added: so the sum stays away until a new run.
     let came = next(&[3, 0, 0, 1, 2], &[5, 1, 70, 2, 3]);
-    assert_eq!(
-        came,
-        (more(200, 210, &[2, 0, 0, 1, 1]), Some(vec![5, 0, 0, 2, 3]))
-    );
+    assert_eq!(came, (more(200, 210, &[2, 0, 0, 1, 1]), Some(vec![5, 0, 0, 2, 3])));
     for now in [[2, 1, 30, 0, 2], [4, 1, 29, 2, 2], [4, 1, 40, 0, 4]] {
         assert_eq!(next(&[3, 1, 30, 1, 2], &now).0, Err(Refused::WentDown), "{now:?}");
     }
@@ -240,11 +205,7 @@ fn a_place_is_told_among_the_points_of_the_profile() {
         points.push(number(name), 10, 20, [value as u64]);
     }
     let runs = Runs::default();
-    let posted = Posted {
-        points: &points,
-        cumulative: &[0, 1, 2, 3],
-        names: &names,
-    };
+    let posted = Posted { points: &points, cumulative: &[0, 1, 2, 3], names: &names };
     let draft = runs.draft(posted, |_| 0);
     assert_eq!((draft.foreign(), draft.points.count()), (2, 2));
     // Of the request the first point is off by its clock.
@@ -271,17 +232,8 @@ fn entries_behind_any_commit_come_to_what_was_kept() {
             words[bucket] += 2;
             (words[0], words[2]) = (words[3] + words[4], words[2] + chance.below(9));
             words[1] = u64::from(chance.below(6) > 0);
-            let point = run(
-                start,
-                time,
-                &words.map(|word| {
-                    if words[1] == 0 && word == words[2] {
-                        0
-                    } else {
-                        word
-                    }
-                }),
-            );
+            let point =
+                run(start, time, &words.map(|word| if words[1] == 0 && word == words[2] { 0 } else { word }));
             let before = kept.last().cloned().flatten();
             let first = [First::Auto, First::Drop][chance.below(2) as usize];
             let found = entry(
@@ -301,9 +253,8 @@ fn entries_behind_any_commit_come_to_what_was_kept() {
         for commit in 0..kept.len() {
             let replayed_from = chance.below(commit as u64 + 1) as usize;
             let behind = entries[replayed_from..].iter();
-            let replayed = behind.fold(kept[commit].clone(), |known, entry| {
-                entry.after(Kind::Histogram, known.as_ref())
-            });
+            let replayed = behind
+                .fold(kept[commit].clone(), |known, entry| entry.after(Kind::Histogram, known.as_ref()));
             assert_eq!(&replayed, kept.last().unwrap(), "{entries:?}");
         }
     }

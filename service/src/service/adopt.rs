@@ -34,11 +34,7 @@ pub(crate) fn slot_of(sender: &str, slots: u16) -> u16 {
 pub(crate) fn leave_others(outbox: &Outbox, number: u16, slots: u16) -> Result<(), Fault> {
     let left = outbox.leave(|owner| slot_of(owner, slots) != number)?;
     if left > 0 {
-        tracing::info!(
-            slot = number,
-            series_count = left,
-            "slot {number}: {left} series are another slot's"
-        );
+        tracing::info!(slot = number, series_count = left, "slot {number}: {left} series are another slot's");
     }
     Ok(())
 }
@@ -93,21 +89,13 @@ async fn adopt_series(
     }
     let moved = move_series(folder, slots, most_series)?;
     folder.set_slots(1)?;
-    tracing::info!(
-        slots,
-        series_count = moved,
-        "the number of slots was {slots} and is 1; series: {moved}"
-    );
+    tracing::info!(slots, series_count = moved, "the number of slots was {slots} and is 1; series: {moved}");
     Ok(())
 }
 
 /// Slot 0 gets the posts of senders who are quarantined in other slots.
 pub(crate) fn move_held(folder: &Folder) -> Result<(), Ended> {
-    for number in folder
-        .slots_with_files()?
-        .into_iter()
-        .filter(|number| *number > 0)
-    {
+    for number in folder.slots_with_files()?.into_iter().filter(|number| *number > 0) {
         let held = folder.outbox(number)?.quarantined();
         if !held.is_empty() {
             move_held_of(folder, number, &held)?;
@@ -204,10 +192,7 @@ fn move_series(folder: &Folder, slots: u16, most_series: usize) -> Result<usize,
     for number in 1..slots {
         let outbox = folder.outbox(number)?;
         leave_others(&outbox, number, slots)?;
-        let owned = outbox
-            .series()
-            .into_iter()
-            .filter(|(_, series)| series.owner.is_some());
+        let owned = outbox.series().into_iter().filter(|(_, series)| series.owner.is_some());
         moving.extend(owned);
     }
     let all = first.series_count() + moving.len();

@@ -9,13 +9,8 @@ use std::os::unix::process::CommandExt;
 use std::process::{Command, ExitCode};
 
 /// Signals that are passed on. All are kept from their own effect by being waited for.
-const PASSED: [Signal; 5] = [
-    Signal::SIGTERM,
-    Signal::SIGINT,
-    Signal::SIGHUP,
-    Signal::SIGUSR1,
-    Signal::SIGUSR2,
-];
+const PASSED: [Signal; 5] =
+    [Signal::SIGTERM, Signal::SIGINT, Signal::SIGHUP, Signal::SIGUSR1, Signal::SIGUSR2];
 
 pub fn is_process_1() -> bool {
     std::process::id() == 1
@@ -29,20 +24,12 @@ pub fn take_signals() -> std::io::Result<()> {
 /// Runs this program once more with the same words, and ends as it ends.
 pub fn run() -> std::io::Result<ExitCode> {
     let mut signals = SigSet::empty();
-    PASSED
-        .iter()
-        .chain([&Signal::SIGCHLD])
-        .for_each(|signal| signals.add(*signal));
+    PASSED.iter().chain([&Signal::SIGCHLD]).for_each(|signal| signals.add(*signal));
     signals.thread_block()?; // before the child: none of them is missed
     let mut command = Command::new(std::env::current_exe()?);
     // A group of its own: a terminal's interrupt comes to it once, by this process.
-    let service = Pid::from_raw(
-        command
-            .args(std::env::args_os().skip(1))
-            .process_group(0)
-            .spawn()?
-            .id() as i32,
-    );
+    let service =
+        Pid::from_raw(command.args(std::env::args_os().skip(1)).process_group(0).spawn()?.id() as i32);
     loop {
         match signals.wait()? {
             Signal::SIGCHLD => {

@@ -74,9 +74,7 @@ impl Joining {
             forward,
             secret,
             peers,
-            metrics: Some(Box::new(
-                OfCluster::new(&metrics.registry).context("no metrics can be made")?,
-            )),
+            metrics: Some(Box::new(OfCluster::new(&metrics.registry).context("no metrics can be made")?)),
         })
     }
 
@@ -106,17 +104,10 @@ impl Joining {
         let (stop_beats, beats_stopped) = watch::channel(false);
         let internal = Internal::new(self.cluster.clone(), intake.clone(), self.secret);
         internal.answers_by(desk);
-        let of_peers = Limits {
-            connections: PEERS,
-            ..limits(settings)
-        };
+        let of_peers = Limits { connections: PEERS, ..limits(settings) };
         let Peers { listener, tls } = self.peers;
         let peer = tokio::spawn(serve_over(listener, tls, of_peers, internal, peer_stopped));
-        let instance = Arc::new(Instance {
-            units,
-            store: self.store.clone(),
-            open: Mutex::default(),
-        });
+        let instance = Arc::new(Instance { units, store: self.store.clone(), open: Mutex::default() });
         let beats_in = |database| {
             let member = Member::new(&self.store, database, &of.instance, &of.peer);
             Beats::new(self.cluster.clone(), database, Arc::new(member), instance.clone())

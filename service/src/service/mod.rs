@@ -97,10 +97,7 @@ impl Settings {
     }
 
     fn keeping(&self) -> Keeping {
-        Keeping {
-            every: self.every,
-            forget: self.forget,
-        }
+        Keeping { every: self.every, forget: self.forget }
     }
 }
 
@@ -163,11 +160,7 @@ pub async fn run(settings: Settings) -> Result<(), Ended> {
     let (place, sink) = (settings.place(), parts.sink.name());
     tracing::info!(place, sink, "data in {place}, sink {sink}");
     tracing::info!("{}", settings.door);
-    tracing::info!(
-        "senders post to {}, operators {}",
-        senders.shown(),
-        operators.shown()
-    );
+    tracing::info!("senders post to {}, operators {}", senders.shown(), operators.shown());
     let mut running = parts.start(&settings, senders, operators);
     units.get_or_init(|| running.at_work.units().clone());
     let ended = tokio::select! {
@@ -243,10 +236,7 @@ struct Signals {
 impl Signals {
     fn new() -> Result<Signals, Ended> {
         let one = |kind| signal(kind).context("signals can't be received");
-        Ok(Signals {
-            terminate: one(SignalKind::terminate())?,
-            interrupt: one(SignalKind::interrupt())?,
-        })
+        Ok(Signals { terminate: one(SignalKind::terminate())?, interrupt: one(SignalKind::interrupt())? })
     }
 
     async fn received(&mut self) -> &'static str {

@@ -78,20 +78,14 @@ impl Operators {
             None => [None, None],
         };
         let [one, other] = sockets.map(UnixListener::from_std);
-        let mut with = |socket, place: usize| Operators {
-            tcp: tcp[place].take(),
-            socket,
-            tokens: self.tokens.clone(),
-        };
+        let mut with =
+            |socket, place: usize| Operators { tcp: tcp[place].take(), socket, tokens: self.tokens.clone() };
         Ok([with(one?, 0), with(other?, 1)])
     }
 
     /// Where each is asked.
     pub fn shown(&self) -> String {
-        let tcp = self
-            .tcp
-            .iter()
-            .map(|tcp| format!("read at {}, and ", tcp.shown()));
+        let tcp = self.tcp.iter().map(|tcp| format!("read at {}, and ", tcp.shown()));
         format!("{}order at {}", tcp.collect::<String>(), self.socket.shown())
     }
 
@@ -102,11 +96,8 @@ impl Operators {
 
     /// Until both have ended.
     pub async fn serve(self, limits: Limits, desk: Arc<Desk>, stop: watch::Receiver<bool>) {
-        let at_tcp = AtTcp {
-            desk: desk.clone(),
-            orders_at: self.socket.shown(),
-            tokens: self.tokens.clone(),
-        };
+        let at_tcp =
+            AtTcp { desk: desk.clone(), orders_at: self.socket.shown(), tokens: self.tokens.clone() };
         self.serve_both(limits, Arc::new(at_tcp), desk, stop).await;
     }
 

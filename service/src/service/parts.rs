@@ -65,13 +65,7 @@ impl Parts {
             acts.clone(),
         )?;
         let shared = Arc::new(Shared::new(settings.metrics.clone(), settings.clock));
-        let files = Files {
-            number: 0,
-            journal,
-            outbox,
-            dead,
-            former,
-        };
+        let files = Files { number: 0, journal, outbox, dead, former };
         let opened = Opened::new(files, 1, settings, &shared)?;
         Parts::of(Of::Folder(Box::new(opened)), settings, shared, acts, sink)
     }
@@ -128,22 +122,14 @@ impl Parts {
             profile: settings.reading.profile(),
             owned: Box::new(units.clone()),
         });
-        let of_operators = Limits {
-            connections: OPERATORS,
-            ..limits(settings)
-        };
+        let of_operators = Limits { connections: OPERATORS, ..limits(settings) };
         if let Some(pass) = &settings.pass {
             tracing::info!("points outside the profile are passed on to {}", pass.url());
             tokio::spawn(pass.clone().run());
         }
         let reading = Arc::new(settings.reading.clone());
-        let intake = Intake::of(
-            slots.clone(),
-            reporter.clone(),
-            reading,
-            self.budget.clone(),
-            metrics.clone(),
-        );
+        let intake =
+            Intake::of(slots.clone(), reporter.clone(), reading, self.budget.clone(), metrics.clone());
         let intake = Arc::new(intake);
         let others = joining.as_mut().zip(settings.store.as_ref());
         let desk = Desk {
@@ -218,21 +204,13 @@ impl Of {
 }
 
 pub(super) fn limits(settings: &Settings) -> Limits {
-    Limits {
-        connections: settings.most_connections,
-        head: HEAD,
-        idle: IDLE,
-    }
+    Limits { connections: settings.most_connections, head: HEAD, idle: IDLE }
 }
 
 /// What the sink has not taken of slots that an earlier totxegun had. What they knew of series is slot 0's.
 fn former_slots(folder: &Folder) -> Result<Vec<(u16, Arc<Outbox>)>, Ended> {
     let mut former = Vec::new();
-    for number in folder
-        .slots_with_files()?
-        .into_iter()
-        .filter(|number| *number > 0)
-    {
+    for number in folder.slots_with_files()?.into_iter().filter(|number| *number > 0) {
         let outbox = folder.outbox(number)?;
         leave_others(&outbox, number, 1)?;
         former.push((number, Arc::new(outbox)));

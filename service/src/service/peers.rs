@@ -28,10 +28,7 @@ impl Peers {
         }
         let tls = of.peer_tls.as_ref();
         let tls = tls.map(|files| Tls::of_peers(files, host(&of.peer), metrics.clone()));
-        Ok(Peers {
-            listener,
-            tls: tls.transpose()?.map(Arc::new),
-        })
+        Ok(Peers { listener, tls: tls.transpose()?.map(Arc::new) })
     }
 
     /// What this instance speaks with the others, as they do with it.
@@ -76,10 +73,7 @@ mod tests {
             panic!("it is not refused");
         };
         let text = why.to_string();
-        assert!(
-            text.contains("--peer-ca") && text.contains("--peer-plain"),
-            "{text}"
-        );
+        assert!(text.contains("--peer-ca") && text.contains("--peer-plain"), "{text}");
         let folder = tests::folder();
         tests::server(folder.path());
         let files = Files {
@@ -88,14 +82,9 @@ mod tests {
             key: folder.path().join("server.key"),
             client_ca: Some(folder.path().join("ca.pem")),
         };
-        let peers = bound(at("localhost:0", false, Some(files.clone())))
-            .await
-            .unwrap();
+        let peers = bound(at("localhost:0", false, Some(files.clone()))).await.unwrap();
         assert!(matches!(peers.wire(), Wire::Tls(_)));
-        assert!(
-            bound(at("127.0.0.1:0", false, Some(files))).await.is_err(),
-            "no name"
-        );
+        assert!(bound(at("127.0.0.1:0", false, Some(files))).await.is_err(), "no name");
         tokio::task::block_in_place(|| drop(peers));
     }
 }

@@ -137,9 +137,7 @@ mod tests {
             done.send(())
         });
         let unit = unit(place.path(), 0, async { post.await.map_err(|_| no_disk()) });
-        let ended = running(unit, threads, async move { drop(of_intake) })
-            .stop()
-            .await;
+        let ended = running(unit, threads, async move { drop(of_intake) }).stop().await;
         assert!(ended.is_ok(), "the post was dropped: {ended:?}");
     }
 

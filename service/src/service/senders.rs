@@ -90,18 +90,11 @@ impl Senders {
             None => None,
         };
         let door = settings.door.clone();
-        Ok(Senders {
-            senders,
-            callers,
-            door,
-        })
+        Ok(Senders { senders, callers, door })
     }
 
     pub fn shown(&self) -> String {
-        let callers = self
-            .callers
-            .iter()
-            .map(|callers| format!(", gRPC to {}", callers.shown()));
+        let callers = self.callers.iter().map(|callers| format!(", gRPC to {}", callers.shown()));
         self.senders.shown() + &callers.collect::<String>()
     }
 
@@ -131,17 +124,11 @@ mod tests {
     /// Else who has given the files is asked for them again.
     #[test]
     fn what_is_missing_is_asked_for() {
-        for (has_tls, has_names, has) in [
-            (false, false, [true, true]),
-            (false, true, [true, false]),
-            (true, false, [false, true]),
-        ] {
+        for (has_tls, has_names, has) in
+            [(false, false, [true, true]), (false, true, [true, false]), (true, false, [false, true])]
+        {
             let text = could(has_tls, has_names);
-            assert_eq!(
-                ["--tls-cert", "--tokens"].map(|option| text.contains(option)),
-                has,
-                "{text}"
-            );
+            assert_eq!(["--tls-cert", "--tokens"].map(|option| text.contains(option)), has, "{text}");
         }
     }
 }

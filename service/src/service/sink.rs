@@ -68,10 +68,7 @@ pub(super) fn open(
     outboxes: Vec<Arc<Outbox>>,
     acts: Arc<Acts>,
 ) -> Result<Arc<dyn Sink>, Ended> {
-    let place = InFolder {
-        folder: folder.clone(),
-        outboxes,
-    };
+    let place = InFolder { folder: folder.clone(), outboxes };
     opened(Box::new(place), address, retention, takes_new, acts)
 }
 
@@ -82,12 +79,8 @@ fn opened(
     takes_new: bool,
     acts: Arc<Acts>,
 ) -> Result<Arc<dyn Sink>, Ended> {
-    let memory = Arc::new(Remembered {
-        place,
-        now: address.known(),
-        takes_new: AtomicBool::new(takes_new),
-        acts,
-    });
+    let memory =
+        Arc::new(Remembered { place, now: address.known(), takes_new: AtomicBool::new(takes_new), acts });
     memory.look_at_kind()?;
     let sink = sinks::open(address, retention, memory.clone()).context("the sink can't be opened")?;
     memory.look_at_address()?;
@@ -121,13 +114,9 @@ impl Remembered {
         if left.is_some() {
             self.place.may_change()?;
         }
-        let act = left.as_ref().map(|left| {
-            Act::new(
-                Actor::User(None),
-                "new sink",
-                &format!("{now} in the place of {left}"),
-            )
-        });
+        let act = left
+            .as_ref()
+            .map(|left| Act::new(Actor::User(None), "new sink", &format!("{now} in the place of {left}")));
         if let Some(act) = &act {
             self.acts.begins(act);
         }
@@ -139,9 +128,8 @@ impl Remembered {
                 "--new-sink: from here on all goes into {now}, also the requests that wait{shown}; {left} keeps what it has \
                  taken"
             );
-            let waited = waiting.map_or(String::new(), |waiting| {
-                format!("; requests that waited: {waiting}")
-            });
+            let waited =
+                waiting.map_or(String::new(), |waiting| format!("; requests that waited: {waiting}"));
             self.acts.ended(&act, &format!("done{waited}"));
         }
         self.takes_new.store(false, Relaxed);

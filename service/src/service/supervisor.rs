@@ -21,9 +21,7 @@ impl Supervisor {
         let variable = |name: &str| std::env::var(name).ok();
         let pid = variable("WATCHDOG_PID");
         let is_meant = pid.is_none_or(|pid| pid == std::process::id().to_string());
-        let microseconds = variable("WATCHDOG_USEC")
-            .and_then(|text| text.parse().ok())
-            .filter(|_| is_meant);
+        let microseconds = variable("WATCHDOG_USEC").and_then(|text| text.parse().ok()).filter(|_| is_meant);
         Supervisor {
             to: variable("NOTIFY_SOCKET").and_then(|path| address(&path)),
             every: microseconds.map(|microseconds: u64| Duration::from_micros(microseconds / 2)),
@@ -88,10 +86,7 @@ mod tests {
         let socket = UnixDatagram::bind(&path).unwrap();
         socket.set_read_timeout(Some(Duration::from_secs(5))).unwrap();
         let to = address(path.to_str().unwrap());
-        let supervisor = Supervisor {
-            to,
-            every: Some(Duration::from_millis(1)),
-        };
+        let supervisor = Supervisor { to, every: Some(Duration::from_millis(1)) };
         let asked = std::sync::atomic::AtomicU32::new(0);
         let is_ready = move || asked.fetch_add(1, std::sync::atomic::Ordering::Relaxed) > 1;
         let watching = tokio::spawn(supervisor.clone().watch(is_ready));
@@ -103,10 +98,7 @@ mod tests {
             };
             [next(), next(), next(), next()]
         });
-        assert_eq!(
-            told.await.unwrap(),
-            [LONGER, "READY=1\nSTATUS=ready", "WATCHDOG=1", "WATCHDOG=1"]
-        );
+        assert_eq!(told.await.unwrap(), [LONGER, "READY=1\nSTATUS=ready", "WATCHDOG=1", "WATCHDOG=1"]);
         watching.abort();
     }
 

@@ -72,10 +72,7 @@ fn room(most_series: usize, slots: u16, known: usize) -> usize {
 impl Opened {
     /// One of so many slots.
     pub fn new(files: Files, slots: u16, settings: &Settings, shared: &Shared) -> Result<Opened, Ended> {
-        let reading = settings
-            .store
-            .is_some()
-            .then(|| Arc::new(settings.reading.of_slot()));
+        let reading = settings.store.is_some().then(|| Arc::new(settings.reading.of_slot()));
         let finer_units = &reading.as_deref().unwrap_or(&settings.reading).finer_units;
         finer_units.know(&files.outbox, &files.journal)?;
         let room = room(settings.most_series, slots, files.outbox.series_count());
@@ -85,23 +82,11 @@ impl Opened {
                 settings.most_series
             )
         })?;
-        let Files {
-            number,
-            journal,
-            outbox,
-            dead,
-            former,
-        } = files;
+        let Files { number, journal, outbox, dead, former } = files;
         let slot = Slot::reading_by(reading, number, journal, outbox, core, shared);
         slot.runs.set(settings.runs);
         let (keeper, orders) = Keeper::new(slot.clone(), settings.keeping());
-        Ok(Opened {
-            slot,
-            keeper,
-            orders,
-            dead,
-            former,
-        })
+        Ok(Opened { slot, keeper, orders, dead, former })
     }
 
     pub fn start(self, sink: &Arc<dyn Sink>) -> Unit {
@@ -119,11 +104,7 @@ impl Opened {
                 delivery.clone(),
                 deliveries_stopped.clone(),
             ));
-            Undelivered {
-                number,
-                outbox,
-                delivery,
-            }
+            Undelivered { number, outbox, delivery }
         };
         let undelivered = deliver(slot.number(), slot.outbox.clone());
         let former = self.former.into_iter();
@@ -132,13 +113,7 @@ impl Opened {
         keeper.spawn(self.keeper.run(keeper_stopped));
         let orders = self.orders;
         Unit {
-            of_desk: Arc::new(operate::Unit {
-                slot,
-                orders,
-                undelivered,
-                former,
-                dead,
-            }),
+            of_desk: Arc::new(operate::Unit { slot, orders, undelivered, former, dead }),
             keeper,
             deliveries,
             stop_keeper,

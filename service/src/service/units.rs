@@ -38,11 +38,7 @@ impl Drop for Task {
 impl AtWork {
     pub fn new(of_desk: Arc<operate::Units>) -> (Arc<AtWork>, Ends) {
         let (ends, ended) = mpsc::unbounded_channel();
-        let at_work = AtWork {
-            of_desk,
-            tasks: Mutex::default(),
-            ends,
-        };
+        let at_work = AtWork { of_desk, tasks: Mutex::default(), ends };
         (Arc::new(at_work), ended)
     }
 

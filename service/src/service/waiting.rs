@@ -85,10 +85,7 @@ impl Waiting {
         let limits = limits(settings);
         let posts = senders.serve(limits.clone(), Arc::new(intake), threads, stopped.clone());
         let asked = operators.serve_all(limits, Arc::new(NoStore), stopped);
-        Ok(Waiting {
-            stop,
-            serving: [tokio::spawn(posts), tokio::spawn(asked)],
-        })
+        Ok(Waiting { stop, serving: [tokio::spawn(posts), tokio::spawn(asked)] })
     }
 
     async fn end(self) {
@@ -112,12 +109,7 @@ impl Elsewhere for NoStore {
         _: &'a str,
         _: Original,
     ) -> Pin<Box<dyn Future<Output = Outcome> + Send + 'a>> {
-        Box::pin(async {
-            Outcome::Refused {
-                status: 503,
-                message: NO_STORE.into(),
-            }
-        })
+        Box::pin(async { Outcome::Refused { status: 503, message: NO_STORE.into() } })
     }
 }
 

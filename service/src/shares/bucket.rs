@@ -34,10 +34,7 @@ impl Buckets {
     pub fn take(&mut self, sender: &str, cost: Duration, now: Instant) -> Result<(), Duration> {
         let full = self.0.get(sender).copied().unwrap_or(now).max(now);
         let debt = full - now;
-        if let Some(wait) = (debt + cost.min(ALL))
-            .checked_sub(ALL)
-            .filter(|wait| !wait.is_zero())
-        {
+        if let Some(wait) = (debt + cost.min(ALL)).checked_sub(ALL).filter(|wait| !wait.is_zero()) {
             return Err(wait);
         }
         self.make_room(now);
@@ -76,11 +73,7 @@ mod tests {
         let post = |buckets: &mut Buckets, points, after| buckets.take("A", cost(points, 10), begun + after);
         assert_eq!(post(&mut buckets, 600, Duration::ZERO), Ok(()));
         assert_eq!(post(&mut buckets, 10, Duration::ZERO), Err(SECOND));
-        assert_eq!(
-            buckets.take("B", cost(600, 10), begun),
-            Ok(()),
-            "another's is its own"
-        );
+        assert_eq!(buckets.take("B", cost(600, 10), begun), Ok(()), "another's is its own");
         assert_eq!(post(&mut buckets, 10, SECOND), Ok(()));
         assert_eq!(post(&mut buckets, 25, SECOND), Err(5 * SECOND / 2));
         assert_eq!(post(&mut buckets, 600, 30 * SECOND), Err(31 * SECOND));

@@ -39,11 +39,7 @@ pub struct Shares {
 #[derive(Debug, PartialEq, Eq, thiserror::Error)]
 pub enum Over {
     #[error("over its share: {sender} may post {points} points a second, {} at once: again in {seconds} s", points * BURST)]
-    Points {
-        sender: String,
-        points: u64,
-        seconds: u64,
-    },
+    Points { sender: String, points: u64, seconds: u64 },
     #[error("over its share: {sender} has {series} series, and may have no new ones over {most}: drop an attribute, or raise its series=")]
     Series { sender: String, series: u64, most: u64 },
 }
@@ -120,10 +116,7 @@ impl Shares {
         points: u64,
         text: impl FnOnce() -> Option<Bytes>,
     ) -> Result<Claim<'_>, Over> {
-        let mut claim = Claim {
-            shares: self,
-            points: None,
-        };
+        let mut claim = Claim { shares: self, points: None };
         let Some(rules) = self.rules.get() else {
             return Ok(claim);
         };
@@ -156,11 +149,9 @@ impl Shares {
         let has_others = self.counted.all() > series;
         let most = share.series.or(has_others.then(|| rules.kept_for_others()));
         match most {
-            Some(most) if series >= most && !rules.knows_all(text()) => Err(Over::Series {
-                sender: sender.to_string(),
-                series,
-                most,
-            }),
+            Some(most) if series >= most && !rules.knows_all(text()) => {
+                Err(Over::Series { sender: sender.to_string(), series, most })
+            }
             _ => Ok(()),
         }
     }
@@ -189,11 +180,7 @@ impl Shares {
         });
         let has_share = |used: &Used| used.most_series.is_some() || used.most_points.is_some();
         let mut used: Vec<Used> = used.filter(has_share).collect();
-        used.sort_by(|a, b| {
-            b.part()
-                .total_cmp(&a.part())
-                .then_with(|| a.sender.cmp(&b.sender))
-        });
+        used.sort_by(|a, b| b.part().total_cmp(&a.part()).then_with(|| a.sender.cmp(&b.sender)));
         used.truncate(SHOWN);
         used
     }
@@ -226,12 +213,7 @@ async fn count(shares: Weak<Shares>) {
     loop {
         looks.tick().await;
         let Some(shares) = shares.upgrade() else { return };
-        let counting = move || {
-            shares
-                .rules
-                .get()
-                .map(|rules| shares.counted.count(&*rules.owned))
-        };
+        let counting = move || shares.rules.get().map(|rules| shares.counted.count(&*rules.owned));
         crate::work::blocking(counting).await;
     }
 }

@@ -21,10 +21,7 @@ pub struct Share {
 impl Share {
     /// With that of another for what this does not say.
     pub fn or(self, other: Share) -> Share {
-        Share {
-            series: self.series.or(other.series),
-            points: self.points.or(other.points),
-        }
+        Share { series: self.series.or(other.series), points: self.points.or(other.points) }
     }
 }
 

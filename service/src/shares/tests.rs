@@ -13,10 +13,7 @@ impl Flushed {
     /// As a flush makes known: so many series of a sender, of these names.
     fn add(&self, sender: &str, names: &[String]) {
         let read = posted(names);
-        self.0
-            .lock()
-            .unwrap()
-            .extend(read.into_iter().map(|key| (key, sender.to_string())));
+        self.0.lock().unwrap().extend(read.into_iter().map(|key| (key, sender.to_string())));
         self.1.fetch_add(1, Relaxed);
     }
 }
@@ -43,15 +40,8 @@ fn body(names: &[String]) -> Bytes {
     let point =
         "\"sum\":{\"aggregationTemporality\":1,\"dataPoints\":[{\"asInt\":\"1\",\"startTimeUnixNano\":\"1\",\
                  \"timeUnixNano\":\"2\"}]}";
-    let metrics: Vec<String> = names
-        .iter()
-        .map(|name| format!("{{\"name\":\"{name}\",{point}}}"))
-        .collect();
-    format!(
-        "{{\"resourceMetrics\":[{{\"scopeMetrics\":[{{\"metrics\":[{}]}}]}}]}}",
-        metrics.join(",")
-    )
-    .into()
+    let metrics: Vec<String> = names.iter().map(|name| format!("{{\"name\":\"{name}\",{point}}}")).collect();
+    format!("{{\"resourceMetrics\":[{{\"scopeMetrics\":[{{\"metrics\":[{}]}}]}}]}}", metrics.join(",")).into()
 }
 
 fn posted(names: &[String]) -> Vec<SeriesKey> {
@@ -105,21 +95,10 @@ fn one_alone_may_have_all_series_and_leaves_a_tenth_once_others_have_some() {
     flushed.add("A", &names("a", 95));
     shares.counted.count(&flushed);
     assert_eq!(post(&shares, "A", &names("more", 1)), Ok(()));
-    assert_eq!(
-        post(&shares, "B", &names("b", 1)),
-        Ok(()),
-        "there is a place for another"
-    );
+    assert_eq!(post(&shares, "B", &names("b", 1)), Ok(()), "there is a place for another");
     let over = post(&shares, "A", &names("most", 1)).unwrap_err();
     let (series, most) = (96, 90);
-    assert_eq!(
-        over,
-        Over::Series {
-            sender: "A".into(),
-            series,
-            most
-        }
-    );
+    assert_eq!(over, Over::Series { sender: "A".into(), series, most });
     assert_eq!(post(&shares, "A", &names("a", 95)), Ok(()), "what it has goes on");
     assert_eq!(post(&shares, "B", &names("b", 3)), Ok(()));
 }
@@ -127,10 +106,7 @@ fn one_alone_may_have_all_series_and_leaves_a_tenth_once_others_have_some() {
 #[test]
 fn a_share_of_series_is_kept_to_between_two_flushes_too() {
     let flushed = Flushed::default();
-    let share = Share {
-        series: Some(5),
-        points: None,
-    };
+    let share = Share { series: Some(5), points: None };
     let shares = shares(share, &flushed);
     assert_eq!(post(&shares, "A", &names("a", 3)), Ok(()));
     assert_eq!(post(&shares, "A", &names("b", 2)), Ok(()));
@@ -149,47 +125,29 @@ fn a_share_of_series_is_kept_to_between_two_flushes_too() {
 /// Else a sender that is refused for another reason would use up what it has.
 #[test]
 fn points_of_what_is_not_taken_are_given_back() {
-    let share = Share {
-        series: None,
-        points: Some(1),
-    };
+    let share = Share { series: None, points: Some(1) };
     let shares = shares(share, &Flushed::default());
     for _ in 0..100 {
         drop(shares.claim("A", 60, || None).unwrap());
     }
     shares.claim("A", 60, || None).unwrap().keep("A", 0);
     let over = shares.claim("A", 1, || None).err().unwrap();
-    assert_eq!(
-        over.to_string(),
-        "over its share: A may post 1 points a second, 60 at once: again in 1 s"
-    );
+    assert_eq!(over.to_string(), "over its share: A may post 1 points a second, 60 at once: again in 1 s");
     assert_eq!(Outcome::from(over).again_in(), Some(1));
 }
 
 #[test]
 fn those_that_are_nearest_come_first() {
-    let share = Share {
-        series: Some(20),
-        points: Some(1),
-    };
+    let share = Share { series: Some(20), points: Some(1) };
     let shares = shares(share, &Flushed::default());
     for number in 0..15 {
         let sender = format!("s{number:02}");
-        shares
-            .claim(&sender, number, || None)
-            .unwrap()
-            .keep(&sender, 15 - number as usize);
+        shares.claim(&sender, number, || None).unwrap().keep(&sender, 15 - number as usize);
     }
     let nearest = shares.nearest();
     assert_eq!(nearest.len(), SHOWN);
-    assert_eq!(
-        (&*nearest[0].sender, nearest[0].series, nearest[0].most_series),
-        ("s00", 15, Some(20))
-    );
+    assert_eq!((&*nearest[0].sender, nearest[0].series, nearest[0].most_series), ("s00", 15, Some(20)));
     assert_eq!(nearest[0].part(), 0.75);
-    let last = nearest
-        .iter()
-        .find(|used| used.sender == "s08")
-        .map(|used| used.most_points);
+    let last = nearest.iter().find(|used| used.sender == "s08").map(|used| used.most_points);
     assert_eq!(last, Some(Some(60)));
 }

@@ -11,12 +11,7 @@ use std::str::FromStr;
 pub enum Address {
     Sqlite(PathBuf),
     Postgres(Server),
-    Otlp {
-        url: String,
-        protobuf: bool,
-        gzip: bool,
-        headers: Vec<(String, String)>,
-    },
+    Otlp { url: String, protobuf: bool, gzip: bool, headers: Vec<(String, String)> },
 }
 
 impl Address {
@@ -68,10 +63,7 @@ impl FromStr for Address {
         let Some((scheme, rest)) = text.split_once(':') else {
             return Ok(Address::Sqlite(text.into()));
         };
-        match SCHEMES
-            .iter()
-            .find(|(known, _)| known.eq_ignore_ascii_case(scheme))
-        {
+        match SCHEMES.iter().find(|(known, _)| known.eq_ignore_ascii_case(scheme)) {
             Some((_, read)) => read(rest),
             None if scheme.contains('/') => Ok(Address::Sqlite(text.into())),
             // Also HOST:PORT, which would else be a file.
@@ -81,9 +73,7 @@ impl FromStr for Address {
 }
 
 fn postgres(rest: &str) -> Result<Address, BadAddress> {
-    Server::read(rest)
-        .map(Address::Postgres)
-        .map_err(BadAddress::Postgres)
+    Server::read(rest).map(Address::Postgres).map_err(BadAddress::Postgres)
 }
 
 /// A URL without a path is a collector's base, whose metrics are at `/v1/metrics`.
@@ -95,9 +85,7 @@ fn otlp(url: String) -> Result<Address, BadAddress> {
         return Err(bad("there is no host"));
     }
     if authority.as_str().contains('@') {
-        return Err(bad(
-            "a name and password in it are not sent: give a header `authorization`",
-        ));
+        return Err(bad("a name and password in it are not sent: give a header `authorization`"));
     }
     // The client would take the scheme's own port for one that is none, and so another server.
     let port = authority.as_str()[authority.host().len()..].strip_prefix(':');
@@ -112,12 +100,7 @@ fn otlp(url: String) -> Result<Address, BadAddress> {
         Some(path) => path,
     };
     let url = format!("{}://{authority}{path}", uri.scheme_str().unwrap_or("http"));
-    Ok(Address::Otlp {
-        url,
-        protobuf: false,
-        gzip: false,
-        headers: Vec::new(),
-    })
+    Ok(Address::Otlp { url, protobuf: false, gzip: false, headers: Vec::new() })
 }
 
 #[cfg(test)]
@@ -133,12 +116,9 @@ mod tests {
 
     #[test]
     fn paths_are_sqlite() {
-        for (text, path) in [
-            ("sqlite:/a/b.db", "/a/b.db"),
-            ("b.db", "b.db"),
-            ("/a:b/c", "/a:b/c"),
-            ("sqlite:x", "x"),
-        ] {
+        for (text, path) in
+            [("sqlite:/a/b.db", "/a/b.db"), ("b.db", "b.db"), ("/a:b/c", "/a:b/c"), ("sqlite:x", "x")]
+        {
             assert_eq!(text.parse(), Ok(Address::Sqlite(path.into())), "{text}");
         }
     }

@@ -13,11 +13,7 @@ pub(super) fn object(list: &str) -> Result<Map<String, Value>, NotForwarded> {
     let list: Vec<Value> = serde_json::from_str(list).map_err(|_| bad())?;
     let mut object = Map::new();
     for mut pair in list {
-        let key = pair
-            .get("key")
-            .and_then(Value::as_str)
-            .ok_or_else(bad)?
-            .to_string();
+        let key = pair.get("key").and_then(Value::as_str).ok_or_else(bad)?.to_string();
         let value = single(pair.get_mut("value").map_or(Value::Null, Value::take)).ok_or_else(bad)?;
         if object.insert(key, value).is_some() {
             return Err(bad());
@@ -45,11 +41,9 @@ fn single(value: Value) -> Option<Value> {
         ("intValue", Value::Number(number)) => number.as_i64().map(Value::from),
         ("arrayValue", Value::Object(mut array)) => match array.remove("values") {
             None => Some(Value::Array(Vec::new())),
-            Some(Value::Array(values)) => values
-                .into_iter()
-                .map(single)
-                .collect::<Option<_>>()
-                .map(Value::Array),
+            Some(Value::Array(values)) => {
+                values.into_iter().map(single).collect::<Option<_>>().map(Value::Array)
+            }
             Some(_) => None,
         },
         _ => None,

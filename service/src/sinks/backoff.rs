@@ -19,9 +19,7 @@ pub(super) fn wait(tries: u64, asked: Option<Duration>) -> Duration {
 
 /// A random number from 0 to below 1: the standard library's own keys are random.
 fn fraction() -> f64 {
-    let word = std::collections::hash_map::RandomState::new()
-        .build_hasher()
-        .finish();
+    let word = std::collections::hash_map::RandomState::new().build_hasher().finish();
     (word >> 11) as f64 / (1u64 << 53) as f64
 }
 
@@ -31,14 +29,7 @@ mod tests {
 
     #[test]
     fn doubles_to_a_bound() {
-        for (tries, whole) in [
-            (1, 50),
-            (2, 100),
-            (3, 200),
-            (11, 51_200),
-            (12, 60_000),
-            (u64::MAX, 60_000),
-        ] {
+        for (tries, whole) in [(1, 50), (2, 100), (3, 200), (11, 51_200), (12, 60_000), (u64::MAX, 60_000)] {
             for _ in 0..100 {
                 let wait = wait(tries, None).as_millis();
                 assert!(whole / 2 <= wait && wait <= whole, "{tries}: {wait}");

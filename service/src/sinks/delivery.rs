@@ -37,17 +37,7 @@ pub async fn deliver(
     stop: watch::Receiver<bool>,
 ) -> Result<(), Fault> {
     let files = Files { outbox, dead };
-    Run {
-        slot,
-        files,
-        sink,
-        metrics,
-        state,
-        failing: FAILING,
-        stop,
-    }
-    .until_it_ends()
-    .await
+    Run { slot, files, sink, metrics, state, failing: FAILING, stop }.until_it_ends().await
 }
 
 /// What a delivery needs of the files.
@@ -156,12 +146,8 @@ impl<S: Store> Run<S> {
     async fn run(&self) -> Result<(), End> {
         loop {
             let (waiting, body) = self.unless_stopped(self.files.first()).await??;
-            let request = Forwarded {
-                slot: self.slot,
-                epoch: self.files.epoch(),
-                number: waiting.number,
-                body,
-            };
+            let request =
+                Forwarded { slot: self.slot, epoch: self.files.epoch(), number: waiting.number, body };
             self.settle(request).await?;
             // Only what the sink has, or what lies in `dead/`, leaves the outbox.
             self.files.acknowledge(waiting.number).await?;
@@ -174,8 +160,7 @@ impl<S: Store> Run<S> {
         loop {
             let key = request.key();
             let held = self.unless_stopped(self.sink.keys().hold(&key)).await?;
-            self.unless_stopped(self.files.may_deliver(request.number))
-                .await??;
+            self.unless_stopped(self.files.may_deliver(request.number)).await??;
             let fate = self.sink.deliver_of(&request, self.files.term());
             let fate = self.unless_stopped(fate).await?;
             let outcome = match fate {
@@ -197,11 +182,9 @@ impl<S: Store> Run<S> {
                 Fate::Refused { reason } | Fate::Failed { reason, .. } | Fate::Denied { reason, .. } => {
                     return Ok(self.put_aside(request, reason).await?);
                 }
-                Fate::TakenPartly {
-                    rejected,
-                    reason,
-                    left,
-                } => return Ok(self.keep_part(request, rejected, reason, left).await?),
+                Fate::TakenPartly { rejected, reason, left } => {
+                    return Ok(self.keep_part(request, rejected, reason, left).await?)
+                }
             }
         }
     }
@@ -265,10 +248,7 @@ impl<S: Store> Run<S> {
         let left = left.unwrap_or_else(|| request.body.clone());
         self.files.keep(format!("{key}-partial"), reason, left).await?;
         self.files.let_go(key, request.body).await?;
-        self.metrics
-            .faults
-            .with_label_values(&["points_rejected_by_sink"])
-            .inc_by(rejected);
+        self.metrics.faults.with_label_values(&["points_rejected_by_sink"]).inc_by(rejected);
         self.ended("partial");
         Ok(())
     }

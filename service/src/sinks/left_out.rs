@@ -60,11 +60,7 @@ impl LeftOut {
         let Some(left) = part(body, &self.places) else {
             return Fate::again("a request that was read before can't be read again");
         };
-        Fate::TakenPartly {
-            rejected: self.places.len() as u64,
-            reason: self.reason,
-            left: Some(left),
-        }
+        Fate::TakenPartly { rejected: self.places.len() as u64, reason: self.reason, left: Some(left) }
     }
 }
 
@@ -123,10 +119,7 @@ mod tests {
     fn a_part_has_its_points_alone() {
         let body = request(&[metric("a", "1,2"), metric("b", "3"), metric("c", "4,5")]);
         for (places, metrics) in [
-            (
-                vec![0, 1, 2, 3, 4],
-                vec![metric("a", "1,2"), metric("b", "3"), metric("c", "4,5")],
-            ),
+            (vec![0, 1, 2, 3, 4], vec![metric("a", "1,2"), metric("b", "3"), metric("c", "4,5")]),
             (vec![1], vec![metric("a", "2")]),
             (vec![2, 4], vec![metric("b", "3"), metric("c", "5")]),
         ] {
@@ -137,12 +130,7 @@ mod tests {
 
     #[test]
     fn what_is_no_request_has_no_part() {
-        for body in [
-            "",
-            "{}",
-            r#"{"resourceMetrics":1}"#,
-            r#"{"resourceMetrics":[{}]}"#,
-        ] {
+        for body in ["", "{}", r#"{"resourceMetrics":1}"#, r#"{"resourceMetrics":[{}]}"#] {
             assert_eq!(part(body.as_bytes(), &BTreeSet::from([0])), None, "{body}");
         }
     }

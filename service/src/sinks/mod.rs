@@ -64,16 +64,11 @@ pub enum Fate {
 
 impl Fate {
     pub(crate) fn again(reason: impl Into<String>) -> Fate {
-        Fate::Again {
-            reason: reason.into(),
-            after: None,
-        }
+        Fate::Again { reason: reason.into(), after: None }
     }
 
     pub(crate) fn refused(reason: impl Into<String>) -> Fate {
-        Fate::Refused {
-            reason: reason.into(),
-        }
+        Fate::Refused { reason: reason.into() }
     }
 }
 
@@ -151,11 +146,8 @@ pub fn open(
     match address {
         Address::Sqlite(path) => Ok(Arc::new(sqlite::SqliteSink::open(path, retention, memory)?)),
         Address::Postgres(server) => Ok(Arc::new(postgres::PostgresSink::open(server, retention, memory)?)),
-        Address::Otlp {
-            url,
-            protobuf,
-            gzip,
-            headers,
-        } => Ok(Arc::new(otlp::OtlpSink::open(url, *protobuf, *gzip, headers)?)),
+        Address::Otlp { url, protobuf, gzip, headers } => {
+            Ok(Arc::new(otlp::OtlpSink::open(url, *protobuf, *gzip, headers)?))
+        }
     }
 }

@@ -61,12 +61,7 @@ impl Row {
     }
 
     fn shown(&self) -> String {
-        format!(
-            "{}, closed by {} at {}",
-            self.period,
-            self.who,
-            utc(self.at.unsigned_abs())
-        )
+        format!("{}, closed by {} at {}", self.period, self.who, utc(self.at.unsigned_abs()))
     }
 }
 
@@ -123,11 +118,7 @@ impl Closed {
         if self.rows.iter().any(|row| is_it(&row)) {
             return Ok(());
         }
-        match self
-            .rows
-            .iter()
-            .find(|row| row.from < period.to && period.from < row.to)
-        {
+        match self.rows.iter().find(|row| row.from < period.to && period.from < row.to) {
             None => Err(Told::Done(format!("{period} was open"))),
             Some(row) => Err(Told::Refused(format!(
                 "{period} was not closed by itself: open what was, {}",
@@ -165,9 +156,7 @@ pub(super) const MOST_CORRECTED: i64 = 1 << 62;
 impl Correction {
     /// Whether it is one.
     pub fn check(&self) -> Result<(), String> {
-        let Correction {
-            hour, value, reason, ..
-        } = self;
+        let Correction { hour, value, reason, .. } = self;
         if hour.to - hour.from > 1 {
             return Err(format!("{hour} is more than an hour: write one as 2026-11-05T13"));
         }
@@ -178,9 +167,7 @@ impl Correction {
             !reason.is_empty() && reason.len() <= MOST_REASON && !reason.contains(char::is_control);
         match is_reason {
             true => Ok(()),
-            false => Err(format!(
-                "a correction has a reason, in one line of up to {MOST_REASON} bytes"
-            )),
+            false => Err(format!("a correction has a reason, in one line of up to {MOST_REASON} bytes")),
         }
     }
 
@@ -192,21 +179,14 @@ impl Correction {
     }
 
     pub(super) fn too_great(&self) -> Told {
-        Told::Refused(format!(
-            "corrections may come to {MOST_CORRECTED} together, without their signs"
-        ))
+        Told::Refused(format!("corrections may come to {MOST_CORRECTED} together, without their signs"))
     }
 
     pub(super) fn made(&self, counted_in: i64) -> Told {
-        let Correction {
-            series, hour, value, ..
-        } = self;
+        let Correction { series, hour, value, .. } = self;
         let where_to = match counted_in == hour.from {
             true => String::new(),
-            false => format!(
-                ", counted in {}, since its own hour is closed",
-                hour_shown(counted_in)
-            ),
+            false => format!(", counted in {}, since its own hour is closed", hour_shown(counted_in)),
         };
         Told::Done(format!("series {series} has {value:+} in {hour}{where_to}"))
     }
@@ -236,10 +216,7 @@ mod tests {
             who: "alice".into(),
             at: 0,
         };
-        Closed {
-            rows: periods.iter().map(row).collect(),
-            now: period(now).from,
-        }
+        Closed { rows: periods.iter().map(row).collect(), now: period(now).from }
     }
 
     #[test]
@@ -251,40 +228,23 @@ mod tests {
             ("2026-12-02T00", "2026-12-02T00"),
             ("2026-09-30T23", "2026-09-30T23"),
         ] {
-            assert_eq!(
-                closed.counted_in(period(hour).from),
-                period(counted).from,
-                "{hour}"
-            );
+            assert_eq!(closed.counted_in(period(hour).from), period(counted).from, "{hour}");
         }
         // By a clock that was set back.
-        let back = Closed {
-            now: period("2026-10-31T23").from,
-            ..closed
-        };
-        assert_eq!(
-            back.counted_in(period("2026-10-01T00").from),
-            period("2026-12-02T00").from
-        );
+        let back = Closed { now: period("2026-10-31T23").from, ..closed };
+        assert_eq!(back.counted_in(period("2026-10-01T00").from), period("2026-12-02T00").from);
     }
 
     #[test]
     fn only_what_has_ended_is_closed_and_once() {
         let closed = closed_at("2026-12-03T05", &["2026-11"]);
         assert_eq!(closed.close(&period("2026-12-02")), Ok(()));
-        for (text, part) in [
-            ("2026-12", "2027-01-01 00:00"),
-            ("2026-12-03T05", "it is 2026-12-03 05:00"),
-        ] {
-            let Err(Told::Refused(why)) = closed.close(&period(text)) else {
-                panic!("{text}")
-            };
+        for (text, part) in [("2026-12", "2027-01-01 00:00"), ("2026-12-03T05", "it is 2026-12-03 05:00")] {
+            let Err(Told::Refused(why)) = closed.close(&period(text)) else { panic!("{text}") };
             assert!(why.contains(part), "{why}");
         }
         for text in ["2026-11", "2026-11-05"] {
-            let Err(Told::Done(said)) = closed.close(&period(text)) else {
-                panic!("{text}")
-            };
+            let Err(Told::Done(said)) = closed.close(&period(text)) else { panic!("{text}") };
             assert!(said.contains("by alice"), "{said}");
         }
     }
@@ -295,9 +255,7 @@ mod tests {
         assert_eq!(closed.open(&period("2026-11")), Ok(()));
         assert!(closed.opened(&period("2026-11")).contains("2026-11-05"));
         assert!(matches!(closed.open(&period("2026-10")), Err(Told::Done(_))));
-        let Err(Told::Refused(why)) = closed.open(&period("2026-11-06")) else {
-            panic!()
-        };
+        let Err(Told::Refused(why)) = closed.open(&period("2026-11-06")) else { panic!() };
         assert!(why.contains("2026-11, closed by alice"), "{why}");
     }
 }

@@ -26,10 +26,7 @@ pub(crate) fn of_machine() -> Result<RootCertStore, NoRoots> {
 
 /// A client that believes these roots, and shows no certificate of its own.
 pub(crate) fn client_config(roots: RootCertStore) -> ClientConfig {
-    ClientConfig::builder()
-        .with_safe_defaults()
-        .with_root_certificates(roots)
-        .with_no_client_auth()
+    ClientConfig::builder().with_safe_defaults().with_root_certificates(roots).with_no_client_auth()
 }
 
 fn of(found: std::io::Result<Vec<rustls_native_certs::Certificate>>) -> Result<RootCertStore, NoRoots> {

@@ -112,10 +112,7 @@ impl Slot {
     }
 
     fn not_made(&self, refused: Refused) -> Put {
-        Put {
-            journalled: Journalled::refused(refused, &self.journal),
-            new_series: None,
-        }
+        Put { journalled: Journalled::refused(refused, &self.journal), new_series: None }
     }
 
     /// The same points as its text has them: of these none is foreign to the library.
@@ -126,11 +123,7 @@ impl Slot {
 
     fn try_made(&self, making: &Making) -> Result<Tried, &'static str> {
         let (by, left_out) = (&making.by, &making.left_out);
-        let posted = runs::Posted {
-            points: &by.points,
-            cumulative: &by.cumulative,
-            names: &by.names,
-        };
+        let posted = runs::Posted { points: &by.points, cumulative: &by.cumulative, names: &by.names };
         let frontier = |series: &SeriesKey| match making.frontiers.get(series) {
             Some(frontier) => *frontier,
             None => self.outbox.frontier(series),
@@ -157,16 +150,10 @@ impl Slot {
             Ok(Some(read)) => read,
         };
         Ok(match self.put(&mut read)? {
-            Ok(Put {
-                journalled,
-                new_series,
-            }) => {
+            Ok(Put { journalled, new_series }) => {
                 let journalled = said(journalled, &draft);
                 self.kept(&making.sender, draft);
-                Tried::Put(Put {
-                    journalled,
-                    new_series,
-                })
+                Tried::Put(Put { journalled, new_series })
             }
             Err(Refused::InFlight) => Tried::InFlight,
             Err(refused) => {
@@ -188,11 +175,7 @@ impl Slot {
             return Vec::new();
         };
         let mut beyond = vec![(series, first.1)];
-        let left: Vec<u32> = draft
-            .made()
-            .into_iter()
-            .filter(|place| *place > first.0)
-            .collect();
+        let left: Vec<u32> = draft.made().into_iter().filter(|place| *place > first.0).collect();
         for places in left.chunks(TRIED_AT_ONCE) {
             let found = self.core.lock().out_of_order(&mut read.read, places);
             let noted = |(place, frontier)| Some((draft.note_frontier(place, frontier)?, frontier));
@@ -219,9 +202,7 @@ impl Slot {
         let points = std::mem::take(&mut draft.points);
         let foreign = foreign + draft.turned.count();
         let names = making.by.names.clone();
-        let read: Read = self
-            .core
-            .read_points(making.sender.clone(), points, names, foreign)?;
+        let read: Read = self.core.read_points(making.sender.clone(), points, names, foreign)?;
         match read.post.foreign == foreign {
             true => fits(Posted::whole(read)).map(Some),
             false => Ok(None),

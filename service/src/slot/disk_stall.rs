@@ -23,11 +23,7 @@ impl Slot {
         let stalls = self.disk_call() >= PATIENCE;
         // No post writes what others read, as long as it is as it was.
         if self.told.0.load(Relaxed) != stalls && self.told.0.swap(stalls, Relaxed) != stalls {
-            let disk = if self.journal.is_in_store() {
-                "store"
-            } else {
-                "disk"
-            };
+            let disk = if self.journal.is_in_store() { "store" } else { "disk" };
             match stalls {
                 true => tracing::error!(
                     "the {disk} has not answered a call for {PATIENCE:?}, so posts get 503 until it does; what was taken is \

@@ -23,10 +23,7 @@ struct Limits {
     kept: Duration,
 }
 
-const LIMITS: Limits = Limits {
-    bytes: 1 << 10,
-    kept: Duration::from_secs(60),
-};
+const LIMITS: Limits = Limits { bytes: 1 << 10, kept: Duration::from_secs(60) };
 /// All series take no more than this part of what the book may have, since the library takes about as much for them.
 const PART_OF_ALL: u64 = 8;
 
@@ -99,10 +96,8 @@ impl Request {
 impl ByNumber {
     /// Keeps those points alone, by their places and words.
     pub fn keep(&mut self, mut is_kept: impl FnMut(u32, &[u64]) -> bool) {
-        let kept: Vec<bool> = (0..)
-            .zip(self.points.each())
-            .map(|(place, point)| is_kept(place, point))
-            .collect();
+        let kept: Vec<bool> =
+            (0..).zip(self.points.each()).map(|(place, point)| is_kept(place, point)).collect();
         if kept.iter().all(|is_kept| *is_kept) {
             return;
         }
@@ -197,30 +192,14 @@ impl Generation {
     }
 
     fn by_number(&self, numbered: Numbered, source: Source) -> ByNumber {
-        let Numbered {
-            points,
-            foreign,
-            rounded,
-            cumulative,
-        } = numbered;
-        ByNumber {
-            points,
-            cumulative,
-            foreign,
-            rounded,
-            names: self.names.clone(),
-            source,
-        }
+        let Numbered { points, foreign, rounded, cumulative } = numbered;
+        ByNumber { points, cumulative, foreign, rounded, names: self.names.clone(), source }
     }
 }
 
 impl Default for Numbers {
     fn default() -> Numbers {
-        Numbers {
-            now: RwLock::default(),
-            limits: LIMITS,
-            of_texts: Arc::default(),
-        }
+        Numbers { now: RwLock::default(), limits: LIMITS, of_texts: Arc::default() }
     }
 }
 
@@ -256,10 +235,7 @@ impl Numbers {
     /// The points of a request in protobuf; none where it is to be read otherwise.
     fn read(&self, core: &Core, body: &Bytes, reading: &Arc<Reading>) -> Option<ByNumber> {
         let now = self.now(core, reading)?;
-        let source = Source::Protobuf {
-            body: body.clone(),
-            reading: reading.clone(),
-        };
+        let source = Source::Protobuf { body: body.clone(), reading: reading.clone() };
         Some(now.by_number(now.read(body, reading)?, source))
     }
 

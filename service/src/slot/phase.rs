@@ -56,9 +56,7 @@ impl Phases {
 impl Phase {
     fn of(byte: u8) -> Phase {
         let all = [Phase::Recovering, Phase::Serving, Phase::Stopping];
-        all.into_iter()
-            .find(|phase| *phase as u8 == byte)
-            .unwrap_or(Phase::Lost)
+        all.into_iter().find(|phase| *phase as u8 == byte).unwrap_or(Phase::Lost)
     }
 }
 

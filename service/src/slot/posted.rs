@@ -26,10 +26,7 @@ pub struct LeftOut {
 
 impl Posted {
     pub fn whole(read: Read) -> Posted {
-        Posted {
-            read,
-            left_out: LeftOut::default(),
-        }
+        Posted { read, left_out: LeftOut::default() }
     }
 
     pub fn off(&self) -> OffClock {
@@ -67,10 +64,7 @@ impl LeftOut {
         let placed = |point| self.place_of(point);
         match refused {
             Refused::OtherWriter { point } => Refused::OtherWriter { point: placed(point) },
-            Refused::OutOfOrder { point, frontier } => Refused::OutOfOrder {
-                point: placed(point),
-                frontier,
-            },
+            Refused::OutOfOrder { point, frontier } => Refused::OutOfOrder { point: placed(point), frontier },
             other => other,
         }
     }
@@ -113,9 +107,7 @@ fn read_text(
     body: Bytes,
 ) -> Result<Posted, Refused> {
     let mut read = core.read(sender.clone(), body.clone())?;
-    let is_within = read
-        .ends()
-        .is_none_or(|(first, last)| window.has_all(first, last));
+    let is_within = read.ends().is_none_or(|(first, last)| window.has_all(first, last));
     if is_within {
         numbers.number(core, &mut read)?;
         return fits(Posted::whole(read));
@@ -141,9 +133,6 @@ fn read_points(
 pub fn fits(posted: Posted) -> Result<Posted, Refused> {
     match posted.read.parts() {
         0..=MOST_PARTS => Ok(posted),
-        parts => Err(Refused::TooManyHours {
-            parts,
-            most: MOST_PARTS,
-        }),
+        parts => Err(Refused::TooManyHours { parts, most: MOST_PARTS }),
     }
 }

@@ -128,10 +128,7 @@ impl Slot {
         // Under the lock: so the journal has the book's order, and a checkpoint finds the post in both or in neither.
         let journalled = Taken::of(posted).journal(&self.journal);
         drop(book);
-        Ok(Ok(Put {
-            journalled,
-            new_series,
-        }))
+        Ok(Ok(Put { journalled, new_series }))
     }
 
     /// What a refusal is the beginning of.
@@ -170,10 +167,7 @@ impl Slot {
 }
 
 fn unavailable(why: &str) -> Outcome {
-    Outcome::Refused {
-        status: 503,
-        message: why.into(),
-    }
+    Outcome::Refused { status: 503, message: why.into() }
 }
 
 #[cfg(test)]

@@ -155,10 +155,7 @@ impl<T> Slots<T> {
     pub async fn elsewhere(&self, slot: u16, sender: &str, part: Original) -> Outcome {
         match self.others() {
             Some(elsewhere) => elsewhere.post(slot, sender, part).await,
-            None => Outcome::Refused {
-                status: 503,
-                message: NO_OWNER.into(),
-            },
+            None => Outcome::Refused { status: 503, message: NO_OWNER.into() },
         }
     }
 }

@@ -30,11 +30,7 @@ pub(super) struct Journalled {
 
 impl Taken<'_> {
     pub fn of(posted: &Posted) -> Taken<'_> {
-        Taken {
-            post: &posted.read.post,
-            names: posted.read.names(),
-            off: posted.off(),
-        }
+        Taken { post: &posted.read.post, names: posted.read.names(), off: posted.off() }
     }
 
     /// Puts the post into the journal: a short lock, and no wait for the disk.
@@ -49,18 +45,12 @@ impl Taken<'_> {
 impl Journalled {
     /// What the book refused: all that it took before is waited for.
     pub fn refused(refused: Refused, journal: &Journal) -> Journalled {
-        Journalled {
-            ticket: journal.now(),
-            outcome: Outcome::from(refused),
-        }
+        Journalled { ticket: journal.now(), outcome: Outcome::from(refused) }
     }
 
     /// What has nothing that was not taken before: this is waited for.
     pub fn again(journal: &Journal) -> Journalled {
-        Journalled {
-            ticket: journal.now(),
-            outcome: Outcome::taken(0),
-        }
+        Journalled { ticket: journal.now(), outcome: Outcome::taken(0) }
     }
 
     /// The same of a post of which so many points are outside the profile, and others off by their clock or were not taken
@@ -79,20 +69,14 @@ impl Journalled {
     pub async fn durable(self, journal: &Journal) -> Outcome {
         match journal.durable(self.ticket).await {
             Ok(()) => self.outcome,
-            Err(Lost) => Outcome::Refused {
-                status: 503,
-                message: MOVED.into(),
-            },
+            Err(Lost) => Outcome::Refused { status: 503, message: MOVED.into() },
         }
     }
 }
 
 impl From<Refused> for Outcome {
     fn from(refused: Refused) -> Outcome {
-        Outcome::Refused {
-            status: refused.status(),
-            message: refused.to_string(),
-        }
+        Outcome::Refused { status: refused.status(), message: refused.to_string() }
     }
 }
 
@@ -110,22 +94,10 @@ mod tests {
         let open = Arc::new(AtomicBool::new(true));
         let journal = Arc::new(crate::files::held_journal(folder.path(), open.clone()));
         open.store(false, SeqCst);
-        let post = Post {
-            sender: "A".into(),
-            foreign: 0,
-            body: Body::Text("{}".into()),
-        };
-        let late = Refused::OutOfOrder {
-            point: 0,
-            frontier: 5,
-        };
+        let post = Post { sender: "A".into(), foreign: 0, body: Body::Text("{}".into()) };
+        let late = Refused::OutOfOrder { point: 0, frontier: 5 };
         let both = [
-            Taken {
-                post: &post,
-                names: &NoNames,
-                off: OffClock::default(),
-            }
-            .journal(&journal),
+            Taken { post: &post, names: &NoNames, off: OffClock::default() }.journal(&journal),
             Journalled::refused(late, &journal),
         ];
         let answers = both.map(|one| {

@@ -65,22 +65,12 @@ struct Place {
 
 impl Place {
     fn open(servers: &[Server], copies: Copies) -> Result<Place, MoveFault> {
-        let addresses: Vec<String> = servers
-            .iter()
-            .map(|server| format!("postgres://{server}"))
-            .collect();
-        Ok(Place {
-            store: PostgresStore::look_into(servers, copies)?,
-            address: addresses.join(" "),
-        })
+        let addresses: Vec<String> = servers.iter().map(|server| format!("postgres://{server}")).collect();
+        Ok(Place { store: PostgresStore::look_into(servers, copies)?, address: addresses.join(" ") })
     }
 
     fn mark(&self, way: Way, id: &str) -> Mark {
-        Mark {
-            way,
-            id: id.into(),
-            store: self.address.clone(),
-        }
+        Mark { way, id: id.into(), store: self.address.clone() }
     }
 
     fn check_idle(&self) -> Result<(), MoveFault> {
@@ -110,10 +100,7 @@ impl Place {
         if !self.store.all_say(seen)? {
             return Err(StoreFault::Meanwhile.into());
         }
-        let to = Standing {
-            state,
-            ..seen.clone()
-        };
+        let to = Standing { state, ..seen.clone() };
         self.go(seen, to).map(drop)
     }
 }
@@ -124,11 +111,7 @@ impl Place {
         let mut drawn = [0; 8];
         let read = File::open("/dev/urandom").and_then(|mut file| file.read_exact(&mut drawn));
         read.map_err(StoreFault::System)?;
-        Ok(format!(
-            "{}{:016x}",
-            self.store.cluster.id,
-            u64::from_le_bytes(drawn)
-        ))
+        Ok(format!("{}{:016x}", self.store.cluster.id, u64::from_le_bytes(drawn)))
     }
 
     /// Another store knows nothing of the move, and what it has come to.
@@ -160,10 +143,7 @@ fn absolute(folder: &Path) -> Result<PathBuf, MoveFault> {
 pub fn from_folder(folder: &Path, servers: &[Server], copies: Copies) -> Result<Option<Moved>, MoveFault> {
     let path = absolute(folder)?;
     if !path.join("version").exists() {
-        return refused(format!(
-            "{} is no folder of totxegun: it has no file `version`",
-            path.display()
-        ));
+        return refused(format!("{} is no folder of totxegun: it has no file `version`", path.display()));
     }
     let folder = Folder::open(&path, Durability::Disk)?;
     let place = Place::open(servers, copies)?;
@@ -193,11 +173,8 @@ pub fn from_folder(folder: &Path, servers: &[Server], copies: Copies) -> Result<
         true => seen,
         false => {
             place.check_unused()?;
-            let filling = Standing {
-                state: State::Filling,
-                id: id.clone(),
-                folder: path.display().to_string(),
-            };
+            let filling =
+                Standing { state: State::Filling, id: id.clone(), folder: path.display().to_string() };
             place.go(&seen, filling)?
         }
     };
@@ -301,10 +278,7 @@ pub fn to_folder(folder: &Path, servers: &[Server], copies: Copies) -> Result<Op
     let id = match folder.mark() {
         Some(mark) => mark.id,
         None if !folder.is_empty()? => {
-            return refused(format!(
-                "{} has something already: give a folder that is new",
-                path.display()
-            ));
+            return refused(format!("{} has something already: give a folder that is new", path.display()));
         }
         None => {
             let id = place.draw()?;
@@ -316,11 +290,8 @@ pub fn to_folder(folder: &Path, servers: &[Server], copies: Copies) -> Result<Op
         true => seen,
         false => {
             place.check_idle()?;
-            let leaving = Standing {
-                state: State::Leaving,
-                id: id.clone(),
-                folder: path.display().to_string(),
-            };
+            let leaving =
+                Standing { state: State::Leaving, id: id.clone(), folder: path.display().to_string() };
             place.go(&seen, leaving)?
         }
     };

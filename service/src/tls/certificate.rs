@@ -36,9 +36,7 @@ impl Certificate {
         body.expect(SEQUENCE)?; // its key
         let mut rest = body;
         let extensions = rest.find(|part| part.0 == EXTENSIONS).map(|part| Der(part.1));
-        let name = extensions
-            .and_then(alternative_name)
-            .or_else(|| common_name(subject));
+        let name = extensions.and_then(alternative_name).or_else(|| common_name(subject));
         Some(Certificate { name, ends })
     }
 }
@@ -65,9 +63,7 @@ fn common_name(subject: Der) -> Option<String> {
 }
 
 fn text(bytes: &[u8]) -> Option<String> {
-    String::from_utf8(bytes.to_vec())
-        .ok()
-        .filter(|text| !text.is_empty())
+    String::from_utf8(bytes.to_vec()).ok().filter(|text| !text.is_empty())
 }
 
 /// `YYMMDDhhmmssZ`, of the years 1950 to 2049, or `YYYYMMDDhhmmssZ`.
@@ -108,15 +104,7 @@ mod tests {
     /// The name of a certificate with these words of `openssl req`.
     fn name(subject: &str, names: Option<&str>) -> Option<String> {
         let at = folder();
-        let made = certificate(
-            at.path(),
-            Made {
-                name: "a",
-                subject,
-                names,
-                ..Made::default()
-            },
-        );
+        let made = certificate(at.path(), Made { name: "a", subject, names, ..Made::default() });
         Certificate::read(&made).unwrap().name
     }
 
@@ -126,10 +114,7 @@ mod tests {
         assert_eq!(name("/CN=one", None), named("one"));
         assert_eq!(name("/O=x,CN=other/CN=one/CN=two", None), named("two"));
         assert_eq!(name("/CN=one", Some("DNS:a.b,DNS:c")), named("a.b"));
-        assert_eq!(
-            name("/CN=one", Some("IP:127.0.0.1,URI:spiffe://d/shop,DNS:c")),
-            named("spiffe://d/shop")
-        );
+        assert_eq!(name("/CN=one", Some("IP:127.0.0.1,URI:spiffe://d/shop,DNS:c")), named("spiffe://d/shop"));
         assert_eq!(name("/CN=one", Some("IP:127.0.0.1,email:a@b")), named("one"));
         assert_eq!(name("/O=x", None), None);
     }
@@ -158,13 +143,7 @@ mod tests {
     #[test]
     fn what_is_cut_or_changed_is_read_without_a_panic() {
         let at = folder();
-        let whole = certificate(
-            at.path(),
-            Made {
-                names: Some("DNS:a"),
-                ..Made::default()
-            },
-        );
+        let whole = certificate(at.path(), Made { names: Some("DNS:a"), ..Made::default() });
         for end in 0..whole.len() {
             assert_eq!(Certificate::read(&whole[..end]), None);
         }

@@ -15,9 +15,7 @@ pub struct Der<'d>(pub &'d [u8]);
 impl<'d> Der<'d> {
     /// The contents of the next value, which has this tag.
     pub fn expect(&mut self, tag: u8) -> Option<Der<'d>> {
-        self.next()
-            .filter(|found| found.0 == tag)
-            .map(|found| Der(found.1))
+        self.next().filter(|found| found.0 == tag).map(|found| Der(found.1))
     }
 
     /// The same where it may be left out.
@@ -39,9 +37,7 @@ impl<'d> Iterator for Der<'d> {
             short @ ..=0x7f => (usize::from(short), rest),
             long @ 0x81..=0x84 => {
                 let (digits, rest) = rest.split_at_checked(usize::from(long & 0x7f))?;
-                let length = digits
-                    .iter()
-                    .fold(0, |length, digit| length << 8 | usize::from(*digit));
+                let length = digits.iter().fold(0, |length, digit| length << 8 | usize::from(*digit));
                 (length, rest)
             }
             _ => return None,

@@ -63,9 +63,7 @@ impl Tls {
         protocol: Protocol,
         is_full: impl Fn() -> bool,
     ) -> Option<Shaken> {
-        let peer = stream
-            .peer_addr()
-            .map_or_else(|_| "?".to_string(), |peer| peer.to_string());
+        let peer = stream.peer_addr().map_or_else(|_| "?".to_string(), |peer| peer.to_string());
         let (outcome, shaken) = match in_time(self.shake(stream, protocol), is_full).await {
             Some(Ok(shaken)) => ("done", Some(shaken)),
             Some(Err(error)) => {
@@ -84,9 +82,7 @@ impl Tls {
     async fn shake(&self, stream: std::net::TcpStream, protocol: Protocol) -> Result<Shaken> {
         let contexts = self.contexts.now();
         let stream = Socket::Here(TcpStream::from_std(stream)?);
-        let mut stream = TlsAcceptor::from(contexts.config(protocol))
-            .accept(stream)
-            .await?;
+        let mut stream = TlsAcceptor::from(contexts.config(protocol)).accept(stream).await?;
         stream.get_mut().0.leave()?;
         Ok(Shaken { stream, contexts })
     }
@@ -108,9 +104,7 @@ async fn in_time<T>(shaking: impl Future<Output = T>, is_full: impl Fn() -> bool
 /// What a failed handshake means. A client says that it does not believe us by an alert, which openssl's sends in the clear
 /// where TLS 1.3 has it encrypted.
 fn why(error: &Error, certificate: &str) -> String {
-    let of_tls = error
-        .get_ref()
-        .and_then(|inner| inner.downcast_ref::<rustls::Error>());
+    let of_tls = error.get_ref().and_then(|inner| inner.downcast_ref::<rustls::Error>());
     match of_tls {
         Some(
             rustls::Error::DecryptError
@@ -143,9 +137,7 @@ mod tests {
             .spawn()
             .unwrap();
         let (stream, _) = listener.accept().await.unwrap();
-        let shaken = tls(at, None)
-            .shake(stream.into_std().unwrap(), Protocol::Http)
-            .await;
+        let shaken = tls(at, None).shake(stream.into_std().unwrap(), Protocol::Http).await;
         client.wait().unwrap();
         why(&shaken.err().expect("it fails"), "--tls-cert")
     }
@@ -156,21 +148,11 @@ mod tests {
         let at = folder();
         server(at.path());
         let (name, subject) = ("other", "/CN=other");
-        certificate(
-            at.path(),
-            Made {
-                name,
-                subject,
-                ..Made::default()
-            },
-        );
+        certificate(at.path(), Made { name, subject, ..Made::default() });
         for version in ["-tls1_2", "-tls1_3"] {
             let words = [version, "-verify_return_error", "-CAfile", "other.pem"];
             let why = failed(at.path(), &words).await;
-            assert!(
-                why.contains("does not trust the root of --tls-cert"),
-                "{version}: {why}"
-            );
+            assert!(why.contains("does not trust the root of --tls-cert"), "{version}: {why}");
         }
         let old = failed(at.path(), &["-tls1_2", "-cipher", "AES128-SHA:@SECLEVEL=0"]).await;
         assert!(!old.contains("trust"), "{old}");

@@ -37,11 +37,7 @@ pub struct Named {
 }
 
 impl Named {
-    pub const OF_SENDERS: Named = Named {
-        certificate: "--tls-cert",
-        key: "--tls-key",
-        roots: "--client-ca",
-    };
+    pub const OF_SENDERS: Named = Named { certificate: "--tls-cert", key: "--tls-key", roots: "--client-ca" };
 }
 
 /// Where certificates are, in PEM.
@@ -143,9 +139,7 @@ impl Contexts {
         let (Some(senders), Some((first, between))) = (&self.senders, chain.split_first()) else {
             return false;
         };
-        senders
-            .verify_client_cert(first, between, SystemTime::now())
-            .is_ok()
+        senders.verify_client_cert(first, between, SystemTime::now()).is_ok()
     }
 }
 
@@ -191,10 +185,7 @@ impl Tls {
     /// Reads the files. The error names what can't be used and says what to do.
     pub fn open(files: &Files, without: WithoutCertificate, metrics: Arc<Metrics>) -> anyhow::Result<Tls> {
         let named = files.named;
-        let mut paths = vec![
-            (named.certificate, files.certificate.clone()),
-            (named.key, files.key.clone()),
-        ];
+        let mut paths = vec![(named.certificate, files.certificate.clone()), (named.key, files.key.clone())];
         paths.extend(files.client_ca.clone().map(|path| (named.roots, path)));
         let reader = Reader {
             read: Box::new(move |contents: &[Vec<u8>]| Contexts::read(named, contents, without)),
@@ -203,12 +194,7 @@ impl Tls {
         let contexts = Reloaded::open(paths, reader, &metrics)?;
         expiry::register(&metrics, contexts.clone()).context("metrics")?;
         let threads = Threads::named("handshake", 1).context("no thread could be started")?;
-        Ok(Tls {
-            contexts,
-            threads,
-            metrics,
-            certificate: named.certificate,
-        })
+        Ok(Tls { contexts, threads, metrics, certificate: named.certificate })
     }
 
     /// What is believed now.

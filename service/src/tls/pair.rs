@@ -12,10 +12,7 @@ const ALGORITHMS: [(SignatureScheme, &SignatureAlgorithm); 4] = [
     (SignatureScheme::ECDSA_NISTP256_SHA256, &webpki::ECDSA_P256_SHA256),
     (SignatureScheme::ECDSA_NISTP384_SHA384, &webpki::ECDSA_P384_SHA384),
     (SignatureScheme::ED25519, &webpki::ED25519),
-    (
-        SignatureScheme::RSA_PKCS1_SHA256,
-        &webpki::RSA_PKCS1_2048_8192_SHA256,
-    ),
+    (SignatureScheme::RSA_PKCS1_SHA256, &webpki::RSA_PKCS1_2048_8192_SHA256),
 ];
 
 /// A chain that begins with our certificate, and the key that it is for.
@@ -81,11 +78,7 @@ fn is_for(certificate: &[u8], key: &dyn SigningKey) -> Option<bool> {
     let (_, algorithm) = ALGORITHMS.iter().find(|(scheme, _)| *scheme == signer.scheme())?;
     let message = b"totxegun";
     let signature = signer.sign(message).ok()?;
-    Some(
-        certificate
-            .verify_signature(algorithm, message, &signature)
-            .is_ok(),
-    )
+    Some(certificate.verify_signature(algorithm, message, &signature).is_ok())
 }
 
 #[cfg(test)]
@@ -94,9 +87,7 @@ mod tests {
     use super::*;
 
     fn refused(chain: &[u8], key: &[u8]) -> String {
-        Pair::read(Named::OF_SENDERS, chain, key)
-            .err()
-            .expect("it is refused")
+        Pair::read(Named::OF_SENDERS, chain, key).err().expect("it is refused")
     }
 
     #[test]
@@ -108,13 +99,7 @@ mod tests {
             "ed25519",
             "rsa:2048",
         ] {
-            let (chain, key) = pem(
-                at.path(),
-                Made {
-                    key: kind,
-                    ..Made::default()
-                },
-            );
+            let (chain, key) = pem(at.path(), Made { key: kind, ..Made::default() });
             assert!(Pair::read(Named::OF_SENDERS, &chain, &key).is_ok(), "{kind}");
         }
         let (chain, _) = pem(at.path(), Made::default());
@@ -128,17 +113,8 @@ mod tests {
     fn what_can_not_be_used_is_refused_by_name() {
         let at = folder();
         let (chain, key) = pem(at.path(), Made::default());
-        let (_, other) = pem(
-            at.path(),
-            Made {
-                name: "b",
-                ..Made::default()
-            },
-        );
-        openssl(
-            at.path(),
-            "pkcs8 -topk8 -in a.key -passout pass:x -out secret.key",
-        );
+        let (_, other) = pem(at.path(), Made { name: "b", ..Made::default() });
+        openssl(at.path(), "pkcs8 -topk8 -in a.key -passout pass:x -out secret.key");
         let secret = std::fs::read(at.path().join("secret.key")).unwrap();
         let broken = b"-----BEGIN CERTIFICATE-----\nAAAA\n-----END CERTIFICATE-----\n";
         for (chain, key, why) in [
@@ -150,11 +126,7 @@ mod tests {
             (broken, &key, "none of X.509"),
             (&chain[..chain.len() / 2], &key, "--tls-cert is no PEM"),
         ] {
-            assert!(
-                refused(chain, key).contains(why),
-                "{why}: {}",
-                refused(chain, key)
-            );
+            assert!(refused(chain, key).contains(why), "{why}: {}", refused(chain, key));
         }
     }
 }

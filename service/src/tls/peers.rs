@@ -35,12 +35,7 @@ impl Tls {
         let contexts = Reloaded::open(paths, reader, &metrics)?;
         expiry::register_peers(&metrics, contexts.clone()).context("metrics")?;
         let threads = Threads::named("peers", 1).context("no thread could be started")?;
-        Ok(Tls {
-            contexts,
-            threads,
-            metrics,
-            certificate: named.certificate,
-        })
+        Ok(Tls { contexts, threads, metrics, certificate: named.certificate })
     }
 }
 
@@ -86,15 +81,10 @@ fn client(named: Named, pair: &Pair, roots: RootCertStore) -> Result<ClientConfi
 
 /// As another instance looks at what this one shows.
 fn would_be_asked(pair: &Pair, roots: RootCertStore, name: &ServerName) -> Result<(), rustls::Error> {
-    let (first, between) = pair
-        .chain
-        .split_first()
-        .ok_or(rustls::Error::NoCertificatesPresented)?;
+    let (first, between) = pair.chain.split_first().ok_or(rustls::Error::NoCertificatesPresented)?;
     let verifier = WebPkiVerifier::new(roots, None);
     let now = SystemTime::now();
-    verifier
-        .verify_server_cert(first, between, name, &mut std::iter::empty(), &[], now)
-        .map(drop)
+    verifier.verify_server_cert(first, between, name, &mut std::iter::empty(), &[], now).map(drop)
 }
 
 #[cfg(test)]
@@ -103,11 +93,7 @@ pub(crate) mod tests {
     use super::*;
     use std::path::Path;
 
-    pub const NAMED: Named = Named {
-        certificate: "--peer-cert",
-        key: "--peer-key",
-        roots: "--peer-ca",
-    };
+    pub const NAMED: Named = Named { certificate: "--peer-cert", key: "--peer-key", roots: "--peer-ca" };
 
     /// With the certificate NAME of a folder and its roots CA.
     pub fn peer(at: &Path, name: &str, ca: &str) -> anyhow::Result<Arc<Tls>> {
@@ -125,15 +111,7 @@ pub(crate) mod tests {
         let at = folder();
         server(at.path());
         let made = |name, names, by| {
-            certificate(
-                at.path(),
-                Made {
-                    name,
-                    names,
-                    by,
-                    ..Made::default()
-                },
-            );
+            certificate(at.path(), Made { name, names, by, ..Made::default() });
         };
         made("elsewhere", Some("DNS:other.example"), Some("ca"));
         made("other", Some("DNS:localhost"), None);
@@ -146,10 +124,7 @@ pub(crate) mod tests {
             ("ca", "ca", "others would not ask this instance"),
         ] {
             let why = peer(at.path(), name, ca).err().expect(part).to_string();
-            assert!(
-                why.starts_with("--peer-ca can't be used") && why.contains(part),
-                "{why}"
-            );
+            assert!(why.starts_with("--peer-ca can't be used") && why.contains(part), "{why}");
         }
         let files = Files {
             named: NAMED,

@@ -25,10 +25,7 @@ pub struct Senders {
 
 impl Senders {
     pub fn new(roots: RootCertStore, without: WithoutCertificate) -> Senders {
-        Senders {
-            inner: AllowAnyAuthenticatedClient::new(roots),
-            without,
-        }
+        Senders { inner: AllowAnyAuthenticatedClient::new(roots), without }
     }
 
     /// Whether nobody can be believed, for want of roots.

@@ -11,11 +11,7 @@ pub fn folder() -> tempfile::TempDir {
 /// Runs `openssl` in a folder.
 pub fn openssl(at: &Path, arguments: &str) {
     let words = arguments.split_whitespace();
-    let done = Command::new("openssl")
-        .current_dir(at)
-        .args(words)
-        .stderr(Stdio::null())
-        .status();
+    let done = Command::new("openssl").current_dir(at).args(words).stderr(Stdio::null()).status();
     assert!(done.expect("openssl is there").success(), "openssl {arguments}");
 }
 
@@ -52,11 +48,7 @@ pub fn certificate(at: &Path, made: Made) -> Vec<u8> {
     }
     let subject = ["-subj", made.subject];
     let words = line.split_whitespace().chain(subject);
-    let done = Command::new("openssl")
-        .current_dir(at)
-        .args(words)
-        .stderr(Stdio::null())
-        .status();
+    let done = Command::new("openssl").current_dir(at).args(words).stderr(Stdio::null()).status();
     assert!(done.expect("openssl is there").success(), "{line}");
     openssl(at, &format!("x509 -in {name}.pem -outform DER -out {name}.der"));
     std::fs::read(at.join(format!("{name}.der"))).unwrap()
@@ -85,39 +77,15 @@ pub fn tls(at: &Path, client_ca: Option<WithoutCertificate>) -> Arc<Tls> {
 
 /// `ca`, and `server` of it for localhost.
 pub fn server(at: &Path) {
-    certificate(
-        at,
-        Made {
-            name: "ca",
-            subject: "/CN=ca",
-            ..Made::default()
-        },
-    );
-    certificate(
-        at,
-        Made {
-            name: "server",
-            names: Some("DNS:localhost"),
-            by: Some("ca"),
-            ..Made::default()
-        },
-    );
+    certificate(at, Made { name: "ca", subject: "/CN=ca", ..Made::default() });
+    certificate(at, Made { name: "server", names: Some("DNS:localhost"), by: Some("ca"), ..Made::default() });
 }
 
 #[test]
 fn a_chain_is_believed_by_its_root_alone() {
     let at = folder();
     server(at.path());
-    let of = |name, by| {
-        rustls::Certificate(certificate(
-            at.path(),
-            Made {
-                name,
-                by,
-                ..Made::default()
-            },
-        ))
-    };
+    let of = |name, by| rustls::Certificate(certificate(at.path(), Made { name, by, ..Made::default() }));
     let (ours, own) = (of("ours", Some("ca")), of("own", None));
     let contexts = tls(at.path(), Some(WithoutCertificate::Refused)).contexts();
     assert!(
@@ -143,15 +111,7 @@ fn a_chain_is_believed_up_to_four_between_it_and_its_root() {
         let pem = std::fs::read(at.path().join(format!("{name}.pem"))).unwrap();
         between.insert(0, certificates("--client-ca", &pem).unwrap().remove(0));
     }
-    let of = |by| {
-        rustls::Certificate(certificate(
-            at.path(),
-            Made {
-                by: Some(by),
-                ..Made::default()
-            },
-        ))
-    };
+    let of = |by| rustls::Certificate(certificate(at.path(), Made { by: Some(by), ..Made::default() }));
     let contexts = tls(at.path(), Some(WithoutCertificate::Refused)).contexts();
     let chain = |first, between: &[rustls::Certificate]| [&[first], between].concat();
     assert!(contexts.believes(&chain(of("e"), &between[1..])));
@@ -191,11 +151,7 @@ fn a_chain_with_many_constraints_of_names_is_refused_at_once() {
     chain.extend(["c", "d", "e"].map(|name| of(name, "")));
     let first = certificate(
         at.path(),
-        Made {
-            names: Some(&shown(&der(0x30, &names))),
-            by: Some("b"),
-            ..Made::default()
-        },
+        Made { names: Some(&shown(&der(0x30, &names))), by: Some("b"), ..Made::default() },
     );
     chain.insert(0, rustls::Certificate(first));
     let contexts = tls(at.path(), Some(WithoutCertificate::Refused)).contexts();
@@ -210,9 +166,7 @@ fn the_page_says_when_the_certificate_ends() {
     server(at.path());
     let tls = tls(at.path(), None);
     let page = String::from_utf8(tls.metrics.page()).unwrap();
-    let line = page
-        .lines()
-        .find_map(|line| line.strip_prefix("totxegun_certificate_expires_seconds "));
+    let line = page.lines().find_map(|line| line.strip_prefix("totxegun_certificate_expires_seconds "));
     let left: i64 = line.unwrap().parse().unwrap();
     assert!((20 * 86_400 - 600..=20 * 86_400).contains(&left), "{left}");
 }

@@ -189,9 +189,7 @@ impl<T> State<T> {
 
     fn note_done(&mut self, number: u64, one: T) {
         // None is there any more where all was stopped.
-        let place = number
-            .checked_sub(self.first)
-            .and_then(|place| self.begun.get_mut(place as usize));
+        let place = number.checked_sub(self.first).and_then(|place| self.begun.get_mut(place as usize));
         if let Some(place) = place {
             *place = Some(one);
         }

@@ -32,10 +32,7 @@ fn refused(words: &[&str], status: i32, part: &str) {
 fn who_reads_no_further_ends_it_quietly() {
     let (reader, writer) = std::io::pipe().unwrap();
     drop(reader);
-    let output = program(&["version"])
-        .stdout(writer)
-        .stderr(Stdio::piped())
-        .spawn();
+    let output = program(&["version"]).stdout(writer).stderr(Stdio::piped()).spawn();
     let output = output.unwrap().wait_with_output().unwrap();
     assert_eq!((output.status.code(), output.stderr), (Some(0), Vec::new()));
 }
@@ -115,10 +112,7 @@ fn help_names_each_command_and_option() {
         );
     }
     let version = String::from_utf8(totxegun(&["version"]).stdout).unwrap();
-    assert!(
-        version.starts_with(concat!("totxegun ", env!("CARGO_PKG_VERSION"), "; ")),
-        "{version}"
-    );
+    assert!(version.starts_with(concat!("totxegun ", env!("CARGO_PKG_VERSION"), "; ")), "{version}");
 }
 
 #[test]
@@ -127,37 +121,18 @@ fn a_faulty_line_has_status_2() {
     refused(&["serve"], 2, "--data");
     refused(&["serve", "--data", "d", "--most-series", "0"], 2, "1..=1000000");
     refused(&["serve", "--data", "d", "--flush-every", "10"], 2, "10s");
-    refused(
-        &["serve", "--data", "d", "--sink", "localhost:4318"],
-        2,
-        "no sink is known for `localhost:`",
-    );
+    refused(&["serve", "--data", "d", "--sink", "localhost:4318"], 2, "no sink is known for `localhost:`");
     refused(&["quarantine", "no name"], 2, "1 to 64");
     let serve = ["serve", "--data", "d"];
     for (words, part) in [
         (&[&serve[..], &["--sink-gzip"]].concat()[..], "for a sink of OTLP"),
         (&[&serve[..], &["--listen", "4318"]].concat(), "write HOST:PORT"),
         (&[&serve[..], &["--sink-header", "host: h"]].concat(), "`host`"),
-        (
-            &[&serve[..], &["--whole", "s=us,s=ms"]].concat(),
-            "two rules for the unit `s`",
-        ),
-        (
-            &[&serve[..], &["--whole", "auto,off"]].concat(),
-            "both auto and off",
-        ),
-        (
-            &[&serve[..], &["--pass", "h:4318"]].concat(),
-            "--pass takes http://HOST:PORT",
-        ),
-        (
-            &[&serve[..], &["--pass", "http://127.0.0.1:4318"]].concat(),
-            "points would come again for ever",
-        ),
-        (
-            &["explain", "-", "--whole", "s=us,s=ms"],
-            "two rules for the unit `s`",
-        ),
+        (&[&serve[..], &["--whole", "s=us,s=ms"]].concat(), "two rules for the unit `s`"),
+        (&[&serve[..], &["--whole", "auto,off"]].concat(), "both auto and off"),
+        (&[&serve[..], &["--pass", "h:4318"]].concat(), "--pass takes http://HOST:PORT"),
+        (&[&serve[..], &["--pass", "http://127.0.0.1:4318"]].concat(), "points would come again for ever"),
+        (&["explain", "-", "--whole", "s=us,s=ms"], "two rules for the unit `s`"),
     ] {
         refused(words, 2, part);
     }
@@ -180,24 +155,14 @@ fn a_password_of_the_sink_is_not_shown() {
         }
     }
     let mut command = Command::new(env!("CARGO_BIN_EXE_totxegun"));
-    command
-        .args(["serve", "--data", "d"])
-        .env("TOTXEGUN_SINK_HEADER", "secret");
+    command.args(["serve", "--data", "d"]).env("TOTXEGUN_SINK_HEADER", "secret");
     let text = String::from_utf8_lossy(&command.output().unwrap().stderr).into_owned();
-    assert!(
-        text.contains("a name, a colon") && !text.contains("secret"),
-        "{text}"
-    );
+    assert!(text.contains("a name, a colon") && !text.contains("secret"), "{text}");
     for command in ["serve", "totals"] {
         let mut command_line = Command::new(env!("CARGO_BIN_EXE_totxegun"));
-        command_line
-            .args([command, "--help"])
-            .env("TOTXEGUN_SINK", "postgres://u:secret@h/d");
+        command_line.args([command, "--help"]).env("TOTXEGUN_SINK", "postgres://u:secret@h/d");
         let help = String::from_utf8_lossy(&command_line.output().unwrap().stdout).into_owned();
-        assert!(
-            help.contains("TOTXEGUN_SINK") && !help.contains("secret"),
-            "{help}"
-        );
+        assert!(help.contains("TOTXEGUN_SINK") && !help.contains("secret"), "{help}");
     }
 }
 
@@ -208,21 +173,14 @@ fn an_export_that_fails_prints_nothing() {
     let nowhere = [&export[..], &["--sink", "postgres://u@127.0.0.1:1/d"]].concat();
     let output = totxegun(&nowhere);
     assert_eq!((output.status.code(), output.stdout), (Some(1), Vec::new()));
-    refused(
-        &[&export[..], &["--data", "/nowhere"]].concat(),
-        1,
-        "give the sink by --sink",
-    );
+    refused(&[&export[..], &["--data", "/nowhere"]].concat(), 1, "give the sink by --sink");
 }
 
 /// Another server may answer 200 to everything.
 #[test]
 fn a_flush_is_done_once_somebody_says_so() {
     for (answer, wanted) in [
-        (
-            "HTTP/1.1 200 OK\r\nContent-Length: 2\r\n\r\n{}",
-            "no operators' address",
-        ),
+        ("HTTP/1.1 200 OK\r\nContent-Length: 2\r\n\r\n{}", "no operators' address"),
         (
             "HTTP/1.1 404 Not Found\r\nContent-Length: 26\r\n\r\n{\"message\":\"no such path\"}",
             "no operators' address",
@@ -282,11 +240,7 @@ fn an_interrupt_leaves_no_copy_of_a_folder() {
         std::thread::sleep(std::time::Duration::from_millis(100));
         kill(nix::unistd::Pid::from_raw(check.id() as i32), signal).unwrap();
         let status = check.wait().unwrap();
-        assert_eq!(
-            (status.code(), copied()),
-            (Some(128 + signal as i32), 0),
-            "{signal}"
-        );
+        assert_eq!((status.code(), copied()), (Some(128 + signal as i32), 0), "{signal}");
     }
 }
 
@@ -308,20 +262,8 @@ fn what_is_not_possible_has_status_1_and_is_named() {
         &format!("--operate {address}"),
     );
     let other = tempfile::tempdir().unwrap();
-    let place = [
-        "--data",
-        other.path().to_str().unwrap(),
-        "--listen",
-        "127.0.0.1:0",
-    ];
-    let short = [
-        "--operate",
-        "127.0.0.1:0",
-        "--book-memory",
-        "64MiB",
-        "--most-series",
-        "1000000",
-    ];
+    let place = ["--data", other.path().to_str().unwrap(), "--listen", "127.0.0.1:0"];
+    let short = ["--operate", "127.0.0.1:0", "--book-memory", "64MiB", "--most-series", "1000000"];
     refused(
         &[&["serve"][..], &place, &short].concat(),
         1,
@@ -344,26 +286,15 @@ fn what_is_not_possible_has_status_1_and_is_named() {
     }
     refused(&["check", data], 1, "no folder of totxegun");
     refused(&["totals", "--sink", "http://h/"], 1, "SQLite");
-    refused(
-        &["export", "--month", "2026-01", "--json", "--sink", "http://h/"],
-        1,
-        "ask the sink itself",
-    );
+    refused(&["export", "--month", "2026-01", "--json", "--sink", "http://h/"], 1, "ask the sink itself");
     refused(&["totals", "--sink", "postgres://u@h/d"], 1, "PostgreSQL");
 }
 
 #[test]
 fn an_option_may_come_by_the_environment() {
     let mut command = Command::new(env!("CARGO_BIN_EXE_totxegun"));
-    let output = command
-        .arg("serve")
-        .env("TOTXEGUN_DATA", "d")
-        .env("TOTXEGUN_MOST_SERIES", "none")
-        .output()
-        .unwrap();
+    let output =
+        command.arg("serve").env("TOTXEGUN_DATA", "d").env("TOTXEGUN_MOST_SERIES", "none").output().unwrap();
     let text = String::from_utf8_lossy(&output.stderr).into_owned();
-    assert!(
-        output.status.code() == Some(2) && text.contains("--most-series"),
-        "{text}"
-    );
+    assert!(output.status.code() == Some(2) && text.contains("--most-series"), "{text}");
 }

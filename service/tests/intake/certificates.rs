@@ -17,13 +17,7 @@ pub fn openssl(at: &Path, words: &[&str]) {
     assert!(done.expect("openssl is there").success(), "openssl {words:?}");
 }
 
-const KEY: [&str; 5] = [
-    "-newkey",
-    "ec",
-    "-pkeyopt",
-    "ec_paramgen_curve:prime256v1",
-    "-nodes",
-];
+const KEY: [&str; 5] = ["-newkey", "ec", "-pkeyopt", "ec_paramgen_curve:prime256v1", "-nodes"];
 
 /// NAME.pem and NAME.key of a root.
 pub fn root(at: &Path, name: &str) {
@@ -32,47 +26,21 @@ pub fn root(at: &Path, name: &str) {
 
 /// The same, with a subject that need not be its name.
 pub fn root_that_says(at: &Path, name: &str, subject: &str) {
-    let (key, chain, subject) = (
-        format!("{name}.key"),
-        format!("{name}.pem"),
-        format!("/CN={subject}"),
-    );
-    let words = [
-        "req", "-x509", "-keyout", &key, "-out", &chain, "-subj", &subject, "-days", "20",
-    ];
+    let (key, chain, subject) = (format!("{name}.key"), format!("{name}.pem"), format!("/CN={subject}"));
+    let words = ["req", "-x509", "-keyout", &key, "-out", &chain, "-subj", &subject, "-days", "20"];
     openssl(at, &[&words[..], &KEY].concat());
 }
 
 /// NAME.pem and NAME.key, signed by a root, for so many days.
 pub fn signed(at: &Path, root: &str, name: &str, days: &str) {
-    std::fs::write(
-        at.join("names"),
-        format!("subjectAltName=DNS:{name}\nbasicConstraints=CA:FALSE\n"),
-    )
-    .unwrap();
-    let (key, chain, asked) = (
-        format!("{name}.key"),
-        format!("{name}.pem"),
-        format!("{name}.csr"),
-    );
+    std::fs::write(at.join("names"), format!("subjectAltName=DNS:{name}\nbasicConstraints=CA:FALSE\n"))
+        .unwrap();
+    let (key, chain, asked) = (format!("{name}.key"), format!("{name}.pem"), format!("{name}.csr"));
     let words = ["req", "-keyout", &key, "-out", &asked, "-subj", "/CN=other"];
     openssl(at, &[&words[..], &KEY].concat());
     let (by, by_key) = (format!("{root}.pem"), format!("{root}.key"));
-    let words = [
-        "x509",
-        "-req",
-        "-in",
-        &asked,
-        "-CA",
-        &by,
-        "-CAkey",
-        &by_key,
-        "-CAcreateserial",
-    ];
-    openssl(
-        at,
-        &[&words[..], &["-extfile", "names", "-days", days, "-out", &chain]].concat(),
-    );
+    let words = ["x509", "-req", "-in", &asked, "-CA", &by, "-CAkey", &by_key, "-CAcreateserial"];
+    openssl(at, &[&words[..], &["-extfile", "names", "-days", days, "-out", &chain]].concat());
 }
 
 /// A folder with the root `ca` and the certificate `localhost`.
@@ -106,17 +74,11 @@ fn chain(at: &Path, name: &str) -> Vec<rustls::Certificate> {
 pub fn client(at: &Path, root: &str, shown: Option<&str>) -> rustls::ClientConfig {
     let mut roots = rustls::RootCertStore::empty();
     roots.add(&chain(at, root)[0]).unwrap();
-    let config = rustls::ClientConfig::builder()
-        .with_safe_defaults()
-        .with_root_certificates(roots);
+    let config = rustls::ClientConfig::builder().with_safe_defaults().with_root_certificates(roots);
     let Some(shown) = shown else {
         return config.with_no_client_auth();
     };
     let key = std::fs::read(at.join(format!("{shown}.key"))).unwrap();
-    let key = rustls_pemfile::pkcs8_private_keys(&mut &key[..])
-        .unwrap()
-        .remove(0);
-    config
-        .with_single_cert(chain(at, shown), rustls::PrivateKey(key))
-        .unwrap()
+    let key = rustls_pemfile::pkcs8_private_keys(&mut &key[..]).unwrap().remove(0);
+    config.with_single_cert(chain(at, shown), rustls::PrivateKey(key)).unwrap()
 }

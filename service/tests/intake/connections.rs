@@ -30,11 +30,7 @@ async fn a_pipelined_head_may_be_cut_anywhere() {
         client.write(&two[..cut]).await;
         tokio::task::yield_now().await;
         client.write(&two[cut..]).await;
-        assert_eq!(
-            (client.answer().await.status, client.answer().await.status),
-            (200, 200),
-            "{cut}"
-        );
+        assert_eq!((client.answer().await.status, client.answer().await.status), (200, 200), "{cut}");
     }
 }
 
@@ -58,11 +54,7 @@ async fn a_sender_may_go_away_at_each_point() {
     while served.bodies().len() < 2 && begun.elapsed() < 20 * LATE {
         tokio::time::sleep(LATE / 50).await;
     }
-    assert_eq!(
-        served.bodies().len(),
-        2,
-        "a post is whole though its sender goes away"
-    );
+    assert_eq!(served.bodies().len(), 2, "a post is whole though its sender goes away");
     assert_eq!(served.budget.used(), 0);
 }
 
@@ -72,10 +64,7 @@ async fn a_sender_that_has_said_all_is_answered() {
     let mut client = served.client().await;
     client.write(&json(BODY.as_bytes()).repeat(2)).await;
     client.stream.shutdown().await.unwrap();
-    assert_eq!(
-        (client.answer().await.status, client.answer().await.status),
-        (200, 200)
-    );
+    assert_eq!((client.answer().await.status, client.answer().await.status), (200, 200));
     assert!(client.ends().await);
     let mut within = served.client().await;
     within.write(b"POST /v1/metrics HTTP/1.1\r\nHost: a\r\n").await;
@@ -107,14 +96,8 @@ async fn many_connections_at_once() {
 #[tokio::test]
 async fn what_is_no_request_is_refused_and_ends_the_connection() {
     let served = Served::start().await;
-    let long = format!(
-        "POST /v1/metrics HTTP/1.1\r\nHost: a\r\na: {}\r\n\r\n",
-        "a".repeat(70 << 10)
-    );
-    let many = format!(
-        "POST /v1/metrics HTTP/1.1\r\nHost: a\r\n{}\r\n",
-        "a: b\r\n".repeat(200)
-    );
+    let long = format!("POST /v1/metrics HTTP/1.1\r\nHost: a\r\na: {}\r\n\r\n", "a".repeat(70 << 10));
+    let many = format!("POST /v1/metrics HTTP/1.1\r\nHost: a\r\n{}\r\n", "a: b\r\n".repeat(200));
     let both =
         "POST /v1/metrics HTTP/1.1\r\nHost: a\r\nContent-Length: 2\r\nTransfer-Encoding: chunked\r\n\r\n{}";
     let cases = [
@@ -148,22 +131,12 @@ async fn older_senders_are_served() {
         format!("POST /v1/metrics HTTP/1.0\r\nContent-Type: application/json\r\n{connection}Content-Length: {length}\r\n\r\n{BODY}")
     };
     let mut client = served.client().await;
-    client
-        .write(request("Connection: keep-alive\r\n").as_bytes())
-        .await;
+    client.write(request("Connection: keep-alive\r\n").as_bytes()).await;
     let answer = client.answer().await;
-    assert!(
-        answer.status == 200 && answer.has("connection: keep-alive"),
-        "{}",
-        answer.head
-    );
+    assert!(answer.status == 200 && answer.has("connection: keep-alive"), "{}", answer.head);
     client.write(request("").as_bytes()).await;
     let answer = client.answer().await;
-    assert!(
-        answer.status == 200 && answer.has("connection: close"),
-        "{}",
-        answer.head
-    );
+    assert!(answer.status == 200 && answer.has("connection: close"), "{}", answer.head);
     assert!(client.ends().await);
 }
 
@@ -171,10 +144,7 @@ async fn older_senders_are_served() {
 async fn a_sender_that_asks_for_the_end_gets_it_behind_its_answer() {
     let served = Served::start().await;
     let mut client = served.client().await;
-    let request = post(
-        "Content-Type: application/json\r\nConnection: close\r\n",
-        BODY.as_bytes(),
-    );
+    let request = post("Content-Type: application/json\r\nConnection: close\r\n", BODY.as_bytes());
     client.write(&request).await;
     assert_eq!(client.answer().await.status, 200);
     assert!(client.ends().await);
@@ -194,10 +164,7 @@ async fn a_sender_that_does_not_read_its_answer_is_closed_where_another_waits() 
         idle: Duration::from_secs(600),
     };
     // More than the system keeps for a sender that keeps little itself.
-    let long = Outcome::Refused {
-        status: 400,
-        message: "x".repeat(8 << 20),
-    };
+    let long = Outcome::Refused { status: 400, message: "x".repeat(8 << 20) };
     let served = Served::limited(limits, LATE, long, 64 << 20).await;
     let deaf = tokio::net::TcpSocket::new_v4().unwrap();
     deaf.set_recv_buffer_size(4096).unwrap();

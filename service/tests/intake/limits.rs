@@ -12,12 +12,8 @@ const TOO_LONG: &str = "body too long: over 4194304 bytes, packed or unpacked: p
 async fn a_bomb_ends_at_the_limit() {
     let served = Served::start().await;
     let bomb = gzip(&vec![b' '; 100 << 20]);
-    let answer = served
-        .ask(&post(
-            "Content-Type: application/json\r\nContent-Encoding: gzip\r\n",
-            &bomb,
-        ))
-        .await;
+    let answer =
+        served.ask(&post("Content-Type: application/json\r\nContent-Encoding: gzip\r\n", &bomb)).await;
     assert_eq!((answer.status, answer.message().as_str()), (413, TOO_LONG));
     assert_eq!(served.budget.used(), 0);
     assert!(served.bodies().is_empty());
@@ -45,21 +41,14 @@ async fn a_slow_head_and_a_slow_body_are_ended() {
         (503, "the request did not come whole"),
         "senders of OTLP drop what is 408"
     );
-    assert!(
-        late.has("retry-after: 1") && late.has("connection: close"),
-        "{}",
-        late.head
-    );
+    assert!(late.has("retry-after: 1") && late.has("connection: close"), "{}", late.head);
     assert!(head.ends().await);
     let mut body = served.client().await;
     let begun = Instant::now();
     body.write(b"POST /v1/metrics HTTP/1.1\r\nHost: a\r\nContent-Type: application/json\r\nContent-Length: 9\r\n\r\n{")
         .await;
     let answer = body.answer().await;
-    assert_eq!(
-        (answer.status, answer.message().as_str()),
-        (503, "the request did not come whole")
-    );
+    assert_eq!((answer.status, answer.message().as_str()), (503, "the request did not come whole"));
     assert!(begun.elapsed() >= LATE);
     assert!(body.ends().await);
     let mut idle = served.client().await;
@@ -71,9 +60,7 @@ async fn a_slow_head_and_a_slow_body_are_ended() {
 async fn an_empty_line_behind_a_body_is_no_head_that_is_slow() {
     let served = Served::impatient().await;
     let mut client = served.client().await;
-    client
-        .write(&[&json(BODY.as_bytes())[..], b"\r\n"].concat())
-        .await;
+    client.write(&[&json(BODY.as_bytes())[..], b"\r\n"].concat()).await;
     assert_eq!(client.answer().await.status, 200);
     assert!(client.ends().await, "as one that is idle");
 }
@@ -99,10 +86,7 @@ async fn what_is_over_the_bytes_in_flight_may_be_sent_again() {
     let mut others = served.budget.hold();
     others.set(990).unwrap();
     let answer = served.ask(&json(BODY.as_bytes())).await;
-    assert_eq!(
-        (answer.status, answer.message().as_str()),
-        (503, "too many bytes in flight")
-    );
+    assert_eq!((answer.status, answer.message().as_str()), (503, "too many bytes in flight"));
     assert!(answer.has("retry-after: 1"), "{}", answer.head);
     drop(others);
     assert_eq!(served.ask(&json(BODY.as_bytes())).await.status, 200);
@@ -131,11 +115,7 @@ async fn connections_over_the_bound_wait() {
     assert!(served.bodies().is_empty());
     first.write(&request[request.len() - 1..]).await;
     let answer = first.answer().await;
-    assert!(
-        answer.is_taken_and_last(),
-        "who waits would wait for ever: {}",
-        answer.head
-    );
+    assert!(answer.is_taken_and_last(), "who waits would wait for ever: {}", answer.head);
     assert_eq!(second.answer().await.status, 200);
 }
 
@@ -146,11 +126,7 @@ async fn idle_connections_leave_their_places_to_those_that_wait() {
     let _idle = served.client().await;
     let begun = Instant::now();
     assert_eq!(served.ask(&json(BODY.as_bytes())).await.status, 200);
-    assert!(
-        begun.elapsed() < 2 * patience,
-        "alone it is kept for {:?}",
-        3 * patience
-    );
+    assert!(begun.elapsed() < 2 * patience, "alone it is kept for {:?}", 3 * patience);
 }
 
 #[tokio::test]

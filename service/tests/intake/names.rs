@@ -17,14 +17,7 @@ async fn asked<S: AsyncRead + AsyncWrite + Unpin>(client: &mut Client<S>, header
 }
 
 fn senders(served: &Served) -> Vec<String> {
-    served
-        .kept
-        .posts
-        .lock()
-        .unwrap()
-        .iter()
-        .map(|post| post.0.clone())
-        .collect()
+    served.kept.posts.lock().unwrap().iter().map(|post| post.0.clone()).collect()
 }
 
 fn tokens(at: &Path, text: &str) {
@@ -37,36 +30,16 @@ const OF_TOKENS: [(&str, u16, &str); 16] = [
     ("authorization: bearer  t0ken-1\r\nx-sender: shop-1\r\n", 200, ""),
     ("Authorization: Bearer t0ken-2\r\n", 200, ""),
     ("Authorization: Bearer t0ken-2\r\nx-sender: shop-9\r\n", 200, ""),
-    (
-        "Authorization: Bearer t0ken-1\r\nx-sender: shop-9\r\n",
-        403,
-        "shop-1 may not post as shop-9",
-    ),
-    (
-        "Authorization: Bearer t0ken-1\r\nx-sender: -\r\n",
-        403,
-        "shop-1 may not post as -",
-    ),
-    (
-        "Authorization: Bearer t0ken-2\r\nx-sender: other\r\n",
-        403,
-        "collector may not post as other",
-    ),
-    (
-        "Authorization: Bearer t0ken-1\r\nx-sender: a b\r\n",
-        400,
-        "bad sender",
-    ),
+    ("Authorization: Bearer t0ken-1\r\nx-sender: shop-9\r\n", 403, "shop-1 may not post as shop-9"),
+    ("Authorization: Bearer t0ken-1\r\nx-sender: -\r\n", 403, "shop-1 may not post as -"),
+    ("Authorization: Bearer t0ken-2\r\nx-sender: other\r\n", 403, "collector may not post as other"),
+    ("Authorization: Bearer t0ken-1\r\nx-sender: a b\r\n", 400, "bad sender"),
     ("", 401, "no token"),
     ("x-sender: shop-1\r\n", 401, "no token"),
     ("x-sender: a b\r\n", 401, "no token"),
     ("Authorization: Basic dDBrZW4tMQ==\r\n", 401, "no token"),
     ("Authorization: Bearer \r\n", 401, "no token"),
-    (
-        "Authorization: Bearer t0ken-1\r\nAuthorization: Bearer t0ken-1\r\n",
-        401,
-        "no token",
-    ),
+    ("Authorization: Bearer t0ken-1\r\nAuthorization: Bearer t0ken-1\r\n", 401, "no token"),
     ("Authorization: Bearer t0ken-3\r\n", 401, "not known"),
     ("Authorization: Bearer t0ken-1x\r\n", 401, "not known"),
 ];
@@ -81,10 +54,7 @@ async fn a_token_names_its_sender() {
         let answer = asked(&mut kept, headers).await;
         assert_eq!(answer.status, status, "{headers}");
         if status != 200 {
-            assert!(
-                answer.message().contains(message) && !answer.message().contains("t0ken"),
-                "{headers}"
-            );
+            assert!(answer.message().contains(message) && !answer.message().contains("t0ken"), "{headers}");
         }
         let challenge = answer.has("www-authenticate: bearer realm=\"totxegun\"");
         assert_eq!(challenge, status == 401, "{headers}: {}", answer.head);
@@ -98,11 +68,8 @@ async fn a_token_that_is_taken_out_stops_within_a_second() {
     tokens(at.path(), &format!("shop-1 {OF_1}\nshop-2 {OF_2}\n"));
     let served = Served::behind(door(at.path(), None, Some("tokens"))).await;
     let mut kept = served.secure(client(at.path(), "ca", None)).await.unwrap();
-    let mut of = async |token: &str| {
-        asked(&mut kept, &format!("Authorization: Bearer {token}\r\n"))
-            .await
-            .status
-    };
+    let mut of =
+        async |token: &str| asked(&mut kept, &format!("Authorization: Bearer {token}\r\n")).await.status;
     assert_eq!((of("t0ken-1").await, of("t0ken-2").await), (200, 200));
     tokens(at.path(), &format!("shop-2 {OF_2}\n"));
     let begun = Instant::now();
@@ -135,35 +102,21 @@ async fn a_certificate_names_its_sender() {
     let at = folder();
     signed(at.path(), "ca", "shop-1", "20");
     signed(at.path(), "ca", "collector", "20");
-    tokens(
-        at.path(),
-        &format!("collector/shop-* certificate\nshop-2 {OF_2}\n"),
-    );
+    tokens(at.path(), &format!("collector/shop-* certificate\nshop-2 {OF_2}\n"));
     let served = Served::behind(door(at.path(), Some("ca.pem"), Some("tokens"))).await;
     let shown = |name| served.secure(client(at.path(), "ca", name));
     let mut shop = shown(Some("shop-1")).await.unwrap();
     assert_eq!(asked(&mut shop, "").await.status, 200);
     assert_eq!(asked(&mut shop, "x-sender: shop-1\r\n").await.status, 200);
     assert_eq!(asked(&mut shop, "x-sender: shop-2\r\n").await.status, 403);
-    assert_eq!(
-        asked(&mut shop, "Authorization: Bearer t0ken-2\r\n").await.status,
-        200
-    );
+    assert_eq!(asked(&mut shop, "Authorization: Bearer t0ken-2\r\n").await.status, 200);
     let mut collector = shown(Some("collector")).await.unwrap();
     assert_eq!(asked(&mut collector, "x-sender: shop-7\r\n").await.status, 200);
     assert_eq!(asked(&mut collector, "x-sender: other\r\n").await.status, 403);
     let mut without = shown(None).await.unwrap();
     assert_eq!(asked(&mut without, "").await.status, 401);
-    assert_eq!(
-        asked(&mut without, "Authorization: Bearer t0ken-2\r\n")
-            .await
-            .status,
-        200
-    );
-    assert_eq!(
-        senders(&served),
-        ["shop-1", "shop-1", "shop-1", "shop-7", "shop-2"]
-    );
+    assert_eq!(asked(&mut without, "Authorization: Bearer t0ken-2\r\n").await.status, 200);
+    assert_eq!(senders(&served), ["shop-1", "shop-1", "shop-1", "shop-7", "shop-2"]);
 }
 
 /// Else an operator is told of nobody, or of the first one alone.
@@ -180,24 +133,9 @@ async fn who_is_refused_is_told_by_the_name_that_is_known() {
         (true, "x-sender: shop-9\r\n", "shop-1", 403),
         (true, "x-sender: a b\r\n", "shop-1", 400),
         (true, "x-sender: t0ken-2\r\n", "shop-1", 403),
-        (
-            false,
-            "Authorization: Bearer t0ken-2\r\nx-sender: shop-9\r\n",
-            "shop-2",
-            403,
-        ),
-        (
-            false,
-            "Authorization: Bearer t0ken-2\r\nContent-Encoding: br\r\n",
-            "shop-2",
-            415,
-        ),
-        (
-            false,
-            "Authorization: Bearer t0ken-3\r\nx-sender: shop-2\r\n",
-            "address 127.0.0.1",
-            401,
-        ),
+        (false, "Authorization: Bearer t0ken-2\r\nx-sender: shop-9\r\n", "shop-2", 403),
+        (false, "Authorization: Bearer t0ken-2\r\nContent-Encoding: br\r\n", "shop-2", 415),
+        (false, "Authorization: Bearer t0ken-3\r\nx-sender: shop-2\r\n", "address 127.0.0.1", 401),
         (false, "x-sender: shop-2\r\n", "address 127.0.0.1", 401),
     ] {
         let of = if of_shop { &mut shop } else { &mut without };
@@ -205,19 +143,10 @@ async fn who_is_refused_is_told_by_the_name_that_is_known() {
         wanted.push((who.to_string(), status));
     }
     let turned = served.kept.turned.lock().unwrap().clone();
-    let who: Vec<(String, u16)> = turned
-        .iter()
-        .map(|(who, status, _)| (who.clone(), *status))
-        .collect();
+    let who: Vec<(String, u16)> = turned.iter().map(|(who, status, _)| (who.clone(), *status)).collect();
     assert_eq!(who, wanted);
-    assert!(
-        !turned.iter().any(|(_, _, text)| text.contains("t0ken")),
-        "{turned:?}"
-    );
-    assert!(
-        turned[2].2.starts_with("shop-1 may not post as a token"),
-        "{turned:?}"
-    );
+    assert!(!turned.iter().any(|(_, _, text)| text.contains("t0ken")), "{turned:?}");
+    assert!(turned[2].2.starts_with("shop-1 may not post as a token"), "{turned:?}");
     assert!(turned[0].2.contains("`shop-1/shop-9 sha256:HEX`"), "{turned:?}");
 }
 
@@ -225,11 +154,7 @@ async fn who_is_refused_is_told_by_the_name_that_is_known() {
 async fn certificates_of_strangers_end_the_handshake() {
     let at = folder();
     root(at.path(), "other");
-    for (root, name, days) in [
-        ("ca", "sound", "20"),
-        ("ca", "expired", "-1"),
-        ("other", "strange", "20"),
-    ] {
+    for (root, name, days) in [("ca", "sound", "20"), ("ca", "expired", "-1"), ("other", "strange", "20")] {
         signed(at.path(), root, name, days);
     }
     let served = Served::behind(door(at.path(), Some("ca.pem"), None)).await;
@@ -245,9 +170,7 @@ async fn certificates_of_strangers_end_the_handshake() {
         let is_taken = match served.secure(config).await {
             Err(_) => false,
             Ok(mut client) => {
-                client
-                    .takes(&post("Content-Type: application/json\r\n", BODY.as_bytes()))
-                    .await
+                client.takes(&post("Content-Type: application/json\r\n", BODY.as_bytes())).await
             }
         };
         assert_eq!(is_taken, wanted, "{shown:?}");
@@ -295,13 +218,7 @@ async fn a_root_that_is_taken_out_ends_its_certificates() {
     let served = Served::behind(door(at.path(), Some("roots"), None)).await;
     let shown = |name| served.secure(client(at.path(), "ca", Some(name)));
     let (mut first, mut second) = (shown("shop-1").await.unwrap(), shown("shop-2").await.unwrap());
-    assert_eq!(
-        (
-            asked(&mut first, "").await.status,
-            asked(&mut second, "").await.status
-        ),
-        (200, 200)
-    );
+    assert_eq!((asked(&mut first, "").await.status, asked(&mut second, "").await.status), (200, 200));
     std::fs::write(at.path().join("roots"), pem("ca.pem")).unwrap();
     let begun = Instant::now();
     while asked(&mut second, "").await.status == 200 {
@@ -309,10 +226,7 @@ async fn a_root_that_is_taken_out_ends_its_certificates() {
         tokio::time::sleep(Duration::from_millis(10)).await;
     }
     let answer = asked(&mut second, "").await;
-    assert!(
-        answer.status == 401 && answer.message().contains("certificate"),
-        "{answer:?}"
-    );
+    assert!(answer.status == 401 && answer.message().contains("certificate"), "{answer:?}");
     assert_eq!(asked(&mut first, "").await.status, 200);
     // The last one is as the others, for who is there and for who comes.
     std::fs::write(at.path().join("roots"), "").unwrap();
@@ -326,9 +240,7 @@ async fn a_root_that_is_taken_out_ends_its_certificates() {
         let is_taken = match served.secure(client(at.path(), "ca", name)).await {
             Err(_) => false,
             Ok(mut client) => {
-                client
-                    .takes(&post("Content-Type: application/json\r\n", BODY.as_bytes()))
-                    .await
+                client.takes(&post("Content-Type: application/json\r\n", BODY.as_bytes())).await
             }
         };
         assert!(!is_taken, "{name:?}");

@@ -29,22 +29,13 @@ async fn a_kept_connection_serves_many_posts() {
         assert_eq!((answer.status, answer.body.as_slice()), (200, &b"{}"[..]));
         assert!(answer.has("content-type: application/json"), "{}", answer.head);
     }
-    let senders: Vec<String> = served
-        .kept
-        .posts
-        .lock()
-        .unwrap()
-        .iter()
-        .map(|(sender, _)| sender.clone())
-        .collect();
+    let senders: Vec<String> =
+        served.kept.posts.lock().unwrap().iter().map(|(sender, _)| sender.clone()).collect();
     assert_eq!(senders, ["A", "B", "C"]);
     assert_eq!(served.bodies(), vec![Bytes::from(BODY); 3]);
     assert_eq!(served.budget.used(), 0);
     let page = String::from_utf8(served.metrics.page()).unwrap();
-    assert!(
-        page.contains("totxegun_posts_total{reason=\"\",status=\"200\"} 3\n"),
-        "{page}"
-    );
+    assert!(page.contains("totxegun_posts_total{reason=\"\",status=\"200\"} 3\n"), "{page}");
 }
 
 #[tokio::test]
@@ -53,11 +44,7 @@ async fn pipelined_posts_are_answered_in_order() {
     let mut client = served.client().await;
     let requests = [json(BODY.as_bytes()), post("", b"x"), json(BODY.as_bytes())].concat();
     client.write(&requests).await;
-    let statuses = [
-        client.answer().await.status,
-        client.answer().await.status,
-        client.answer().await.status,
-    ];
+    let statuses = [client.answer().await.status, client.answer().await.status, client.answer().await.status];
     assert_eq!(statuses, [200, 415, 200]);
 }
 
@@ -70,9 +57,7 @@ async fn a_post_in_pieces_and_in_chunks_is_one_post() {
     }
     assert_eq!(client.answer().await.status, 200);
     let head = "POST /v1/metrics HTTP/1.1\r\nHost: a\r\nContent-Type: application/json\r\nTransfer-Encoding: chunked\r\n\r\n";
-    client
-        .write(format!("{head}5\r\n{}\r\n11\r\n{}\r\n0\r\n\r\n", &BODY[..5], &BODY[5..]).as_bytes())
-        .await;
+    client.write(format!("{head}5\r\n{}\r\n11\r\n{}\r\n0\r\n\r\n", &BODY[..5], &BODY[5..]).as_bytes()).await;
     assert_eq!(client.answer().await.status, 200);
     assert_eq!(served.bodies(), vec![Bytes::from(BODY); 2]);
 }
@@ -96,47 +81,27 @@ async fn a_body_is_called_for_only_where_it_is_wanted() {
 async fn packed_bodies_are_unpacked_in_both_encodings() {
     let served = Served::start().await;
     let answer = served
-        .ask(&post(
-            "Content-Type: application/json\r\nContent-Encoding: gzip\r\n",
-            &gzip(BODY.as_bytes()),
-        ))
+        .ask(&post("Content-Type: application/json\r\nContent-Encoding: gzip\r\n", &gzip(BODY.as_bytes())))
         .await;
     assert_eq!(answer.status, 200);
     let answer = served
-        .ask(&post(
-            "Content-Type: application/x-protobuf\r\nContent-Encoding: gzip\r\n",
-            &gzip(b""),
-        ))
+        .ask(&post("Content-Type: application/x-protobuf\r\nContent-Encoding: gzip\r\n", &gzip(b"")))
         .await;
     assert_eq!((answer.status, answer.body.as_slice()), (200, &b""[..]));
-    assert!(
-        answer.has("content-type: application/x-protobuf"),
-        "{}",
-        answer.head
-    );
+    assert!(answer.has("content-type: application/x-protobuf"), "{}", answer.head);
     assert_eq!(served.bodies()[0], Bytes::from(BODY));
-    let answer = served
-        .ask(&post(
-            "Content-Type: application/json\r\nContent-Encoding: gzip\r\n",
-            b"no gzip",
-        ))
-        .await;
+    let answer =
+        served.ask(&post("Content-Type: application/json\r\nContent-Encoding: gzip\r\n", b"no gzip")).await;
     assert_eq!((answer.status, answer.message().as_str()), (400, "bad gzip"));
 }
 
 #[tokio::test]
 async fn each_refusal_is_in_the_kind_of_its_request() {
     let served = Served::start().await;
-    let answer = served
-        .ask(&post("Content-Type: application/x-protobuf\r\n", b"\xff"))
-        .await;
+    let answer = served.ask(&post("Content-Type: application/x-protobuf\r\n", b"\xff")).await;
     let status = Status::decode(answer.body.as_slice()).expect("google.rpc.Status");
     assert_eq!((answer.status, status.code), (400, 3));
-    assert!(
-        answer.has("content-type: application/x-protobuf"),
-        "{}",
-        answer.head
-    );
+    assert!(answer.has("content-type: application/x-protobuf"), "{}", answer.head);
     let answer = served.ask(&json(b"{")).await;
     assert_eq!(answer.status, 400);
     assert!(!answer.message().is_empty());
@@ -157,16 +122,10 @@ async fn whoever_can_post_can_not_operate() {
         ("GET /v1/metrics", 405),
         ("PUT /v1/metrics", 405),
     ] {
-        let answer = served
-            .ask(format!("{line} HTTP/1.1\r\nHost: a\r\nContent-Length: 0\r\n\r\n").as_bytes())
-            .await;
+        let answer =
+            served.ask(format!("{line} HTTP/1.1\r\nHost: a\r\nContent-Length: 0\r\n\r\n").as_bytes()).await;
         assert_eq!(answer.status, status, "{line}");
-        assert_eq!(
-            answer.has("allow: post"),
-            status == 405,
-            "{line}: {}",
-            answer.head
-        );
+        assert_eq!(answer.has("allow: post"), status == 405, "{line}: {}", answer.head);
     }
 }
 
@@ -180,18 +139,11 @@ async fn names_of_senders_are_the_books() {
         &format!("x-sender: {long}\r\n"),
         "x-sender: A\r\nX-Sender: A\r\n",
     ] {
-        let answer = served
-            .ask(&post(
-                &format!("Content-Type: application/json\r\n{sender}"),
-                BODY.as_bytes(),
-            ))
-            .await;
+        let answer =
+            served.ask(&post(&format!("Content-Type: application/json\r\n{sender}"), BODY.as_bytes())).await;
         assert_eq!(
             (answer.status, answer.message().as_str()),
-            (
-                400,
-                "bad sender: x-sender is there once, with 1 to 64 bytes of A-Z a-z 0-9 . _ -"
-            ),
+            (400, "bad sender: x-sender is there once, with 1 to 64 bytes of A-Z a-z 0-9 . _ -"),
             "{sender}"
         );
     }
@@ -200,10 +152,7 @@ async fn names_of_senders_are_the_books() {
 
 #[tokio::test]
 async fn what_a_slot_says_is_answered() {
-    let refused = Outcome::Refused {
-        status: 503,
-        message: "recovering".into(),
-    };
+    let refused = Outcome::Refused { status: 503, message: "recovering".into() };
     let served = Served::with(refused, 1 << 20, 8).await;
     let answer = served.ask(&json(BODY.as_bytes())).await;
     assert_eq!((answer.status, answer.message().as_str()), (503, "recovering"));
@@ -226,10 +175,7 @@ async fn an_answer_to_head_has_no_body() {
     }
     let text = String::from_utf8(std::mem::take(&mut client.read)).unwrap();
     let (first, second) = text.split_once("\r\n\r\n").unwrap();
-    assert!(
-        first.starts_with("HTTP/1.1 405 ") && first.contains("\r\ncontent-length: 36\r\n"),
-        "{first}"
-    );
+    assert!(first.starts_with("HTTP/1.1 405 ") && first.contains("\r\ncontent-length: 36\r\n"), "{first}");
     assert!(second.starts_with("HTTP/1.1 200 "), "{second}");
 }
 

@@ -77,11 +77,7 @@ impl Served {
         most_bytes: usize,
         connections: usize,
     ) -> Served {
-        let limits = Limits {
-            connections,
-            head: patience,
-            idle: 3 * patience,
-        };
+        let limits = Limits { connections, head: patience, idle: 3 * patience };
         Served::limited(limits, patience, outcome, most_bytes).await
     }
 
@@ -91,11 +87,7 @@ impl Served {
 
     /// With TLS and names.
     pub async fn behind(door: Door) -> Served {
-        let limits = Limits {
-            connections: 8,
-            head: PATIENCE,
-            idle: 3 * PATIENCE,
-        };
+        let limits = Limits { connections: 8, head: PATIENCE, idle: 3 * PATIENCE };
         Served::behind_with(door, limits).await
     }
 
@@ -110,11 +102,7 @@ impl Served {
         outcome: Outcome,
         most_bytes: usize,
     ) -> Served {
-        let kept = Arc::new(Kept {
-            posts: Mutex::new(Vec::new()),
-            turned: Mutex::new(Vec::new()),
-            outcome,
-        });
+        let kept = Arc::new(Kept { posts: Mutex::new(Vec::new()), turned: Mutex::new(Vec::new()), outcome });
         let metrics = Arc::new(Metrics::new().unwrap());
         let budget = Budget::new(most_bytes);
         let slots = Slots::one(kept.clone());
@@ -127,21 +115,11 @@ impl Served {
         let threads = Arc::new(Threads::new(2).unwrap());
         let shared = Shared::new(limits, door, Arc::new(intake), stopped);
         let task = tokio::spawn(spread::<Http, _>(listener, shared, threads));
-        Served {
-            address,
-            kept,
-            budget,
-            metrics,
-            stop,
-            task,
-        }
+        Served { address, kept, budget, metrics, stop, task }
     }
 
     pub async fn client(&self) -> Client {
-        Client {
-            stream: TcpStream::connect(self.address).await.unwrap(),
-            read: Vec::new(),
-        }
+        Client { stream: TcpStream::connect(self.address).await.unwrap(), read: Vec::new() }
     }
 
     /// One request on a connection of its own.
@@ -152,13 +130,7 @@ impl Served {
     }
 
     pub fn bodies(&self) -> Vec<Bytes> {
-        self.kept
-            .posts
-            .lock()
-            .unwrap()
-            .iter()
-            .map(|(_, body)| body.clone())
-            .collect()
+        self.kept.posts.lock().unwrap().iter().map(|(_, body)| body.clone()).collect()
     }
 }
 
@@ -212,11 +184,7 @@ impl<S: AsyncRead + AsyncWrite + Unpin> Client<S> {
             if let Some(end) = self.read.windows(4).position(|four| four == b"\r\n\r\n") {
                 break end + 4;
             }
-            assert!(
-                self.more().await,
-                "the connection ended: {:?}",
-                String::from_utf8_lossy(&self.read)
-            );
+            assert!(self.more().await, "the connection ended: {:?}", String::from_utf8_lossy(&self.read));
         };
         let head = String::from_utf8(self.read.drain(..end).collect()).unwrap();
         let status = head[9..12].parse().unwrap();
@@ -228,11 +196,7 @@ impl<S: AsyncRead + AsyncWrite + Unpin> Client<S> {
         while self.read.len() < length {
             assert!(self.more().await, "the connection ended within a body");
         }
-        Answer {
-            status,
-            head,
-            body: self.read.drain(..length).collect(),
-        }
+        Answer { status, head, body: self.read.drain(..length).collect() }
     }
 
     /// Whether a request is answered 200, where the connection may end before.
@@ -255,10 +219,8 @@ impl<S: AsyncRead + AsyncWrite + Unpin> Client<S> {
 }
 
 pub fn post(headers: &str, body: &[u8]) -> Vec<u8> {
-    let head = format!(
-        "POST /v1/metrics HTTP/1.1\r\nHost: a\r\n{headers}Content-Length: {}\r\n\r\n",
-        body.len()
-    );
+    let head =
+        format!("POST /v1/metrics HTTP/1.1\r\nHost: a\r\n{headers}Content-Length: {}\r\n\r\n", body.len());
     [head.as_bytes(), body].concat()
 }
 

@@ -49,10 +49,7 @@ fn requests() -> Vec<Vec<u8>> {
     vec![
         json(BODY.as_bytes()),
         json(&[&long, BODY.as_bytes()].concat()),
-        post(
-            "Content-Type: application/json\r\nContent-Encoding: gzip\r\n",
-            &gzip(BODY.as_bytes()),
-        ),
+        post("Content-Type: application/json\r\nContent-Encoding: gzip\r\n", &gzip(BODY.as_bytes())),
         post("x-sender: a b\r\nContent-Type: application/json\r\n", b"{}"),
         of(&format!("{chunked}\r\n2\r\n{{}}\r\n0\r\n\r\n")),
         of(&format!("{chunked}Content-Length: 2\r\n\r\n{{}}")),
@@ -70,10 +67,7 @@ fn requests() -> Vec<Vec<u8>> {
 #[tokio::test]
 async fn answers_over_tls_are_those_without() {
     let at = folder();
-    let (plain, secure) = (
-        Served::start().await,
-        Served::behind(door(at.path(), None, None)).await,
-    );
+    let (plain, secure) = (Served::start().await, Served::behind(door(at.path(), None, None)).await);
     for request in &requests() {
         let begin = String::from_utf8_lossy(&request[..request.len().min(200)]).into_owned();
         let wanted = said(&mut plain.client().await, request).await;
@@ -119,13 +113,8 @@ async fn tls_1_2_and_1_3_are_spoken_for_http_1_1() {
     ] {
         assert_eq!(connects(&served, words), wanted, "{words:?}");
     }
-    let wrong_name = served
-        .secure_to("example.org", client(at.path(), "ca", None))
-        .await;
-    assert!(
-        wrong_name.is_err(),
-        "a client sees that it is somebody else's certificate"
-    );
+    let wrong_name = served.secure_to("example.org", client(at.path(), "ca", None)).await;
+    assert!(wrong_name.is_err(), "a client sees that it is somebody else's certificate");
 }
 
 /// So many connections whose handshakes stall: of every other one the beginning of a ClientHello has come.
@@ -143,11 +132,7 @@ async fn stalled(served: &Served, count: usize) -> Vec<TcpStream> {
 }
 
 fn with_places(connections: usize) -> Limits {
-    Limits {
-        connections,
-        head: Duration::from_secs(60),
-        idle: Duration::from_secs(600),
-    }
+    Limits { connections, head: Duration::from_secs(60), idle: Duration::from_secs(600) }
 }
 
 #[tokio::test]
@@ -160,25 +145,16 @@ async fn posts_go_on_while_handshakes_stall() {
     let mut longest = Duration::ZERO;
     while begun.elapsed() < Duration::from_secs(2) {
         let before = Instant::now();
-        assert!(said(&mut kept, &json(BODY.as_bytes()))
-            .await
-            .0
-            .starts_with("HTTP/1.1 200"));
+        assert!(said(&mut kept, &json(BODY.as_bytes())).await.0.starts_with("HTTP/1.1 200"));
         let mut new = served.secure(client(at.path(), "ca", None)).await.unwrap();
-        assert!(said(&mut new, &json(BODY.as_bytes()))
-            .await
-            .0
-            .starts_with("HTTP/1.1 200"));
+        assert!(said(&mut new, &json(BODY.as_bytes())).await.0.starts_with("HTTP/1.1 200"));
         longest = longest.max(before.elapsed());
     }
     assert!(longest < Duration::from_secs(1), "{longest:?}");
     drop(kept);
     served.stop.send_replace(true);
     let ended = tokio::time::timeout(Duration::from_secs(1), served.task).await;
-    assert!(
-        ended.is_ok() && stalled.len() == 200,
-        "an end waits for no handshake"
-    );
+    assert!(ended.is_ok() && stalled.len() == 200, "an end waits for no handshake");
 }
 
 #[tokio::test]
@@ -187,16 +163,10 @@ async fn a_handshake_that_stalls_leaves_its_place_to_who_waits() {
     let served = Served::behind_with(door(at.path(), None, None), with_places(4)).await;
     let _stalled = stalled(&served, 24).await;
     // Each of the 24 has a second of one of the four places.
-    let came = tokio::time::timeout(
-        Duration::from_secs(20),
-        served.secure(client(at.path(), "ca", None)),
-    )
-    .await;
+    let came =
+        tokio::time::timeout(Duration::from_secs(20), served.secure(client(at.path(), "ca", None))).await;
     let mut client = came.expect("it comes to its turn").unwrap();
-    assert!(said(&mut client, &json(BODY.as_bytes()))
-        .await
-        .0
-        .starts_with("HTTP/1.1 200"));
+    assert!(said(&mut client, &json(BODY.as_bytes())).await.0.starts_with("HTTP/1.1 200"));
 }
 
 #[tokio::test]
@@ -223,19 +193,13 @@ async fn a_sender_that_does_not_read_its_answer_leaves_its_place() {
         idle: Duration::from_secs(600),
     };
     // More than the system keeps for a sender that keeps little itself.
-    let long = Outcome::Refused {
-        status: 400,
-        message: "x".repeat(8 << 20),
-    };
+    let long = Outcome::Refused { status: 400, message: "x".repeat(8 << 20) };
     let served = Served::all(door(at.path(), None, None), limits, LATE, long, 64 << 20).await;
     let deaf = TcpSocket::new_v4().unwrap();
     deaf.set_recv_buffer_size(4096).unwrap();
     let deaf = deaf.connect(served.address).await.unwrap();
     let connector = TlsConnector::from(Arc::new(client(at.path(), "ca", None)));
-    let mut deaf = connector
-        .connect("localhost".try_into().unwrap(), deaf)
-        .await
-        .unwrap();
+    let mut deaf = connector.connect("localhost".try_into().unwrap(), deaf).await.unwrap();
     deaf.write_all(&json(BODY.as_bytes())).await.unwrap();
     deaf.get_ref().0.readable().await.unwrap();
     let waiting = served.secure(client(at.path(), "ca", None));
@@ -258,10 +222,7 @@ async fn posts_until_new(served: Arc<Served>, old: rustls::ClientConfig, new: ru
                 served.secure(new.clone()).await.expect("either is used")
             }
         };
-        assert!(said(&mut client, &json(BODY.as_bytes()))
-            .await
-            .0
-            .starts_with("HTTP/1.1 200"));
+        assert!(said(&mut client, &json(BODY.as_bytes())).await.0.starts_with("HTTP/1.1 200"));
         taken += 1;
     }
     taken
@@ -288,14 +249,8 @@ async fn a_new_certificate_is_used_and_no_post_is_lost() {
     tokio::time::sleep(Duration::from_millis(700)).await; // the key is not that of the certificate meanwhile
     assert!(!load.is_finished());
     std::fs::copy(path.join("made/localhost.key"), path.join("localhost.key")).unwrap();
-    let taken = tokio::time::timeout(Duration::from_secs(10), load)
-        .await
-        .expect("it is used")
-        .unwrap();
+    let taken = tokio::time::timeout(Duration::from_secs(10), load).await.expect("it is used").unwrap();
     assert!(begun.elapsed() < Duration::from_secs(10) && taken > 2, "{taken}");
-    assert!(said(&mut kept, &json(BODY.as_bytes()))
-        .await
-        .0
-        .starts_with("HTTP/1.1 200"));
+    assert!(said(&mut kept, &json(BODY.as_bytes())).await.0.starts_with("HTTP/1.1 200"));
     assert_eq!(served.bodies().len(), taken + 1);
 }

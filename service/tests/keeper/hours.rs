@@ -22,9 +22,7 @@ async fn deliver(outbox: &Outbox, sums: &mut Sums, last: &mut BTreeMap<String, u
     while outbox.waiting().0 > 0 {
         let (waiting, body) = outbox.first().await.unwrap();
         for point in forwarded(&body).unwrap() {
-            let Value::Sum(value) = point.value else {
-                panic!("{point:?}")
-            };
+            let Value::Sum(value) = point.value else { panic!("{point:?}") };
             let name = point.series.parts().unwrap().name;
             let hour = (point.end - 1) / HOUR;
             assert_eq!(point.start / HOUR, hour, "a span of two hours: {point:?}");
@@ -56,22 +54,13 @@ impl Model {
         let mut post = Vec::new();
         for number in 0..1 + chance.below(SERIES) {
             let name = format!("{sender}-{number}");
-            let mut end = self
-                .ends
-                .get(&name)
-                .copied()
-                .unwrap_or(HOUR * (1 + chance.below(9)));
+            let mut end = self.ends.get(&name).copied().unwrap_or(HOUR * (1 + chance.below(9)));
             for _ in 0..hours {
                 end += 1_000_000_000 * (2 + chance.below(if hours > 1 { 4000 } else { 900 }));
                 if (end - 1_000_000_000) / HOUR != (end - 1) / HOUR {
                     end += 1_000_000_000; // else the point itself is of two hours
                 }
-                post.push((
-                    name.clone(),
-                    end - 1_000_000_000,
-                    end,
-                    1 + chance.below(50) as i64,
-                ));
+                post.push((name.clone(), end - 1_000_000_000, end, 1 + chance.below(50) as i64));
             }
         }
         post
@@ -169,18 +158,10 @@ async fn a_point_of_a_clock_ahead_is_left_out() {
         Outcome::Taken { rejected, off, .. } => assert_eq!((rejected, off.ahead, off.behind), (3, 2, 1)),
         other => panic!("{other:?}"),
     }
-    let next = points(&[
-        point("a", now + 2 * SECOND),
-        point("b", now),
-        point("c", now + 2 * SECOND),
-    ]);
+    let next = points(&[point("a", now + 2 * SECOND), point("b", now), point("c", now + 2 * SECOND)]);
     assert_eq!(post_by_number(&run, "s", next.clone(), &reading).await, all());
     // The places of refusals are those of the request.
-    let other = points(&[
-        point("d", now + YEAR),
-        point("d", now),
-        point("a", now + 4 * SECOND),
-    ]);
+    let other = points(&[point("d", now + YEAR), point("d", now), point("a", now + 4 * SECOND)]);
     let refused = post_by_number(&run, "t", other, &reading).await;
     assert_eq!(message(&refused), (400, "other writer: point 2"));
     run.abort().await;

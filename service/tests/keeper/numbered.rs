@@ -18,10 +18,7 @@ pub struct Chance(pub u64);
 
 impl Chance {
     pub fn below(&mut self, end: u64) -> u64 {
-        self.0 = self
-            .0
-            .wrapping_mul(6364136223846793005)
-            .wrapping_add(1442695040888963407);
+        self.0 = self.0.wrapping_mul(6364136223846793005).wrapping_add(1442695040888963407);
         (self.0 >> 33) % end
     }
 }
@@ -39,22 +36,14 @@ pub fn points(series: &[(String, u64, u64, i64)]) -> Bytes {
     let metrics = series.iter().flat_map(|(name, start, end, value)| {
         let point = [fixed64(2, *start), fixed64(3, *end), fixed64(6, *value as u64)].concat();
         let sum = [&field(1, &point)[..], &[2 << 3, 1]].concat();
-        field(
-            1,
-            &field(
-                2,
-                &field(2, &[field(1, name.as_bytes()), field(7, &sum)].concat()),
-            ),
-        )
+        field(1, &field(2, &field(2, &[field(1, name.as_bytes()), field(7, &sum)].concat())))
     });
     metrics.collect::<Vec<u8>>().into()
 }
 
 pub async fn post_by_number(run: &Run, sender: &str, body: Bytes, reading: &Arc<Reading>) -> Outcome {
     let numbered = run.slot.numbered(&body, reading).expect("it has sums alone");
-    run.slot
-        .request(sender.into(), totxegun::slot::Request::Numbered(numbered))
-        .await
+    run.slot.request(sender.into(), totxegun::slot::Request::Numbered(numbered)).await
 }
 
 /// What is known of what was taken.
@@ -144,22 +133,14 @@ async fn what_was_taken_in_both_encodings_is_forwarded_once() {
         for sender in model.quarantined.clone() {
             model.change_quarantine(&run, sender).await;
         }
-        assert!(
-            (6..34).contains(&model.in_protobuf),
-            "seed {seed}: {}",
-            model.in_protobuf
-        );
+        assert!((6..34).contains(&model.in_protobuf), "seed {seed}: {}", model.in_protobuf);
         for kind in ["reading", "replay", "owner"] {
             assert_eq!(run.metrics.faults.with_label_values(&[kind]).get(), 0, "{kind}");
         }
         let taken = run.stop().await;
         let sums = taken.into_iter().map(|(name, (sum, _))| (name, sum));
         let expected = model.series.into_iter().map(|(name, (_, sum))| (name, sum));
-        assert_eq!(
-            sums.collect::<Vec<_>>(),
-            expected.collect::<Vec<_>>(),
-            "seed {seed}"
-        );
+        assert_eq!(sums.collect::<Vec<_>>(), expected.collect::<Vec<_>>(), "seed {seed}");
     }
 }
 
@@ -205,17 +186,9 @@ async fn points_of_both_encodings_are_in_the_journal_by_number() {
         Body::Text(_) => panic!("{read:?}"),
     });
     let words: Vec<BTreeSet<Vec<u64>>> = words.collect(); // of a text it is book by book
-    assert_eq!(
-        words[0],
-        [[0, 10, 20, 5], [1, 10, 20, -6i64 as u64]].map(Vec::from).into()
-    );
+    assert_eq!(words[0], [[0, 10, 20, 5], [1, 10, 20, -6i64 as u64]].map(Vec::from).into());
     // The series of the text have the numbers that they had.
-    assert_eq!(
-        words[1],
-        [[0, 20, 30, 7], [1, 20, 30, 8], [2, 20, 30, 9]]
-            .map(Vec::from)
-            .into()
-    );
+    assert_eq!(words[1], [[0, 20, 30, 7], [1, 20, 30, 8], [2, 20, 30, 9]].map(Vec::from).into());
     let name = |number, name: &str| (number, name.to_string());
     assert_eq!(named(&found[0]), [name(0, "a"), name(1, "b")]);
     assert_eq!(named(&found[1]), [name(2, "c")]);
@@ -243,10 +216,7 @@ async fn texts_that_an_earlier_version_has_written_go_on() {
         let repeat = run.slot.post("A".into(), post.clone()).await;
         assert_eq!(repeat, all());
         let repeat = run.slot.post("A".into(), post).await;
-        assert!(
-            message(&repeat).1.starts_with("out of order: point 0"),
-            "{repeat:?}"
-        );
+        assert!(message(&repeat).1.starts_with("out of order: point 0"), "{repeat:?}");
         match start {
             7 => assert!(run.checkpoint().await > 0),
             _ => run.abort().await,

@@ -18,11 +18,7 @@ async fn posts_and_checkpoints() {
     assert_eq!(run.post("A", point("a", 20, 30, 6)).await, all());
     let refusals = [
         ("B", point("a", 30, 40, 6), (400, "other writer: point 0")),
-        (
-            "A",
-            point("a", 20, 30, 6),
-            (400, "out of order: point 0, frontier 30"),
-        ),
+        ("A", point("a", 20, 30, 6), (400, "out of order: point 0, frontier 30")),
         ("A", Bytes::from_static(b"x"), (400, "not JSON")),
         ("A", Bytes::from_static(b"[]"), (400, "wrong shape")),
         ("a b", point("a", 30, 40, 6), (400, BAD_SENDER)),
@@ -33,10 +29,7 @@ async fn posts_and_checkpoints() {
     assert_eq!(run.checkpoint().await, 1);
     assert_eq!(run.checkpoint().await, 0);
     let report = run.slot.report().unwrap();
-    assert!(
-        report.starts_with(b"series a sum owner A frontier 30"),
-        "{report:?}"
-    );
+    assert!(report.starts_with(b"series a sum owner A frontier 30"), "{report:?}");
     let (sum, spans) = run.stop().await.remove("a").unwrap();
     assert_eq!((sum, spans), (11, vec![(10, 30)]));
 }
@@ -68,11 +61,7 @@ async fn late_repeats_are_refused_over_restarts() {
 
 async fn refused(run: &Run, after: &str) {
     let repeat = run.post("A", point("a", 10, 20, 5)).await;
-    assert_eq!(
-        message(&repeat),
-        (400, "out of order: point 0, frontier 20"),
-        "after {after}"
-    );
+    assert_eq!(message(&repeat), (400, "out of order: point 0, frontier 20"), "after {after}");
     let repeat = run.post("A", point("b", 10, 20, 6)).await;
     assert_eq!(repeat.status(), 400, "after {after}");
     let other = run.post("B", point("a", 20, 30, 5)).await;
@@ -85,10 +74,7 @@ async fn a_quarantine_outlives_checkpoints_and_restarts() {
     let run = place.run().await;
     assert_eq!(run.post("A", point("a", 10, 20, 5)).await, all());
     assert_eq!(run.post("B", point("b", 10, 20, 1)).await, all());
-    assert_eq!(
-        run.order(Order::Quarantine("A".into())).await,
-        Done::Answered(all())
-    );
+    assert_eq!(run.order(Order::Quarantine("A".into())).await, Done::Answered(all()));
     let again = run.order(Order::Quarantine("A".into())).await;
     assert!(matches!(&again, Done::Answered(outcome) if message(outcome) == (400, "already quarantined")));
     let bad = run.order(Order::Quarantine("a b".into())).await;
@@ -97,18 +83,12 @@ async fn a_quarantine_outlives_checkpoints_and_restarts() {
     run.abort().await;
     let run = place.run().await;
     assert_eq!(run.post("B", point("b", 20, 30, 1)).await, all());
-    assert_eq!(
-        message(&run.post("A", point("a", 20, 30, 6)).await),
-        (403, "quarantined")
-    );
+    assert_eq!(message(&run.post("A", point("a", 20, 30, 6)).await), (403, "quarantined"));
     assert_eq!(run.checkpoint().await, 1, "of B alone");
     run.abort().await;
     let run = place.run().await;
     assert_eq!(run.checkpoint().await, 0);
-    assert_eq!(
-        message(&run.post("A", point("a", 20, 30, 6)).await),
-        (403, "quarantined")
-    );
+    assert_eq!(message(&run.post("A", point("a", 20, 30, 6)).await), (403, "quarantined"));
     assert_eq!(run.order(Order::Lift("A".into())).await, Done::Answered(all()));
     let again = run.order(Order::Lift("A".into())).await;
     assert!(matches!(&again, Done::Answered(outcome) if message(outcome) == (400, "not quarantined")));
@@ -152,11 +132,8 @@ async fn a_replay_that_meets_a_limit_makes_room_and_goes_on() {
     let folder = totxegun::files::Folder::open(&place.data(), totxegun::files::Durability::Process);
     let (journal, outbox) = folder.unwrap().slot(0).unwrap();
     for (start, value) in [(20, 5), (30, -7)] {
-        let post = Post {
-            sender: "A".into(),
-            foreign: 0,
-            body: Body::Text(point("a", start, start + 10, value)),
-        };
+        let post =
+            Post { sender: "A".into(), foreign: 0, body: Body::Text(point("a", start, start + 10, value)) };
         journal.append(&post, &NoNames);
     }
     drop((journal, outbox));
@@ -213,9 +190,7 @@ async fn a_checkpoint_under_load_splits_no_post_and_loses_none() {
         posts = load(&run, &posts, &ends).await;
         flushing.await.unwrap();
         has_no_fault(&run);
-        let Ok(run) = Arc::try_unwrap(run) else {
-            panic!("it is in use")
-        };
+        let Ok(run) = Arc::try_unwrap(run) else { panic!("it is in use") };
         if part == 1 {
             // What is in the journal alone is there at the next start.
             run.abort().await;
@@ -241,11 +216,7 @@ fn many(prefix: &str, series: usize, start: u64) -> Bytes {
         )
     };
     let metrics: Vec<_> = (0..series).map(metric).collect();
-    format!(
-        "{{\"resourceMetrics\":[{{\"scopeMetrics\":[{{\"metrics\":[{}]}}]}}]}}",
-        metrics.join(",")
-    )
-    .into()
+    format!("{{\"resourceMetrics\":[{{\"scopeMetrics\":[{{\"metrics\":[{}]}}]}}]}}", metrics.join(",")).into()
 }
 
 #[tokio::test(flavor = "multi_thread")]
@@ -257,10 +228,7 @@ async fn many_series_are_flushed_and_primed() {
         assert_eq!(run.post(&part[..1], many(part, 2_000, 10)).await, all());
     }
     let requests = run.checkpoint().await;
-    assert!(
-        (12..=16).contains(&requests),
-        "{requests} of at most 1,000 series each, of 3 books"
-    );
+    assert!((12..=16).contains(&requests), "{requests} of at most 1,000 series each, of 3 books");
     assert_eq!(run.post("A", many("Aa", 2_000, 20)).await, all());
     run.abort().await;
     let run = place.run().await;

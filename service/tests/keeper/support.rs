@@ -30,11 +30,7 @@ pub struct Place {
 
 impl Place {
     pub fn new() -> Place {
-        Place {
-            folder: Some(tempfile::tempdir().unwrap()),
-            most_series: 100_000,
-            clock: Clock::default(),
-        }
+        Place { folder: Some(tempfile::tempdir().unwrap()), most_series: 100_000, clock: Clock::default() }
     }
 
     pub fn data(&self) -> PathBuf {
@@ -42,10 +38,7 @@ impl Place {
     }
 
     pub fn settings(&self) -> Settings {
-        Settings {
-            every: Duration::from_secs(3600),
-            forget: None,
-        }
+        Settings { every: Duration::from_secs(3600), forget: None }
     }
 
     pub async fn run(&self) -> Run {
@@ -151,9 +144,7 @@ pub async fn taken(outbox: &Outbox) -> Taken {
     while outbox.waiting().0 > 0 {
         let (waiting, body) = outbox.first().await.unwrap();
         for point in forwarded(&body).unwrap() {
-            let Value::Sum(value) = point.value else {
-                panic!("{point:?}")
-            };
+            let Value::Sum(value) = point.value else { panic!("{point:?}") };
             let (sum, spans) = taken.entry(point.series.parts().unwrap().name).or_default();
             assert!(
                 spans.last().is_none_or(|(_, end)| *end <= point.start),
@@ -169,10 +160,7 @@ pub async fn taken(outbox: &Outbox) -> Taken {
 }
 
 pub fn sums(taken: &Taken) -> Vec<(&str, i64)> {
-    taken
-        .iter()
-        .map(|(name, (sum, _))| (name.as_str(), *sum))
-        .collect()
+    taken.iter().map(|(name, (sum, _))| (name.as_str(), *sum)).collect()
 }
 
 /// A body of sums in protobuf.
@@ -191,9 +179,7 @@ fn in_protobuf(body: &[u8]) -> Option<Bytes> {
             }
         }
     }
-    protobuf_of_forwarded(&serde_json::to_vec(&request).ok()?)
-        .ok()
-        .map(Bytes::from)
+    protobuf_of_forwarded(&serde_json::to_vec(&request).ok()?).ok().map(Bytes::from)
 }
 
 /// A body of one point.
@@ -210,11 +196,7 @@ pub fn text(points: &[(String, u64, u64, i64)]) -> Bytes {
         )
     };
     let metrics: Vec<String> = points.iter().map(metric).collect();
-    format!(
-        "{{\"resourceMetrics\":[{{\"scopeMetrics\":[{{\"metrics\":[{}]}}]}}]}}",
-        metrics.join(",")
-    )
-    .into()
+    format!("{{\"resourceMetrics\":[{{\"scopeMetrics\":[{{\"metrics\":[{}]}}]}}]}}", metrics.join(",")).into()
 }
 
 pub fn all() -> Outcome {

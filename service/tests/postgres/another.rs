@@ -38,13 +38,7 @@ async fn a_database_is_known_by_its_id_once_it_is_reached() {
     // Nothing is made in another.
     server.ask("create database two");
     assert_eq!(open("two").err().as_deref(), Some("another sink"));
-    assert_eq!(
-        server.ask_of(
-            "two",
-            "select count(*) from pg_namespace where nspname = 'totxegun'"
-        ),
-        "0"
-    );
+    assert_eq!(server.ask_of("two", "select count(*) from pg_namespace where nspname = 'totxegun'"), "0");
     // The same under another name.
     server.ask("alter database one rename to three");
     taken(&*open("three").ok().unwrap(), 2, sum("a", 200, 300, 5)).await;
@@ -64,10 +58,7 @@ async fn nothing_is_deleted_in_another_database() {
     let Some(server) = Server::start() else { return };
     let first = Arc::new(First::default());
     let open_ours = |database: &str| {
-        let keep = Retention {
-            spans: Some(std::time::Duration::from_secs(86_400)),
-            ..Retention::default()
-        };
+        let keep = Retention { spans: Some(std::time::Duration::from_secs(86_400)), ..Retention::default() };
         sinks::open(&server.by_socket(database).parse().unwrap(), keep, first.clone()).unwrap()
     };
     server.ask("create database ours; create database theirs");

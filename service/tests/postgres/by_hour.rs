@@ -20,35 +20,19 @@ async fn the_hours_of_one_series_are_read() {
     taken(&*sink, 2, sum_named("a\\u0000", "x", 1, 2, 4)).await;
     taken(&*sink, 3, sum_named("a\u{fffd}", "x", 1, 2, 8)).await;
     taken(&*sink, 4, histogram("h", 1, 2, Some(u64::MAX), [u64::MAX, 0, 1])).await;
-    let Ok(Address::Postgres(place)) = address.parse() else {
-        panic!("{address}")
-    };
+    let Ok(Address::Postgres(place)) = address.parse() else { panic!("{address}") };
     let all = totals::read(&place).await.unwrap();
     assert_eq!(all.len(), 4);
     server.ask(NO_VIEW);
-    assert_eq!(
-        by_hour::read(&place, &all[0], 0).await.unwrap(),
-        None,
-        "a schema without hours"
-    );
+    assert_eq!(by_hour::read(&place, &all[0], 0).await.unwrap(), None, "a schema without hours");
     server.run_file("postgres", VIEW);
     for series in &all {
         let count = series.histogram.as_ref().map(|histogram| histogram.count.0);
         let hours = by_hour::read(&place, series, 0).await.unwrap().unwrap();
-        let found: Vec<_> = hours
-            .iter()
-            .map(|it| (it.hour, it.total.0, it.count.map(|count| count.0)))
-            .collect();
-        assert_eq!(
-            found,
-            [(4, 1, None), (5, series.total.0, count)],
-            "{}",
-            series.name
-        );
-        assert_eq!(
-            by_hour::read(&place, series, 5).await.unwrap().unwrap(),
-            hours[1..]
-        );
+        let found: Vec<_> =
+            hours.iter().map(|it| (it.hour, it.total.0, it.count.map(|count| count.0))).collect();
+        assert_eq!(found, [(4, 1, None), (5, series.total.0, count)], "{}", series.name);
+        assert_eq!(by_hour::read(&place, series, 5).await.unwrap().unwrap(), hours[1..]);
     }
     let mut other = all[0].clone();
     other.unit = "By".into();

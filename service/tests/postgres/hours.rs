@@ -23,12 +23,7 @@ fn spans(random: &mut Random) -> Vec<Point> {
                 _ => start + 1 + random.below(HOUR / 10),
             };
             let value = value(name, random);
-            all.push(Point {
-                name: name.into(),
-                start,
-                end,
-                value,
-            });
+            all.push(Point { name: name.into(), start, end, value });
             start = end + random.below(3).saturating_sub(1) * random.below(HOUR / 5);
         }
     }
@@ -77,13 +72,9 @@ async fn hours_days_and_months_are_the_sums_of_spans() {
         }
         let ask = |query: &str| server.ask_of(&database, query);
         assert_eq!(ask(BY_HOUR), lines(&all, |ns| (ns / HOUR).to_string()));
-        let days = lines(&all, |ns| {
-            if ns < MARCH { "2024-02-29" } else { "2024-03-01" }.into()
-        });
+        let days = lines(&all, |ns| if ns < MARCH { "2024-02-29" } else { "2024-03-01" }.into());
         assert_eq!(ask(&view("day")), without_sums(days));
-        let months = lines(&all, |ns| {
-            if ns < MARCH { "2024-02-01" } else { "2024-03-01" }.into()
-        });
+        let months = lines(&all, |ns| if ns < MARCH { "2024-02-01" } else { "2024-03-01" }.into());
         assert_eq!(ask(&view("month")), without_sums(months));
         let both = "select name, hour, sum(total), sum(count), sum(points) from totxegun.by_hour group by 1, 2 order by 1, 2";
         assert_eq!(ask(both), ask(&both.replace("by_hour", "totals_by_hour")));
@@ -95,9 +86,8 @@ async fn hours_days_and_months_are_the_sums_of_spans() {
 async fn a_span_counts_in_the_hour_of_its_last_nanosecond() {
     let Some(server) = Server::start() else { return };
     let sink = open(&server.by_socket("postgres"));
-    for (number, (start, end)) in [(MARCH - 9, MARCH), (MARCH, MARCH + 1), (MARCH + 1, MARCH + HOUR)]
-        .into_iter()
-        .enumerate()
+    for (number, (start, end)) in
+        [(MARCH - 9, MARCH), (MARCH, MARCH + 1), (MARCH + 1, MARCH + HOUR)].into_iter().enumerate()
     {
         taken(&*sink, number as u64, sum("a", start, end, 1)).await;
     }

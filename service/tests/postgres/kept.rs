@@ -59,18 +59,9 @@ async fn old_spans_are_deleted_and_not_counted_again() {
     assert_eq!(server.ask(&format!("select count(*) from totxegun.{name}")), "3");
     let hours = server.ask("select * from totxegun.hour order by series, hour");
     drop(before);
-    let sink = open_with(
-        &address,
-        Retention {
-            spans: days(2),
-            ..Retention::default()
-        },
-    );
+    let sink = open_with(&address, Retention { spans: days(2), ..Retention::default() });
     until(&server, "select count(*) from totxegun.span", "1").await;
-    assert_eq!(
-        server.ask(&format!("select to_regclass('totxegun.{name}') is null")),
-        "t"
-    );
+    assert_eq!(server.ask(&format!("select to_regclass('totxegun.{name}') is null")), "t");
     // The same requests, under their own keys and under others; and a point of which nobody knows.
     taken(&*sink, 2, sum("a", old + 20, old + 30, 2)).await;
     refused(&*sink, 12, sum("a", old + 20, old + 30, 2), "spans were deleted").await;
@@ -86,10 +77,7 @@ async fn old_spans_are_deleted_and_not_counted_again() {
         (older + 8) / HOUR,
         (old + 2 * HOUR + 8) / HOUR
     ));
-    assert_eq!(
-        server.ask("select * from totxegun.hour order by series, hour"),
-        hours
-    );
+    assert_eq!(server.ask("select * from totxegun.hour order by series, hour"), hours);
 }
 
 /// As where an earlier start kept them.
@@ -102,21 +90,9 @@ async fn that_old_spans_are_deleted_is_told_once() {
         let (keeps, old) = (open(&address), now() - 40 * DAY);
         taken(&*keeps, number, sum(name, old, old + 9, 8)).await;
         drop(keeps);
-        let log = std::fs::File::options()
-            .create(true)
-            .append(true)
-            .open(folder.path().join("log"));
+        let log = std::fs::File::options().create(true).append(true).open(folder.path().join("log"));
         let mut service = std::process::Command::new(env!("CARGO_BIN_EXE_totxegun"))
-            .args([
-                "serve",
-                "--listen",
-                "127.0.0.1:0",
-                "--operate",
-                &operate,
-                "--sink",
-                &address,
-                "--data",
-            ])
+            .args(["serve", "--listen", "127.0.0.1:0", "--operate", &operate, "--sink", &address, "--data"])
             .arg(folder.path().join("data"))
             .stderr(log.unwrap())
             .spawn()
@@ -125,10 +101,7 @@ async fn that_old_spans_are_deleted_is_told_once() {
         service.kill().unwrap();
         service.wait().unwrap();
         let log = std::fs::read_to_string(folder.path().join("log")).unwrap();
-        let told: Vec<&str> = log
-            .lines()
-            .filter(|line| line.contains("--keep-spans forever"))
-            .collect();
+        let told: Vec<&str> = log.lines().filter(|line| line.contains("--keep-spans forever")).collect();
         assert!(told.len() == 1 && told[0].contains("35 d 0 h"), "{log}");
     }
 }
@@ -143,29 +116,14 @@ async fn old_hours_are_deleted_and_not_counted_again() {
     taken(&*before, 2, sum("a", now() - 10, now(), 2)).await;
     taken(&*before, 3, sum("b", old, old + 9, 4)).await;
     drop(before);
-    let sink = open_with(
-        &address,
-        Retention {
-            hours: days(2),
-            ..Retention::default()
-        },
-    );
+    let sink = open_with(&address, Retention { hours: days(2), ..Retention::default() });
     until(&server, "select name, total from totxegun.by_hour", "a|2").await;
     until(&server, "select name, total from totxegun.totals_by_hour", "a|2").await;
     refused(&*sink, 11, sum("a", old, old + 9, 1), "hours were deleted").await;
-    refused(
-        &*sink,
-        12,
-        sum("a", old + HOUR, old + HOUR + 9, 1),
-        "hours were deleted",
-    )
-    .await;
+    refused(&*sink, 12, sum("a", old + HOUR, old + HOUR + 9, 1), "hours were deleted").await;
     refused(&*sink, 13, sum("b", old + 1, old + 2, 1), "hours were deleted").await;
     taken(&*sink, 14, sum("b", old + 9, old + 19, 8)).await;
-    assert_eq!(
-        server.ask("select name, total from totxegun.totals order by 1"),
-        "a|3\nb|12"
-    );
+    assert_eq!(server.ask("select name, total from totxegun.totals order by 1"), "a|3\nb|12");
     assert_eq!(server.ask("select count(*) from totxegun.span"), "4");
 }
 
@@ -186,13 +144,7 @@ async fn a_series_out_of_use_loses_its_spans_alone() {
     let all = |server: &Server| server.ask("select * from totxegun.by_hour order by series, hour");
     let hours = all(&server);
     drop(before);
-    let sink = open_with(
-        &address,
-        Retention {
-            series: days(1),
-            ..Retention::default()
-        },
-    );
+    let sink = open_with(&address, Retention { series: days(1), ..Retention::default() });
     let left = "select name, count(*) from totxegun.span join totxegun.series on id = series group by 1";
     until(&server, left, "b|4").await;
     until(&server, "select count(*) from totxegun.ending", "0").await;
@@ -211,13 +163,7 @@ async fn deliveries_go_on_while_a_reader_holds_up_a_deletion() {
     drop(open(&address));
     let name = make_day(&server, now() - 9 * DAY);
     let held = server.hold("begin; select count(*) from totxegun.span; select pg_sleep(60)");
-    let sink = open_with(
-        &address,
-        Retention {
-            spans: days(2),
-            ..Retention::default()
-        },
-    );
+    let sink = open_with(&address, Retention { spans: days(2), ..Retention::default() });
     let mut longest = Duration::ZERO;
     for number in 0..300 {
         let began = std::time::Instant::now();
@@ -226,28 +172,14 @@ async fn deliveries_go_on_while_a_reader_holds_up_a_deletion() {
         tokio::time::sleep(Duration::from_millis(10)).await;
     }
     assert!(longest < Duration::from_secs(5), "{longest:?}");
-    assert_eq!(
-        server.ask(&format!("select to_regclass('totxegun.{name}') is null")),
-        "f"
-    );
+    assert_eq!(server.ask(&format!("select to_regclass('totxegun.{name}') is null")), "f");
     drop((held, sink));
     let waits =
         "select count(*) from pg_stat_activity where query like '%pg_sleep(60)' and pid <> pg_backend_pid()";
     server.ask("select pg_terminate_backend(pid) from pg_stat_activity where query = 'select pg_sleep(60)'");
     until(&server, waits, "0").await;
-    let _sink = open_with(
-        &address,
-        Retention {
-            spans: days(2),
-            ..Retention::default()
-        },
-    );
-    until(
-        &server,
-        &format!("select to_regclass('totxegun.{name}') is null"),
-        "t",
-    )
-    .await;
+    let _sink = open_with(&address, Retention { spans: days(2), ..Retention::default() });
+    until(&server, &format!("select to_regclass('totxegun.{name}') is null"), "t").await;
 }
 
 /// Spans that came before their day was made are moved into it, and a kill in between moves none of them.
@@ -288,12 +220,7 @@ async fn days_are_made_ahead() {
     drop(killed);
     server.ask("drop event trigger killed");
     let sink = open(&address);
-    until(
-        &server,
-        &format!("select count(*) from pg_class where relname = '{today}'"),
-        "1",
-    )
-    .await;
+    until(&server, &format!("select count(*) from pg_class where relname = '{today}'"), "1").await;
     until(&server, "select count(*) from totxegun.span_other", "1").await;
     assert_eq!(server.ask(&format!("select count(*) from totxegun.{today}")), "2");
     refused(&*sink, 30, sum("b", day, day + 1, 1), "overlaps").await;
@@ -311,17 +238,8 @@ async fn a_role_reads_all_and_writes_nothing() {
     )
     .await;
     taken(&*sink, 1, sum("a", now() - 10, now(), 5)).await;
-    for view in [
-        "totals",
-        "by_hour",
-        "by_day",
-        "by_month",
-        "totals_by_hour",
-        "span",
-    ] {
-        let found = server.ask(&format!(
-            "set role totxegun_read; select count(*) from totxegun.{view}"
-        ));
+    for view in ["totals", "by_hour", "by_day", "by_month", "totals_by_hour", "span"] {
+        let found = server.ask(&format!("set role totxegun_read; select count(*) from totxegun.{view}"));
         assert_eq!(found, "1", "{view}");
     }
     let may =
@@ -347,24 +265,14 @@ async fn without_a_right_to_make_roles_all_goes_on() {
     let Some(server) = Server::start() else { return };
     server.ask("create role lame login password 'p'; create database lame owner lame");
     let lame = open(&server.by_tcp("lame:p", "lame"));
-    assert_eq!(
-        lame.deliver(&crate::request(1, sum("a", 1, 2, 1))).await,
-        Fate::Taken
-    );
+    assert_eq!(lame.deliver(&crate::request(1, sum("a", 1, 2, 1))).await, Fate::Taken);
     tokio::time::sleep(Duration::from_secs(3)).await;
-    assert_eq!(
-        server.ask("select count(*) from pg_roles where rolname = 'totxegun_read'"),
-        "0"
-    );
+    assert_eq!(server.ask("select count(*) from pg_roles where rolname = 'totxegun_read'"), "0");
     server.ask("create role totxegun_read nologin");
     drop(lame);
     let _lame = open(&server.by_tcp("lame:p", "lame"));
     for _ in 0..500 {
-        if server.ask_of(
-            "lame",
-            "select has_schema_privilege('totxegun_read', 'totxegun', 'usage')",
-        ) == "t"
-        {
+        if server.ask_of("lame", "select has_schema_privilege('totxegun_read', 'totxegun', 'usage')") == "t" {
             return;
         }
         tokio::time::sleep(Duration::from_millis(20)).await;

@@ -43,18 +43,12 @@ async fn a_schema_that_is_renamed_or_dropped_is_told_of() {
         taken(&*sink, 2, sum("a", 200, 300, 5)).await;
     }
     let [renamed] = told().try_into().expect("one warning");
-    assert!(
-        renamed.contains("is not there, and before has its tables: a fresh one is made"),
-        "{renamed}"
-    );
+    assert!(renamed.contains("is not there, and before has its tables: a fresh one is made"), "{renamed}");
     server.ask("drop schema before cascade; drop schema totxegun cascade");
     let again = sink.deliver(&super::request(3, sum("a", 300, 400, 5))).await;
     if again != totxegun::sinks::Fate::Taken {
         taken(&*sink, 3, sum("a", 300, 400, 5)).await;
     }
     let [dropped] = told().try_into().expect("one warning");
-    assert!(
-        dropped.contains("the schema totxegun is gone: a fresh one is made"),
-        "{dropped}"
-    );
+    assert!(dropped.contains("the schema totxegun is gone: a fresh one is made"), "{dropped}");
 }

@@ -19,12 +19,7 @@ use std::time::Duration;
 use totxegun::sinks::{self, Fate, Forwarded, Retention, Sink};
 
 fn request(number: u64, body: String) -> Forwarded {
-    Forwarded {
-        slot: 0,
-        epoch: "e".into(),
-        number,
-        body: body.into_bytes(),
-    }
+    Forwarded { slot: 0, epoch: "e".into(), number, body: body.into_bytes() }
 }
 
 fn open(address: &str) -> std::sync::Arc<dyn Sink> {
@@ -32,20 +27,11 @@ fn open(address: &str) -> std::sync::Arc<dyn Sink> {
 }
 
 fn open_with(address: &str, retention: Retention) -> std::sync::Arc<dyn Sink> {
-    sinks::open(
-        &address.parse().expect(address),
-        retention,
-        std::sync::Arc::new(()),
-    )
-    .expect(address)
+    sinks::open(&address.parse().expect(address), retention, std::sync::Arc::new(())).expect(address)
 }
 
 async fn taken(sink: &dyn Sink, number: u64, body: String) {
-    assert_eq!(
-        sink.deliver(&request(number, body)).await,
-        Fate::Taken,
-        "{number}"
-    );
+    assert_eq!(sink.deliver(&request(number, body)).await, Fate::Taken, "{number}");
 }
 
 async fn refused(sink: &dyn Sink, number: u64, body: String, part: &str) {
@@ -82,22 +68,14 @@ async fn what_is_taken() {
     }
     taken(&*sink, 31, sum("a", 200, 300, -7)).await;
     taken(&*sink, 32, sum("a", 50, 100, 1)).await;
-    assert_eq!(
-        server.ask("select name, points, total from totxegun.totals order by 1"),
-        "a|3|-1\nb|18|18"
-    );
+    assert_eq!(server.ask("select name, points, total from totxegun.totals order by 1"), "a|3|-1\nb|18|18");
     let most = u64::MAX;
     for (number, body) in [(31, sum("a", 300, 400, 1)), (31, sum("c", 200, 300, -7))] {
         refused(&*sink, number, body, "key is that of another request").await;
     }
     for number in 40..43 {
         let (start, end) = (most - 50 + number, most - 49 + number);
-        taken(
-            &*sink,
-            number,
-            histogram("h", start, end, Some(most), [most, 0, 1]),
-        )
-        .await;
+        taken(&*sink, number, histogram("h", start, end, Some(most), [most, 0, 1])).await;
     }
     taken(&*sink, 43, histogram("h", 1, 2, None, [0, 0, 1])).await;
     assert_eq!(
@@ -134,26 +112,16 @@ async fn of_a_request_the_spans_that_overlap_alone_are_left() {
     let left = server::sums(&[("a", 150, 160, 9)]);
     for sink in [&sink, &open(&server.by_socket("postgres"))] {
         match sink.deliver(&request(2, all.clone())).await {
-            Fate::TakenPartly {
-                rejected: 1,
-                reason,
-                left: Some(found),
-            } => {
+            Fate::TakenPartly { rejected: 1, reason, left: Some(found) } => {
                 assert!(reason.contains("(150, 160]"), "{reason}");
                 let of = |body: &[u8]| serde_json::from_slice::<serde_json::Value>(body).expect("JSON");
                 assert_eq!(of(&found), of(left.as_bytes()));
             }
             other => panic!("{other:?}"),
         }
-        assert_eq!(
-            server.ask("select name, points, total from totxegun.totals order by 1"),
-            "a|2|5\nb|1|8"
-        );
+        assert_eq!(server.ask("select name, points, total from totxegun.totals order by 1"), "a|2|5\nb|1|8");
     }
-    assert_eq!(
-        server.ask("select points from totxegun.request where number = 2"),
-        "2"
-    );
+    assert_eq!(server.ask("select points from totxegun.request where number = 2"), "2");
     refused(&*sink, 3, left, "overlaps").await;
 }
 
@@ -198,13 +166,7 @@ async fn by_tls() {
     again(&*open(&address("localhost")), 2, sum("a", 2, 3, 1), "TLS").await;
     server.with_tls("elsewhere");
     std::env::set_var("SSL_CERT_FILE", server.folder.path().join("root.pem"));
-    again(
-        &*open(&address("localhost")),
-        2,
-        sum("a", 2, 3, 1),
-        "NotValidForName",
-    )
-    .await;
+    again(&*open(&address("localhost")), 2, sum("a", 2, 3, 1), "NotValidForName").await;
     std::env::remove_var("SSL_CERT_FILE");
     let refused = address("127.0.0.1").parse::<sinks::Address>().unwrap_err();
     assert!(refused.to_string().contains("name of a host"), "{refused}");
@@ -219,13 +181,7 @@ async fn what_is_told() {
     );
     let by_password = |password: &str, database: &str| server.by_tcp(&format!("lame:{password}"), database);
     let body = || sum("a", 1, 2, 1);
-    again(
-        &*open(&by_password("wrong", "d1")),
-        1,
-        body(),
-        "password is wrong",
-    )
-    .await;
+    again(&*open(&by_password("wrong", "d1")), 1, body(), "password is wrong").await;
     let lame = open(&by_password("right", "d1"));
     assert!(!lame.name().contains("right"));
     again(&*lame, 1, body(), "lacks a right").await;
@@ -249,10 +205,7 @@ async fn what_is_told() {
     refuses("d1", "schema 8; this one knows 7");
     again(&*lame, 2, body(), "version").await;
     again(&*lame, 2, body(), "later version").await;
-    server.ask_of(
-        "d2",
-        "create schema totxegun; create table totxegun.version (x int)",
-    );
+    server.ask_of("d2", "create schema totxegun; create table totxegun.version (x int)");
     refuses("d2", "another program");
     server.ask("create database latin encoding latin1 template template0 lc_collate 'C' lc_ctype 'C'");
     refuses("latin", "LATIN1");
@@ -295,11 +248,7 @@ async fn what_is_lost_on_the_way() {
     taken(&*sink, 1, sum("a", 1, 2, 1)).await;
     proxy.cut_the_next_commit();
     again(&*sink, 2, sum("a", 2, 3, 2), "").await;
-    assert_eq!(
-        server.ask("select total from totxegun.totals"),
-        "3",
-        "it was committed"
-    );
+    assert_eq!(server.ask("select total from totxegun.totals"), "3", "it was committed");
     taken(&*sink, 2, sum("a", 2, 3, 2)).await;
     assert_eq!(server.ask("select points, total from totxegun.totals"), "2|3");
     // A lock that somebody keeps is given up, and leaves nothing.

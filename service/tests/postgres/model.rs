@@ -33,11 +33,7 @@ impl Database<'_> {
                     .replace("LIST(", "(")
                     .replace("t.", "");
                 let file = folder.path().join("m.db");
-                let output = Command::new("sqlite3")
-                    .arg(file)
-                    .arg(&query)
-                    .output()
-                    .expect("sqlite3");
+                let output = Command::new("sqlite3").arg(file).arg(&query).output().expect("sqlite3");
                 let error = String::from_utf8_lossy(&output.stderr);
                 assert!(output.status.success(), "{query}: {error}");
                 String::from_utf8(output.stdout).unwrap().trim().into()
@@ -87,12 +83,7 @@ impl Counted {
     }
 
     pub fn line(&self, key: &str) -> String {
-        let Counted {
-            points,
-            total,
-            corrections,
-            buckets,
-        } = self;
+        let Counted { points, total, corrections, buckets } = self;
         let billed = total + i128::from(*corrections);
         let buckets = buckets.map_or(String::new(), |buckets| format!("{buckets:?}").replace(' ', ""));
         format!("{key}|{points}|{total}|{corrections}|{billed}|{buckets}")
@@ -165,15 +156,7 @@ impl Model {
             text[..7].parse::<Period>().unwrap().from as u64
         };
         assert_eq!(ask("month"), lines(self.by(month)), "{what}");
-        let no_buckets = |(key, counted): (_, Counted)| {
-            (
-                key,
-                Counted {
-                    buckets: None,
-                    ..counted
-                },
-            )
-        };
+        let no_buckets = |(key, counted): (_, Counted)| (key, Counted { buckets: None, ..counted });
         let metrics = self.by(|hour| hour).into_iter().map(no_buckets).collect();
         let found = "select name, HOUR(hour) /H, points, total, corrections, billed, '' from t.totals_by_hour order by 1, 2";
         assert_eq!(database.ask(found), lines(metrics), "{what}");
@@ -188,11 +171,7 @@ impl Model {
         let found = "select name, HOUR(belongs_to) /H, HOUR(hour) /H, sum(points), sum(total), sum(corrections), sum(billed), ''
             from t.late group by 1, 2, 3 order by 1, 2, 3";
         let line = |((name, of, hour), counted): (&(&str, u64, u64), &Counted)| {
-            Counted {
-                buckets: None,
-                ..counted.clone()
-            }
-            .line(&format!("{name}|{of}|{hour}"))
+            Counted { buckets: None, ..counted.clone() }.line(&format!("{name}|{of}|{hour}"))
         };
         let wanted: Vec<String> = self.late.iter().map(line).collect();
         assert_eq!(database.ask(found), wanted.join("\n"), "{what}");

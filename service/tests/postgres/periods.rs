@@ -37,20 +37,12 @@ async fn not_done(sink: &dyn Sink, deed: Deed, part: &str) {
 /// One of a series' places in the hours around now, some hours of which are to come.
 fn place(random: &mut Random, now: u64) -> (&'static str, u64) {
     let hour = now - 60 + random.below(63);
-    (
-        NAMES[random.below(4) as usize],
-        hour * PLACES + random.below(PLACES),
-    )
+    (NAMES[random.below(4) as usize], hour * PLACES + random.below(PLACES))
 }
 
 fn point(name: &str, place: u64, value: Value) -> Point {
     let length = HOUR / PLACES;
-    Point {
-        name: name.into(),
-        start: place * length,
-        end: (place + 1) * length,
-        value,
-    }
+    Point { name: name.into(), start: place * length, end: (place + 1) * length, value }
 }
 
 /// What is done in one step, at random.
@@ -86,10 +78,7 @@ async fn step(model: &mut Model, sink: &dyn Sink, database: &Database<'_>, rando
             let from = (now - 60 + random.below(60)) / hours * hours;
             if from + hours <= now {
                 done(sink, Deed::Close(period(from, hours))).await;
-                let is_in = model
-                    .closed
-                    .iter()
-                    .any(|one| one.0 <= from && from + hours <= one.1);
+                let is_in = model.closed.iter().any(|one| one.0 <= from && from + hours <= one.1);
                 if !is_in {
                     model.closed.insert((from, from + hours));
                 }
@@ -112,10 +101,7 @@ async fn overlap(model: &Model, sink: &dyn Sink, random: &mut Random) {
         return;
     };
     let whole = point(name, *place, value(name, random));
-    let half = Point {
-        end: whole.start + HOUR / PLACES / 2,
-        ..whole
-    };
+    let half = Point { end: whole.start + HOUR / PLACES / 2, ..whole };
     refused(sink, 100_000 + random.below(1 << 30), body(&[half]), "overlaps").await;
 }
 
@@ -133,10 +119,7 @@ async fn correct(model: &mut Model, sink: &dyn Sink, database: &Database<'_>, ra
         value: if value == 0 { 1 } else { value },
         reason: format!("reason {}", model.corrected),
     };
-    let counted = Counted {
-        corrections: correction.value,
-        ..Counted::default()
-    };
+    let counted = Counted { corrections: correction.value, ..Counted::default() };
     model.add(name, hour, now, &counted);
     for _ in 0..1 + random.below(2) {
         done(sink, Deed::Correct(correction.clone())).await;
@@ -188,11 +171,7 @@ async fn what_counts_where_is_right_over_closes_late_points_and_corrections() {
 async fn what_can_t_be_done_is_named_and_changes_nothing() {
     let server = Server::start();
     let mut all = vec![Database::Lite(tempfile::tempdir().unwrap())];
-    all.extend(
-        server
-            .as_ref()
-            .map(|server| Database::Postgres(server, "postgres")),
-    );
+    all.extend(server.as_ref().map(|server| Database::Postgres(server, "postgres")));
     for database in all {
         let sink = open(&database.address());
         let (now, old) = (now(), 100);
@@ -206,19 +185,9 @@ async fn what_can_t_be_done_is_named_and_changes_nothing() {
         }
         not_done(&*sink, Deed::Open(period(old, 1)), "1970-01-05, closed by alice").await;
         let correction = |series, hour, value, reason: &str| {
-            Deed::Correct(Correction {
-                series,
-                hour: period(hour, 1),
-                value,
-                reason: reason.into(),
-            })
+            Deed::Correct(Correction { series, hour: period(hour, 1), value, reason: reason.into() })
         };
-        not_done(
-            &*sink,
-            correction(1, old + 1, 1, "x"),
-            "has nothing in 1970-01-05 05:00",
-        )
-        .await;
+        not_done(&*sink, correction(1, old + 1, 1, "x"), "has nothing in 1970-01-05 05:00").await;
         not_done(&*sink, correction(2, old, 1, "x"), "series 2 has nothing").await;
         done(&*sink, correction(1, old, i64::MAX / 2, "x")).await;
         not_done(&*sink, correction(1, old, i64::MIN, "y"), "may come to").await;
@@ -232,12 +201,7 @@ async fn what_can_t_be_done_is_named_and_changes_nothing() {
         );
     }
     let otlp = open("http://127.0.0.1:1/v1/metrics");
-    not_done(
-        &*otlp,
-        Deed::Close(period(1, 1)),
-        "otlp http://127.0.0.1:1/v1/metrics keeps no periods",
-    )
-    .await;
+    not_done(&*otlp, Deed::Close(period(1, 1)), "otlp http://127.0.0.1:1/v1/metrics keeps no periods").await;
 }
 
 /// Deliveries that were answered before a close are in the period, and those that begin behind it are late.
@@ -247,9 +211,7 @@ async fn a_close_comes_between_two_deliveries() {
     let address = server.by_socket("postgres");
     let hour = now() - 5;
     let of_hour = |what: &str| {
-        server.ask(&format!(
-            "select coalesce(sum(total), 0) from totxegun.{what} where hour = {hour}"
-        ))
+        server.ask(&format!("select coalesce(sum(total), 0) from totxegun.{what} where hour = {hour}"))
     };
     let stop = Arc::new(std::sync::atomic::AtomicBool::new(false));
     let services: Vec<_> = (0..3u64)

@@ -38,12 +38,7 @@ pub fn body(points: &[Point]) -> String {
 }
 
 fn metric(point: &Point) -> String {
-    let Point {
-        name,
-        start,
-        end,
-        value,
-    } = point;
+    let Point { name, start, end, value } = point;
     let time = format!(r#""startTimeUnixNano":"{start}","timeUnixNano":"{end}""#);
     match value {
         Value::Sum(value) => format!(
@@ -63,9 +58,7 @@ fn metric(point: &Point) -> String {
 pub fn lines(points: &[Point], key: impl Fn(u64) -> String) -> String {
     let mut totals: BTreeMap<(String, String), Total> = BTreeMap::new();
     for point in points {
-        let total = totals
-            .entry((point.name.clone(), key(point.end - 1)))
-            .or_default();
+        let total = totals.entry((point.name.clone(), key(point.end - 1))).or_default();
         total.points += 1;
         match &point.value {
             Value::Sum(value) => total.total += i128::from(*value),
@@ -79,13 +72,9 @@ pub fn lines(points: &[Point], key: impl Fn(u64) -> String) -> String {
         }
     }
     let line = |((name, key), of): ((String, String), Total)| {
-        let buckets = of.buckets.map_or(String::new(), |[one, two, three]| {
-            format!("{{{one},{two},{three}}}")
-        });
-        format!(
-            "{name}|{key}|{}|{}|{}|{}|{buckets}",
-            of.points, of.total, of.count, of.without_sum
-        )
+        let buckets =
+            of.buckets.map_or(String::new(), |[one, two, three]| format!("{{{one},{two},{three}}}"));
+        format!("{name}|{key}|{}|{}|{}|{}|{buckets}", of.points, of.total, of.count, of.without_sum)
     };
     totals.into_iter().map(line).collect::<Vec<String>>().join("\n")
 }
@@ -95,10 +84,7 @@ pub struct Random(pub u64);
 
 impl Random {
     pub fn below(&mut self, end: u64) -> u64 {
-        self.0 = self
-            .0
-            .wrapping_mul(6364136223846793005)
-            .wrapping_add(1442695040888963407);
+        self.0 = self.0.wrapping_mul(6364136223846793005).wrapping_add(1442695040888963407);
         (self.0 >> 33) % end
     }
 }

@@ -14,9 +14,7 @@ const SERIES: u64 = 60;
 /// The series of a service in a round. Each round has some of the round before, which are there or are just being made.
 fn series(round: u64, service: u64) -> BTreeSet<u64> {
     let first = round * SERIES / 3;
-    (first..first + SERIES)
-        .filter(|one| !(one + service).is_multiple_of(3))
-        .collect()
+    (first..first + SERIES).filter(|one| !(one + service).is_multiple_of(3)).collect()
 }
 
 /// Each service has its own part of each series' time.
@@ -27,10 +25,7 @@ fn span(round: u64, service: u64) -> (u64, u64) {
 
 fn body(round: u64, service: u64) -> String {
     let (start, end) = span(round, service);
-    let names: Vec<String> = series(round, service)
-        .iter()
-        .map(|one| format!("n{one}"))
-        .collect();
+    let names: Vec<String> = series(round, service).iter().map(|one| format!("n{one}")).collect();
     let points: Vec<(&str, u64, u64, i64)> = names.iter().map(|name| (&name[..], start, end, 1)).collect();
     sums(&points)
 }
@@ -48,34 +43,20 @@ async fn services_that_make_the_same_series_never_deadlock() {
             for round in 0..ROUNDS {
                 let mut request = request(round, body(round, service));
                 request.slot = service as u16;
-                assert_eq!(
-                    sink.deliver(&request).await,
-                    Fate::Taken,
-                    "{service} in round {round}"
-                );
+                assert_eq!(sink.deliver(&request).await, Fate::Taken, "{service} in round {round}");
             }
         })
     });
     for service in services.collect::<Vec<_>>() {
         service.await.expect("a service");
     }
-    assert_eq!(
-        server.ask("select deadlocks from pg_stat_database where datname = 'postgres'"),
-        "0"
-    );
-    let all: Vec<u64> = (0..ROUNDS)
-        .flat_map(|round| (0..SERVICES).flat_map(move |service| series(round, service)))
-        .collect();
+    assert_eq!(server.ask("select deadlocks from pg_stat_database where datname = 'postgres'"), "0");
+    let all: Vec<u64> =
+        (0..ROUNDS).flat_map(|round| (0..SERVICES).flat_map(move |service| series(round, service))).collect();
     let distinct: BTreeSet<u64> = all.iter().copied().collect();
     let counted = format!("{}|{}", distinct.len(), all.len());
-    assert_eq!(
-        server.ask("select count(*), sum(total) from totxegun.totals"),
-        counted
-    );
-    assert_eq!(
-        server.ask("select count(distinct series), count(*) from totxegun.span"),
-        counted
-    );
+    assert_eq!(server.ask("select count(*), sum(total) from totxegun.totals"), counted);
+    assert_eq!(server.ask("select count(distinct series), count(*) from totxegun.span"), counted);
 }
 
 /// Names of series of `sums`, in the order of their digests, which are beside them.
@@ -83,10 +64,7 @@ fn in_order(server: &Server) -> Vec<(String, String)> {
     let query = r#"select name, digest from (select 'n' || i as name, sha256(convert_to(
             '[[],"s","1",[],"n' || i || '","1","sum",[{"key":"k","value":{"stringValue":"v"}}]]', 'UTF8')) as digest
         from generate_series(1, 3) as i) as names order by digest"#;
-    let both = |line: &str| {
-        line.split_once('|')
-            .map(|(name, digest)| (name.into(), digest.into()))
-    };
+    let both = |line: &str| line.split_once('|').map(|(name, digest)| (name.into(), digest.into()));
     server.ask(query).lines().filter_map(both).collect()
 }
 
@@ -139,10 +117,8 @@ async fn no_table_is_read_whole() {
     for number in 0..12 {
         let (turn, block) = (number / 4, number as usize % 4);
         let part = &names[1000 * block..][..1000];
-        let points: Vec<(&str, u64, u64, i64)> = part
-            .iter()
-            .map(|name| (&name[..], turn + 1, turn + 2, 1))
-            .collect();
+        let points: Vec<(&str, u64, u64, i64)> =
+            part.iter().map(|name| (&name[..], turn + 1, turn + 2, 1)).collect();
         taken(&*sink, number, sums(&points)).await;
         // It comes again, and once more under a key of its own.
         taken(&*sink, number, sums(&points)).await;
@@ -150,12 +126,8 @@ async fn no_table_is_read_whole() {
     }
     // A session tells what it has read when it ends.
     drop(sink);
-    wait_until(
-        &server,
-        "select count(*) from pg_stat_activity where application_name = 'totxegun'",
-        "0",
-    )
-    .await;
+    wait_until(&server, "select count(*) from pg_stat_activity where application_name = 'totxegun'", "0")
+        .await;
     // These have a row each.
     let read = "select relname, seq_tup_read from pg_stat_user_tables \
                 where relname not in ('sink', 'version', 'horizon') and seq_tup_read > 0";

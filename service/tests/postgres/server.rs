@@ -49,12 +49,7 @@ impl Server {
             std::os::unix::fs::chown(folder.path(), Some(USER), Some(USER)).unwrap();
         }
         let port = std::net::TcpListener::bind("127.0.0.1:0").unwrap();
-        let mut server = Server {
-            port: port.local_addr().unwrap().port(),
-            folder,
-            programs,
-            child: None,
-        };
+        let mut server = Server { port: port.local_addr().unwrap().port(), folder, programs, child: None };
         drop(port);
         let mut initdb = server.command("initdb");
         initdb.args(["-U", "postgres", "-E", "UTF8", "--locale=C", "-N"]);
@@ -86,13 +81,7 @@ impl Server {
             .command("postgres")
             .arg("-D")
             .arg(self.data())
-            .args([
-                "-c",
-                "listen_addresses=127.0.0.1",
-                "-p",
-                &self.port.to_string(),
-                "-k",
-            ])
+            .args(["-c", "listen_addresses=127.0.0.1", "-p", &self.port.to_string(), "-k"])
             .arg(self.folder.path())
             .stdout(Stdio::null())
             .stderr(log)
@@ -100,13 +89,7 @@ impl Server {
             .unwrap();
         self.child = Some(child);
         for _ in 0..200 {
-            if self
-                .psql("postgres", "select 1")
-                .output()
-                .unwrap()
-                .status
-                .success()
-            {
+            if self.psql("postgres", "select 1").output().unwrap().status.success() {
                 return;
             }
             std::thread::sleep(std::time::Duration::from_millis(50));
@@ -125,9 +108,7 @@ impl Server {
         }
         let names = format!("subjectAltName=DNS:{name},IP:127.0.0.1\n");
         std::fs::write(self.folder.path().join("names"), names).unwrap();
-        self.openssl(&format!(
-            "req {key} -keyout server.key -out request.pem -subj /CN={name}"
-        ));
+        self.openssl(&format!("req {key} -keyout server.key -out request.pem -subj /CN={name}"));
         self.openssl("x509 -req -in request.pem -CA root.pem -CAkey root.key -CAcreateserial -days 2 -extfile names -out server.pem");
         let (conf, folder) = (self.data().join("postgresql.conf"), self.folder.path().display());
         let settings = format!(
@@ -141,11 +122,7 @@ impl Server {
     fn openssl(&self, words: &str) {
         let mut openssl = self.as_user(Command::new("openssl"));
         let done = openssl.args(words.split_whitespace()).output().unwrap();
-        assert!(
-            done.status.success(),
-            "{words}: {}",
-            String::from_utf8_lossy(&done.stderr)
-        );
+        assert!(done.status.success(), "{words}: {}", String::from_utf8_lossy(&done.stderr));
     }
 
     /// What the server has worked, with its processes.
@@ -155,19 +132,9 @@ impl Server {
             let stat = std::fs::read_to_string(entry.path().join("stat")).ok()?;
             let words: Vec<&str> = stat.rsplit_once(')')?.1.split_whitespace().collect();
             let is_ours = words[1] == parent || entry.file_name().to_str() == Some(&parent);
-            is_ours.then(|| {
-                words[11..13]
-                    .iter()
-                    .filter_map(|word| word.parse::<f64>().ok())
-                    .sum::<f64>()
-            })
+            is_ours.then(|| words[11..13].iter().filter_map(|word| word.parse::<f64>().ok()).sum::<f64>())
         };
-        std::fs::read_dir("/proc")
-            .unwrap()
-            .flatten()
-            .filter_map(of)
-            .sum::<f64>()
-            / TICKS
+        std::fs::read_dir("/proc").unwrap().flatten().filter_map(of).sum::<f64>() / TICKS
     }
 
     /// At once, as a crash does.
@@ -182,17 +149,7 @@ impl Server {
     fn psql(&self, database: &str, query: &str) -> Command {
         let mut command = self.command("psql");
         command
-            .args([
-                "-U",
-                "postgres",
-                "-X",
-                "-A",
-                "-t",
-                "-q",
-                "-v",
-                "ON_ERROR_STOP=1",
-                "-h",
-            ])
+            .args(["-U", "postgres", "-X", "-A", "-t", "-q", "-v", "ON_ERROR_STOP=1", "-h"])
             .arg(self.folder.path())
             .args(["-p", &self.port.to_string(), "-d", database])
             .env("PGCLIENTENCODING", "UTF8");
@@ -217,12 +174,7 @@ impl Server {
     pub fn run_file(&self, database: &str, text: &str) {
         let file = self.folder.path().join("statements");
         std::fs::write(&file, text).unwrap();
-        let output = self
-            .psql(database, "select 1")
-            .arg("-f")
-            .arg(file)
-            .output()
-            .unwrap();
+        let output = self.psql(database, "select 1").arg("-f").arg(file).output().unwrap();
         let error = String::from_utf8_lossy(&output.stderr);
         assert!(output.status.success(), "{error}");
     }

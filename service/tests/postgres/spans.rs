@@ -30,10 +30,7 @@ async fn spans_read_as_they_came() {
         name: "hh".into(),
         start,
         end: start + 1,
-        value: Value::Histogram {
-            sum: Some(u64::MAX),
-            buckets,
-        },
+        value: Value::Histogram { sum: Some(u64::MAX), buckets },
     };
     taken(&*sink, 90, body(&[point])).await;
     wanted.push(format!("{start}||70309|{}|{{9,300,70000}}", u64::MAX));
@@ -44,11 +41,7 @@ async fn spans_read_as_they_came() {
     let added = "select sum(one) from totxegun.span, unnest(buckets::numeric[]) as one where start_ns = 1000";
     assert_eq!(server.ask(added), "70309");
     let counts = "select count(*) from totxegun.span_row where count is not null";
-    assert_eq!(
-        server.ask(counts),
-        "4",
-        "those that are not what the buckets come to"
-    );
+    assert_eq!(server.ask(counts), "4", "those that are not what the buckets come to");
 }
 
 /// Of a histogram of 11 buckets, each below 128: with what a page has of each row 76 bytes, and of a sum 60.

@@ -32,10 +32,7 @@ impl Kind {
     /// A request of one point each of these series, all in the same span.
     fn request(self, series: Range<u64>, turn: u64) -> String {
         let start = FIRST_START + turn * SPAN;
-        let time = format!(
-            r#""startTimeUnixNano":"{start}","timeUnixNano":"{}""#,
-            start + SPAN
-        );
+        let time = format!(r#""startTimeUnixNano":"{start}","timeUnixNano":"{}""#, start + SPAN);
         let points: Vec<String> = series.map(|one| self.point(one, &time)).collect();
         let points = points.join(",");
         let resource = list(&[
@@ -104,9 +101,8 @@ fn load() -> String {
 /// can compare.
 async fn measure(name: &str, sink: &dyn Sink, there: impl Fn() -> f64) {
     let mut number = 0;
-    for (size, kind) in [1000, 10_000]
-        .into_iter()
-        .flat_map(|size| [(size, Kind::Sum), (size, Kind::Histogram)])
+    for (size, kind) in
+        [1000, 10_000].into_iter().flat_map(|size| [(size, Kind::Sum), (size, Kind::Histogram)])
     {
         // No series of one size is one of the other's.
         let first = size * SERIES;
@@ -121,11 +117,8 @@ async fn measure(name: &str, sink: &dyn Sink, there: impl Fn() -> f64) {
                 number += 1;
                 taken(sink, number, body).await;
             }
-            let (took, own, others) = (
-                began.elapsed().as_secs_f64(),
-                own_processor_time() - own,
-                there() - others,
-            );
+            let (took, own, others) =
+                (began.elapsed().as_secs_f64(), own_processor_time() - own, there() - others);
             println!(
                 "{name}, {size} {} a request, {part}: {:.0} series a second; {:.1} us of processor time a series, {:.1} of them the server's",
                 kind.name(),

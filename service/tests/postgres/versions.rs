@@ -32,19 +32,13 @@ fn make(server: &Server, database: &str, version: usize) {
     for step in &STEPS[..version] {
         server.run_file(database, &format!("begin;\n{step}\ncommit;"));
     }
-    ask(&format!(
-        "insert into totxegun.version values ('totxegun', {version})"
-    ));
+    ask(&format!("insert into totxegun.version values ('totxegun', {version})"));
 }
 
 /// Of one of version 5, whose spans are all in hours or not, one of version 6, as it was before anything was closed.
 fn bring_to_6(server: &Server, database: &str, is_filling: bool) {
     let views = include_str!("../../src/sinks/postgres/views.sql");
-    let views = if is_filling {
-        views.replace("--filling ", "")
-    } else {
-        views.into()
-    };
+    let views = if is_filling { views.replace("--filling ", "") } else { views.into() };
     let step = include_str!("../../src/sinks/postgres/version6.sql");
     let version = "update totxegun.version set version = 6;";
     server.run_file(database, &format!("begin;\n{step}\n{views}\n{version}\ncommit;"));
@@ -81,10 +75,7 @@ async fn a_database_of_an_earlier_version_is_brought_up() {
         refused(&*sink, 2, sum("a", 150, 250, 1), "overlaps").await;
         taken(&*sink, 3, sum("a", 200, 300, 2)).await;
         taken(&*sink, 4, sum("b", 1, 2, 8)).await;
-        assert_eq!(
-            ask("select name, points, total from totxegun.totals order by 1"),
-            "a|2|7\nb|1|8"
-        );
+        assert_eq!(ask("select name, points, total from totxegun.totals order by 1"), "a|2|7\nb|1|8");
         for view in ["by_hour", "totals_by_hour", "by_day", "by_month"] {
             let query = format!("select sum(total), sum(billed) from totxegun.{view}");
             assert_eq!(ask(&query), "15|15", "{view}");
@@ -100,18 +91,13 @@ async fn a_database_of_version_5_that_has_no_older_spans_is_brought_up() {
     bring_to_5(&server, "version5");
     let ask = |query: &str| server.ask_of("version5", query);
     server.run_file("version5", NOTHING_BEFORE);
-    server.run_file(
-        "version5",
-        "create view public.theirs as select name, total from totxegun.totals_by_name",
-    );
+    server
+        .run_file("version5", "create view public.theirs as select name, total from totxegun.totals_by_name");
     let sink = open(&server.by_socket("version5"));
     taken(&*sink, 1, sum("a", 100, 200, 5)).await;
     assert_eq!(ask("select version from totxegun.version"), "7");
     assert_eq!(ask("select name, total from public.theirs"), "a|5");
-    assert_eq!(
-        ask("select total, corrections, billed from totxegun.by_month"),
-        "5|0|5"
-    );
+    assert_eq!(ask("select total, corrections, billed from totxegun.by_month"), "5|0|5");
 }
 
 const NOTHING_BEFORE: &str =
@@ -145,13 +131,8 @@ async fn spans_of_version_6_stay() {
     let ask = |query: &str| server.ask_of("version6", query);
     let sink = open(&server.by_socket("version6"));
     refused(&*sink, 1, histogram("h", 150, 160, None, [1, 0, 0]), "overlaps").await;
-    refused(
-        &*sink,
-        2,
-        histogram("h", 86_400_000_000_000, 86_400_000_000_101, None, [1, 0, 0]),
-        "overlaps",
-    )
-    .await;
+    refused(&*sink, 2, histogram("h", 86_400_000_000_000, 86_400_000_000_101, None, [1, 0, 0]), "overlaps")
+        .await;
     taken(&*sink, 3, histogram("h", 200, 300, Some(4), [1, 0, 0])).await;
     assert_eq!(ask("select version from totxegun.version"), "7");
     assert_eq!(
@@ -162,10 +143,7 @@ async fn spans_of_version_6_stay() {
         ask("select extract(epoch from hour)::int, points, total, count, buckets from totxegun.by_hour order by 1"),
         "0|2|34|9|{6,0,3}\n86400|1|0|9|{9,0,0}"
     );
-    assert_eq!(
-        ask("select series, points, total, count from totxegun.totals"),
-        "1|3|34|18"
-    );
+    assert_eq!(ask("select series, points, total, count from totxegun.totals"), "1|3|34|18");
 }
 
 /// What version 4 had written of 40 series, half of them histograms: of each 1,500 spans of 37 s, and one in the year 2540.
@@ -274,10 +252,7 @@ async fn hours_are_filled_in_while_deliveries_go_on_over_kills() {
     assert!(places.len() > 2, "{places:?}");
     assert_eq!(ask(ODD), "0|0|0|60020");
     let each_once = "select count(*), count(distinct (series, hour)) from totxegun.hour where series <= 40";
-    assert_eq!(
-        ask(each_once),
-        ask("select count(*), count(*) from public.wanted")
-    );
+    assert_eq!(ask(each_once), ask("select count(*), count(*) from public.wanted"));
     let far = "select count(*), min(end_ns) from totxegun.span_other where end_ns < 0";
     assert_eq!(ask(far), "20|-446744073709551607");
     old_spans_go_together(&server, &address, number + 1).await;
@@ -287,10 +262,7 @@ async fn hours_are_filled_in_while_deliveries_go_on_over_kills() {
 /// Once all of them are too old.
 async fn old_spans_go_together(server: &Server, address: &str, number: u64) {
     let ask = |query: &str| server.ask_of("old", query);
-    let keep = Retention {
-        spans: Some(Duration::from_secs(86_400)),
-        ..Retention::default()
-    };
+    let keep = Retention { spans: Some(Duration::from_secs(86_400)), ..Retention::default() };
     let is_gone = "select to_regclass('totxegun.span_before') is null";
     let sink = open_with(address, keep);
     tokio::time::sleep(Duration::from_secs(3)).await;

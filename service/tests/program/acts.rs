@@ -8,9 +8,7 @@ fn own_name() -> String {
     let users = std::fs::read_to_string("/etc/passwd").unwrap();
     let uid = std::fs::metadata("/proc/self").unwrap().uid().to_string();
     let row = users.lines().find(|row| row.split(':').nth(2) == Some(&uid));
-    row.map_or(format!("uid {uid}"), |row| {
-        row.split(':').next().unwrap().to_string()
-    })
+    row.map_or(format!("uid {uid}"), |row| row.split(':').next().unwrap().to_string())
 }
 
 #[test]
@@ -29,25 +27,15 @@ fn who_did_what_and_what_came_of_it() {
     }
     let text = std::fs::read_to_string(place.data().join("acts.jsonl")).unwrap();
     let who = own_name();
-    let acts: Vec<serde_json::Value> = text
-        .lines()
-        .map(|line| serde_json::from_str(line).unwrap())
-        .collect();
-    let found: Vec<_> = acts
-        .iter()
-        .map(|act| (&act["act"], &act["of"], act.get("outcome")))
-        .collect();
+    let acts: Vec<serde_json::Value> = text.lines().map(|line| serde_json::from_str(line).unwrap()).collect();
+    let found: Vec<_> = acts.iter().map(|act| (&act["act"], &act["of"], act.get("outcome"))).collect();
     let mut wanted = Vec::new();
     let told: [[serde_json::Value; 3]; 5] = [
         ["quarantine".into(), "A".into(), "done".into()],
         ["lift".into(), "A".into(), "done".into()],
         ["lift".into(), "B".into(), "400: not quarantined".into()],
         ["dead drop".into(), "0-a-1".into(), "404: no such request".into()],
-        [
-            "dead resend".into(),
-            "0-a-1".into(),
-            "404: no such request".into(),
-        ],
+        ["dead resend".into(), "0-a-1".into(), "404: no such request".into()],
     ];
     for [act, of, outcome] in &told {
         wanted.extend([(act, of, None), (act, of, Some(outcome))]);

@@ -35,36 +35,22 @@ fn a_series_is_put_back_and_what_the_sink_has_of_it_is_told() {
     assert!(status == 400 && why.contains("out of order"), "{why}");
     for (words, part) in [
         (&["repair", "c", "--to", "2026-11-27"][..], "no series is named c"),
-        (
-            &["repair", "a{host=x}", "--to", "2026-11-27"],
-            "no series is named",
-        ),
-        (
-            &["repair", "a", "--to", "2100-01-01"],
-            "after the service's clock",
-        ),
+        (&["repair", "a{host=x}", "--to", "2026-11-27"], "no series is named"),
+        (&["repair", "a", "--to", "2100-01-01"], "after the service's clock"),
     ] {
         let said = service.said(words);
         assert!(said.contains(part), "{said}");
     }
     let said = service.said(&["repair", "a", "--to", "2026-01-01T00:00:00"]);
-    assert!(
-        said.contains("done: 1 series ends at 2026-01-01 00:00:00 now"),
-        "{said}"
-    );
-    assert!(
-        said.contains("; the sink has of it from that hour on 5 in "),
-        "{said}"
-    );
+    assert!(said.contains("done: 1 series ends at 2026-01-01 00:00:00 now"), "{said}");
+    assert!(said.contains("; the sink has of it from that hour on 5 in "), "{said}");
     assert_eq!(service.post("A", &right).unwrap().0, 200);
     // Another that ended ahead is as it was; and so is what was put back, over a kill.
     assert_eq!(service.post("A", &points(&["b"], begun, 1)).unwrap().0, 400);
     service.kill();
     let service = place.serve_with(&["--sink", &sink, "--most-ahead", "off"]);
     assert!(
-        place
-            .log()
-            .contains("1 series end over an hour ahead of this clock, such as "),
+        place.log().contains("1 series end over an hour ahead of this clock, such as "),
         "{}",
         place.log()
     );
@@ -92,18 +78,12 @@ fn a_series_is_put_back_and_what_the_sink_has_of_it_is_told() {
 fn a_sink_that_can_t_tell_a_repeat_wants_it_said() {
     let place = Place::new();
     let service = place.serve_with(&["--sink", crate::support::NO_SINK, "--most-ahead", "off"]);
-    assert_eq!(
-        service.post("A", &points(&["a"], now() + YEAR, 5)).unwrap().0,
-        200
-    );
+    assert_eq!(service.post("A", &points(&["a"], now() + YEAR, 5)).unwrap().0, 200);
     let words = ["repair", "a", "--to", "2026-01-01"];
     let said = service.said(&words);
     assert!(said.contains("give --anyway"), "{said}");
     let said = service.said(&[&words[..], &["--anyway"]].concat());
-    assert!(
-        said.contains("what is posted again of that time counts twice"),
-        "{said}"
-    );
+    assert!(said.contains("what is posted again of that time counts twice"), "{said}");
     assert_eq!(service.post("A", &points(&["a"], now(), 1)).unwrap().0, 200);
     assert_eq!(service.end(), Some(0));
 }

@@ -23,11 +23,7 @@ fn written_and_memory(service: &Service) -> (u64, u64) {
 fn many_points(post: u64) -> String {
     let point = |number: u64| {
         let start = 100 + 10 * (post * POINTS + number);
-        let value = if number.is_multiple_of(2) {
-            1 << 36
-        } else {
-            -(1i64 << 36)
-        };
+        let value = if number.is_multiple_of(2) { 1 << 36 } else { -(1i64 << 36) };
         format!(
             "{{\"asInt\":\"{}\",\"startTimeUnixNano\":\"{start}\",\"timeUnixNano\":\"{}\"}}",
             value + i64::from(number == 0),
@@ -60,10 +56,7 @@ fn posts_of_a_quarantined_sender_cost_a_checkpoint_nothing_and_come_out_whole() 
     let words = ["--flush-every", "1h", "--sink", &sink];
     let mut service = place.serve_with(&words);
     for number in 0..POSTS {
-        assert_eq!(
-            service.post("A", &many_points(number)).unwrap(),
-            (200, "{}".into())
-        );
+        assert_eq!(service.post("A", &many_points(number)).unwrap(), (200, "{}".into()));
     }
     assert_eq!(service.order("/quarantine/A").0, 200);
     let before_all = written_and_memory(&service);
@@ -80,18 +73,11 @@ fn posts_of_a_quarantined_sender_cost_a_checkpoint_nothing_and_come_out_whole() 
     }
     let behind = written_and_memory(&service);
     assert!(behind.0 - before.0 < LITTLE, "{} bytes", behind.0 - before.0);
-    assert!(
-        behind.1 - before_all.1 < bytes / 2,
-        "{} bytes",
-        behind.1 - before_all.1
-    );
+    assert!(behind.1 - before_all.1 < bytes / 2, "{} bytes", behind.1 - before_all.1);
     let journal = &service.status()["slots"][0]["journal"];
     assert!(journal["bytes"].as_u64().unwrap() < LITTLE, "{journal}");
     let page = service.metrics();
-    for line in [
-        format!("totxegun_held_posts {POSTS}"),
-        format!("totxegun_held_bytes {bytes}"),
-    ] {
+    for line in [format!("totxegun_held_posts {POSTS}"), format!("totxegun_held_bytes {bytes}")] {
         assert!(page.lines().any(|found| found == line), "{line} in\n{page}");
     }
     let said = service.said(&["status"]);

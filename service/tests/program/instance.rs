@@ -11,13 +11,7 @@ fn protobuf(end: u64) -> Vec<u8> {
     field(
         1,
         &[
-            field(
-                1,
-                &field(
-                    1,
-                    &[field(1, b"service.name"), field(2, &field(1, b"shop"))].concat(),
-                ),
-            ),
+            field(1, &field(1, &[field(1, b"service.name"), field(2, &field(1, b"shop"))].concat())),
             field(2, &scope),
         ]
         .concat(),
@@ -39,11 +33,7 @@ fn two_processes_that_don_t_name_themselves_have_series_of_their_own() {
     for end in [200, 300, 400] {
         for sender in ["shop-1", "shop-2"] {
             assert_eq!(service.post(sender, &json(end)).unwrap().0, 200, "{sender} {end}");
-            assert_eq!(
-                service.post_protobuf(sender, &protobuf(end)),
-                200,
-                "{sender} {end}"
-            );
+            assert_eq!(service.post_protobuf(sender, &protobuf(end)), 200, "{sender} {end}");
             let (status, why) = service.post(sender, &json(end)).unwrap();
             assert!(status == 400 && why.contains("out of order"), "{why}");
         }
@@ -54,11 +44,7 @@ fn two_processes_that_don_t_name_themselves_have_series_of_their_own() {
     assert_eq!(service.series(), 5);
     let shown = service.said(&["totals"]);
     let rows = |part: &str| shown.lines().filter(|line| line.contains(part)).count();
-    assert_eq!(
-        (rows("\"shop-1\""), rows("\"shop-2\""), rows("orders")),
-        (2, 2, 3),
-        "{shown}"
-    );
+    assert_eq!((rows("\"shop-1\""), rows("\"shop-2\""), rows("orders")), (2, 2, 3), "{shown}");
     assert!(rows(" 9 ") >= 2, "{shown}");
     service.has_no_fault();
     assert_eq!(service.end(), Some(0));

@@ -71,11 +71,7 @@ impl Asked {
         }
         let mut body = vec![0; length];
         reader.read_exact(&mut body).unwrap();
-        Asked {
-            stream: reader.into_inner(),
-            key,
-            body,
-        }
+        Asked { stream: reader.into_inner(), key, body }
     }
 
     fn answer(mut self, status: &str) -> String {
@@ -117,10 +113,7 @@ fn a_letter_that_is_being_delivered_is_not_sent_meanwhile() {
         assert_eq!(sink.next().answer("200 OK"), key);
         assert_eq!(resent.join().unwrap(), format!("done: the sink has {key}\n"));
     });
-    assert_eq!(
-        service.said(&["dead", "list"]),
-        "the sink has refused nothing for good\n"
-    );
+    assert_eq!(service.said(&["dead", "list"]), "the sink has refused nothing for good\n");
 }
 
 #[test]
@@ -137,10 +130,7 @@ fn all_letters_are_sent_until_the_sink_fails() {
         let said = scope.spawn(|| service.said(&resend));
         let asked = sink.answers(2, &["200 OK", "503 Service Unavailable"]);
         let said = said.join().unwrap();
-        assert!(
-            said.contains("the sink has taken 1 request: the sink did not take 0-a-"),
-            "{said}"
-        );
+        assert!(said.contains("the sink has taken 1 request: the sink did not take 0-a-"), "{said}");
         assert_eq!(asked.len(), 2);
     });
     std::thread::scope(|scope| {

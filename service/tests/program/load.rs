@@ -15,22 +15,13 @@ pub struct Load {
 
 impl Load {
     pub fn begin(senders: usize, first: u64) -> Load {
-        let (address, ends) = (
-            Arc::new(RwLock::new(String::new())),
-            Arc::new(AtomicBool::new(false)),
-        );
+        let (address, ends) = (Arc::new(RwLock::new(String::new())), Arc::new(AtomicBool::new(false)));
         let mut threads = Vec::new();
         for sender in 0..senders {
             let (address, ends) = (address.clone(), ends.clone());
-            threads.push(std::thread::spawn(move || {
-                post_all(&format!("s{sender}"), first, &address, &ends)
-            }));
+            threads.push(std::thread::spawn(move || post_all(&format!("s{sender}"), first, &address, &ends)));
         }
-        Load {
-            address,
-            ends,
-            threads,
-        }
+        Load { address, ends, threads }
     }
 
     pub fn goes_to(&self, service: &Service) {
@@ -40,10 +31,7 @@ impl Load {
     /// By series, what was answered as taken.
     pub fn end(self) -> BTreeMap<String, i64> {
         self.ends.store(true, Relaxed);
-        self.threads
-            .into_iter()
-            .map(|thread| thread.join().unwrap())
-            .collect()
+        self.threads.into_iter().map(|thread| thread.join().unwrap()).collect()
     }
 }
 

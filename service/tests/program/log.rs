@@ -29,11 +29,7 @@ fn a_log_that_nobody_can_write_ends_nothing() {
         let place = Place::new();
         let service = place.begin_by(into(log), &["--sink", NO_SINK]);
         until("it is ready", || service.is_ready());
-        assert_eq!(
-            service.post_until_answered("A", &points(&["a"], 100, 5)).0,
-            200,
-            "{log}"
-        );
+        assert_eq!(service.post_until_answered("A", &points(&["a"], 100, 5)).0, 200, "{log}");
         assert_eq!(service.end(), Some(0), "{log}");
         std::fs::write(place.data().join("version"), "of nothing").unwrap();
         let mut damaged = place.begin_by(into(log), &["--sink", NO_SINK]);
@@ -82,9 +78,7 @@ impl Pipe {
 
 fn lost_lines(service: &Service) -> u64 {
     let page = service.metrics();
-    let line = page
-        .lines()
-        .find_map(|line| line.strip_prefix("totxegun_log_lines_lost_total "));
+    let line = page.lines().find_map(|line| line.strip_prefix("totxegun_log_lines_lost_total "));
     line.expect("no metric").parse().unwrap()
 }
 
@@ -128,10 +122,7 @@ fn lines_that_find_no_room_are_counted_where_they_are_missing() {
         lost_lines(&service) > 0
     });
     let text = pipe.read_until("lines of the log that are missing here");
-    let note = format!(
-        "totxegun: lines of the log that are missing here: {}",
-        lost_lines(&service)
-    );
+    let note = format!("totxegun: lines of the log that are missing here: {}", lost_lines(&service));
     assert!(text.lines().any(|line| line == note), "no `{note}`");
     let is_whole = |line: &str| line.starts_with("20") || line.starts_with("totxegun: ");
     assert!(text.lines().all(is_whole));
@@ -144,11 +135,7 @@ fn lines_that_find_no_room_are_counted_where_they_are_missing() {
 /// The folder's place has a copy of it.
 fn copy_folder(place: &Place) {
     let (data, copy) = (place.data(), place.folder.path().join("copy"));
-    let copied = Command::new("cp")
-        .arg("-a")
-        .args([&data, &copy])
-        .status()
-        .unwrap();
+    let copied = Command::new("cp").arg("-a").args([&data, &copy]).status().unwrap();
     assert!(copied.success());
     std::fs::remove_dir_all(&data).unwrap();
     std::fs::rename(copy, data).unwrap();
@@ -164,9 +151,7 @@ fn told_in_json(place: &Place) -> (PathBuf, Vec<Value>) {
     let file = change_request(place).0;
     copy_folder(place);
     let service = place.serve_with(&["--sink", NO_SINK, "--log-json"]);
-    until("the delivery stops", || {
-        !service.status()["slots"][0]["stuck"].is_null()
-    });
+    until("the delivery stops", || !service.status()["slots"][0]["stuck"].is_null());
     assert_eq!(service.end(), Some(0));
     let log = place.log();
     let lines = log.lines().map(|line| serde_json::from_str(line).unwrap());
@@ -178,12 +163,7 @@ fn told_in_json(place: &Place) -> (PathBuf, Vec<Value>) {
 fn what_a_line_of_json_names_is_in_its_fields() {
     let place = Place::new();
     let (file, lines) = told_in_json(&place);
-    let line = |part: &str| {
-        lines
-            .iter()
-            .find(|line| line["text"].as_str().unwrap().contains(part))
-            .unwrap()
-    };
+    let line = |part: &str| lines.iter().find(|line| line["text"].as_str().unwrap().contains(part)).unwrap();
     let begun = line(" goes on after ");
     assert_eq!(begun["level"], "INFO");
     assert_eq!(begun["slot"], 0);
@@ -192,16 +172,10 @@ fn what_a_line_of_json_names_is_in_its_fields() {
     let copied = line(" was copied or put back");
     assert_eq!(copied["level"], "WARN");
     assert_eq!(copied["folder"], place.data().to_str().unwrap());
-    assert!(copied["text"]
-        .as_str()
-        .unwrap()
-        .contains(copied["epoch"].as_str().unwrap()));
+    assert!(copied["text"].as_str().unwrap().contains(copied["epoch"].as_str().unwrap()));
     let stopped = line("the delivery of ");
     assert_eq!(stopped["level"], "ERROR");
-    assert_eq!(
-        stopped["folder"],
-        place.data().join("slot-0/outbox").to_str().unwrap()
-    );
+    assert_eq!(stopped["folder"], place.data().join("slot-0/outbox").to_str().unwrap());
     let reason = stopped["reason"].as_str().unwrap();
     assert!(reason.contains(file.to_str().unwrap()), "{reason}");
     assert!(stopped["text"].as_str().unwrap().ends_with(reason));

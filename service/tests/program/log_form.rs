@@ -31,10 +31,7 @@ fn a_log_in_json_has_an_object_a_line_with_its_fields() {
     assert_eq!(field("level"), "WARN");
     assert_eq!(sink, format!("otlp {NO_SINK}"));
     assert!(key.starts_with("0-") && reason.starts_with("no answer"), "{told}");
-    assert_eq!(
-        field("text"),
-        format!("{sink} has not taken request {key}: {reason}; it is sent again")
-    );
+    assert_eq!(field("text"), format!("{sink} has not taken request {key}: {reason}; it is sent again"));
 }
 
 #[test]
@@ -59,10 +56,8 @@ fn journald_gets_a_priority_for_each_line() {
     let mut command = Command::new(PROGRAM);
     command.env("JOURNAL_STREAM", format!("{}:{}", found.dev(), found.ino()));
     let log = log_of(&place, place.begin_by(command, &["--sink", NO_SINK]));
-    let ours: Vec<&str> = log
-        .lines()
-        .filter(|line| line.contains(" INFO ") || line.contains(" WARN "))
-        .collect();
+    let ours: Vec<&str> =
+        log.lines().filter(|line| line.contains(" INFO ") || line.contains(" WARN ")).collect();
     assert!(ours.len() > 3, "{log}");
     for line in ours {
         let priority = if line.contains(" WARN ") { "<4>" } else { "<5>" };

@@ -45,9 +45,7 @@ fn owners_and_frontiers_outlive_kills_and_other_numbers_of_books() {
             }
             let taken = service.post(sender, &points(&[sender], end, 1)).unwrap();
             assert_eq!(taken, (200, "{}".into()), "{sender}");
-            let other = service
-                .post("other", &points(&["free", sender], end + 10, 1))
-                .unwrap();
+            let other = service.post("other", &points(&["free", sender], end + 10, 1)).unwrap();
             let wanted = format!(
                 "other writer: point 1: `{sender}` {{}} is another sender's: give each process its own service.instance.id"
             );
@@ -69,10 +67,7 @@ fn owners_and_frontiers_outlive_kills_and_other_numbers_of_books() {
     }
     let totals = place.totals();
     assert_eq!(totals.len(), 12);
-    assert!(
-        totals.values().all(|total| *total == runs.len() as i64),
-        "{totals:?}"
-    );
+    assert!(totals.values().all(|total| *total == runs.len() as i64), "{totals:?}");
 }
 
 #[test]
@@ -134,10 +129,7 @@ fn a_folder_with_more_series_than_fit_is_refused_by_name() {
     let mut small = place.begin(&["--sink", NO_SINK, "--most-series", "8000"]);
     assert_eq!(small.status_of_end(), Some(1));
     let log = place.log();
-    assert!(
-        log.contains("too many series") && log.contains("--most-series"),
-        "{log}"
-    );
+    assert!(log.contains("too many series") && log.contains("--most-series"), "{log}");
     let service = place.serve_into_another();
     assert_eq!(service.post("A", &points(&names[..1], 110, 1)).unwrap().0, 200);
     service.drain();
@@ -151,14 +143,7 @@ fn a_folder_with_more_series_than_fit_is_refused_by_name() {
 fn a_book_without_memory_takes_no_posts_and_forwards_all_that_it_took() {
     let place = Place::new();
     let sink = format!("sqlite:{}", place.folder.path().join("sink.db").display());
-    let words = [
-        "--sink",
-        &sink,
-        "--most-series",
-        "20000",
-        "--book-memory",
-        "64MiB",
-    ];
+    let words = ["--sink", &sink, "--most-series", "20000", "--book-memory", "64MiB"];
     let service = place.serve_with(&words);
     let long = "x".repeat(4_000);
     let mut taken: Vec<String> = Vec::new();

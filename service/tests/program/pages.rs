@@ -47,10 +47,7 @@ fn a_page_changes_nothing_and_reads_nothing() {
         ("Origin: null", "it has an Origin"),
         ("Sec-Fetch-Site: cross-site", "it has a Sec-Fetch-Site"),
         ("Sec-Fetch-Site: same-origin", "it has a Sec-Fetch-Site"),
-        (
-            "Host: evil.example:4319",
-            "`evil.example:4319` is no name of this address",
-        ),
+        ("Host: evil.example:4319", "`evil.example:4319` is no name of this address"),
     ] {
         for (method, path) in GUARDED {
             for ask in [curl, at_socket] {
@@ -72,12 +69,9 @@ fn programs_ask_as_before() {
     let port = service.operate.rsplit_once(':').unwrap().1;
     let by_name = format!("Host: localhost:{port}");
     for headers in [&[][..], &[&*by_name], &["Sec-Fetch-Site: none"], &["Host: [::1]"]] {
-        for (path, wanted) in [
-            ("/flush", 200),
-            ("/quarantine/B", 200),
-            ("/lift/B", 200),
-            ("/dead/0-a-1/drop", 404),
-        ] {
+        for (path, wanted) in
+            [("/flush", 200), ("/quarantine/B", 200), ("/lift/B", 200), ("/dead/0-a-1/drop", 404)]
+        {
             let (status, body) = at_socket(&service, "POST", path, headers);
             assert_eq!(status, wanted, "{headers:?}: {path}: {body}");
         }
@@ -94,11 +88,7 @@ fn programs_ask_as_before() {
     }
     // A probe by another name.
     for path in ["/health", "/ready"] {
-        assert_eq!(
-            curl(&service, "GET", path, &["Host: totxegun:4319"]).0,
-            200,
-            "{path}"
-        );
+        assert_eq!(curl(&service, "GET", path, &["Host: totxegun:4319"]).0, 200, "{path}");
     }
     let said = service.said(&["flush"]);
     assert_eq!(said, "done: there was nothing to put into the outbox\n");

@@ -6,16 +6,7 @@ use std::process::Command;
 /// What a post is answered, with its head.
 fn posted(service: &Service, header: &str, body: &str) -> String {
     let output = Command::new("curl")
-        .args([
-            "-sS",
-            "-i",
-            "-H",
-            "Content-Type: application/json",
-            "-H",
-            header,
-            "-d",
-            body,
-        ])
+        .args(["-sS", "-i", "-H", "Content-Type: application/json", "-H", header, "-d", body])
         .arg(format!("http://{}/v1/metrics", service.listen))
         .output();
     String::from_utf8(output.unwrap().stdout).unwrap()
@@ -42,11 +33,7 @@ fn a_sender_that_posts_too_much_has_to_wait_and_loses_nothing() {
         over.contains("over its share: A may post 1 points a second, 60 at once: again in 1 s"),
         "{over}"
     );
-    assert_eq!(
-        service.post("B", &body(&names("c", 60), 100)).unwrap().0,
-        200,
-        "another has its own"
-    );
+    assert_eq!(service.post("B", &body(&names("c", 60), 100)).unwrap().0, 200, "another has its own");
     let shown = service.said(&["status"]);
     assert!(shown.contains("nearest to its share"), "{shown}");
     let ratio = "totxegun_sender_share_ratio{of=\"points\",sender=\"A\"} ";
@@ -77,11 +64,7 @@ fn a_sender_with_all_of_its_series_gets_no_new_ones() {
     assert_eq!(service.end(), Some(0));
     let service = place.serve_with(&words);
     until("they are counted", || is_over(&service));
-    assert_eq!(
-        service.post("A", &body(&first, 200)).unwrap().0,
-        200,
-        "what it has goes on"
-    );
+    assert_eq!(service.post("A", &body(&first, 200)).unwrap().0, 200, "what it has goes on");
     assert_eq!(service.post("B", &body(&names("b", 3), 100)).unwrap().0, 200);
     service.drain();
     assert_eq!(place.totals().values().sum::<i64>(), 9);
@@ -92,14 +75,7 @@ fn a_sender_with_all_of_its_series_gets_no_new_ones() {
 #[test]
 fn series_that_nobody_posts_to_make_room_in_a_share() {
     let place = Place::new();
-    let words = [
-        "--sink",
-        &place.sink(),
-        "--sender-series",
-        "3",
-        "--forget-series",
-        "1s",
-    ];
+    let words = ["--sink", &place.sink(), "--sender-series", "3", "--forget-series", "1s"];
     let service = place.serve_with(&words);
     assert_eq!(service.post("A", &body(&names("a", 3), 100)).unwrap().0, 200);
     let new = || posted(&service, "x-sender: A", &body(&names("b", 1), 100));

@@ -7,10 +7,7 @@ use std::process::{Command, Output};
 
 /// A command as it is given, with a setting as the service may have it.
 fn told(words: &[&str], operate: &str) -> Output {
-    let command = Command::new(PROGRAM)
-        .args(words)
-        .env("TOTXEGUN_OPERATE", operate)
-        .output();
+    let command = Command::new(PROGRAM).args(words).env("TOTXEGUN_OPERATE", operate).output();
     command.unwrap()
 }
 
@@ -68,9 +65,7 @@ fn orders_are_taken_at_the_socket_alone() {
         assert!(service.said(words).contains(said), "{words:?}");
     }
     until("it is delivered", || place.totals_if_any().get("a") == Some(&1));
-    assert!(place
-        .log()
-        .contains(&format!("order at unix:{}", socket.display())));
+    assert!(place.log().contains(&format!("order at unix:{}", socket.display())));
     assert_eq!(service.end(), Some(0));
 }
 
@@ -93,10 +88,7 @@ fn a_command_finds_the_socket() {
     }
     for (words, why) in [
         (&["flush", "--data", &data][..], "there is no unix:"),
-        (
-            &["flush", "--operate", &service.operate],
-            "run totxegun on the service's machine with its --data",
-        ),
+        (&["flush", "--operate", &service.operate], "run totxegun on the service's machine with its --data"),
     ] {
         let output = told(words, "");
         assert!(text(&output).contains(why), "{words:?}: {}", text(&output));
@@ -116,11 +108,7 @@ fn a_token_is_taken_over_tcp() {
     let words = ["--sink", &place.sink(), "--operate-tokens", &at("operators")];
     let service = place.serve_with(&words);
     for path in ORDERS {
-        for header in [
-            "x: y",
-            "Authorization: Bearer t0ken",
-            &format!("Authorization: {token}"),
-        ] {
+        for header in ["x: y", "Authorization: Bearer t0ken", &format!("Authorization: {token}")] {
             let answer = over_tcp(&service, path, header);
             let is_refused =
                 answer.starts_with("HTTP/1.1 401") && answer.contains("www-authenticate: Bearer");
@@ -128,19 +116,12 @@ fn a_token_is_taken_over_tcp() {
         }
     }
     let without = text(&told(&["flush", "--operate", &service.operate], ""));
-    assert!(
-        without.contains("give the file that has it by --token FILE"),
-        "{without}"
-    );
+    assert!(without.contains("give the file that has it by --token FILE"), "{without}");
     let both = ["--operate", &service.operate, "--token", &at("token")];
     let by_token = |words: &[&str]| text(&told(&[words, &both].concat(), ""));
     assert_eq!(by_token(&["quarantine", "A"]), "done\n");
     let acts = || std::fs::read_to_string(place.data().join("acts.jsonl")).unwrap();
-    assert!(
-        acts().contains("\"who\":\"ann\",\"act\":\"quarantine\""),
-        "{}",
-        acts()
-    );
+    assert!(acts().contains("\"who\":\"ann\",\"act\":\"quarantine\""), "{}", acts());
     // A page that has it is one of somebody else all the same.
     let mut command = Command::new("curl");
     command.args([
@@ -155,9 +136,7 @@ fn a_token_is_taken_over_tcp() {
     let answer = command.arg(format!("http://{}/lift/A", service.operate)).output();
     assert!(text(&answer.unwrap()).contains("it has an Origin"));
     std::fs::write(at("operators"), "").unwrap();
-    until("its line is gone", || {
-        by_token(&["flush"]).contains("the token is not known")
-    });
+    until("its line is gone", || by_token(&["flush"]).contains("the token is not known"));
     assert_eq!(service.said(&["lift", "A"]), "done\n", "the socket wants none");
     assert!(!place.log().contains(&token) && !acts().contains(&token));
     assert_eq!(service.end(), Some(0));
@@ -170,20 +149,8 @@ fn tokens_of_operators_stay_on_this_machine() {
     let file = place.folder.path().join("operators");
     std::fs::write(&file, format!("ann sha256:{}", "0".repeat(64))).unwrap();
     let mut command = Command::new(PROGRAM);
-    command.args([
-        "serve",
-        "--listen",
-        "127.0.0.1:0",
-        "--operate",
-        "0.0.0.0:0",
-        "--operate-tokens",
-    ]);
-    let output = command
-        .arg(&file)
-        .arg("--data")
-        .arg(place.data())
-        .output()
-        .unwrap();
+    command.args(["serve", "--listen", "127.0.0.1:0", "--operate", "0.0.0.0:0", "--operate-tokens"]);
+    let output = command.arg(&file).arg("--data").arg(place.data()).output().unwrap();
     assert_eq!(output.status.code(), Some(2));
     assert!(text(&output).contains("--behind-proxy"), "{}", text(&output));
 }
@@ -201,10 +168,7 @@ fn a_page_has_dead_requests_at_the_socket_alone() {
     assert!(page.contains("<b>1</b><span>dead requests") && page.contains("totxegun dead list"));
     assert!(!page.contains("0-a-1") && !page.contains("host h1"), "{page}");
     let (_, page) = service.at_socket("GET", "/").unwrap();
-    assert!(
-        page.contains("0-a-1") && page.contains("400 of host h1"),
-        "{page}"
-    );
+    assert!(page.contains("0-a-1") && page.contains("400 of host h1"), "{page}");
 }
 
 /// Its file stays, and the next run takes its place.
@@ -238,25 +202,12 @@ fn a_socket_may_be_the_only_address() {
     let socket = format!("unix:{}", place.folder.path().join("operate").display());
     let mut command = Command::new(PROGRAM);
     command.args(["serve", "--listen", "127.0.0.1:0", "--operate", &socket, "--data"]);
-    let mut service = command
-        .arg(place.data())
-        .stderr(std::process::Stdio::null())
-        .spawn()
-        .unwrap();
-    until("it is ready", || {
-        text(&told(&["status"], &socket)).contains("ready")
-    });
-    for (more, why) in [
-        ("unix:/x", "a second address"),
-        ("127.0.0.1:1,127.0.0.1:2", "a second address"),
-    ] {
+    let mut service = command.arg(place.data()).stderr(std::process::Stdio::null()).spawn().unwrap();
+    until("it is ready", || text(&told(&["status"], &socket)).contains("ready"));
+    for (more, why) in [("unix:/x", "a second address"), ("127.0.0.1:1,127.0.0.1:2", "a second address")] {
         let both = format!("{socket},{more}");
         let twice = told(&["serve", "--listen", "127.0.0.1:0", "--data", "/nowhere"], &both);
-        assert!(
-            twice.status.code() == Some(2) && text(&twice).contains(why),
-            "{}",
-            text(&twice)
-        );
+        assert!(twice.status.code() == Some(2) && text(&twice).contains(why), "{}", text(&twice));
     }
     service.kill().unwrap();
     service.wait().unwrap();
@@ -279,10 +230,7 @@ fn who_has_no_rights_is_told_what_to_do() {
     if said.contains("setpriv:") {
         return eprintln!("skipped: no right to be somebody else");
     }
-    assert!(
-        said.contains("is closed to this user: run this as root"),
-        "{said}"
-    );
+    assert!(said.contains("is closed to this user: run this as root"), "{said}");
     assert_eq!(output.status.code(), Some(1));
     assert_eq!(service.end(), Some(0));
 }

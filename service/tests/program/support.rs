@@ -60,12 +60,7 @@ impl Place {
             .stdout(Stdio::null())
             .spawn()
             .unwrap();
-        Service {
-            child,
-            listen,
-            operate,
-            data: self.data(),
-        }
+        Service { child, listen, operate, data: self.data() }
     }
 
     /// One that is ready, with a SQLite file as its sink.
@@ -94,16 +89,12 @@ impl Place {
 
     /// By the metric's name, its total, as the program's own command shows it.
     pub fn totals(&self) -> BTreeMap<String, i64> {
-        let output = Command::new(PROGRAM)
-            .args(["totals", "--json", "--sink", &self.sink()])
-            .output()
-            .unwrap();
+        let output =
+            Command::new(PROGRAM).args(["totals", "--json", "--sink", &self.sink()]).output().unwrap();
         assert!(output.status.success(), "{output:?}");
         let rows: Vec<serde_json::Value> = serde_json::from_slice(&output.stdout).unwrap();
         let row = |row: &serde_json::Value| {
-            let total = row["total"]
-                .as_str()
-                .map_or(row["total"].as_i64(), |text| text.parse().ok());
+            let total = row["total"].as_str().map_or(row["total"].as_i64(), |text| text.parse().ok());
             let name = row["name"].as_str().unwrap().to_string();
             (name, total.unwrap_or_else(|| panic!("{row}")))
         };
@@ -172,12 +163,7 @@ impl Service {
 
     /// What a command of the program says, on either stream.
     pub fn said(&self, words: &[&str]) -> String {
-        let output = Command::new(PROGRAM)
-            .args(words)
-            .arg("--data")
-            .arg(&self.data)
-            .output()
-            .unwrap();
+        let output = Command::new(PROGRAM).args(words).arg("--data").arg(&self.data).output().unwrap();
         String::from_utf8([output.stdout, output.stderr].concat()).unwrap()
     }
 
@@ -261,19 +247,14 @@ impl Service {
 
     pub fn has_no_fault(&self) {
         let page = self.metrics();
-        let faults = page
-            .lines()
-            .filter(|line| line.starts_with("totxegun_faults_total"));
+        let faults = page.lines().filter(|line| line.starts_with("totxegun_faults_total"));
         let wrong: Vec<&str> = faults.filter(|line| !line.ends_with(" 0")).collect();
         assert!(wrong.is_empty(), "{wrong:?}");
     }
 }
 
 pub fn signal(pid: u32, name: &str) {
-    let _ = Command::new("kill")
-        .args([format!("-{name}"), pid.to_string()])
-        .stderr(Stdio::null())
-        .status();
+    let _ = Command::new("kill").args([format!("-{name}"), pid.to_string()]).stderr(Stdio::null()).status();
 }
 
 pub fn asked(address: &str, method: &str, path: &str, sender: &str, body: &str) -> Option<(u16, String)> {
@@ -329,8 +310,5 @@ pub fn points(names: &[&str], end: u64, value: i64) -> String {
         )
     };
     let metrics: Vec<String> = names.iter().map(metric).collect();
-    format!(
-        "{{\"resourceMetrics\":[{{\"scopeMetrics\":[{{\"metrics\":[{}]}}]}}]}}",
-        metrics.join(",")
-    )
+    format!("{{\"resourceMetrics\":[{{\"scopeMetrics\":[{{\"metrics\":[{}]}}]}}]}}", metrics.join(","))
 }

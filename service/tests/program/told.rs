@@ -17,11 +17,7 @@ fn a_quarantined_sender_that_names_none_is_shown() {
     assert_eq!(service.order("/quarantine/-").0, 200);
     assert!(shown().ends_with("1 sender: - (who names none)"), "{}", shown());
     assert_eq!(service.end(), Some(0));
-    let checked = Command::new(PROGRAM)
-        .arg("check")
-        .arg(place.data())
-        .output()
-        .unwrap();
+    let checked = Command::new(PROGRAM).arg("check").arg(place.data()).output().unwrap();
     let text = String::from_utf8(checked.stdout).unwrap();
     assert!(text.contains("1 sender: - (who names none)"), "{text}");
 }
@@ -32,39 +28,18 @@ fn an_operator_sees_the_books() {
     let service = place.serve();
     assert_eq!(service.post("A", &points(&["a", "b"], 100, 5)).unwrap().0, 200);
     let (status, report) = service.asked_for("/report").unwrap();
-    assert_eq!(
-        (status, report.matches("owner A frontier 100").count()),
-        (200, 2),
-        "{report}"
-    );
-    assert!(
-        report.ends_with("end\n") && report.matches("end\n").count() == 1,
-        "{report}"
-    );
+    assert_eq!((status, report.matches("owner A frontier 100").count()), (200, 2), "{report}");
+    assert!(report.ends_with("end\n") && report.matches("end\n").count() == 1, "{report}");
     assert_eq!(service.order("/renew").0, 404);
     let books = &service.status()["books"];
-    assert_eq!(
-        (&books["count"], &books["most_series"]),
-        (&13.into(), &100_000.into())
-    );
-    assert!(
-        books["most_memory_bytes"].as_u64() > books["memory_bytes"].as_u64(),
-        "{books}"
-    );
+    assert_eq!((&books["count"], &books["most_series"]), (&13.into(), &100_000.into()));
+    assert!(books["most_memory_bytes"].as_u64() > books["memory_bytes"].as_u64(), "{books}");
     let said = service.said(&["status"]);
-    assert!(
-        said.lines()
-            .any(|line| line.contains(" 13, with room for 100000 series, ")),
-        "{said}"
-    );
+    assert!(said.lines().any(|line| line.contains(" 13, with room for 100000 series, ")), "{said}");
     let page = service.metrics();
     let value = |name: &str| {
-        let line = page
-            .lines()
-            .find_map(|line| line.strip_prefix(&format!("{name} ")));
-        line.unwrap_or_else(|| panic!("{name} in\n{page}"))
-            .parse::<f64>()
-            .unwrap()
+        let line = page.lines().find_map(|line| line.strip_prefix(&format!("{name} ")));
+        line.unwrap_or_else(|| panic!("{name} in\n{page}")).parse::<f64>().unwrap()
     };
     assert!(value("totxegun_book_memory_bytes") > 0.0);
     assert!(value("totxegun_book_memory_most_bytes") > value("totxegun_book_memory_bytes"));
@@ -92,9 +67,7 @@ fn letters_that_take_long_hold_up_nothing_else() {
     let made = Command::new("mkfifo").arg(&letter).status();
     assert!(made.unwrap().success());
     std::thread::scope(|scope| {
-        let lists: Vec<_> = (0..4)
-            .map(|_| scope.spawn(|| service.at_socket("GET", "/dead")))
-            .collect();
+        let lists: Vec<_> = (0..4).map(|_| scope.spawn(|| service.at_socket("GET", "/dead"))).collect();
         std::thread::sleep(Duration::from_millis(300));
         let (answered, answer) = std::sync::mpsc::channel();
         let asked = &service;
@@ -134,17 +107,12 @@ fn on_a_small_disk(place: &Place) -> Command {
     std::fs::create_dir(place.data()).unwrap();
     let mut command = Command::new("unshare");
     let script = "mount -t tmpfs -o size=80m tmpfs \"$1\" && shift && exec \"$@\"";
-    command
-        .args(["--mount", "sh", "-c", script, "sh"])
-        .arg(place.data())
-        .arg(PROGRAM);
+    command.args(["--mount", "sh", "-c", script, "sh"]).arg(place.data()).arg(PROGRAM);
     command
 }
 
 fn may_mount() -> bool {
-    let tried = Command::new("unshare")
-        .args(["--mount", "mount", "-t", "tmpfs", "tmpfs", "/mnt"])
-        .status();
+    let tried = Command::new("unshare").args(["--mount", "mount", "-t", "tmpfs", "tmpfs", "/mnt"]).status();
     tried.is_ok_and(|status| status.success())
 }
 
@@ -166,10 +134,7 @@ fn a_sink_in_a_folder_that_is_sealed_is_told_with_what_opens_it() {
     let service = place.begin_by(command, &["--sink", &sink]);
     until("it is ready", || service.is_ready());
     let log = place.log();
-    assert!(
-        log.contains(&format!("`ReadWritePaths={}`", folder.display())),
-        "{log}"
-    );
+    assert!(log.contains(&format!("`ReadWritePaths={}`", folder.display())), "{log}");
 }
 
 #[test]
@@ -185,32 +150,18 @@ fn a_disk_without_room_is_told() {
     assert_eq!(service.post("A", &points(&["a"], 100, 5)).unwrap().0, 200);
     assert!(service.metrics().contains("totxegun_ready 1"));
     let disk = place.data();
-    let filling = service
-        .root()
-        .join(disk.strip_prefix("/").unwrap())
-        .join("filling");
+    let filling = service.root().join(disk.strip_prefix("/").unwrap()).join("filling");
     std::fs::write(&filling, vec![0; 20 << 20]).unwrap();
-    until("posts are refused", || {
-        service.post("A", &points(&["a"], 110, 5)).unwrap().0 == 503
-    });
+    until("posts are refused", || service.post("A", &points(&["a"], 110, 5)).unwrap().0 == 503);
     let (status, text) = service.asked_for("/ready").unwrap();
-    assert!(
-        status == 503 && text.contains("no room for the journal"),
-        "{text}"
-    );
+    assert!(status == 503 && text.contains("no room for the journal"), "{text}");
     assert!(service.metrics().contains("totxegun_ready 0"));
     let socket = format!("unix:{}", service.reached().display());
     let said = service.said(&["status", "--operate", &socket]);
     let lines: Vec<&str> = said.lines().collect();
     assert!(lines[0].contains("not ready"), "{said}");
-    let why = format!(
-        "no room for the journal: make room on the disk of {}",
-        disk.display()
-    );
-    assert!(
-        lines[1].starts_with("posts get 503") && lines[1].ends_with(&why),
-        "{said}"
-    );
+    let why = format!("no room for the journal: make room on the disk of {}", disk.display());
+    assert!(lines[1].starts_with("posts get 503") && lines[1].ends_with(&why), "{said}");
     let log = place.log();
     assert!(log.contains("so posts get 503 until there is more"), "{log}");
     std::fs::remove_file(&filling).unwrap();
@@ -227,10 +178,7 @@ fn that_old_spans_are_deleted_is_told_once() {
     let place = Place::new();
     let spans = || {
         let file = place.folder.path().join("sink.db");
-        let asked = Command::new("sqlite3")
-            .arg(file)
-            .arg("select count(*) from span")
-            .output();
+        let asked = Command::new("sqlite3").arg(file).arg("select count(*) from span").output();
         String::from_utf8(asked.unwrap().stdout).unwrap()
     };
     for name in ["a", "b"] {
@@ -242,13 +190,7 @@ fn that_old_spans_are_deleted_is_told_once() {
         until("they are deleted", || spans() == "0\n");
         assert_eq!(service.end(), Some(0));
         let log = place.log();
-        let told: Vec<&str> = log
-            .lines()
-            .filter(|line| line.contains("--keep-spans forever"))
-            .collect();
-        assert!(
-            told.len() == 1 && told[0].contains("WARN") && told[0].contains("35 d 0 h"),
-            "{log}"
-        );
+        let told: Vec<&str> = log.lines().filter(|line| line.contains("--keep-spans forever")).collect();
+        assert!(told.len() == 1 && told[0].contains("WARN") && told[0].contains("35 d 0 h"), "{log}");
     }
 }

@@ -22,10 +22,7 @@ impl Pair {
     fn start() -> Option<Pair> {
         let first = Server::start("")?;
         let second = first.standby();
-        Some(Pair {
-            servers: [first, second],
-            primary: 0,
-        })
+        Some(Pair { servers: [first, second], primary: 0 })
     }
 
     fn primary(&mut self) -> &mut Server {
@@ -38,10 +35,7 @@ impl Pair {
 
     fn address(&self) -> String {
         let [first, second] = &self.servers;
-        format!(
-            "postgres://postgres@127.0.0.1:{},127.0.0.1:{}/postgres",
-            first.port, second.port
-        )
+        format!("postgres://postgres@127.0.0.1:{},127.0.0.1:{}/postgres", first.port, second.port)
     }
 
     fn store(&self) -> PostgresStore {
@@ -66,8 +60,7 @@ fn fault(pair: &mut Pair, round: u64) -> &'static str {
     let backends = "from pg_stat_activity where application_name = 'totxegun'";
     match round % 5 {
         0 => {
-            pair.primary()
-                .ask(&format!("select pg_terminate_backend(pid) {backends}"));
+            pair.primary().ask(&format!("select pg_terminate_backend(pid) {backends}"));
             "backends terminated"
         }
         1 => {
@@ -80,8 +73,7 @@ fn fault(pair: &mut Pair, round: u64) -> &'static str {
             pair.standby().hold(Signal::SIGSTOP);
             for _ in 0..3 {
                 sleep(Duration::from_millis(200));
-                pair.primary()
-                    .ask(&format!("select pg_cancel_backend(pid) from {WAITS}"));
+                pair.primary().ask(&format!("select pg_cancel_backend(pid) from {WAITS}"));
             }
             pair.standby().hold(Signal::SIGCONT);
             "waits cancelled"
@@ -116,19 +108,12 @@ fn what_a_sync_said_yes_to_is_there_whatever_befalls_the_servers() {
     });
     for round in 0..rounds(10) {
         let before = done.load(SeqCst);
-        wait_until("it works", || {
-            done.load(SeqCst) > before + 3 || working.is_finished()
-        });
+        wait_until("it works", || done.load(SeqCst) > before + 3 || working.is_finished());
         let begun = Instant::now();
         let what = fault(&mut pair, round);
         let before = done.load(SeqCst);
-        wait_until("it goes on", || {
-            done.load(SeqCst) > before + 1 || working.is_finished()
-        });
-        println!(
-            "round {round}: {what}, went on {:.1} s after its begin",
-            begun.elapsed().as_secs_f64()
-        );
+        wait_until("it goes on", || done.load(SeqCst) > before + 1 || working.is_finished());
+        println!("round {round}: {what}, went on {:.1} s after its begin", begun.elapsed().as_secs_f64());
     }
     stop.store(true, SeqCst);
     let work = working.join().expect("it found what it wrote");
@@ -162,13 +147,9 @@ fn a_commit_that_was_cancelled_in_the_wait_for_its_standby_is_no_answer() {
             wait_until("it waits for the standby", || {
                 pair.primary().ask(&waits) == "1" || working.is_finished()
             });
-            pair.primary()
-                .ask(&format!("select pg_cancel_backend(pid) from {WAITS}"));
+            pair.primary().ask(&format!("select pg_cancel_backend(pid) from {WAITS}"));
             sleep(Duration::from_millis(300));
-            assert!(
-                !working.is_finished(),
-                "a commit without its standby was answered"
-            );
+            assert!(!working.is_finished(), "a commit without its standby was answered");
         }
         pair.primary().kill();
         pair.standby().run();
@@ -176,10 +157,7 @@ fn a_commit_that_was_cancelled_in_the_wait_for_its_standby_is_no_answer() {
         let work = working.join().unwrap();
         assert!(take(&store, round as u16).1 == work.synced);
     }
-    println!(
-        "{} commits cancelled in the wait: none was answered before a standby had it",
-        2 * rounds(2)
-    );
+    println!("{} commits cancelled in the wait: none was answered before a standby had it", 2 * rounds(2));
 }
 
 /// Else a taker would go by what is lost with the server.
@@ -226,10 +204,7 @@ fn a_primary_on_the_wrong_side_answers_nobody_and_is_left() {
     assert!(work.round());
     println!("it was left after {:.0} s", begun.elapsed().as_secs_f64());
     (0..20).for_each(|_| assert!(work.round()));
-    assert!(
-        contents(&*work.drive) == work.now,
-        "it was read where it was left behind"
-    );
+    assert!(contents(&*work.drive) == work.now, "it was read where it was left behind");
     pair.primary().kill();
     assert!(take(&store, 0).1 == work.synced);
     drop(third);

@@ -23,23 +23,13 @@ fn a_start_refuses_what_is_no_store_or_another_or_can_lose() {
     server.ask("create database third");
     let [one, other, third] = ["postgres", "other", "third"].map(|name| server.address_of(name));
     refused(&[&one], Copies::One, "a", "store init");
-    refused(
-        &["postgres://postgres@127.0.0.1:1/postgres"],
-        Copies::One,
-        "a",
-        "127.0.0.1:1",
-    );
+    refused(&["postgres://postgres@127.0.0.1:1/postgres"], Copies::One, "a", "127.0.0.1:1");
     make(&[&one, &other]);
     make(&[&third]);
     let again = PostgresStore::make(&[address(&one).unwrap(), address(&other).unwrap()], SLOTS);
     assert!(matches!(again, Err(StoreFault::IsThere(_))));
     refused(&[&one], Copies::One, "a", "the store has 2 databases");
-    refused(
-        &[&other, &one],
-        Copies::One,
-        "a",
-        "is database 1 of its store, not 0",
-    );
+    refused(&[&other, &one], Copies::One, "a", "is database 1 of its store, not 0");
     refused(&[&one, &third], Copies::One, "a", "1 databases");
     refused(&[&one, &other], Copies::Two, "b", "no synchronous standby");
     let servers = [address(&one).unwrap(), address(&other).unwrap()];
@@ -71,10 +61,7 @@ fn who_may_not_look_at_standbys_does_not_know_how_many_copies_there_are() {
     server.ask("grant all on all tables in schema totxegun_store to plain");
     let plain = server.address().replace("//postgres@", "//plain@");
     assert_eq!(wait(open(&[&plain], Copies::Two).copies(0)).unwrap(), None);
-    assert_eq!(
-        wait(open(&[&server.address()], Copies::Two).copies(0)).unwrap(),
-        Some(2)
-    );
+    assert_eq!(wait(open(&[&server.address()], Copies::Two).copies(0)).unwrap(), Some(2));
     drop(standby);
 }
 

@@ -14,11 +14,7 @@ fn refused(addresses: &[&str], part: &str) {
 }
 
 fn standing(state: State) -> Standing {
-    Standing {
-        state,
-        id: "0123456789abcdef".into(),
-        folder: "/data".into(),
-    }
+    Standing { state, id: "0123456789abcdef".into(), folder: "/data".into() }
 }
 
 #[test]
@@ -36,24 +32,16 @@ fn nobody_takes_a_slot_or_starts_while_a_store_is_moved_but_who_moves_it() {
     ] {
         let seen = store.standing().unwrap();
         assert_eq!(store.change(&seen, &standing(state)).unwrap(), standing(state));
-        assert_eq!(
-            store.change(&before, &before).unwrap(),
-            standing(state),
-            "it is no more as it was seen"
-        );
+        assert_eq!(store.change(&before, &before).unwrap(), standing(state), "it is no more as it was seen");
         assert_eq!(wait(store.take(1, 0, "a")).unwrap(), None, "{state:?}");
         refused(&[&server.address()], part);
         assert!(store.take_to_move(1, "f00").is_err(), "another move");
     }
-    store
-        .change(&standing(State::Gone), &standing(State::Filling))
-        .unwrap();
+    store.change(&standing(State::Gone), &standing(State::Filling)).unwrap();
     assert_eq!(store.take_to_move(2, "0123456789abcdef").unwrap(), 2);
     store.release_moved(2, 2).unwrap();
     assert!(store.release_moved(2, 1).is_err(), "another has it");
-    store
-        .change(&standing(State::Filling), &standing(State::Counts))
-        .unwrap();
+    store.change(&standing(State::Filling), &standing(State::Counts)).unwrap();
     assert_eq!(wait(store.take(1, 0, "a")).unwrap(), Some(1));
 }
 
@@ -65,18 +53,12 @@ fn databases_that_were_not_told_of_the_decision_are_told_at_a_start() {
     let [one, other] = ["postgres", "other"].map(|name| server.address_of(name));
     make(&[&one, &other]);
     let store = open(&[&one, &other], Copies::One);
-    let filling = store
-        .change(&store.standing().unwrap(), &standing(State::Filling))
-        .unwrap();
+    let filling = store.change(&store.standing().unwrap(), &standing(State::Filling)).unwrap();
     assert!(!store.all_say(&filling).unwrap());
     store.follow(&filling).unwrap();
     assert!(store.all_say(&filling).unwrap());
     store.change(&filling, &standing(State::Counts)).unwrap();
-    assert_eq!(
-        wait(store.take(1, 0, "a")).unwrap(),
-        None,
-        "its database was not told"
-    );
+    assert_eq!(wait(store.take(1, 0, "a")).unwrap(), None, "its database was not told");
     let next = open(&[&one, &other], Copies::One);
     assert!(next.all_say(&standing(State::Counts)).unwrap());
     assert_eq!(wait(next.take(1, 0, "a")).unwrap(), Some(1));

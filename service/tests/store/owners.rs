@@ -31,10 +31,7 @@ fn an_owner_that_is_stopped_in_any_step_writes_no_more_once_another_has_the_slot
     let Some(server) = Server::start("") else { return };
     let proxy = Proxy::start(server.port);
     make(&[&server.address()]);
-    let (through, direct) = (
-        open(&[&proxy.address()], Copies::One),
-        open(&[&server.address()], Copies::One),
-    );
+    let (through, direct) = (open(&[&proxy.address()], Copies::One), open(&[&server.address()], Copies::One));
     let (mut lost, mut later) = (0, 0);
     for round in 0..rounds(40) {
         let slot = (round % 8) as u16;
@@ -57,15 +54,9 @@ fn an_owner_that_is_stopped_in_any_step_writes_no_more_once_another_has_the_slot
         lost += u32::from(first.begun.is_some());
         later += u32::from(first.synced != said_before);
         let (_, now) = take(&direct, slot);
-        assert!(
-            now == second.synced,
-            "round {round}: who had lost the slot wrote to it"
-        );
+        assert!(now == second.synced, "round {round}: who had lost the slot wrote to it");
     }
-    println!(
-        "stopped in {} rounds: {lost} lost, {later} had been done and were told later",
-        rounds(40)
-    );
+    println!("stopped in {} rounds: {lost} lost, {later} had been done and were told later", rounds(40));
     assert_eq!(u64::from(lost), rounds(40));
 }
 
@@ -76,10 +67,7 @@ fn what_comes_late_of_a_broken_connection_is_not_done() {
     let proxy = Proxy::start(server.port);
     make(&[&server.address()]);
     let store = open(&[&proxy.address()], Copies::One);
-    let direct = open(
-        &[&format!("{}?application_name=direct", server.address())],
-        Copies::One,
-    );
+    let direct = open(&[&format!("{}?application_name=direct", server.address())], Copies::One);
     let backends = "select coalesce(string_agg(pid::text, ','), '0') from pg_stat_activity where application_name = 'totxegun'";
     let mut chance = Chance(7);
     let mut held = 0;
@@ -118,9 +106,7 @@ fn who_had_a_slot_writes_no_more_though_nothing_is_left_of_the_next_owner() {
         let slot = u16::from(is_handed_over);
         let mut first = Work::take(&store, slot, 1);
         (0..5).for_each(|_| assert!(first.round()));
-        let link = server.ask(&format!(
-            "select link from totxegun_store.slot where slot = {slot}"
-        ));
+        let link = server.ask(&format!("select link from totxegun_store.slot where slot = {slot}"));
         if is_handed_over {
             wait(store.release(slot, first.drive.term())).unwrap();
         }
@@ -129,9 +115,7 @@ fn who_had_a_slot_writes_no_more_though_nothing_is_left_of_the_next_owner() {
         found.keys().for_each(|name| next.remove(name).unwrap());
         next.sync().unwrap();
         // Two owners' links may be one.
-        server.ask(&format!(
-            "update totxegun_store.slot set link = {link} where slot = {slot}"
-        ));
+        server.ask(&format!("update totxegun_store.slot set link = {link} where slot = {slot}"));
         assert!(!first.round(), "handed over: {is_handed_over}");
         assert!(take(&store, slot).1.is_empty());
     }
@@ -196,10 +180,7 @@ fn beats_go_up_and_a_slot_is_given_away() {
     wait(store.beat(0, "b", "h2:1", Refused::new())).unwrap();
     let mut instances = wait(store.instances(0)).unwrap();
     instances.sort_by(|one, other| one.name.cmp(&other.name));
-    let seen: Vec<_> = instances
-        .iter()
-        .map(|one| (&one.name[..], &one.address[..], one.beat))
-        .collect();
+    let seen: Vec<_> = instances.iter().map(|one| (&one.name[..], &one.address[..], one.beat)).collect();
     assert_eq!(seen, [("a", "h1:1", 3), ("b", "h2:1", 1)]);
     wait(store.leave(0, "b")).unwrap();
     assert_eq!(wait(store.instances(0)).unwrap().len(), 1);
@@ -231,10 +212,7 @@ fn a_question_to_a_silent_server_ends_soon_and_the_next_one_is_asked_anew() {
         let begun = Instant::now();
         assert!(!question(&store));
         let took = begun.elapsed();
-        assert!(
-            took > Duration::from_secs(4) && took < Duration::from_secs(12),
-            "{took:?}"
-        );
+        assert!(took > Duration::from_secs(4) && took < Duration::from_secs(12), "{took:?}");
         proxy.go_on();
         wait_until("it is answered", || question(&store));
     }

@@ -67,10 +67,8 @@ impl Proxy {
                 let mut state = passing.state.lock().unwrap();
                 let connection = state.clients.len();
                 state.clients.push(client.try_clone().unwrap());
-                let (up, down) = (
-                    (client.try_clone().unwrap(), server.try_clone().unwrap()),
-                    (server, client),
-                );
+                let (up, down) =
+                    ((client.try_clone().unwrap(), server.try_clone().unwrap()), (server, client));
                 for (from, into) in [up, down] {
                     let gate = passing.clone();
                     thread::spawn(move || pass(from, into, &gate, connection));

@@ -44,10 +44,7 @@ fn free_port() -> u16 {
 pub fn wait_until(what: &str, mut is_so: impl FnMut() -> bool) {
     let begun = Instant::now();
     while !is_so() {
-        assert!(
-            begun.elapsed() < Duration::from_secs(60),
-            "waited a minute: {what}"
-        );
+        assert!(begun.elapsed() < Duration::from_secs(60), "waited a minute: {what}");
         std::thread::sleep(Duration::from_millis(20));
     }
 }
@@ -62,29 +59,14 @@ impl Server {
         if is_root() {
             std::os::unix::fs::chown(folder.path(), Some(USER), Some(USER)).unwrap();
         }
-        Some(Server {
-            folder,
-            programs,
-            port: free_port(),
-            child: None,
-        })
+        Some(Server { folder, programs, port: free_port(), child: None })
     }
 
     /// With these settings beside its own.
     pub fn start(settings: &str) -> Option<Server> {
         let mut server = Server::new()?;
         let mut initdb = server.command("initdb");
-        initdb.args([
-            "-U",
-            "postgres",
-            "-E",
-            "UTF8",
-            "--locale=C",
-            "-N",
-            "-A",
-            "trust",
-            "-D",
-        ]);
+        initdb.args(["-U", "postgres", "-E", "UTF8", "--locale=C", "-N", "-A", "trust", "-D"]);
         folder::make(&server.data(), initdb);
         server.set(&format!("{SETTINGS}{settings}\n"));
         server.run();
@@ -104,10 +86,7 @@ impl Server {
     }
 
     fn copy_of(&mut self, primary: &Server) {
-        let from = format!(
-            "host=127.0.0.1 port={} user=postgres application_name=standby",
-            primary.port
-        );
+        let from = format!("host=127.0.0.1 port={} user=postgres application_name=standby", primary.port);
         let mut backup = self.command("pg_basebackup");
         backup.args(["-d", &from, "-R", "-X", "stream", "-c", "fast", "-D"]);
         done(backup.arg(self.data()));
@@ -150,30 +129,17 @@ impl Server {
         // Of one that was killed. Its number may be another's now.
         let _ = std::fs::remove_file(self.data().join("postmaster.pid"));
         let mut log = std::fs::OpenOptions::new();
-        let log = log
-            .create(true)
-            .append(true)
-            .open(self.folder.path().join("log"))
-            .unwrap();
+        let log = log.create(true).append(true).open(self.folder.path().join("log")).unwrap();
         let mut command = self.command("postgres");
-        command
-            .arg("-D")
-            .arg(self.data())
-            .args(["-p", &self.port.to_string(), "-k"]);
+        command.arg("-D").arg(self.data()).args(["-p", &self.port.to_string(), "-k"]);
         command.arg(self.folder.path()).stdout(Stdio::null()).stderr(log);
         self.child = Some(command.spawn().unwrap());
-        wait_until("the server starts", || {
-            self.psql("select 1").output().unwrap().status.success()
-        });
+        wait_until("the server starts", || self.psql("select 1").output().unwrap().status.success());
     }
 
     /// It is the primary from now on, and its commits wait for a standby.
     pub fn promote(&self) {
-        done(
-            self.command("pg_ctl")
-                .args(["promote", "-w", "-D"])
-                .arg(self.data()),
-        );
+        done(self.command("pg_ctl").args(["promote", "-w", "-D"]).arg(self.data()));
     }
 
     fn id(&self) -> Pid {
@@ -216,15 +182,7 @@ impl Server {
 
     fn psql(&self, query: &str) -> Command {
         let mut command = self.command("psql");
-        command.args([
-            "-U",
-            "postgres",
-            "-XAtq",
-            "-v",
-            "ON_ERROR_STOP=1",
-            "-h",
-            "127.0.0.1",
-        ]);
+        command.args(["-U", "postgres", "-XAtq", "-v", "ON_ERROR_STOP=1", "-h", "127.0.0.1"]);
         command.args(["-p", &self.port.to_string(), "-d", "postgres", "-c", query]);
         command
     }

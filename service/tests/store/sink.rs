@@ -32,12 +32,7 @@ fn request(slot: u16, number: u64, start: u64) -> Forwarded {
         r#"{{"resourceMetrics":[{{"resource":{{"attributes":[]}},"scopeMetrics":[{{"metrics":[{{"name":"m{slot}","sum":{{"aggregationTemporality":1,"dataPoints":[{{"asInt":"5","attributes":[],"startTimeUnixNano":"{start}","timeUnixNano":"{}"}}],"isMonotonic":false}},"unit":""}}],"scope":{{"attributes":[],"name":"","version":""}}}}]}}]}}"#,
         start + 10
     );
-    Forwarded {
-        slot,
-        epoch: "e".into(),
-        number,
-        body: body.into(),
-    }
+    Forwarded { slot, epoch: "e".into(), number, body: body.into() }
 }
 
 /// Points of two series.
@@ -52,10 +47,7 @@ fn of_two(slot: u16, number: u64, starts: [u64; 2]) -> Forwarded {
 }
 
 fn deliver(sink: &Arc<dyn Sink>, request: &Forwarded, term: u64) -> Fate {
-    let runtime = tokio::runtime::Builder::new_current_thread()
-        .enable_all()
-        .build()
-        .unwrap();
+    let runtime = tokio::runtime::Builder::new_current_thread().enable_all().build().unwrap();
     runtime.block_on(sink.deliver_of(request, Some(term)))
 }
 
@@ -73,10 +65,7 @@ fn a_request_and_what_says_that_it_was_delivered_are_one_transaction_under_the_t
     let sink = sink(&by_other_name, &store);
     let first = take(&store, 3).0;
     for number in 1..4 {
-        assert_eq!(
-            deliver(&sink, &request(3, number, number * 10), first.term()),
-            Fate::Taken
-        );
+        assert_eq!(deliver(&sink, &request(3, number, number * 10), first.term()), Fate::Taken);
     }
     let repeated = deliver(&sink, &request(3, 3, 30), first.term());
     assert_eq!(
@@ -87,10 +76,7 @@ fn a_request_and_what_says_that_it_was_delivered_are_one_transaction_under_the_t
     for _ in 0..2 {
         // A part that is left is kept first, so the request has to come again.
         let partly = deliver(&sink, &of_two(3, 5, [45, 45]), first.term());
-        assert!(
-            matches!(partly, Fate::TakenPartly { rejected: 1, .. }),
-            "{partly:?}"
-        );
+        assert!(matches!(partly, Fate::TakenPartly { rejected: 1, .. }), "{partly:?}");
         assert_eq!(server.ask(NOTED), "3:1:4");
     }
     let second = take(&store, 3).0;
@@ -98,10 +84,9 @@ fn a_request_and_what_says_that_it_was_delivered_are_one_transaction_under_the_t
     let next = request(3, 6, 60);
     assert_eq!(deliver(&sink, &next, second.term()), Fate::Taken);
     match deliver(&sink, &request(3, 7, 70), first.term()) {
-        Fate::Again { reason, .. } => assert!(
-            reason.contains("slot 3 was taken by another instance"),
-            "{reason}"
-        ),
+        Fate::Again { reason, .. } => {
+            assert!(reason.contains("slot 3 was taken by another instance"), "{reason}")
+        }
         other => panic!("{other:?}"),
     }
     assert_eq!(
@@ -109,11 +94,7 @@ fn a_request_and_what_says_that_it_was_delivered_are_one_transaction_under_the_t
         ("3:2:6".into(), "m3=25 n3=5".into()),
         "nothing of it is there"
     );
-    assert_eq!(
-        wait(sink.deliver(&request(3, 8, 80))),
-        Fate::Taken,
-        "a letter has no term"
-    );
+    assert_eq!(wait(sink.deliver(&request(3, 8, 80))), Fate::Taken, "a letter has no term");
     assert_eq!(server.ask(NOTED), "3:2:6");
 }
 
@@ -129,25 +110,14 @@ fn a_sink_elsewhere_has_keys_alone_whatever_its_address() {
     let [here, there] = [3, 4].map(|slot| take(&store, slot).0.term());
     let in_second = sink(&other, &store);
     assert_eq!(deliver(&in_second, &request(3, 1, 10), here), Fate::Taken);
-    assert_eq!(
-        deliver(&in_second, &request(4, 1, 10), there),
-        Fate::Taken,
-        "its slot is in the first"
-    );
+    assert_eq!(deliver(&in_second, &request(4, 1, 10), there), Fate::Taken, "its slot is in the first");
     let noted = |name: &str| {
-        server.ask_of(
-            name,
-            "select coalesce(string_agg(slot::text, ' '), '') from totxegun_store.delivered",
-        )
+        server.ask_of(name, "select coalesce(string_agg(slot::text, ' '), '') from totxegun_store.delivered")
     };
     assert_eq!((noted("one"), noted("other")), (String::new(), "3".into()));
     let apart = sink(&elsewhere, &store);
     assert_eq!(deliver(&apart, &request(3, 1, 10), here), Fate::Taken);
-    assert_eq!(
-        deliver(&apart, &request(3, 2, 20), 0),
-        Fate::Taken,
-        "nobody looks at a term there"
-    );
+    assert_eq!(deliver(&apart, &request(3, 2, 20), 0), Fate::Taken, "nobody looks at a term there");
 }
 
 /// As a start finds it where the answer of the sink, and with it the acknowledgement, was lost.
@@ -159,20 +129,11 @@ fn what_was_noted_is_not_sent_again() {
     let first = take(&store, 0).0;
     let term = first.term();
     let (journal, outbox, _dead) = drive::open(first as Arc<dyn Drive>, "e").unwrap();
-    let bodies: Vec<Vec<u8>> = (1..4)
-        .map(|number| request(0, number, number * 10).body)
-        .collect();
-    outbox
-        .commit_with(&bodies, journal.turn().0, Runs::new())
-        .unwrap();
+    let bodies: Vec<Vec<u8>> = (1..4).map(|number| request(0, number, number * 10).body).collect();
+    outbox.commit_with(&bodies, journal.turn().0, Runs::new()).unwrap();
     outbox.settle().unwrap();
-    server.ask(&format!(
-        "insert into totxegun_store.delivered values (0, {term}, 2)"
-    ));
+    server.ask(&format!("insert into totxegun_store.delivered values (0, {term}, 2)"));
     let next = take(&store, 0).0;
     let (_journal, outbox, _dead) = drive::open(next as Arc<dyn Drive>, "e").unwrap();
-    assert_eq!(
-        (outbox.waiting().0, wait(outbox.first()).unwrap().1),
-        (1, bodies[2].clone())
-    );
+    assert_eq!((outbox.waiting().0, wait(outbox.first()).unwrap().1), (1, bodies[2].clone()));
 }

@@ -22,13 +22,8 @@ fn post(size: usize, number: u64) -> Vec<u8> {
     let mut bytes = Vec::new();
     while bytes.len() < size {
         let place = bytes.len() as u64;
-        write!(
-            bytes,
-            "{{\"asInt\":\"{}\",\"timeUnixNano\":\"17640{}\"}},",
-            number % 97,
-            number * 7 + place
-        )
-        .unwrap();
+        write!(bytes, "{{\"asInt\":\"{}\",\"timeUnixNano\":\"17640{}\"}},", number % 97, number * 7 + place)
+            .unwrap();
     }
     bytes.truncate(size);
     bytes
@@ -50,18 +45,12 @@ fn run(writers: usize, size: usize, put: impl Fn(&[u8], u64) + Sync) -> (f64, f6
             waits
         };
         let all: Vec<_> = (0..writers).map(|_| scope.spawn(writer)).collect();
-        all.into_iter()
-            .flat_map(|one| one.join().unwrap())
-            .collect::<Vec<f64>>()
+        all.into_iter().flat_map(|one| one.join().unwrap()).collect::<Vec<f64>>()
     });
     let took = begun.elapsed().as_secs_f64();
     let mut waits = waits;
     waits.sort_by(f64::total_cmp);
-    (
-        waits.len() as f64 / took,
-        waits[waits.len() / 2],
-        waits[waits.len() * 99 / 100],
-    )
+    (waits.len() as f64 / took, waits[waits.len() / 2], waits[waits.len() * 99 / 100])
 }
 
 #[test]
@@ -73,12 +62,7 @@ fn syncs_a_second() {
     let store = open(&[&server.address()], Copies::Two);
     let folder = tempfile::tempdir().unwrap();
     let file = std::fs::File::create(folder.path().join("a")).unwrap();
-    let wal = || {
-        server
-            .ask("select pg_wal_lsn_diff(pg_current_wal_lsn(), '0/0')")
-            .parse::<f64>()
-            .unwrap()
-    };
+    let wal = || server.ask("select pg_wal_lsn_diff(pg_current_wal_lsn(), '0/0')").parse::<f64>().unwrap();
     for (number, size) in SIZES.into_iter().cycle().take(6).enumerate() {
         let (written, durable) = (AtomicU64::new(0), Mutex::new(0));
         let on_disk = run(64, size, |bytes, at| {

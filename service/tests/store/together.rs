@@ -109,11 +109,7 @@ fn who_is_read_meanwhile_keeps_no_other_slot_waiting() {
         let begun = Instant::now();
         other.write("c").unwrap();
         assert!(begun.elapsed() < 4 * LONG, "it took {:?}", begun.elapsed());
-        assert_eq!(
-            server.ask(&waiting("PgSleep")),
-            "1",
-            "the row was locked all the time"
-        );
+        assert_eq!(server.ask(&waiting("PgSleep")), "1", "the row was locked all the time");
         let _ = writing.join().unwrap(); // the slot may be lost before, for what it has lost
     });
 }

@@ -12,10 +12,7 @@ pub struct Chance(pub u64);
 
 impl Chance {
     pub fn below(&mut self, end: u64) -> u64 {
-        self.0 = self
-            .0
-            .wrapping_mul(6364136223846793005)
-            .wrapping_add(1442695040888963407);
+        self.0 = self.0.wrapping_mul(6364136223846793005).wrapping_add(1442695040888963407);
         (self.0 >> 33) % end
     }
 }
@@ -35,14 +32,7 @@ impl Work {
     /// Of the next owner, which finds what is there.
     pub fn take(store: &PostgresStore, slot: u16, seed: u64) -> Work {
         let (drive, found) = take(store, slot);
-        Work {
-            drive,
-            now: found.clone(),
-            synced: found,
-            begun: None,
-            syncs: 0,
-            chance: Chance(seed),
-        }
+        Work { drive, now: found.clone(), synced: found, begun: None, syncs: 0, chance: Chance(seed) }
     }
 
     fn name(&mut self) -> PathBuf {
@@ -87,16 +77,13 @@ impl Work {
             _ => there.len(),
         };
         let (first, step) = (self.chance.below(256), self.chance.below(3) * 7919);
-        let bytes: Vec<u8> = (0..length as u64)
-            .map(|place| ((place * step) >> 3) as u8 ^ first as u8)
-            .collect();
+        let bytes: Vec<u8> =
+            (0..length as u64).map(|place| ((place * step) >> 3) as u8 ^ first as u8).collect();
         there.resize(there.len().max(at + length), 0);
         there[at..at + length].copy_from_slice(&bytes);
         let (one, other) = bytes.split_at(length / 3);
-        let written = self
-            .drive
-            .open(name)
-            .and_then(|file| self.drive.write_at(file, &[one, other], at as u64));
+        let written =
+            self.drive.open(name).and_then(|file| self.drive.write_at(file, &[one, other], at as u64));
         assert!(written.is_ok() || was_lost(written.err()));
     }
 
@@ -200,9 +187,6 @@ fn term_of(store: &PostgresStore, slot: u16) -> u64 {
 }
 
 pub fn wait<T>(work: impl std::future::Future<Output = T>) -> T {
-    let runtime = tokio::runtime::Builder::new_current_thread()
-        .enable_all()
-        .build()
-        .unwrap();
+    let runtime = tokio::runtime::Builder::new_current_thread().enable_all().build().unwrap();
     runtime.block_on(work)
 }

@@ -22,11 +22,7 @@ impl Store {
     }
 
     fn of(slots: impl Iterator<Item = u16>) -> Arc<Store> {
-        let row = |slot| Row {
-            slot,
-            term: 0,
-            owner: String::new(),
-        };
+        let row = |slot| Row { slot, term: 0, owner: String::new() };
         Arc::new(Store {
             rows: Mutex::new((BTreeMap::new(), slots.map(row).collect())),
             is_silent: AtomicBool::new(false),
@@ -40,13 +36,7 @@ impl Store {
     }
 
     fn owners(&self) -> Vec<String> {
-        self.rows
-            .lock()
-            .unwrap()
-            .1
-            .iter()
-            .map(|row| row.owner.clone())
-            .collect()
+        self.rows.lock().unwrap().1.iter().map(|row| row.owner.clone()).collect()
     }
 
     async fn are_owners(&self, is_so: impl Fn(&str) -> bool, within: Duration) {
@@ -86,10 +76,7 @@ impl Terms for Of {
                 Stay::Here => self.2.clone(),
                 Stay::Leaves => String::new(),
             };
-            Ok(Seen {
-                instances: rows.0.values().cloned().collect(),
-                slots: rows.1.clone(),
-            })
+            Ok(Seen { instances: rows.0.values().cloned().collect(), slots: rows.1.clone() })
         })
     }
 
@@ -147,10 +134,7 @@ impl Told {
 
     fn of(&self, slot: u16) -> Vec<String> {
         let told = self.asked.lock().unwrap();
-        told.iter()
-            .filter(|(of, _)| *of == slot)
-            .map(|(_, what)| what.clone())
-            .collect()
+        told.iter().filter(|(of, _)| *of == slot).map(|(_, what)| what.clone()).collect()
     }
 }
 
@@ -190,19 +174,10 @@ struct Node {
 
 fn start(store: &Arc<Store>, name: &'static str) -> Node {
     let (cluster, told) = (Cluster::new(name, 1), Arc::new(Told::default()));
-    let beats = Beats::new(
-        cluster.clone(),
-        0,
-        Arc::new(Of(store.clone(), name, format!("{name}:1"))),
-        told.clone(),
-    );
+    let beats =
+        Beats::new(cluster.clone(), 0, Arc::new(Of(store.clone(), name, format!("{name}:1"))), told.clone());
     let (stop, stopped) = watch::channel(false);
-    Node {
-        cluster,
-        told,
-        stop,
-        runs: tokio::spawn(beats.run(stopped)),
-    }
+    Node { cluster, told, stop, runs: tokio::spawn(beats.run(stopped)) }
 }
 
 const SOON: Duration = Duration::from_secs(20);
@@ -227,13 +202,7 @@ async fn who_is_gone_is_followed_by_another_and_who_stops_hands_all_over() {
     a.runs.abort();
     store.are_owners(|owner| owner == "b", SOON).await;
     let is_open = async {
-        while b
-            .cluster
-            .places()
-            .borrow()
-            .values()
-            .any(|whose| *whose != (Whose::Here { term: 2 }))
-        {
+        while b.cluster.places().borrow().values().any(|whose| *whose != (Whose::Here { term: 2 })) {
             sleep(Duration::from_millis(20)).await;
         }
     };
@@ -270,10 +239,7 @@ async fn a_store_that_is_silent_is_seen_at_the_door_and_moves_nothing() {
         }
     };
     timeout(SOON, answers).await.unwrap();
-    assert_eq!(
-        (terms.len(), a.cluster.status().terms),
-        (usize::from(SLOTS), terms)
-    );
+    assert_eq!((terms.len(), a.cluster.status().terms), (usize::from(SLOTS), terms));
     // It is told to stop while the store is silent: it ends once that answers, or after a minute.
     a.stop.send_replace(true);
     timeout(SOON, a.runs).await.unwrap().unwrap();
@@ -299,10 +265,7 @@ async fn a_slot_that_was_lost_is_dropped_before_it_is_opened_again() {
     };
     timeout(SOON, again).await.unwrap();
     let told = a.told.of(3);
-    assert!(
-        told.ends_with(&["drop 1", "open 8", "opened 8"].map(String::from)),
-        "{told:?}"
-    );
+    assert!(told.ends_with(&["drop 1", "open 8", "opened 8"].map(String::from)), "{told:?}");
     assert_eq!(a.cluster.status().counted.lost, 2);
 }
 

@@ -52,12 +52,7 @@ pub(super) struct Head {
 
 impl Head {
     pub fn new(slot: u16, term: u64, sender: &str, encoding: Encoding) -> Head {
-        Head {
-            slot,
-            term,
-            sender: sender.into(),
-            encoding,
-        }
+        Head { slot, term, sender: sender.into(), encoding }
     }
 
     pub fn put(&self, request: Builder, secret: &Secret) -> Builder {

@@ -35,13 +35,7 @@ pub struct Internal<H> {
 
 impl<H: Here> Internal<H> {
     pub fn new(cluster: Arc<Cluster>, here: Arc<H>, secret: Secret) -> Arc<Internal<H>> {
-        Arc::new(Internal {
-            cluster,
-            here,
-            secret,
-            parts: Semaphore::new(PARTS),
-            answers: OnceLock::new(),
-        })
+        Arc::new(Internal { cluster, here, secret, parts: Semaphore::new(PARTS), answers: OnceLock::new() })
     }
 
     /// The error is what is said before a slot is asked.
@@ -70,10 +64,7 @@ impl<H: Here> Internal<H> {
             .ok()
             .flatten()
             .ok_or_else(|| owner_answer::refused(400, "the body is not whole, or too long"))?;
-        let part = Original {
-            encoding: head.encoding,
-            body,
-        };
+        let part = Original { encoding: head.encoding, body };
         // The slot says itself whether it is still here.
         let outcome = self.here.post(head.slot, head.term, &head.sender, part).await;
         Ok(outcome.map_or_else(owner_answer::not_mine, |outcome| owner_answer::answer(&outcome)))

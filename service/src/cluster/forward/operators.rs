@@ -58,12 +58,7 @@ impl<H: Here> Forward<H> {
         let uri = format!("{}://{address}{PATH}", self.connections.scheme());
         let request = self.secret.put(Request::post(uri));
         let request = request.body(Body::from(question)).map_err(Broken::Address)?;
-        let response = self
-            .connections
-            .asks()
-            .request(request)
-            .await
-            .map_err(Broken::Wire)?;
+        let response = self.connections.asks().request(request).await.map_err(Broken::Wire)?;
         owner_answer::read_bytes(response, MOST).await
     }
 }

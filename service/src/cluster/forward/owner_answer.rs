@@ -31,16 +31,10 @@ struct Words {
 
 pub(super) fn answer(outcome: &Outcome) -> Response<Body> {
     let words = match outcome {
-        Outcome::Taken {
-            rejected, message, ..
-        } => Words {
-            rejected: *rejected,
-            message: message.clone(),
-        },
-        Outcome::Refused { message, .. } | Outcome::Later { message, .. } => Words {
-            rejected: 0,
-            message: Some(message.clone()),
-        },
+        Outcome::Taken { rejected, message, .. } => Words { rejected: *rejected, message: message.clone() },
+        Outcome::Refused { message, .. } | Outcome::Later { message, .. } => {
+            Words { rejected: 0, message: Some(message.clone()) }
+        }
     };
     let body = serde_json::to_vec(&words).unwrap_or_default(); // numbers and texts are always written
     let mut response = with(outcome.status(), ANSWER, body);

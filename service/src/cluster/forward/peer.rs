@@ -53,10 +53,7 @@ impl Peer {
     pub async fn room(&self, bytes: usize) -> (Option<SemaphorePermit<'_>>, Option<SemaphorePermit<'_>>) {
         let kib = (1 + bytes / 1024).min(KIB) as u32;
         // They are never closed.
-        (
-            self.posts.acquire().await.ok(),
-            self.kib.acquire_many(kib).await.ok(),
-        )
+        (self.posts.acquire().await.ok(), self.kib.acquire_many(kib).await.ok())
     }
 
     pub fn answers(&self) {

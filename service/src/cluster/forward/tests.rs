@@ -13,10 +13,7 @@ use tokio::time::sleep;
 
 #[tokio::test]
 async fn an_owners_answer_comes_back_as_it_said_it() {
-    let refused = |status, message: &str| Outcome::Refused {
-        status,
-        message: message.into(),
-    };
+    let refused = |status, message: &str| Outcome::Refused { status, message: message.into() };
     let says = [
         Outcome::taken(0),
         Outcome::taken(7),
@@ -30,10 +27,7 @@ async fn an_owners_answer_comes_back_as_it_said_it() {
         refused(403, "this sender is quarantined"),
         refused(429, "too many series"),
         refused(503, "recovering"),
-        Outcome::Later {
-            seconds: 17,
-            message: "its share".into(),
-        },
+        Outcome::Later { seconds: 17, message: "its share".into() },
     ];
     let peer = Peer::here().await;
     let forward = receiver(peer.whose(), secret("of all"));
@@ -42,16 +36,10 @@ async fn an_owners_answer_comes_back_as_it_said_it() {
         assert_eq!(posted(&forward, "{}").await, *outcome);
     }
     let body = Bytes::from([0, 159, 255, 10].repeat(1 << 18));
-    let part = Original {
-        encoding: Encoding::Protobuf,
-        body: body.clone(),
-    };
+    let part = Original { encoding: Encoding::Protobuf, body: body.clone() };
     assert_eq!(forward.post(3, "web-2", part).await, Outcome::taken(0));
     let came = peer.slots.came.lock().unwrap().clone();
-    assert_eq!(
-        came[0],
-        (3, 5, "web-1".into(), Encoding::Json, Bytes::from_static(b"{}"))
-    );
+    assert_eq!(came[0], (3, 5, "web-1".into(), Encoding::Json, Bytes::from_static(b"{}")));
     assert_eq!(came[says.len()], (3, 5, "web-2".into(), Encoding::Protobuf, body));
     assert_eq!(came.len(), says.len() + 1);
     assert_eq!(peer.connections.load(SeqCst), 1, "the connection is kept");
@@ -106,14 +94,8 @@ async fn who_has_another_secret_or_none_is_asked_nothing() {
     let uri = format!("http://{}{PATH}", peer.address);
     let head = Head::new(3, 5, "web-1", Encoding::Json);
     assert_eq!(ask(Request::post(&uri), "").await, 401);
-    assert_eq!(
-        ask(head.put(Request::get(&uri), &secret("of all")), "").await,
-        404
-    );
-    assert_eq!(
-        ask(head.put(Request::post(format!("{uri}s")), &secret("of all")), "").await,
-        404
-    );
+    assert_eq!(ask(head.put(Request::get(&uri), &secret("of all")), "").await, 404);
+    assert_eq!(ask(head.put(Request::post(format!("{uri}s")), &secret("of all")), "").await, 404);
     let without = Request::post(&uri).header("totxegun-secret", "of all");
     assert_eq!(ask(without, "").await, 400);
     assert_eq!(peer.slots.count(), 0);
@@ -151,11 +133,7 @@ async fn a_kept_connection_that_ends_is_made_anew_but_not_under_a_post() {
     let forward = receiver(there(&address), secret("of all"));
     assert_eq!(posted(&forward, "{}").await, Outcome::taken(0));
     assert_eq!(posted(&forward, "{}").await, unavailable(BROKEN));
-    assert_eq!(
-        count.load(SeqCst),
-        2,
-        "it may have been taken, so it is not sent again"
-    );
+    assert_eq!(count.load(SeqCst), 2, "it may have been taken, so it is not sent again");
     let (address, count) = ends_after_one(true).await;
     let forward = receiver(there(&address), secret("of all"));
     for _ in 0..3 {
@@ -181,10 +159,7 @@ async fn who_stalls_is_left_after_ten_seconds_and_said_and_holds_up_no_other() {
     while count.load(SeqCst) < peer::POSTS && began.elapsed() < WITHIN / 2 {
         sleep(Duration::from_millis(20)).await;
     }
-    let part = Original {
-        encoding: Encoding::Json,
-        body: Bytes::new(),
-    };
+    let part = Original { encoding: Encoding::Json, body: Bytes::new() };
     assert_eq!(forward.post(4, "web-1", part).await, Outcome::taken(0));
     assert!(began.elapsed() < WITHIN);
     assert_eq!(forward.silent(), []);
@@ -212,11 +187,7 @@ async fn who_stalls_is_left_once_another_has_the_slot_but_not_before_it_may_have
     let (outcome, ()) = tokio::join!(posted(&forward, "{}"), moves(peer.whose()));
     assert_eq!(outcome, unavailable(BROKEN));
     assert!((AFTER_MOVE..WITHIN / 2).contains(&began.elapsed()));
-    assert_eq!(
-        (count.load(SeqCst), peer.slots.count()),
-        (1, 0),
-        "it may have been taken"
-    );
+    assert_eq!((count.load(SeqCst), peer.slots.count()), (1, 0), "it may have been taken");
     assert_eq!(posted(&forward, "{}").await, Outcome::taken(0));
     // It hands over, and answers what is under way.
     let slots = Slots::slow(AFTER_MOVE / 2);
@@ -241,14 +212,7 @@ async fn so_many_posts_are_on_their_way_to_one_and_each_comes_once() {
     for one in many {
         assert_eq!(one.await.unwrap(), Outcome::taken(0));
     }
-    let mut came: Vec<Bytes> = peer
-        .slots
-        .came
-        .lock()
-        .unwrap()
-        .iter()
-        .map(|came| came.4.clone())
-        .collect();
+    let mut came: Vec<Bytes> = peer.slots.came.lock().unwrap().iter().map(|came| came.4.clone()).collect();
     came.sort();
     came.dedup();
     assert_eq!((came.len(), peer.slots.count()), (300, 300));
@@ -318,11 +282,7 @@ async fn without_beats_a_post_is_turned_away_at_the_door() {
             encoding: Encoding::Json,
             packing: crate::intake::head::Packing::Plain,
         };
-        intake.put(
-            head,
-            Bytes::from_static(b"{\"resourceMetrics\":[]}"),
-            intake.hold(),
-        )
+        intake.put(head, Bytes::from_static(b"{\"resourceMetrics\":[]}"), intake.hold())
     };
     let began = Instant::now();
     assert_eq!(post().await, unavailable(NO_STORE));
@@ -341,10 +301,7 @@ async fn of_a_database_that_is_silent_a_post_is_turned_away_at_once_and_others_g
         let began = Instant::now();
         assert_eq!(posted(&forward, "{}").await, unavailable(NO_STORE));
         assert!(began.elapsed() < LOOKED_FOR / 3);
-        let part = Original {
-            encoding: Encoding::Json,
-            body: Bytes::new(),
-        };
+        let part = Original { encoding: Encoding::Json, body: Bytes::new() };
         assert_eq!(forward.post(4, "web-1", part).await, Outcome::taken(0));
         // One that is here is taken for elsewhere, where it is turned away.
         let resources = Resources::new(8, Arc::default());
@@ -384,9 +341,7 @@ async fn a_question_of_operators_goes_to_who_has_the_secret_and_its_answer_comes
     assert!(strange.contains("another version"), "{strange}");
     let (address, _) = strange_to_all().await;
     let forward = receiver(peer.whose(), secret("of all"));
-    let late = forward
-        .put_question(&address, Vec::new(), Duration::from_millis(200))
-        .await;
+    let late = forward.put_question(&address, Vec::new(), Duration::from_millis(200)).await;
     assert!(late.unwrap_err().contains("in time"));
 }
 

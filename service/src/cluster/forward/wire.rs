@@ -31,10 +31,7 @@ struct Now {
 impl Now {
     fn of(by: Option<Arc<Contexts>>) -> Now {
         let config = by.as_ref().and_then(|by| by.client());
-        Now {
-            asks: client(config.unwrap_or_else(|| Arc::new(no_roots()))),
-            by,
-        }
+        Now { asks: client(config.unwrap_or_else(|| Arc::new(no_roots()))), by }
     }
 }
 
@@ -44,10 +41,7 @@ impl Connections {
             Wire::Plain => None,
             Wire::Tls(tls) => Some(tls.contexts()),
         });
-        Connections {
-            wire,
-            now: Mutex::new(now),
-        }
+        Connections { wire, now: Mutex::new(now) }
     }
 
     pub fn scheme(&self) -> &'static str {

@@ -39,12 +39,7 @@ pub(super) struct Others {
 
 impl Others {
     pub fn of(me: &str) -> Others {
-        Others {
-            me: me.into(),
-            by_name: BTreeMap::new(),
-            uncounted: 0,
-            since_silence: BETWEEN_SILENCES,
-        }
+        Others { me: me.into(), by_name: BTreeMap::new(), uncounted: 0, since_silence: BETWEEN_SILENCES }
     }
 
     /// What was read behind an own beat.
@@ -52,11 +47,7 @@ impl Others {
         let mut there: BTreeMap<&str, Read<'_>> = BTreeMap::new();
         // An owner without a row beats no more, whoever took that away.
         let owners = seen.slots.iter().map(|row| row.owner.as_str());
-        there.extend(
-            owners
-                .filter(|owner| !owner.is_empty())
-                .map(|owner| (owner, Read::default())),
-        );
+        there.extend(owners.filter(|owner| !owner.is_empty()).map(|owner| (owner, Read::default())));
         for one in &seen.instances {
             let read = Read {
                 beat: Some(one.beat),

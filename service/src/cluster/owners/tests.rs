@@ -22,11 +22,7 @@ fn over_random_schedules_two_never_own_a_slot_and_each_has_its_place_in_the_end(
         assert!(world.is_settled(), "seed {seed}: {:?}", world.store.rows);
         let before = (world.takes, world.hand_overs);
         world.rounds(100);
-        assert_eq!(
-            (world.takes, world.hand_overs),
-            before,
-            "seed {seed}: slots move without a reason"
-        );
+        assert_eq!((world.takes, world.hand_overs), before, "seed {seed}: slots move without a reason");
     }
 }
 
@@ -57,10 +53,7 @@ fn who_is_gone_loses_its_slots_after_six_beats_and_gets_them_back_one_by_one() {
     assert!(world.is_settled() && of_a > 0);
     world.nodes[0].stands_for = 30;
     world.rounds(GONE as usize - 1);
-    assert_eq!(
-        world.store.rows.iter().filter(|row| row.owner == "a").count(),
-        of_a
-    );
+    assert_eq!(world.store.rows.iter().filter(|row| row.owner == "a").count(), of_a);
     world.rounds(8);
     assert!(world.store.rows.iter().all(|row| row.owner == "b"));
     let before = world.hand_overs;
@@ -183,11 +176,8 @@ fn what_its_place_can_not_open_goes_to_another_and_stays_there() {
     world.rounds(30);
     assert_eq!(row(&world, 5).owner, "");
     let refused = world.nodes[0].owners.all_refused();
-    let of_five: Vec<&str> = refused
-        .iter()
-        .filter(|one| one.slot == 5)
-        .map(|one| one.instance.as_str())
-        .collect();
+    let of_five: Vec<&str> =
+        refused.iter().filter(|one| one.slot == 5).map(|one| one.instance.as_str()).collect();
     assert_eq!(of_five, ["a", "b"]);
     world.broken.remove(&(5, "b".into()));
     world.rounds(300);
@@ -209,10 +199,7 @@ fn what_nobody_can_open_is_tried_again_later_and_later() {
     let terms = world.store.rows[3].term;
     assert!((6..20).contains(&terms), "{terms} tries in 400 beats");
     world.rounds(400);
-    assert!(
-        world.store.rows[3].term - terms <= 8,
-        "each tries it once a minute"
-    );
+    assert!(world.store.rows[3].term - terms <= 8, "each tries it once a minute");
     world.broken.clear();
     world.rounds(150);
     assert!(world.is_settled());
@@ -222,22 +209,13 @@ fn what_nobody_can_open_is_tried_again_later_and_later() {
 fn what_fails_once_it_is_open_is_let_go_with_its_reason() {
     let mut world = World::of(23, &["a", "b"]);
     world.rounds(200);
-    let row = world
-        .store
-        .rows
-        .iter()
-        .find(|row| row.owner == "a")
-        .unwrap()
-        .clone();
+    let row = world.store.rows.iter().find(|row| row.owner == "a").unwrap().clone();
     assert!(world.nodes[0].owners.failed(row.slot, row.term, "no memory"));
     assert_eq!(world.nodes[0].owners.whose()[&row.slot], Whose::Nobody);
     world.rounds(4);
     assert_eq!(world.store.rows[usize::from(row.slot)].owner, "b");
     let refused = world.nodes[1].owners.all_refused();
-    let refused: Vec<_> = refused
-        .iter()
-        .map(|one| (one.slot, &*one.instance, &*one.reason))
-        .collect();
+    let refused: Vec<_> = refused.iter().map(|one| (one.slot, &*one.instance, &*one.reason)).collect();
     assert_eq!(refused, [(row.slot, "a", "no memory")]);
     assert!(!world.nodes[0].owners.failed(row.slot, row.term, "late") || refused.len() == 1);
 }

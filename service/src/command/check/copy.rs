@@ -27,9 +27,7 @@ pub(super) fn remove_at(interrupts: SigSet, copy: PathBuf) -> std::io::Result<()
             std::process::exit(128 + signal as i32);
         }
     };
-    std::thread::Builder::new()
-        .name("interrupt".into())
-        .spawn(ended)?;
+    std::thread::Builder::new().name("interrupt".into()).spawn(ended)?;
     Ok(())
 }
 
@@ -69,11 +67,7 @@ impl Copy {
                 .is_some_and(|name| name == "version" || name == "dead" || name.starts_with("slot-"));
             if is_ours {
                 copy_all(&data.join(&name), &self.0.join(&name)).with_context(|| {
-                    format!(
-                        "{} can't be copied to {}: give --temporary",
-                        data.display(),
-                        temporary.display()
-                    )
+                    format!("{} can't be copied to {}: give --temporary", data.display(), temporary.display())
                 })?;
             }
         }

@@ -95,20 +95,13 @@ impl Series {
         }
         let what = match &read.post.body {
             // No text of JSON has an end of a line in it.
-            Body::Text(body) => What::Body(RawValue::from_string(
-                String::from_utf8_lossy(body).replace(['\n', '\r'], " "),
-            )?),
+            Body::Text(body) => {
+                What::Body(RawValue::from_string(String::from_utf8_lossy(body).replace(['\n', '\r'], " "))?)
+            }
             Body::Points(points) => What::Points(self.points(points)?),
         };
         let (sender, foreign) = (read.post.sender.as_str(), read.post.foreign);
-        serde_json::to_writer(
-            &mut *text,
-            &Line {
-                sender,
-                foreign,
-                what,
-            },
-        )?;
+        serde_json::to_writer(&mut *text, &Line { sender, foreign, what })?;
         text.push(b'\n');
         Ok(())
     }
@@ -117,10 +110,7 @@ impl Series {
         let mut runs = points.runs().iter().peekable();
         let point = |(place, words): (u32, &[u64])| {
             let run = runs.next_if(|run| run.0 == place).map(|run| &run.1);
-            Some(Point {
-                run,
-                ..self.point(words)?
-            })
+            Some(Point { run, ..self.point(words)? })
         };
         let points: Option<Vec<Point<'a>>> = (0..).zip(points.each()).map(point).collect();
         points.ok_or_else(|| anyhow::anyhow!("the journal has a point that is none of its series"))
@@ -141,13 +131,7 @@ impl Series {
             _ => return None,
         };
         let (start, end) = (*start, *end);
-        Some(Point {
-            series,
-            start,
-            end,
-            says,
-            run: None,
-        })
+        Some(Point { series, start, end, says, run: None })
     }
 }
 

@@ -26,17 +26,9 @@ fn what_is_in_a_store_is_shown_by_the_status() -> Result<()> {
     let folder = tempdir()?;
     std::fs::write(folder.path().join("acts.jsonl"), "")?;
     let error = lock(folder.path()).unwrap_err().to_string();
-    assert!(
-        error.contains("totxegun status") && error.contains("--store"),
-        "{error}"
-    );
-    let error = lock("postgres://me:secret@db/x".as_ref())
-        .unwrap_err()
-        .to_string();
-    assert!(
-        error.starts_with("a store has no folder") && !error.contains("secret"),
-        "{error}"
-    );
+    assert!(error.contains("totxegun status") && error.contains("--store"), "{error}");
+    let error = lock("postgres://me:secret@db/x".as_ref()).unwrap_err().to_string();
+    assert!(error.starts_with("a store has no folder") && !error.contains("secret"), "{error}");
     killed(folder.path())?;
     assert!(lock(folder.path()).is_ok(), "a folder may have acts too");
     Ok(())
@@ -89,18 +81,13 @@ fn a_request_that_was_changed_is_a_fault_and_the_rest_is_told() -> Result<()> {
     killed(data.path())?;
     let path = data.path().join("slot-0/outbox/000000000001.seg");
     let mut bytes = std::fs::read(&path)?;
-    let item = bytes
-        .windows(9)
-        .position(|part| part == [18, 2, 0, 0, 0, 0, 0, 0, 0]);
+    let item = bytes.windows(9).position(|part| part == [18, 2, 0, 0, 0, 0, 0, 0, 0]);
     bytes[item.unwrap() + 12] ^= 1;
     std::fs::write(&path, bytes)?;
     let error = checked(data.path()).unwrap_err();
     assert!(matches!(error, Failure::Changed(_)));
     let text = error.to_string();
-    assert!(
-        text.contains(path.to_str().unwrap()) && text.contains("request 2"),
-        "{text}"
-    );
+    assert!(text.contains(path.to_str().unwrap()) && text.contains("request 2"), "{text}");
     let outbox = Folder::open(data.path(), Durability::Disk).unwrap().slot(0)?.1;
     assert_eq!(outbox.waiting().0, 2, "a start goes on");
     Ok(())
@@ -177,11 +164,7 @@ fn posts_are_told_by_the_names_of_their_series_and_with_their_values() -> Result
     points.push(0, 10, 20, [-7i64 as u64]);
     points.push(1, 30, 40, [3, 1, 12, 1, 2]);
     points.push(1, 40, 50, [1, 0, 0, 0, 1]);
-    let post = |sender: &str, body: Body| Post {
-        sender: sender.into(),
-        foreign: 2,
-        body,
-    };
+    let post = |sender: &str, body: Body| Post { sender: sender.into(), foreign: 2, body };
     journal.append(&post("a", Body::Points(points)), &Two);
     let text = "{\n  \"resourceMetrics\": 12345678901234567890123\n}";
     journal.append(&post("b", Body::Text(text.into())), &Two);

@@ -4,14 +4,8 @@ use super::{stock, values, Table};
 use crate::operate::{ClusterStatus, DatabaseStatus, InstanceStatus, SlotStatus, Status};
 
 pub fn text(cluster: &ClusterStatus) -> String {
-    let mut instances = Table::new(&[
-        "instance",
-        "address",
-        "version",
-        "last beat",
-        "slots",
-        "what is wrong",
-    ]);
+    let mut instances =
+        Table::new(&["instance", "address", "version", "last beat", "slots", "what is wrong"]);
     for one in &cluster.instances {
         instances.row(&instance(one));
     }
@@ -35,9 +29,7 @@ fn instance(one: &InstanceStatus) -> [String; 6] {
 }
 
 fn database(one: &DatabaseStatus) -> [String; 4] {
-    let copies = one
-        .copies
-        .map_or_else(|| "unknown".into(), |copies| copies.to_string());
+    let copies = one.copies.map_or_else(|| "unknown".into(), |copies| copies.to_string());
     let is_few = one.copies.is_some_and(|copies| copies < one.copies_asked);
     let few = is_few.then(|| "fewer than --store-copies: look at its standby".to_string());
     let doubt = match one.doubt_seconds {
@@ -54,16 +46,8 @@ fn database(one: &DatabaseStatus) -> [String; 4] {
 
 /// All slots, wherever they are.
 pub fn slots(status: &Status) -> Table {
-    let mut slots = Table::new(&[
-        "slot",
-        "instance",
-        "term",
-        "series",
-        "journal",
-        "waiting",
-        "outbox",
-        "quarantined",
-    ]);
+    let mut slots =
+        Table::new(&["slot", "instance", "term", "series", "journal", "waiting", "outbox", "quarantined"]);
     for slot in &status.slots {
         slots.row(&row(slot));
     }
@@ -84,16 +68,7 @@ fn row(slot: &SlotStatus) -> [String; 8] {
         ],
     };
     let [series, journal, waiting, outbox, quarantined] = known;
-    [
-        slot.slot.to_string(),
-        owner,
-        term,
-        series,
-        journal,
-        waiting,
-        outbox,
-        quarantined,
-    ]
+    [slot.slot.to_string(), owner, term, series, journal, waiting, outbox, quarantined]
 }
 
 #[cfg(test)]
@@ -144,10 +119,7 @@ mod tests {
             ..SlotStatus::default()
         };
         let status = Status {
-            slots: vec![
-                slot(0, Some("a"), None),
-                slot(1, None, Some("no instance has it")),
-            ],
+            slots: vec![slot(0, Some("a"), None), slot(1, None, Some("no instance has it"))],
             ..Status::default()
         };
         assert_eq!(

@@ -37,10 +37,7 @@ fn points_by_number_are_those_of_their_requests() {
         assert_eq!(put(&core, &by, "A", of(0..30, 10, 5)), Ok(0));
         // The same series as a text.
         assert_eq!(post(&core, "A", &points(&all, 20, 6)), Ok(0));
-        let late = Err(Refused::OutOfOrder {
-            point: 0,
-            frontier: 30,
-        });
+        let late = Err(Refused::OutOfOrder { point: 0, frontier: 30 });
         assert_eq!(put(&core, &by, "A", of(0..30, 20, 6)), late);
         assert_eq!(post(&core, "B", &points(&names("t", 2), 10, 1)), Ok(0));
         let mixed = named(&[&names("t", 2)[..], &all[..2]].concat());
@@ -67,25 +64,15 @@ fn where_series_end_is_said_of_all_points_that_are_out_of_order() {
     let core = Core::new(1).unwrap();
     let by = named(&names("s", 4));
     assert_eq!(put(&core, &by, "A", of([0, 2], 10, 5)), Ok(0));
-    let mut read = core
-        .read_points("A".into(), of(0..4, 15, 6), by.clone(), 0)
-        .unwrap();
-    let late = Refused::OutOfOrder {
-        point: 0,
-        frontier: 20,
-    };
+    let mut read = core.read_points("A".into(), of(0..4, 15, 6), by.clone(), 0).unwrap();
+    let late = Refused::OutOfOrder { point: 0, frontier: 20 };
     assert_eq!(core.lock().admit(&mut read), Err(late));
-    assert_eq!(
-        core.lock().out_of_order(&mut read, &[0, 1, 2, 3, 4]),
-        [(0, 20), (2, 20)]
-    );
+    assert_eq!(core.lock().out_of_order(&mut read, &[0, 1, 2, 3, 4]), [(0, 20), (2, 20)]);
     assert_eq!(core.lock().series(), 2, "nothing of it is kept");
     assert_eq!(put(&core, &by, "B", of([1, 3], 20, 1)), Ok(0));
     assert_eq!(put(&core, &by, "A", of([0, 2], 20, 1)), Ok(0));
     // Many of them are more than a round has room for.
-    let mut read = core
-        .read_points("A".into(), of([0, 2], 15, 6), by.clone(), 0)
-        .unwrap();
+    let mut read = core.read_points("A".into(), of([0, 2], 15, 6), by.clone(), 0).unwrap();
     for _ in 0..20_000 {
         assert_eq!(core.lock().out_of_order(&mut read, &[1]), [(1, 30)]);
     }
@@ -103,10 +90,7 @@ fn only_a_request_of_one_point_names_a_series() {
     }
     assert_eq!(names.learn("x".into()), Err(Refused::NotJson));
     let one = Bytes::from(points(&super::names("s", 1), 1, 0));
-    assert_eq!(
-        (names.learn(one.clone()), names.learn(one.clone())),
-        (Ok(0), Ok(0))
-    );
+    assert_eq!((names.learn(one.clone()), names.learn(one.clone())), (Ok(0), Ok(0)));
     use crate::files::Names as _;
     assert_eq!((names.text(0), names.text(1)), (one, Bytes::new()));
     assert_ne!(names.generation(), Names::new().unwrap().generation());
@@ -186,9 +170,7 @@ fn numbered(core: &Arc<Core>, names: &Arc<Names>, body: &str) -> (Read, bool) {
 }
 
 fn by_number(read: &Read) -> Vec<Vec<u64>> {
-    let Body::Points(points) = &read.post.body else {
-        panic!("{:?}", read.post)
-    };
+    let Body::Points(points) = &read.post.body else { panic!("{:?}", read.post) };
     points.each().map(<[u64]>::to_vec).collect()
 }
 
@@ -217,10 +199,7 @@ fn a_text_has_its_points_by_number() {
         let (mut read, _) = numbered(&core, &by, &other);
         let known = by_number(&read).into_iter().find(|point| point[0] < 30);
         assert_eq!(name_of(&by, known.unwrap()[0]), "s0");
-        let late = Refused::OutOfOrder {
-            point: 2,
-            frontier: 20,
-        };
+        let late = Refused::OutOfOrder { point: 2, frontier: 20 };
         assert_eq!(core.lock().admit(&mut read), Err(late));
         assert!(taken(&core).values().all(|one| *one == (5, 20)));
     }
@@ -237,16 +216,11 @@ fn series_that_are_named_at_once_have_their_own_names() {
                 0 => {
                     let (read, is_numbered) = numbered(&core, &by, &points(&all, 10, 1));
                     assert!(is_numbered);
-                    by_number(&read)
-                        .iter()
-                        .map(|point| name_of(&by, point[0]))
-                        .collect()
+                    by_number(&read).iter().map(|point| name_of(&by, point[0])).collect()
                 }
                 _ => {
                     let learnt = |name| by.learn(points(std::slice::from_ref(name), 1, 0).into());
-                    all.iter()
-                        .map(|name| name_of(&by, learnt(name).unwrap()))
-                        .collect()
+                    all.iter().map(|name| name_of(&by, learnt(name).unwrap())).collect()
                 }
             };
             assert_eq!(found, all.into_iter().collect());
@@ -268,9 +242,7 @@ fn where_a_block_is_refused_a_text_has_no_numbers_and_no_other_has() {
     let mut blocks = 0;
     loop {
         let by = Names::new().unwrap();
-        let mut read = core
-            .read("A".into(), points(&all, 10 + 10 * blocks, 1).into())
-            .unwrap();
+        let mut read = core.read("A".into(), points(&all, 10 + 10 * blocks, 1).into()).unwrap();
         memory::fail_after(Some(blocks));
         let is_numbered = read.number(&by, |_| true);
         let all_were_given = memory::is_to_fail();

@@ -19,19 +19,11 @@ const LONG: usize = 3_900;
 
 /// A request with so many points of each of these sums, one after another.
 fn request(names: &[String], start: u64, count: u64) -> String {
-    let point = |at| {
-        format!(
-            r#"{{"asInt":1,"startTimeUnixNano":{at},"timeUnixNano":{}}}"#,
-            at + 1
-        )
-    };
+    let point = |at| format!(r#"{{"asInt":1,"startTimeUnixNano":{at},"timeUnixNano":{}}}"#, at + 1);
     let points: Vec<String> = (start..start + count).map(point).collect();
     let points = points.join(",");
     let sum = format!(r#""sum":{{"aggregationTemporality":1,"dataPoints":[{points}]}}"#);
-    let metrics: Vec<String> = names
-        .iter()
-        .map(|name| format!(r#"{{"name":"{name}",{sum}}}"#))
-        .collect();
+    let metrics: Vec<String> = names.iter().map(|name| format!(r#"{{"name":"{name}",{sum}}}"#)).collect();
     let metrics = metrics.join(",");
     format!(r#"{{"resourceMetrics":[{{"scopeMetrics":[{{"metrics":[{metrics}]}}]}}]}}"#)
 }
@@ -141,11 +133,7 @@ fn posts_of_many_points_are_tried_and_taken() {
         let mut desk = Desk::new(books).unwrap();
         for call in [Desk::try_admit, Desk::admit] {
             number(reader.read(b"A", body.as_bytes(), books));
-            assert_eq!(
-                check(call(&mut desk, &mut reader)).map(drop),
-                Ok(()),
-                "{series} series"
-            );
+            assert_eq!(check(call(&mut desk, &mut reader)).map(drop), Ok(()), "{series} series");
         }
         assert_eq!(desk.series(), series);
     }
@@ -155,10 +143,7 @@ fn posts_of_many_points_are_tried_and_taken() {
 fn all_is_taken_of_the_most_series() {
     let (mut desk, mut reader) = desk_with(BOOKS, &names("s", MOST));
     let mut flushes = Flushes::new().unwrap();
-    for end in [
-        Desk::give_back as fn(&mut Desk, &mut Flushes) -> Answer,
-        Desk::settle,
-    ] {
+    for end in [Desk::give_back as fn(&mut Desk, &mut Flushes) -> Answer, Desk::settle] {
         assert_eq!(number(desk.take(&mut flushes, MOST_TAKEN)), BOOKS);
         let series: u64 = (0..BOOKS).map(|book| check(flushes.text(book)).unwrap().at).sum();
         assert_eq!(series, 1_000 * BOOKS as u64);
@@ -188,10 +173,7 @@ fn the_longest_request_is_written() {
     let mut flushes = Flushes::new().unwrap();
     assert_eq!(number(desk.take(&mut flushes, MOST_TAKEN)), 1);
     let text = check(flushes.text(0)).unwrap();
-    assert!(
-        text.at == 1_000 && text.number as usize > 1_000 * LONG,
-        "{text:?}"
-    );
+    assert!(text.at == 1_000 && text.number as usize > 1_000 * LONG, "{text:?}");
     assert!(flushes.copy(&mut vec![0; text.number as usize]));
 }
 
@@ -204,10 +186,7 @@ fn the_longest_reports_are_written() {
     let mut text = vec![0; number(desk.report(&mut flushes, 0))];
     assert!(flushes.copy(&mut text));
     let lines = text.split(|byte| *byte == b'\n');
-    assert_eq!(
-        lines.filter(|line| line.starts_with(b"series s")).count(),
-        MOST_OF_ONE
-    );
+    assert_eq!(lines.filter(|line| line.starts_with(b"series s")).count(), MOST_OF_ONE);
 }
 
 #[test]

@@ -23,9 +23,7 @@ fn put(core: &Arc<Core>, names: &Arc<Names>, sender: &str, points: Points) -> Re
 fn spans(texts: &[Vec<u8>]) -> Vec<(String, u64, i64)> {
     let points = texts.iter().flat_map(|text| forwarded(text).unwrap());
     let spans = points.map(|point| {
-        let Value::Sum(value) = point.value else {
-            panic!("{point:?}")
-        };
+        let Value::Sum(value) = point.value else { panic!("{point:?}") };
         let hours = [point.start, point.end - 1].map(|time| time / HOUR);
         assert_eq!(hours[0], hours[1], "a span of two hours: {point:?}");
         (point.series.parts().unwrap().name, hours[1], value)
@@ -109,16 +107,11 @@ fn a_post_of_several_hours_is_taken_whole_and_hour_by_hour() {
     let by = named(&names("s", 20));
     let lump = |first: u64| {
         let points = (0..20).flat_map(|number| (first..first + 24).map(move |hour| (number, hour, 1)));
-        of(&points
-            .map(|(number, hour, value)| (number, hour * HOUR + HOUR / 2, value))
-            .collect::<Vec<_>>())
+        of(&points.map(|(number, hour, value)| (number, hour * HOUR + HOUR / 2, value)).collect::<Vec<_>>())
     };
     put(&core, &by, "A", lump(100)).unwrap();
     let late = put(&core, &by, "A", lump(110));
-    assert!(
-        matches!(late, Err(Refused::OutOfOrder { point: 0, .. })),
-        "{late:?}"
-    );
+    assert!(matches!(late, Err(Refused::OutOfOrder { point: 0, .. })), "{late:?}");
     // The last point is another's.
     let theirs = named(&names("t", 1));
     put(&core, &theirs, "B", of(&[(0, 500 * HOUR, 1)])).unwrap();
@@ -144,34 +137,19 @@ fn what_is_in_flight_is_waited_for() {
     put(&core, &by, "A", of(&[(0, at(1), 1)])).unwrap();
     let mut flushed = core.lock().take_all().unwrap();
     put(&core, &by, "A", of(&[(0, at(1) + 2_000_000_000, 2)])).unwrap();
-    let mut next = core
-        .read_points("A".into(), of(&[(0, at(2), 4)]), by.clone(), 0)
-        .unwrap();
+    let mut next = core.read_points("A".into(), of(&[(0, at(2), 4)]), by.clone(), 0).unwrap();
     assert_eq!(core.lock().admit(&mut next), Err(Refused::InFlight));
     // What others post goes on, and a post of several hours waits too.
     put(&core, &by, "A", of(&[(1, at(2), 1)])).unwrap();
-    let mut lump = core
-        .read_points("A".into(), of(&[(0, at(3), 8), (0, at(4), 16)]), by.clone(), 0)
-        .unwrap();
+    let mut lump = core.read_points("A".into(), of(&[(0, at(3), 8), (0, at(4), 16)]), by.clone(), 0).unwrap();
     assert_eq!(core.lock().admit(&mut lump), Err(Refused::InFlight));
     let first = spans(&flushed.texts().unwrap());
     core.lock().settle(flushed).unwrap();
     assert_eq!(core.lock().admit(&mut next), Ok(()));
     assert_eq!(core.lock().admit(&mut lump), Ok(()));
     let group = sums([first, group(&core)].concat());
-    let wanted = [
-        (("s0", 1), 3),
-        (("s0", 2), 4),
-        (("s0", 3), 8),
-        (("s0", 4), 16),
-        (("s1", 2), 1),
-    ];
-    assert_eq!(
-        group,
-        wanted
-            .map(|((name, hour), sum)| ((name.to_string(), hour), sum))
-            .into()
-    );
+    let wanted = [(("s0", 1), 3), (("s0", 2), 4), (("s0", 3), 8), (("s0", 4), 16), (("s1", 2), 1)];
+    assert_eq!(group, wanted.map(|((name, hour), sum)| ((name.to_string(), hour), sum)).into());
 }
 
 #[test]

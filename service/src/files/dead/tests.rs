@@ -19,10 +19,7 @@ fn a_request_is_kept_once_and_comes_back_as_it_was() {
     let dead = open(folder.path());
     assert_eq!((dead.count(), dead.list().unwrap().len()), (2, 2));
     let letter = &dead.list().unwrap()[0];
-    assert_eq!(
-        (&*letter.key, &*letter.reason, letter.bytes),
-        ("0-e-1", "400 bad\nline", body.len() as u64)
-    );
+    assert_eq!((&*letter.key, &*letter.reason, letter.bytes), ("0-e-1", "400 bad\nline", body.len() as u64));
     assert_eq!(dead.body("0-e-1").unwrap().unwrap(), body);
     assert_eq!(dead.body("0-e-2").unwrap().unwrap(), b"");
     assert!(dead.drop_letter("0-e-1").unwrap());
@@ -35,18 +32,7 @@ fn no_key_leads_out_of_the_folder() {
     let folder = tempfile::tempdir().unwrap();
     std::fs::write(folder.path().join("other.json"), "{}").unwrap();
     let dead = open(&folder.path().join("dead"));
-    for key in [
-        "",
-        ".",
-        "..",
-        "../other",
-        "a/b",
-        "/etc/passwd",
-        "a.b",
-        "a\0b",
-        "ä",
-        &"a".repeat(129),
-    ] {
+    for key in ["", ".", "..", "../other", "a/b", "/etc/passwd", "a.b", "a\0b", "ä", &"a".repeat(129)] {
         assert!(dead.keep(key, "", b"").is_err(), "{key:?}");
         assert_eq!(dead.body(key).unwrap(), None);
         assert!(!dead.drop_letter(key).unwrap());
@@ -102,12 +88,7 @@ fn another_request_under_the_same_key_is_kept_beside_the_first() {
         assert_eq!(dead.body(name).unwrap().unwrap(), body);
         assert_eq!(sent_as(name), "0-e-1");
     }
-    let listed: Vec<String> = dead
-        .list()
-        .unwrap()
-        .into_iter()
-        .map(|letter| letter.key)
-        .collect();
+    let listed: Vec<String> = dead.list().unwrap().into_iter().map(|letter| letter.key).collect();
     assert!(listed.contains(&"0-e-1_2".to_string()), "{listed:?}");
 
     // A name that is free again is taken again, and no body is kept twice.
@@ -156,11 +137,7 @@ fn a_letter_that_can_not_be_read_hides_no_other() {
     let listed = dead.list().unwrap();
     let of = |key: &str| listed.iter().find(|letter| letter.key == key).unwrap();
     assert_eq!((&*of("k").reason, dead.count()), ("400", 2));
-    assert!(
-        of("l").reason.contains("l.json: Is a directory"),
-        "{}",
-        of("l").reason
-    );
+    assert!(of("l").reason.contains("l.json: Is a directory"), "{}", of("l").reason);
 }
 
 /// As each text of a damaged one says: it is moved out, and a copy is put in its place.

@@ -22,8 +22,7 @@ impl Disk {
 
     /// For who reads alone.
     pub fn open(&self, path: &Path) -> Result<File, Fault> {
-        self.open_with(path, OpenOptions::new().read(true))
-            .map_err(io_fault(path))
+        self.open_with(path, OpenOptions::new().read(true)).map_err(io_fault(path))
     }
 
     /// The same; none where there is none.
@@ -35,8 +34,7 @@ impl Disk {
     }
 
     pub fn open_to_write(&self, path: &Path) -> Result<File, Fault> {
-        self.open_with(path, OpenOptions::new().read(true).write(true))
-            .map_err(io_fault(path))
+        self.open_with(path, OpenOptions::new().read(true).write(true)).map_err(io_fault(path))
     }
 
     fn open_with(&self, path: &Path, how: &OpenOptions) -> io::Result<File> {

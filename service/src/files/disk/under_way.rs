@@ -30,9 +30,7 @@ impl UnderWay {
     pub fn longest(&self) -> Duration {
         let began = self.0.iter().map(|place| place.load(Relaxed));
         let first = began.filter(|began| *began > 0).min();
-        first.map_or(Duration::ZERO, |first| {
-            Duration::from_nanos(UnderWay::now().saturating_sub(first))
-        })
+        first.map_or(Duration::ZERO, |first| Duration::from_nanos(UnderWay::now().saturating_sub(first)))
     }
 }
 

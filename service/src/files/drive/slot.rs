@@ -18,11 +18,7 @@ pub fn open(drive: Arc<dyn Drive>, epoch: &str) -> Result<(Journal, Outbox, Dead
     let is_new = segment::numbers(&disk, outbox)?.is_empty();
     if is_new && !segment::numbers(&disk, journal)?.is_empty() {
         // It would count from 1 again, under keys that were used.
-        return Err(Fault::Damaged {
-            path: outbox.into(),
-            at: 0,
-            what: LOST_OUTBOX.into(),
-        });
+        return Err(Fault::Damaged { path: outbox.into(), at: 0, what: LOST_OUTBOX.into() });
     }
     let free_space = Arc::new(FreeSpace::endless());
     let outbox = Outbox::open(&disk, outbox, epoch, free_space.clone())?;

@@ -17,11 +17,7 @@ fn open_of(owner: Arc<Owner>) -> (Journal, Outbox, Dead) {
 }
 
 fn append(journal: &Journal, sender: &str, text: &str) -> Ticket {
-    let post = Post {
-        sender: sender.into(),
-        foreign: 0,
-        body: Body::Text(text.to_string().into()),
-    };
+    let post = Post { sender: sender.into(), foreign: 0, body: Body::Text(text.to_string().into()) };
     journal.append(&post, &NoNames)
 }
 
@@ -72,10 +68,7 @@ async fn the_next_owner_has_what_was_durable() {
     append(&journal, "A", "three");
     outbox.quarantine("B").unwrap();
     let (journal, outbox, dead) = open_of(store.take());
-    assert_eq!(
-        (outbox.journal(), texts(&journal, 2)),
-        (2, vec!["two".to_string()])
-    );
+    assert_eq!((outbox.journal(), texts(&journal, 2)), (2, vec!["two".to_string()]));
     let (waiting, body) = outbox.first().await.unwrap();
     assert_eq!((waiting.number, body), (1, request(5)));
     assert_eq!((outbox.epoch().as_str(), outbox.quarantined().len()), (EPOCH, 0));
@@ -83,10 +76,7 @@ async fn the_next_owner_has_what_was_durable() {
     outbox.acknowledge(1).unwrap();
     outbox.settle().unwrap();
     let (journal, outbox, _dead) = open_of(store.take());
-    assert_eq!(
-        (outbox.waiting().0, texts(&journal, 2)),
-        (0, vec!["two".to_string()])
-    );
+    assert_eq!((outbox.waiting().0, texts(&journal, 2)), (0, vec!["two".to_string()]));
 }
 
 #[test]
@@ -122,9 +112,7 @@ fn a_checkpoint_is_one_sync() {
         let (next, turned) = journal.turn();
         journal.settle(turned);
         let first = outbox.journal();
-        journal
-            .hold(&BTreeSet::from(["B".to_string()]), first, next)
-            .unwrap();
+        journal.hold(&BTreeSet::from(["B".to_string()]), first, next).unwrap();
         outbox.commit_with(&[request(number)], next, Runs::new()).unwrap();
         journal.forget(next).unwrap();
         assert!(!outbox.may_deliver(number), "it is not durable yet");
@@ -211,10 +199,8 @@ async fn all_who_wait_are_told_that_the_slot_is_lost() {
         let journal = journal.clone();
         tokio::spawn(async move { journal.durable(ticket).await })
     };
-    let waiting: Vec<_> = (0..50)
-        .map(|_| wait(append(&journal, "A", "one")))
-        .chain([wait(journal.now())])
-        .collect();
+    let waiting: Vec<_> =
+        (0..50).map(|_| wait(append(&journal, "A", "one"))).chain([wait(journal.now())]).collect();
     let (of_journal, of_outbox) = (journal.clone(), outbox.clone());
     let told = tokio::spawn(async move { (of_journal.lost().await, of_outbox.lost().await) });
     while journal.under_way() == Duration::ZERO {
@@ -314,10 +300,7 @@ fn what_was_cut_changed_or_removed_is_refused_by_name() {
         let more = changed(|bytes| bytes.extend(b"more"));
         let gone = changed(Vec::clear);
         for fault in [&cut, &flipped, &more, &gone] {
-            assert!(
-                fault.starts_with(&shown) || fault.starts_with("outbox"),
-                "{fault}"
-            );
+            assert!(fault.starts_with(&shown) || fault.starts_with("outbox"), "{fault}");
         }
     }
 }

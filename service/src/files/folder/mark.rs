@@ -24,11 +24,7 @@ pub struct Mark {
     pub store: String,
 }
 
-const WAYS: [(Way, &str); 3] = [
-    (Way::Leaving, "leaving"),
-    (Way::Left, "left"),
-    (Way::Coming, "coming"),
-];
+const WAYS: [(Way, &str); 3] = [(Way::Leaving, "leaving"), (Way::Left, "left"), (Way::Coming, "coming")];
 
 impl Mark {
     /// As the file `version` has it.
@@ -44,11 +40,7 @@ impl Mark {
         let (id, store) = rest.split_once(' ')?;
         let way = WAYS.iter().find(|(_, name)| *name == way)?.0;
         let is_id = !id.is_empty() && id.bytes().all(|byte| byte.is_ascii_hexdigit());
-        (is_id && !store.is_empty()).then(|| Mark {
-            way,
-            id: id.into(),
-            store: store.into(),
-        })
+        (is_id && !store.is_empty()).then(|| Mark { way, id: id.into(), store: store.into() })
     }
 
     /// Why no service starts on the folder.
@@ -85,10 +77,9 @@ impl Folder {
     pub fn counts(&self) -> Result<(), FolderFault> {
         match self.mark() {
             None => Ok(()),
-            Some(mark) => Err(FolderFault::Unusable {
-                path: self.path.clone(),
-                what: mark.refusal(&self.path),
-            }),
+            Some(mark) => {
+                Err(FolderFault::Unusable { path: self.path.clone(), what: mark.refusal(&self.path) })
+            }
         }
     }
 

@@ -23,18 +23,11 @@ impl KnownSink {
             true => char.escape_default().to_string(),
             false => char.to_string(),
         };
-        KnownSink {
-            kind: kind.into(),
-            address: address.chars().map(on_one_line).collect(),
-            id: None,
-        }
+        KnownSink { kind: kind.into(), address: address.chars().map(on_one_line).collect(), id: None }
     }
 
     pub fn with_id(&self, id: Option<&str>) -> KnownSink {
-        KnownSink {
-            id: id.map(String::from),
-            ..self.clone()
-        }
+        KnownSink { id: id.map(String::from), ..self.clone() }
     }
 
     pub fn is_at(&self, other: &KnownSink) -> bool {

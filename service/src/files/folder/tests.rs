@@ -36,19 +36,11 @@ fn a_second_service_is_refused_by_name_until_the_first_has_ended() {
         "{again}"
     );
     let mut this = std::process::Command::new(std::env::current_exe().unwrap());
-    this.args([
-        "--exact",
-        "--ignored",
-        "--nocapture",
-        "files::folder::tests::has_a_folder",
-    ]);
+    this.args(["--exact", "--ignored", "--nocapture", "files::folder::tests::has_a_folder"]);
     let other = this.env("TOTXEGUN_TEST_FOLDER", place.path()).output().unwrap();
     assert!(other.status.success() && String::from_utf8_lossy(&other.stdout).contains("refused"));
     std::fs::remove_file(place.path().join("lock")).unwrap();
-    assert!(
-        matches!(open(place.path()), Err(FolderFault::InUse(_))),
-        "its lock was deleted"
-    );
+    assert!(matches!(open(place.path()), Err(FolderFault::InUse(_))), "its lock was deleted");
     drop(first);
     open(place.path()).unwrap();
 }
@@ -59,11 +51,7 @@ fn all_of_it_is_its_owners_alone() {
     let path = place.path().join("new/folder");
     let folder = open(&path).unwrap();
     let (journal, _outbox) = folder.slot(0).unwrap();
-    let post = Post {
-        sender: "s".into(),
-        foreign: 0,
-        body: Body::Text(bytes::Bytes::from_static(b"{}")),
-    };
+    let post = Post { sender: "s".into(), foreign: 0, body: Body::Text(bytes::Bytes::from_static(b"{}")) };
     journal.write(journal.append(&post, &NoNames)).unwrap();
     folder.dead().unwrap().keep("0-e-1", "400", b"{}").unwrap();
     let mut left = vec![path];
@@ -71,18 +59,9 @@ fn all_of_it_is_its_owners_alone() {
     while let Some(path) = left.pop() {
         let about = std::fs::metadata(&path).unwrap();
         let mode = about.permissions().mode() & 0o777;
-        assert_eq!(
-            mode,
-            if about.is_dir() { 0o700 } else { 0o600 },
-            "{}",
-            path.display()
-        );
+        assert_eq!(mode, if about.is_dir() { 0o700 } else { 0o600 }, "{}", path.display());
         if about.is_dir() {
-            left.extend(
-                std::fs::read_dir(&path)
-                    .unwrap()
-                    .map(|entry| entry.unwrap().path()),
-            );
+            left.extend(std::fs::read_dir(&path).unwrap().map(|entry| entry.unwrap().path()));
         } else {
             files += 1;
         }
@@ -103,11 +82,7 @@ fn the_epoch_stays_until_the_folder_is_copied_or_it_is_renewed() {
     let folder = open(&first).unwrap();
     assert_eq!(epoch(&folder), drawn);
     // An inode that is free is soon used again, so the first folder stays while it is copied.
-    let copied = std::process::Command::new("cp")
-        .arg("-a")
-        .args([&first, &second])
-        .status()
-        .unwrap();
+    let copied = std::process::Command::new("cp").arg("-a").args([&first, &second]).status().unwrap();
     assert!(copied.success());
     let copy = open(&second).unwrap();
     assert_ne!(epoch(&copy), drawn);
@@ -172,10 +147,7 @@ fn a_folder_that_is_made_has_a_name_that_lasts() {
         let synced = std::mem::take(&mut *super::super::lock(&synced));
         let first = |folder| synced.iter().position(|one| one == folder);
         assert!(first(&above).is_some() && first(&place).is_some(), "{synced:?}");
-        assert!(
-            first(&path) > first(&above).max(first(&place)),
-            "its version is the last"
-        );
+        assert!(first(&path) > first(&above).max(first(&place)), "its version is the last");
     }
 }
 
@@ -250,10 +222,7 @@ fn the_number_of_slots_stays_and_one_slot_is_of_version_1() {
     let place = tempfile::tempdir().unwrap();
     let text = || std::fs::read_to_string(place.path().join("version")).unwrap();
     let folder = open(place.path()).unwrap();
-    assert_eq!(
-        (folder.slots(), folder.slots_with_files().unwrap()),
-        (1, Vec::<u16>::new())
-    );
+    assert_eq!((folder.slots(), folder.slots_with_files().unwrap()), (1, Vec::<u16>::new()));
     assert!(text().starts_with("totxegun 1\n"), "an earlier version reads it");
     let drawn = epoch(&folder);
     folder.set_slots(3).unwrap();
@@ -309,14 +278,9 @@ fn a_folder_with_a_mark_is_read_by_no_earlier_totxegun_and_no_service_starts_on_
     folder.counts().unwrap();
     assert_eq!(version().lines().nth(1), plain.lines().nth(1));
     for wrong in ["move gone 12 s\n", "move left xy s\n", "move left 12\n", ""] {
-        let text = plain
-            .replacen("totxegun 1", "totxegun 3", 1)
-            .replace("lock ", "slots 1\nlock ");
-        let text = format!(
-            "{}{wrong}",
-            text.replacen("slots 1\n", "", 1)
-                .replacen("\nborn", "\nslots 1\nborn", 1)
-        );
+        let text = plain.replacen("totxegun 1", "totxegun 3", 1).replace("lock ", "slots 1\nlock ");
+        let text =
+            format!("{}{wrong}", text.replacen("slots 1\n", "", 1).replacen("\nborn", "\nslots 1\nborn", 1));
         std::fs::write(place.path().join("version"), text).unwrap();
         assert!(Version::read(place.path()).is_err(), "{wrong}");
     }

@@ -56,10 +56,7 @@ fn has_rights(path: &Path) -> Result<(), FolderFault> {
 }
 
 fn unusable(path: &Path, what: &str) -> FolderFault {
-    FolderFault::Unusable {
-        path: path.into(),
-        what: what.into(),
-    }
+    FolderFault::Unusable { path: path.into(), what: what.into() }
 }
 
 fn no_folder(path: &Path) -> FolderFault {

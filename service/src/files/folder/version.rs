@@ -37,14 +37,8 @@ pub struct Identity {
 impl Identity {
     pub fn of(file: &File) -> std::io::Result<Identity> {
         let about = file.metadata()?;
-        let born = about
-            .created()
-            .ok()
-            .and_then(|at| at.duration_since(UNIX_EPOCH).ok());
-        Ok(Identity {
-            inode: about.ino(),
-            born: born.map(|since| since.as_nanos()),
-        })
+        let born = about.created().ok().and_then(|at| at.duration_since(UNIX_EPOCH).ok());
+        Ok(Identity { inode: about.ino(), born: born.map(|since| since.as_nanos()) })
     }
 
     pub fn may_be(self, other: Identity) -> bool {
@@ -55,14 +49,7 @@ impl Identity {
 
 impl Version {
     pub fn text(&self) -> String {
-        let Version {
-            epoch,
-            lock,
-            slots,
-            begun,
-            sink,
-            mark,
-        } = self;
+        let Version { epoch, lock, slots, begun, sink, mark } = self;
         let inode = lock.inode;
         let number = match (slots, mark) {
             (_, Some(_)) => MARKED,
@@ -70,16 +57,10 @@ impl Version {
             (None, None) => 1,
         };
         let slots = (number > 1).then(|| format!("slots {}\n", slots.unwrap_or(1)));
-        let text = format!(
-            "totxegun {number}\nepoch {epoch}\nlock {inode}\n{}",
-            slots.unwrap_or_default()
-        );
+        let text = format!("totxegun {number}\nepoch {epoch}\nlock {inode}\n{}", slots.unwrap_or_default());
         // The last lines: an earlier totxegun passes over them.
         let born = lock.born.map(|born| format!("born {born}\n"));
-        let begun: Vec<String> = begun
-            .iter()
-            .map(|(slot, segment)| format!(" {slot}:{segment}"))
-            .collect();
+        let begun: Vec<String> = begun.iter().map(|(slot, segment)| format!(" {slot}:{segment}")).collect();
         let begun = (!begun.is_empty()).then(|| format!("begun{}\n", begun.concat()));
         let sink = sink.as_ref().map(KnownSink::line);
         let mark = mark.as_ref().map(Mark::line);
@@ -93,22 +74,10 @@ impl Version {
             Err(error) if error.kind() == std::io::ErrorKind::NotFound => return Ok(None),
             text => text.map_err(io_fault(&path))?,
         };
-        let damaged = |what: String| {
-            Err(Fault::Damaged {
-                path: path.clone(),
-                at: 0,
-                what,
-            })
-        };
+        let damaged = |what: String| Err(Fault::Damaged { path: path.clone(), at: 0, what });
         let text = String::from_utf8_lossy(&text);
         let mut lines = text.lines();
-        let mut value = |name: &str| {
-            lines
-                .next()?
-                .strip_prefix(name)?
-                .strip_prefix(' ')
-                .map(String::from)
-        };
+        let mut value = |name: &str| lines.next()?.strip_prefix(name)?.strip_prefix(' ').map(String::from);
         let version: Option<u32> = value("totxegun").and_then(|version| version.parse().ok());
         match version {
             Some(1..=MARKED) => {}
@@ -133,10 +102,7 @@ impl Version {
         let born = last("born ").and_then(|born| born.parse().ok());
         let begun = last("begun ").map_or(Some(BTreeMap::new()), |begun| {
             let of_slot = |one: &str| {
-                Some((
-                    one.split_once(':')?.0.parse().ok()?,
-                    one.split_once(':')?.1.parse().ok()?,
-                ))
+                Some((one.split_once(':')?.0.parse().ok()?, one.split_once(':')?.1.parse().ok()?))
             };
             begun.split(' ').map(of_slot).collect()
         });

@@ -33,27 +33,16 @@ pub(super) fn read(disk: &Disk, folder: &Path, number: u64) -> Result<EarlierSeg
     let length = disk.length(&path)?.unwrap_or(0); // where there is none, the reader says so
     let (mut reader, mut next) = Reader::open(disk, &path, Which::Journal, number, None)?;
     let has_header = matches!(next, Next::Record { .. });
-    let mut size = Size {
-        number,
-        bytes: 0,
-        first: None,
-    };
+    let mut size = Size { number, bytes: 0, first: None };
     let mut held = held::List::new();
     loop {
         match next {
-            Next::Record {
-                at,
-                kind: HELD,
-                bytes,
-            } => {
+            Next::Record { at, kind: HELD, bytes } => {
                 size.bytes += bytes.len() as u64;
                 let list = held::list_of(&bytes);
                 held = list.ok_or_else(|| reader.damaged(at, held::NO_LIST))?;
             }
-            Next::Record {
-                kind: records::HEADER,
-                ..
-            } => {}
+            Next::Record { kind: records::HEADER, .. } => {}
             Next::Record { kind, bytes, .. } => {
                 size.bytes += bytes.len() as u64;
                 size.first = size.first.or_else(|| record::since(kind, &bytes));
@@ -97,9 +86,7 @@ pub(super) fn check(
     if needed.first().is_some_and(|first| *first > reach) {
         return Err(segment::missing(folder, reach));
     }
-    segments
-        .iter()
-        .try_for_each(|one| one.check(disk, folder, expected))?;
+    segments.iter().try_for_each(|one| one.check(disk, folder, expected))?;
     let first = segments.iter().find(|one| one.size.number == reach);
     first.map_or(Ok(()), |first| held::check(disk, folder, &first.held))
 }

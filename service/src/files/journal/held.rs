@@ -51,10 +51,7 @@ impl Journal {
         list.retain(|sender, _| quarantined.contains(sender));
         let due: BTreeSet<&String> = {
             let place = lock(&shared.place);
-            quarantined
-                .iter()
-                .filter(|sender| !place.moved.contains(*sender))
-                .collect()
+            quarantined.iter().filter(|sender| !place.moved.contains(*sender)).collect()
         };
         if !due.is_empty() {
             let mut moving = Moving::new(shared, &mut list);
@@ -91,11 +88,7 @@ impl Journal {
         let wanted: BTreeSet<PathBuf> = {
             let mut lists = lock(&shared.held);
             lists.retain(|segment, _| *segment >= before);
-            lists
-                .values()
-                .flat_map(List::keys)
-                .map(|sender| path(&shared.folder, sender))
-                .collect()
+            lists.values().flat_map(List::keys).map(|sender| path(&shared.folder, sender)).collect()
         };
         for name in shared.disk.names(&shared.folder)? {
             let path = shared.folder.join(name);
@@ -114,13 +107,8 @@ impl Shared {
         if list.is_empty() {
             return Ok(());
         }
-        let rows: Vec<_> = list
-            .iter()
-            .map(|(sender, part)| (sender, part.posts, part.end))
-            .collect();
-        let bytes = serde_json::to_vec(&rows)
-            .map_err(io::Error::from)
-            .map_err(io_fault(&self.folder))?;
+        let rows: Vec<_> = list.iter().map(|(sender, part)| (sender, part.posts, part.end)).collect();
+        let bytes = serde_json::to_vec(&rows).map_err(io::Error::from).map_err(io_fault(&self.folder))?;
         let mut record = Vec::new();
         records::put(&mut record, HELD, &[&bytes]);
         let mut place = self.to_write();
@@ -173,11 +161,7 @@ fn posts_of(
 ) -> Result<bool, Fault> {
     let (mut reader, first) = Reader::open(disk, &path(folder, sender), Which::Held, 0, Some(part.end))?;
     let (mut posts, mut left) = (Posts::default(), part.posts);
-    let mut next = if first == Next::Stop {
-        first
-    } else {
-        reader.next()?
-    };
+    let mut next = if first == Next::Stop { first } else { reader.next()? };
     while let Next::Record { at, kind, bytes } = next {
         let read = posts.read(kind, bytes);
         if let Some((since, post)) = read.map_err(|what| reader.damaged(at, what))? {
@@ -237,13 +221,7 @@ struct Writer {
 
 impl<'a> Moving<'a> {
     fn new(shared: &'a Shared, list: &'a mut List) -> Moving<'a> {
-        Moving {
-            shared,
-            list,
-            open: BTreeMap::new(),
-            is_new: false,
-            names: HashMap::new(),
-        }
+        Moving { shared, list, open: BTreeMap::new(), is_new: false, names: HashMap::new() }
     }
 
     fn append(&mut self, since: u64, post: &Post) -> Result<(), Fault> {
@@ -263,9 +241,7 @@ impl<'a> Moving<'a> {
         let part = self.list.entry(post.sender.clone()).or_default();
         part.end = part.end.max(writer.at + before) + writer.waiting.len() as u64 - before;
         part.posts += 1;
-        self.shared
-            .free_space
-            .use_up(writer.waiting.len() as u64 - before);
+        self.shared.free_space.use_up(writer.waiting.len() as u64 - before);
         if writer.waiting.len() >= PIECE {
             writer.write(self.shared)?;
         }
@@ -286,14 +262,7 @@ impl<'a> Moving<'a> {
                 (disk.create(&path)?, 0, records::header(Which::Held, 0))
             }
         };
-        Ok(Writer {
-            file,
-            path,
-            at,
-            waiting,
-            said: HashMap::new(),
-            names: NameWriter::default(),
-        })
+        Ok(Writer { file, path, at, waiting, said: HashMap::new(), names: NameWriter::default() })
     }
 
     fn sync(&mut self) -> Result<(), Fault> {
@@ -328,9 +297,7 @@ impl Writer {
     }
 
     fn write(&mut self, shared: &Shared) -> Result<(), Fault> {
-        shared
-            .disk
-            .write_at(&self.file, &self.path, &[&self.waiting], self.at)?;
+        shared.disk.write_at(&self.file, &self.path, &[&self.waiting], self.at)?;
         self.at += self.waiting.len() as u64;
         self.waiting.clear();
         Ok(())

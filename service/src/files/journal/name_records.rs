@@ -94,10 +94,7 @@ mod tests {
         ];
         let mut reader = NameReader::default();
         for ((kind, bytes), (number, text)) in written(&texts).into_iter().zip((7..).zip(texts)) {
-            assert_eq!(
-                reader.read(kind, &bytes),
-                Some((number, Bytes::from_static(text)))
-            );
+            assert_eq!(reader.read(kind, &bytes), Some((number, Bytes::from_static(text))));
         }
     }
 
@@ -105,10 +102,7 @@ mod tests {
     fn what_a_text_shares_with_the_one_before_is_not_written_again() {
         let records = written(&[b"{\"k\":\"one\"}", b"{\"k\":\"two\"}"]);
         assert_eq!(records[0], (NAME, [&[32 + 7], &b"{\"k\":\"one\"}"[..]].concat()));
-        assert_eq!(
-            records[1],
-            (NAME_AFTER, [&[32 + 8, 32 + 6, 32 + 2], &b"two"[..]].concat())
-        );
+        assert_eq!(records[1], (NAME_AFTER, [&[32 + 8, 32 + 6, 32 + 2], &b"two"[..]].concat()));
     }
 
     #[test]

@@ -28,16 +28,10 @@ impl Journal {
         let number = drop_empty(disk, folder, &mut found, expected)?;
         let mut segment = prepare(disk, folder, number, durability, expected.reach)?;
         name(disk, folder, &mut segment)?;
-        let lists = found
-            .iter_mut()
-            .map(|one| (one.size.number, std::mem::take(&mut one.held)));
+        let lists = found.iter_mut().map(|one| (one.size.number, std::mem::take(&mut one.held)));
         let held = lists.filter(|(_, list)| !list.is_empty()).collect();
         let mut sizes: Vec<Size> = found.into_iter().map(|one| one.size).collect();
-        sizes.push(Size {
-            number,
-            bytes: 0,
-            first: None,
-        });
+        sizes.push(Size { number, bytes: 0, first: None });
         let place = Place {
             segment,
             named: false,
@@ -65,16 +59,9 @@ impl Journal {
         });
         shared.try_sync()?;
         let run = shared.clone();
-        let syncer = std::thread::Builder::new()
-            .name("journal".into())
-            .spawn(move || run.run());
+        let syncer = std::thread::Builder::new().name("journal".into()).spawn(move || run.run());
         let syncer = Some(syncer.map_err(io_fault(folder))?);
-        Ok(Journal {
-            shared,
-            syncer,
-            begun: number,
-            dropped,
-        })
+        Ok(Journal { shared, syncer, begun: number, dropped })
     }
 }
 
@@ -125,11 +112,7 @@ fn cut(
 ) -> Result<(), Fault> {
     let (path, end) = (segment::path(folder, found[torn].size.number), found[torn].end);
     if found[torn + 1..].iter().any(|later| later.has_marks) {
-        return Err(Fault::Damaged {
-            path,
-            at: end,
-            what: CHANGED.into(),
-        });
+        return Err(Fault::Damaged { path, at: end, what: CHANGED.into() });
     }
     dropped.extend(segment::keep_aside(disk, &path, end)?);
     for later in found.drain(torn + 1..).rev() {

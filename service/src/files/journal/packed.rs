@@ -150,11 +150,7 @@ impl Last {
     }
 
     fn note(&mut self, number: u64, end: u64, length: u64) {
-        *self = Last {
-            number: number.wrapping_add(1),
-            end,
-            length,
-        };
+        *self = Last { number: number.wrapping_add(1), end, length };
     }
 }
 

@@ -94,11 +94,7 @@ impl Points {
         let mut begin = 0;
         let is_point = |end: &usize| *end >= std::mem::replace(&mut begin, *end) + HEAD;
         let are_points = ends.iter().all(is_point) && begin == words.len();
-        are_points.then_some(Points {
-            words,
-            ends,
-            ..Points::default()
-        })
+        are_points.then_some(Points { words, ends, ..Points::default() })
     }
 
     /// None yet, and room for so many, also where each is made of a cumulative one.
@@ -191,9 +187,7 @@ impl Points {
     /// The words of each: number, start, end, and what it says.
     pub fn each(&self) -> impl Iterator<Item = &[u64]> {
         let begins = std::iter::once(&0).chain(&self.ends);
-        begins
-            .zip(&self.ends)
-            .map(|(begin, end)| &self.words[*begin..*end])
+        begins.zip(&self.ends).map(|(begin, end)| &self.words[*begin..*end])
     }
 }
 

@@ -60,15 +60,8 @@ impl Shared {
         let mut posts = Posts::default();
         loop {
             match next {
-                Next::Record {
-                    kind: records::HEADER,
-                    ..
-                } => {}
-                Next::Record {
-                    at,
-                    kind: HELD,
-                    bytes,
-                } => {
+                Next::Record { kind: records::HEADER, .. } => {}
+                Next::Record { at, kind: HELD, bytes } => {
                     held::list_of(&bytes).ok_or_else(|| reader.damaged(at, held::NO_LIST))?;
                 }
                 Next::Record { at, kind, bytes } => {

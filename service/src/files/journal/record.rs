@@ -92,14 +92,7 @@ fn text(bytes: Bytes) -> Option<(u64, Post)> {
     let length = records::take_number(&mut rest)?;
     let sender = take_text(&mut rest, length)?;
     let body = Body::Text(bytes.slice_ref(rest));
-    Some((
-        since,
-        Post {
-            sender,
-            foreign,
-            body,
-        },
-    ))
+    Some((since, Post { sender, foreign, body }))
 }
 
 fn points(mut rest: &[u8], read: ReadPoints) -> Option<(u64, Post)> {
@@ -108,14 +101,7 @@ fn points(mut rest: &[u8], read: ReadPoints) -> Option<(u64, Post)> {
     let length = packed::take_number(&mut rest)?;
     let sender = take_text(&mut rest, length)?;
     let body = Body::Points(read(rest)?);
-    Some((
-        since,
-        Post {
-            sender,
-            foreign,
-            body,
-        },
-    ))
+    Some((since, Post { sender, foreign, body }))
 }
 
 fn take_text(bytes: &mut &[u8], length: u64) -> Option<String> {

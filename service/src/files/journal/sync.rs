@@ -130,9 +130,7 @@ impl Shared {
     fn tell(&self, ticket: u64) {
         let due: Vec<Waiter> = {
             let list = &mut lock(&self.waiters).list;
-            let (due, later) = std::mem::take(list)
-                .into_iter()
-                .partition(|one| one.ticket <= ticket);
+            let (due, later) = std::mem::take(list).into_iter().partition(|one| one.ticket <= ticket);
             *list = later;
             due
         };
@@ -165,10 +163,7 @@ impl Shared {
             }
             waiters.idle = true;
             let pause = if waited < IDLE { QUIET } else { IDLE };
-            let (woken, why) = self
-                .work
-                .wait_timeout(waiters, pause)
-                .unwrap_or_else(PoisonError::into_inner);
+            let (woken, why) = self.work.wait_timeout(waiters, pause).unwrap_or_else(PoisonError::into_inner);
             waiters = woken;
             waiters.idle = false;
             if waiters.ending || !why.timed_out() {

@@ -44,11 +44,7 @@ fn open(path: &Path) -> Journal {
 }
 
 fn post(text: &str) -> Post {
-    Post {
-        sender: format!("sender {}", text.len()),
-        foreign: text.len() as u64,
-        body: body(text),
-    }
+    Post { sender: format!("sender {}", text.len()), foreign: text.len() as u64, body: body(text) }
 }
 
 /// Where it is in the file already.
@@ -63,11 +59,7 @@ fn append_copy(journal: &Journal, text: &str) {
     let post = post(text);
     let (numbers, name) = (record::numbers(seconds(), &post), post.sender.as_bytes());
     let mut record = Vec::new();
-    records::put(
-        &mut record,
-        COPY,
-        &[numbers.as_flattened(), name, text.as_bytes()],
-    );
+    records::put(&mut record, COPY, &[numbers.as_flattened(), name, text.as_bytes()]);
     let mut place = lock(&journal.shared.place);
     place.segment.put(&[&record]).unwrap();
     place.ticket += 1;
@@ -81,10 +73,7 @@ fn texts(journal: &Journal, first: u64) -> Vec<String> {
     let each = |found: Replayed| {
         let text = reading.text(&found);
         let written = post(&text);
-        assert_eq!(
-            (found.post.sender, found.post.foreign),
-            (written.sender, written.foreign)
-        );
+        assert_eq!((found.post.sender, found.post.foreign), (written.sender, written.foreign));
         texts.push(text);
         true
     };
@@ -154,11 +143,7 @@ fn posts_come_back_in_order_and_copies_only_where_they_are_first() {
         .unwrap();
     assert_eq!(some, [1]);
     journal.forget(2).unwrap();
-    assert_eq!(
-        texts(&journal, 0),
-        ["ccc"],
-        "copies count where their segment is the first that is replayed"
-    );
+    assert_eq!(texts(&journal, 0), ["ccc"], "copies count where their segment is the first that is replayed");
     assert_eq!(texts(&journal, 2), ["bb", "ccc"]);
 }
 

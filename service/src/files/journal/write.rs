@@ -50,10 +50,7 @@ impl Journal {
 impl Shared {
     pub fn to_write(&self) -> ToWrite<'_> {
         let writing = lock(&self.writing);
-        ToWrite {
-            place: lock(&self.place),
-            _writing: writing,
-        }
+        ToWrite { place: lock(&self.place), _writing: writing }
     }
 
     /// Writes all that was appended until now: what `see` says of the place up to there. Who appends meanwhile does not wait.

@@ -51,21 +51,13 @@ impl Outbox {
         let path = segment::path(&self.folder, batch.segment);
         let (mut at, mut bodies) = (batch.at, Vec::new());
         for number in batch.first..batch.first + batch.count {
-            let waiting = Waiting {
-                number,
-                since: batch.since,
-            };
+            let waiting = Waiting { number, since: batch.since };
             let segment = batch.segment;
             let (packed, length) = rows::packed_item(&self.disk, &path, &Front { waiting, segment, at })?;
             bodies.push(packed);
             at += length;
         }
-        Ok(Waits {
-            first: batch.first,
-            epoch: batch.epoch,
-            since: batch.since,
-            bodies,
-        })
+        Ok(Waits { first: batch.first, epoch: batch.epoch, since: batch.since, bodies })
     }
 
     /// Begins with this, in an outbox that has had nothing yet. Ordered before all that follows, and all or none of it.

@@ -21,11 +21,7 @@ impl Outbox {
         let text = fault.to_string();
         if lock(&self.stuck).replace(text.clone()).as_ref() != Some(&text) {
             let folder = self.folder.display().to_string();
-            tracing::error!(
-                folder,
-                reason = text.as_str(),
-                "the delivery of {folder} stops: {text}"
-            );
+            tracing::error!(folder, reason = text.as_str(), "the delivery of {folder} stops: {text}");
         }
         tokio::time::sleep(LOOK_AGAIN).await;
     }
@@ -51,16 +47,9 @@ impl Outbox {
         let path = segment::path(&self.folder, batch.segment);
         while batch.count > 0 {
             let (number, since) = (batch.first, batch.since);
-            let front = Front {
-                waiting: Waiting { number, since },
-                segment: batch.segment,
-                at: batch.at,
-            };
+            let front = Front { waiting: Waiting { number, since }, segment: batch.segment, at: batch.at };
             let (mut next, fault) = match rows::read_item(&self.disk, &path, &front) {
-                Ok(_) => (
-                    Some(batch.at + rows::sound_length(&self.disk, &path, &front)?),
-                    None,
-                ),
+                Ok(_) => (Some(batch.at + rows::sound_length(&self.disk, &path, &front)?), None),
                 Err(fault @ Fault::Damaged { .. }) => (None, Some(fault)),
                 Err(fault) => return Err(fault),
             };

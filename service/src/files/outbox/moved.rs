@@ -12,9 +12,8 @@ impl Outbox {
     /// Leaves out the series whose owners post to another slot: how many.
     pub fn leave(&self, is_others: impl Fn(&str) -> bool) -> Result<usize, Fault> {
         let left = self.leave_out(|series| {
-            let others = series
-                .iter()
-                .filter(|(_, known)| known.series.owner.as_deref().is_some_and(&is_others));
+            let others =
+                series.iter().filter(|(_, known)| known.series.owner.as_deref().is_some_and(&is_others));
             others.map(|(id, _)| id).collect()
         });
         left.map(|left| left.len())

@@ -38,17 +38,9 @@ impl Outbox {
         let numbers = segment::numbers(disk, folder)?;
         // Each is begun once the one before it is durable.
         segment::settle(disk, folder, numbers.last().copied().unwrap_or(0), |_| 0)?;
-        let EarlierRun {
-            mut state,
-            has_requests,
-            ended,
-            dropped,
-        } = read_all(disk, folder, &numbers, epoch)?;
+        let EarlierRun { mut state, has_requests, ended, dropped } = read_all(disk, folder, &numbers, epoch)?;
         state.next_epoch = epoch.into();
-        state.since.get_or_insert_with(|| Since {
-            made: nanoseconds(),
-            forgotten: 0,
-        });
+        state.since.get_or_insert_with(|| Since { made: nanoseconds(), forgotten: 0 });
         // A segment without a request is replaced: starts that end at once would leave one each.
         let number = numbers.last().map_or(1, |last| last + u64::from(has_requests));
         let segment = begin(disk, folder, number, &state.snapshot())?;
@@ -110,10 +102,7 @@ fn read_all(disk: &Disk, folder: &Path, numbers: &[u64], epoch: &str) -> Result<
     // The sink has all that was in a segment that was deleted, and a loss of power may bring any of them back.
     let taken = state.acknowledged;
     let mut next = taken + 1;
-    for batch in batches
-        .into_iter()
-        .filter(|batch| batch.first + batch.count > taken + 1)
-    {
+    for batch in batches.into_iter().filter(|batch| batch.first + batch.count > taken + 1) {
         let batch = skip_taken(disk, folder, batch, taken)?;
         if batch.first != next {
             return Err(lost(folder, numbers, &reading.reader));
@@ -122,12 +111,7 @@ fn read_all(disk: &Disk, folder: &Path, numbers: &[u64], epoch: &str) -> Result<
         state.wait(batch);
     }
     match next == state.next {
-        true => Ok(EarlierRun {
-            state,
-            has_requests,
-            ended,
-            dropped,
-        }),
+        true => Ok(EarlierRun { state, has_requests, ended, dropped }),
         false => Err(lost(folder, numbers, &reading.reader)),
     }
 }
@@ -135,19 +119,14 @@ fn read_all(disk: &Disk, folder: &Path, numbers: &[u64], epoch: &str) -> Result<
 /// A request is missing that the sink does not have.
 fn lost(folder: &Path, numbers: &[u64], last: &Reader) -> Fault {
     let what = "a request is missing that the sink does not have: put all of its folder back";
-    segment::check_row(folder, numbers)
-        .err()
-        .unwrap_or_else(|| last.damaged(0, what))
+    segment::check_row(folder, numbers).err().unwrap_or_else(|| last.damaged(0, what))
 }
 
 /// What of a batch still waits.
 fn skip_taken(disk: &Disk, folder: &Path, mut batch: Batch, acknowledged: u64) -> Result<Batch, Fault> {
     let path = segment::path(folder, batch.segment);
     while batch.first <= acknowledged {
-        let waiting = Waiting {
-            number: batch.first,
-            since: batch.since,
-        };
+        let waiting = Waiting { number: batch.first, since: batch.since };
         let (segment, at) = (batch.segment, batch.at);
         let front = Front { waiting, segment, at };
         let (taken, at) = match rows::sound_length(disk, &path, &front) {

@@ -47,13 +47,7 @@ impl Reading {
             return Err(reader.damaged(0, CHANGED));
         }
         let next = reader.next()?;
-        Ok(Reading {
-            disk: disk.clone(),
-            reader,
-            number,
-            next,
-            epoch: "".into(),
-        })
+        Ok(Reading { disk: disk.clone(), reader, number, next, epoch: "".into() })
     }
 
     fn step(&mut self) -> Result<Next, Fault> {
@@ -67,11 +61,7 @@ impl Reading {
             match std::mem::replace(&mut self.next, Next::Stop) {
                 Next::Closed => return Ok(()),
                 Next::Stop => return Err(self.reader.damaged(self.reader.at, CHANGED)),
-                Next::Record {
-                    at,
-                    kind: rows::GROUP,
-                    bytes,
-                } => {
+                Next::Record { at, kind: rows::GROUP, bytes } => {
                     let head = self.head(at, &bytes)?;
                     match self.items(&head, false)? {
                         Items::Torn(at) => return Err(self.reader.damaged(at, CHANGED)),
@@ -93,15 +83,7 @@ impl Reading {
             self.epoch = head.epoch.as_str().into();
         }
         let (first, count, epoch, since) = (head.first, head.count, self.epoch.clone(), head.since);
-        (count > 0).then_some(Batch {
-            first,
-            count,
-            epoch,
-            since,
-            segment: self.number,
-            at,
-            end,
-        })
+        (count > 0).then_some(Batch { first, count, epoch, since, segment: self.number, at, end })
     }
 
     /// Goes behind a group's commit. With `whole` each item is read.
@@ -110,11 +92,9 @@ impl Reading {
         let mut number = head.first;
         while whole && self.reader.at < from + head.length {
             match self.reader.next()? {
-                Next::Record {
-                    kind: rows::ITEM,
-                    bytes,
-                    ..
-                } if bytes.starts_with(&number.to_le_bytes()) => number += 1,
+                Next::Record { kind: rows::ITEM, bytes, .. } if bytes.starts_with(&number.to_le_bytes()) => {
+                    number += 1
+                }
                 Next::Record { at, .. } => return Err(self.reader.damaged(at, NOT_WRITTEN)),
                 Next::Stop | Next::Closed => return Ok(Items::Torn(self.reader.at)),
             }
@@ -124,20 +104,11 @@ impl Reading {
         }
         let to = self.reader.at;
         match self.reader.next()? {
-            Next::Record {
-                at,
-                kind: rows::COMMIT,
-                bytes,
-            } => match rows::commit_of(&bytes, head) {
+            Next::Record { at, kind: rows::COMMIT, bytes } => match rows::commit_of(&bytes, head) {
                 Some((journal, ends))
                     if to == from + head.length && (!whole || number == head.first + head.count) =>
                 {
-                    Ok(Items::Whole {
-                        journal,
-                        ends: ends.to_vec(),
-                        from,
-                        to,
-                    })
+                    Ok(Items::Whole { journal, ends: ends.to_vec(), from, to })
                 }
                 _ => Err(self.reader.damaged(at, NOT_WRITTEN)),
             },
@@ -166,12 +137,7 @@ impl Reading {
 
     /// The state that the last segment tells, and where it has to be closed, where it was not.
     pub fn read_last(&mut self) -> Result<(State, Option<u64>), Fault> {
-        let Next::Record {
-            at,
-            kind: rows::SNAPSHOT,
-            bytes,
-        } = self.step()?
-        else {
+        let Next::Record { at, kind: rows::SNAPSHOT, bytes } = self.step()? else {
             return Err(self.reader.damaged(self.reader.at, CHANGED));
         };
         let mut state = Snapshot::read(&bytes).ok_or_else(|| self.reader.damaged(at, NOT_WRITTEN))?;
@@ -182,11 +148,7 @@ impl Reading {
                     check_torn(&self.disk, &self.reader.path, self.reader.at)?;
                     return Ok((state, Some(self.reader.at)));
                 }
-                Next::Record {
-                    at,
-                    kind: rows::GROUP,
-                    bytes,
-                } => {
+                Next::Record { at, kind: rows::GROUP, bytes } => {
                     let head = self.head(at, &bytes)?;
                     match self.last_items(&head)? {
                         Items::Torn(_) => return Ok((state, Some(at))),
@@ -204,13 +166,7 @@ impl Reading {
 
     fn group(&mut self, head: GroupHead, items: Items, series: &Table, at: u64) -> Result<Change, Fault> {
         let wrong = || self.reader.damaged(at, NOT_WRITTEN);
-        let Items::Whole {
-            journal,
-            ends,
-            from,
-            to,
-        } = items
-        else {
+        let Items::Whole { journal, ends, from, to } = items else {
             return Err(wrong());
         };
         let ends = rows::ends_of(&ends, series).ok_or_else(wrong)?;
@@ -222,12 +178,7 @@ impl Reading {
             journal,
             ends,
         };
-        Ok(Change::Group {
-            group,
-            count: head.count,
-            segment: self.number,
-            items: from..to,
-        })
+        Ok(Change::Group { group, count: head.count, segment: self.number, items: from..to })
     }
 
     fn apply(&self, state: &mut State, at: u64, kind: u8, bytes: &[u8]) -> Result<(), Fault> {

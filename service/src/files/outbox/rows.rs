@@ -112,23 +112,13 @@ pub fn group(group: &Group, items: &[Vec<u8>]) -> GroupBytes {
     let items = out.len()..out.len() + bodies.len();
     out.append(&mut bodies);
     let ends = packed(&ends(&group.ends));
-    put(
-        &mut out,
-        COMMIT,
-        &[&numbers([group.first, count, group.journal]), &ends],
-    );
+    put(&mut out, COMMIT, &[&numbers([group.first, count, group.journal]), &ends]);
     GroupBytes { records: out, items }
 }
 
 fn ends(all: &[End]) -> Ends {
     let (mut known, mut new, mut runs) = (Vec::new(), Vec::new(), Vec::new());
-    for End {
-        id,
-        new: key,
-        end,
-        run,
-    } in all
-    {
+    for End { id, new: key, end, run } in all {
         match key {
             None => known.push((*id, *end)),
             Some(key) => new.push((key.0.to_string(), *end)),
@@ -143,13 +133,7 @@ pub fn head_of(mut bytes: &[u8]) -> Option<GroupHead> {
     let (first, count) = (take_number(rest)?, take_number(rest)?);
     let (length, since) = (take_number(rest)?, take_number(rest)?);
     let epoch = std::str::from_utf8(rest).ok()?.to_string();
-    Some(GroupHead {
-        first,
-        count,
-        length,
-        since,
-        epoch,
-    })
+    Some(GroupHead { first, count, length, since, epoch })
 }
 
 /// The journal's segment of a commit, where it is that of the group; and its packed ends.
@@ -202,9 +186,7 @@ pub fn change_of(kind: u8, bytes: &[u8], series: &Table) -> Option<Change> {
     Some(match kind {
         OWNERS => {
             let rows: Vec<(u32, String)> = unpacked(bytes)?;
-            rows.iter()
-                .all(|(id, _)| was_given(id))
-                .then_some(Change::Own(rows))?
+            rows.iter().all(|(id, _)| was_given(id)).then_some(Change::Own(rows))?
         }
         QUARANTINE => Change::Quarantine(name()?),
         LIFT => Change::Lift(name()?),
@@ -263,9 +245,7 @@ pub fn item_length(disk: &Disk, path: &Path, front: &Front) -> Result<u64, Fault
     let read = disk.open(path)?.read_exact_at(&mut head, front.at);
     read.map_err(io_fault(path))?;
     let length = records::whole_length(&head).filter(|_| head[8] == ITEM);
-    length
-        .map(|length| length as u64)
-        .ok_or_else(|| changed(path, front))
+    length.map(|length| length as u64).ok_or_else(|| changed(path, front))
 }
 
 fn changed(path: &Path, front: &Front) -> Fault {
@@ -273,9 +253,5 @@ fn changed(path: &Path, front: &Front) -> Fault {
         "request {} was changed after it was written, and can't be delivered. Nothing was deleted: put a copy of this file in its place",
         front.waiting.number
     );
-    Fault::Damaged {
-        path: path.into(),
-        at: front.at,
-        what,
-    }
+    Fault::Damaged { path: path.into(), at: front.at, what }
 }

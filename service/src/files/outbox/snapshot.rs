@@ -140,12 +140,7 @@ impl<'de> Visitor<'de> for OfRows {
         let mut table = Table::default();
         while let Some((key, frontier, seen, owner)) = rows.next_element::<Row<String>>()? {
             let (owner, run) = (owner.map(|owner| table.shared(&owner)), None);
-            let series = Series {
-                frontier,
-                owner,
-                seen,
-                run,
-            };
+            let series = Series { frontier, owner, seen, run };
             table.put(SeriesKey(key.into()), KnownSeries { series, heard: None });
         }
         Ok(table)

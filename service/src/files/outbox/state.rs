@@ -91,22 +91,13 @@ impl State {
     }
 
     pub fn epoch(&self) -> &str {
-        self.batches
-            .front()
-            .map_or(&self.next_epoch, |batch| &batch.epoch)
+        self.batches.front().map_or(&self.next_epoch, |batch| &batch.epoch)
     }
 
     pub fn front(&self) -> Option<Front> {
         let batch = self.batches.front()?;
-        let waiting = Waiting {
-            number: batch.first,
-            since: batch.since,
-        };
-        Some(Front {
-            waiting,
-            segment: batch.segment,
-            at: batch.at,
-        })
+        let waiting = Waiting { number: batch.first, since: batch.since };
+        Some(Front { waiting, segment: batch.segment, at: batch.at })
     }
 
     /// The series get the ids that they have in a snapshot.
@@ -132,25 +123,12 @@ impl State {
 
     pub fn apply(&mut self, change: Change) {
         match change {
-            Change::Group {
-                group,
-                count,
-                segment,
-                items,
-            } => {
+            Change::Group { group, count, segment, items } => {
                 self.journal = group.journal;
                 self.next = group.first + count;
                 if count > 0 {
                     let (first, epoch, since) = (group.first, group.epoch.clone(), group.since);
-                    self.wait(Batch {
-                        first,
-                        count,
-                        epoch,
-                        since,
-                        segment,
-                        at: items.start,
-                        end: items.end,
-                    });
+                    self.wait(Batch { first, count, epoch, since, segment, at: items.start, end: items.end });
                 }
                 self.advance(group);
             }
@@ -205,12 +183,7 @@ impl State {
         for end in group.ends {
             if let Some(key) = end.new {
                 let (frontier, owner, run) = (0, None, None);
-                let series = Series {
-                    frontier,
-                    owner,
-                    seen,
-                    run,
-                };
+                let series = Series { frontier, owner, seen, run };
                 self.series.put(key, KnownSeries { series, heard });
             }
             let Some(known) = self.series.at_mut(end.id) else {

@@ -61,9 +61,7 @@ impl Table {
 
     /// All, in the order of their ids.
     pub fn iter(&self) -> impl Iterator<Item = (u32, &KnownSeries)> {
-        (0..)
-            .zip(&self.known)
-            .filter_map(|(id, known)| Some((id, known.as_ref()?)))
+        (0..).zip(&self.known).filter_map(|(id, known)| Some((id, known.as_ref()?)))
     }
 
     /// The keys of these ids. It is quick where they ascend.

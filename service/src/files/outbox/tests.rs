@@ -16,10 +16,7 @@ use std::path::Path;
 use std::sync::atomic::{AtomicBool, AtomicUsize};
 
 /// Of everything.
-const AT_ONCE: Age = Age {
-    before: u64::MAX,
-    age: Duration::ZERO,
-};
+const AT_ONCE: Age = Age { before: u64::MAX, age: Duration::ZERO };
 
 /// Bodies of these tests: `[[[key, end], ..], filling]`.
 fn body(ends: &[(&str, u64)], filling: &str) -> Vec<u8> {
@@ -51,10 +48,7 @@ fn kill(outbox: Outbox) {
 }
 
 fn last_segment(path: &Path) -> PathBuf {
-    segment::path(
-        path,
-        *segment::numbers(&Disk::default(), path).unwrap().last().unwrap(),
-    )
+    segment::path(path, *segment::numbers(&Disk::default(), path).unwrap().last().unwrap())
 }
 
 async fn take(outbox: &Outbox) -> (u64, Vec<u8>) {
@@ -82,14 +76,8 @@ fn copied(from: &Path, last: &[u8]) -> tempfile::TempDir {
     for number in segment::numbers(&Disk::default(), from).unwrap() {
         std::fs::copy(segment::path(from, number), segment::path(to.path(), number)).unwrap();
     }
-    std::fs::write(
-        last_segment(from)
-            .strip_prefix(from)
-            .map(|name| to.path().join(name))
-            .unwrap(),
-        last,
-    )
-    .unwrap();
+    std::fs::write(last_segment(from).strip_prefix(from).map(|name| to.path().join(name)).unwrap(), last)
+        .unwrap();
     to
 }
 
@@ -97,34 +85,17 @@ fn copied(from: &Path, last: &[u8]) -> tempfile::TempDir {
 async fn groups_come_back_with_their_numbers_bytes_and_series() {
     let folder = tempfile::tempdir().unwrap();
     let outbox = open(folder.path());
-    let bodies = [
-        body(&[("a", 5), ("b", 7), ("a", 9)], "one"),
-        body(&[("c", 3)], "two"),
-    ];
+    let bodies = [body(&[("a", 5), ("b", 7), ("a", 9)], "one"), body(&[("c", 3)], "two")];
     outbox.commit(&bodies, 4).unwrap();
-    outbox
-        .own(HashMap::from([
-            (key_of("a"), "me".into()),
-            (key_of("unknown"), "you".into()),
-        ]))
-        .unwrap();
+    outbox.own(HashMap::from([(key_of("a"), "me".into()), (key_of("unknown"), "you".into())])).unwrap();
     outbox.commit(&[], 5).unwrap();
-    assert_eq!(
-        (outbox.journal(), outbox.series_count(), outbox.waiting().0),
-        (5, 3, 2)
-    );
+    assert_eq!((outbox.journal(), outbox.series_count(), outbox.waiting().0), (5, 3, 2));
     let before = view(&outbox);
     kill(outbox);
     let outbox = open(folder.path());
     assert_eq!(view(&outbox), before);
     let series = outbox.series();
-    assert_eq!(
-        (
-            series[&key_of("a")].frontier,
-            series[&key_of("a")].owner.as_deref()
-        ),
-        (9, Some("me"))
-    );
+    assert_eq!((series[&key_of("a")].frontier, series[&key_of("a")].owner.as_deref()), (9, Some("me")));
     assert_eq!(series[&key_of("c")].owner, None);
     assert!(outbox.acknowledge(2).is_err(), "it is not the first that waits");
     assert_eq!(take(&outbox).await, (1, bodies[0].clone()));
@@ -164,10 +135,7 @@ async fn starts_that_end_at_once_leave_one_segment() {
     drop(open(folder.path()));
     let outbox = open(folder.path());
     assert_eq!(
-        (
-            outbox.waiting().0,
-            segment::numbers(&Disk::default(), folder.path()).unwrap().len()
-        ),
+        (outbox.waiting().0, segment::numbers(&Disk::default(), folder.path()).unwrap().len()),
         (0, 1)
     );
 }
@@ -196,10 +164,7 @@ fn a_clock_that_is_set_forgets_no_series_of_this_run() {
     let outbox = open(folder.path());
     outbox.commit(&[body(&[("a", 1)], "")], 2).unwrap();
     outbox.own(HashMap::from([(key_of("a"), "me".into())])).unwrap();
-    let far_ahead = Age {
-        before: u64::MAX,
-        age: Duration::from_secs(3600),
-    };
+    let far_ahead = Age { before: u64::MAX, age: Duration::from_secs(3600) };
     assert_eq!(outbox.forget_of(far_ahead, &HashSet::new()).unwrap(), []);
     drop(outbox);
     let later = open(folder.path()).forget_of(far_ahead, &HashSet::new());
@@ -210,9 +175,7 @@ fn a_clock_that_is_set_forgets_no_series_of_this_run() {
 fn a_series_without_an_owner_is_never_forgotten() {
     let folder = tempfile::tempdir().unwrap();
     let outbox = open(folder.path());
-    outbox
-        .commit(&[body(&[("a", 1), ("b", 1), ("c", 1)], "")], 2)
-        .unwrap();
+    outbox.commit(&[body(&[("a", 1), ("b", 1), ("c", 1)], "")], 2).unwrap();
     let owner = |key| (key_of(key), "me".to_string());
     outbox.own(HashMap::from([owner("a"), owner("b")])).unwrap();
     assert_eq!(outbox.forget(Duration::MAX, &HashSet::new()).unwrap(), []);
@@ -241,35 +204,20 @@ fn runs_of_a_group_last() {
         all.collect()
     };
     let found = |outbox: &Outbox| {
-        let all = outbox
-            .series()
-            .into_iter()
-            .map(|(key, series)| (key.0.to_string(), series.run));
-        let mut all: Vec<_> = all
-            .map(|(key, run)| (key, run.map(|run| (*run).clone())))
-            .collect();
+        let all = outbox.series().into_iter().map(|(key, series)| (key.0.to_string(), series.run));
+        let mut all: Vec<_> = all.map(|(key, run)| (key, run.map(|run| (*run).clone()))).collect();
         all.sort_by(|one, other| one.0.cmp(&other.0));
         all
     };
-    let (a, b, late) = (
-        run_of(3, 10, &[5]),
-        run_of(4, 11, &[2, 1, 9, 1, 1]),
-        run_of(3, 20, &[6]),
-    );
+    let (a, b, late) = (run_of(3, 10, &[5]), run_of(4, 11, &[2, 1, 9, 1, 1]), run_of(3, 20, &[6]));
     {
         let outbox = open(path);
         let given = runs(&[("a", a.clone()), ("b", b.clone()), ("held", late.clone())]);
         let bodies = [body(&[("a", 10), ("b", 11), ("c", 12)], "")];
         let saved = outbox.commit_with(&bodies, 2, given).unwrap();
-        assert_eq!(
-            saved,
-            runs(&[("a", a.clone()), ("b", b.clone())]),
-            "what the group has"
-        );
+        assert_eq!(saved, runs(&[("a", a.clone()), ("b", b.clone())]), "what the group has");
         // The book is ahead of the run: it has delta points.
-        outbox
-            .commit_with(&[body(&[("a", 30)], "")], 3, runs(&[("a", late.clone())]))
-            .unwrap();
+        outbox.commit_with(&[body(&[("a", 30)], "")], 3, runs(&[("a", late.clone())])).unwrap();
     }
     let wanted = [
         ("a".to_string(), Some((*late).clone())),
@@ -290,9 +238,7 @@ fn what_was_forgotten_is_known_by_when_it_ended() {
     let folder = tempfile::tempdir().unwrap();
     let made = {
         let outbox = open(folder.path());
-        outbox
-            .commit(&[body(&[("a", 40), ("b", 70), ("c", 90)], "")], 2)
-            .unwrap();
+        outbox.commit(&[body(&[("a", 40), ("b", 70), ("c", 90)], "")], 2).unwrap();
         let owners = ["a", "b", "c"].map(|key| (key_of(key), "A".to_string()));
         outbox.own(owners.into()).unwrap();
         let keep = HashSet::from([key_of("c")]);

@@ -16,11 +16,7 @@ pub struct Writer {
 impl Writer {
     /// Of a segment that has its snapshot alone.
     pub fn new(segment: Segment) -> Writer {
-        Writer {
-            snapshot: segment.at,
-            segment,
-            failed: false,
-        }
+        Writer { snapshot: segment.at, segment, failed: false }
     }
 
     /// The same in another segment, that has its snapshot alone.

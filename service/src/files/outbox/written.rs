@@ -51,12 +51,7 @@ impl Outbox {
         let bytes = rows::group(&group, &items);
         self.write(&mut writer, &bytes.records, true, |begin| {
             let items = begin + bytes.items.start as u64..begin + bytes.items.end as u64;
-            Change::Group {
-                group,
-                count: bodies.len() as u64,
-                segment: 0,
-                items,
-            }
+            Change::Group { group, count: bodies.len() as u64, segment: 0, items }
         })?;
         self.arrived.notify_one();
         Ok(runs)
@@ -64,10 +59,7 @@ impl Outbox {
 
     fn unreadable(&self, error: NotForwarded) -> Fault {
         let source = io::Error::new(io::ErrorKind::InvalidData, error.to_string());
-        Fault::Io {
-            path: self.folder.clone(),
-            source,
-        }
+        Fault::Io { path: self.folder.clone(), source }
     }
 
     /// Makes durable who owns series.
@@ -84,14 +76,12 @@ impl Outbox {
 
     pub fn quarantine(&self, sender: &str) -> Result<(), Fault> {
         let change = || Change::Quarantine(sender.into());
-        self.change(true, |state| (!state.quarantined.contains(sender)).then(change))
-            .map(drop)
+        self.change(true, |state| (!state.quarantined.contains(sender)).then(change)).map(drop)
     }
 
     pub fn lift(&self, sender: &str) -> Result<(), Fault> {
         let change = || Change::Lift(sender.into());
-        self.change(true, |state| state.quarantined.contains(sender).then(change))
-            .map(drop)
+        self.change(true, |state| state.quarantined.contains(sender).then(change)).map(drop)
     }
 
     /// Writes what is to be changed, and then changes it; whether there was something.
@@ -158,9 +148,7 @@ impl Outbox {
 
     fn delete_taken(&self, writer: &Writer) -> Result<(), Fault> {
         let last = writer.segment.number;
-        let first = lock(&self.state)
-            .front()
-            .map_or(last, |front| front.segment.min(last));
+        let first = lock(&self.state).front().map_or(last, |front| front.segment.min(last));
         let numbers = segment::numbers(&self.disk, &self.folder)?;
         for number in numbers.into_iter().filter(|number| *number < first) {
             self.disk.remove(&segment::path(&self.folder, number))?;
@@ -178,24 +166,14 @@ pub(super) fn by_id(ends: Ends, runs: &Runs, series: &Table) -> Vec<End> {
     for (digest, (key, end)) in ends {
         let run = runs.get(&key).cloned();
         match series.id_of(&digest) {
-            Some(id) => all.push(End {
-                id,
-                new: None,
-                end,
-                run,
-            }),
+            Some(id) => all.push(End { id, new: None, end, run }),
             None => new.push((key, end, run)),
         }
     }
     all.sort_unstable_by_key(|end| end.id);
     new.sort_unstable_by(|one, other| one.0.cmp(&other.0));
     let new = (series.next_id()..).zip(new);
-    all.extend(new.map(|(id, (key, end, run))| End {
-        id,
-        new: Some(key),
-        end,
-        run,
-    }));
+    all.extend(new.map(|(id, (key, end, run))| End { id, new: Some(key), end, run }));
     all
 }
 
@@ -224,10 +202,7 @@ impl Drop for Outbox {
             return;
         }
         let segment = &mut writer.segment;
-        let ended = segment
-            .order()
-            .and_then(|()| segment.end())
-            .and_then(|()| segment.order());
+        let ended = segment.order().and_then(|()| segment.end()).and_then(|()| segment.order());
         drop(writer);
         if let Err(fault) = ended {
             self.disk.end(&fault);

@@ -49,12 +49,7 @@ pub fn keep_aside(disk: &Disk, path: &Path, at: u64) -> Result<Option<Dropped>, 
     if !disk.has(&kept)? {
         disk.put_file(&kept, &rest)?;
     }
-    let dropped = Dropped {
-        file: path.into(),
-        at,
-        bytes: rest.len() as u64,
-        kept,
-    };
+    let dropped = Dropped { file: path.into(), at, bytes: rest.len() as u64, kept };
     let (file, kept) = (dropped.file.display(), dropped.kept.display());
     tracing::warn!(%file, offset = at, bytes = dropped.bytes, %kept, "{dropped}");
     Ok(Some(dropped))

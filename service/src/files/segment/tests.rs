@@ -22,24 +22,13 @@ fn blocks_that_are_taken_ahead_are_no_part_of_the_file() {
     }
     let there = std::fs::metadata(&path).unwrap();
     assert_eq!(there.len(), segment.at);
-    let Ahead::Blocks(taken) = segment.ahead else {
-        panic!("blocks are taken")
-    };
-    assert!(
-        (segment.at..segment.at * 9 / 8 + LEAST_BLOCKS + 20_000).contains(&taken),
-        "{taken}"
-    );
+    let Ahead::Blocks(taken) = segment.ahead else { panic!("blocks are taken") };
+    assert!((segment.at..segment.at * 9 / 8 + LEAST_BLOCKS + 20_000).contains(&taken), "{taken}");
     let written = std::fs::read(&path).unwrap();
     assert!(written.ends_with(&parts.concat().repeat(300)));
-    let File::OfFolder(file) = &*segment.file else {
-        panic!("it is in a folder")
-    };
+    let File::OfFolder(file) = &*segment.file else { panic!("it is in a folder") };
     let can = fallocate(file.as_raw_fd(), FallocateFlags::FALLOC_FL_KEEP_SIZE, 0, 1).is_ok();
-    assert!(
-        !can || there.blocks() * 512 >= taken,
-        "{} blocks for {taken}",
-        there.blocks()
-    );
+    assert!(!can || there.blocks() * 512 >= taken, "{} blocks for {taken}", there.blocks());
 }
 
 /// A write that failed may have changed what shares a block with it.
@@ -57,19 +46,9 @@ fn what_was_durable_once_is_written_anew_where_it_is_near_what_was_not() {
         };
         Ok(())
     });
-    for (durable, written) in [
-        (0, 3),
-        (PIECE - 1, 3),
-        (PIECE, 2),
-        (2 * PIECE + 1, 1),
-        (3 * PIECE, 0),
-    ] {
+    for (durable, written) in [(0, 3), (PIECE - 1, 3), (PIECE, 2), (2 * PIECE + 1, 1), (3 * PIECE, 0)] {
         settle(&disk, folder.path(), 1, |_| durable as u64).unwrap();
         let [writes, syncs] = &*calls;
-        assert_eq!(
-            [writes, syncs].map(|calls| calls.swap(0, SeqCst)),
-            [written, 1],
-            "{durable}"
-        );
+        assert_eq!([writes, syncs].map(|calls| calls.swap(0, SeqCst)), [written, 1], "{durable}");
     }
 }

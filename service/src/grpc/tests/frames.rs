@@ -8,12 +8,7 @@ const PREFACE: &[u8] = b"PRI * HTTP/2.0\r\n\r\nSM\r\n\r\n";
 /// A frame of HTTP/2 on stream 1, but for settings.
 fn h2_frame(kind: u8, flags: u8, payload: &[u8]) -> Vec<u8> {
     let stream = u8::from(kind != 4);
-    [
-        &(payload.len() as u32).to_be_bytes()[1..],
-        &[kind, flags, 0, 0, 0, stream],
-        payload,
-    ]
-    .concat()
+    [&(payload.len() as u32).to_be_bytes()[1..], &[kind, flags, 0, 0, 0, stream], payload].concat()
 }
 
 /// The headers of a call, none of them compressed.
@@ -26,13 +21,7 @@ fn call_headers() -> Vec<u8> {
         ("content-type", "application/grpc"),
     ];
     let one = |pair: (&str, &str)| {
-        [
-            &[0, pair.0.len() as u8][..],
-            pair.0.as_bytes(),
-            &[pair.1.len() as u8],
-            pair.1.as_bytes(),
-        ]
-        .concat()
+        [&[0, pair.0.len() as u8][..], pair.0.as_bytes(), &[pair.1.len() as u8], pair.1.as_bytes()].concat()
     };
     pairs.map(one).concat()
 }
@@ -87,10 +76,7 @@ async fn calls_of_a_client_that_goes_away_are_answered() {
     let going = on(0, h2_frame(7, 0, &[0, 0, 0, 1, 0, 0, 0, 0]));
     stream.write_all(&[call(3), going].concat()).await.unwrap();
     let message = |id: u8| on(id, h2_frame(0, 1, &frame(0, b"")));
-    stream
-        .write_all(&[message(1), message(3)].concat())
-        .await
-        .unwrap();
+    stream.write_all(&[message(1), message(3)].concat()).await.unwrap();
     for _ in 0..500 {
         if served.kept.posts.lock().unwrap().len() == 2 {
             return;

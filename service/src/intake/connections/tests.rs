@@ -22,11 +22,7 @@ struct Served {
 async fn served(connections: usize, length: usize) -> Served {
     let listener = TcpListener::bind("127.0.0.1:0").await.unwrap();
     let address = listener.local_addr().unwrap();
-    let limits = Limits {
-        connections,
-        head: Duration::from_secs(4),
-        idle: Duration::from_secs(600),
-    };
+    let limits = Limits { connections, head: Duration::from_secs(4), idle: Duration::from_secs(600) };
     let (_stop, stopped) = watch::channel(false);
     tokio::spawn(serve(listener, limits, Arc::new(Long(length)), stopped));
     Served { address, _stop }
@@ -45,10 +41,7 @@ impl Served {
         stream.write_all(REQUEST).await.unwrap();
         let mut answer = Vec::new();
         let reading = stream.read_to_end(&mut answer);
-        tokio::time::timeout(Duration::from_secs(30), reading)
-            .await
-            .expect("an answer in time")
-            .unwrap()
+        tokio::time::timeout(Duration::from_secs(30), reading).await.expect("an answer in time").unwrap()
     }
 }
 
@@ -57,9 +50,7 @@ async fn idle_connections_are_closed_where_another_waits() {
     let served = served(3, 1).await;
     let new = served.connected().await;
     let mut used = served.connected().await;
-    used.write_all(b"GET /health HTTP/1.1\r\nHost: a\r\n\r\n")
-        .await
-        .unwrap();
+    used.write_all(b"GET /health HTTP/1.1\r\nHost: a\r\n\r\n").await.unwrap();
     assert!(used.read(&mut [0; 1024]).await.unwrap() > 0);
     let third = served.connected().await;
     assert!(served.ask().await > 0);

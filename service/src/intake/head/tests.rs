@@ -39,20 +39,9 @@ fn a_head_is_read() {
     let read = head(
         "POST",
         "/v1/metrics?a=b",
-        &[
-            ("content-type", "Application/X-Protobuf; a=b"),
-            ("content-encoding", ", GZIP,"),
-            LENGTH,
-        ],
+        &[("content-type", "Application/X-Protobuf; a=b"), ("content-encoding", ", GZIP,"), LENGTH],
     );
-    assert_eq!(
-        read,
-        Ok(Head {
-            sender: "-".into(),
-            encoding: Encoding::Protobuf,
-            packing: Packing::Gzip
-        })
-    );
+    assert_eq!(read, Ok(Head { sender: "-".into(), encoding: Encoding::Protobuf, packing: Packing::Gzip }));
     let read = head(
         "POST",
         "http://any/v1/metrics",
@@ -66,11 +55,7 @@ fn a_head_is_read() {
     );
     assert_eq!(
         read,
-        Ok(Head {
-            sender: "A.b_c-9".into(),
-            encoding: Encoding::Json,
-            packing: Packing::Plain
-        })
+        Ok(Head { sender: "A.b_c-9".into(), encoding: Encoding::Json, packing: Packing::Plain })
     );
 }
 
@@ -88,41 +73,17 @@ fn the_first_thing_that_is_wrong_is_answered() {
         ("POST", "/v1/metrics", &[("x-sender", "!")], 400),
         ("POST", "/v1/metrics", &[JSON, ("x-sender", "")], 400),
         ("POST", "/v1/metrics", &[JSON, ("x-sender", &long)], 400),
-        (
-            "POST",
-            "/v1/metrics",
-            &[JSON, ("x-sender", "A"), ("x-sender", "A")],
-            400,
-        ),
+        ("POST", "/v1/metrics", &[JSON, ("x-sender", "A"), ("x-sender", "A")], 400),
         ("POST", "/v1/metrics", &[], 415),
         ("POST", "/v1/metrics", &[("content-type", "text/plain")], 415),
         ("POST", "/v1/metrics", &[JSON, ("content-encoding", "br")], 415),
-        (
-            "POST",
-            "/v1/metrics",
-            &[JSON, ("content-encoding", "gzip, gzip")],
-            415,
-        ),
-        (
-            "POST",
-            "/v1/metrics",
-            &[JSON, ("content-encoding", "gzip"), ("content-encoding", "gzip")],
-            415,
-        ),
-        (
-            "POST",
-            "/v1/metrics",
-            &[JSON, ("content-encoding", "deflate")],
-            415,
-        ),
+        ("POST", "/v1/metrics", &[JSON, ("content-encoding", "gzip, gzip")], 415),
+        ("POST", "/v1/metrics", &[JSON, ("content-encoding", "gzip"), ("content-encoding", "gzip")], 415),
+        ("POST", "/v1/metrics", &[JSON, ("content-encoding", "deflate")], 415),
         ("POST", "/v1/metrics", &[JSON], 411),
     ];
     for (method, path, headers, status) in table {
-        assert_eq!(
-            head(method, path, headers),
-            Err(*status),
-            "{method} {path} {headers:?}"
-        );
+        assert_eq!(head(method, path, headers), Err(*status), "{method} {path} {headers:?}");
     }
 }
 
@@ -154,10 +115,7 @@ fn what_could_be_read_in_two_ways_is_refused() {
         ("Content-Length: 99999999999999999999\r\n", Err(400)),
         ("Content-Length: 7\r\nTransfer-Encoding: chunked\r\n", Err(400)),
         ("Transfer-Encoding: gzip, chunked\r\n", Err(400)),
-        (
-            "Transfer-Encoding: chunked\r\nTransfer-Encoding: chunked\r\n",
-            Err(400),
-        ),
+        ("Transfer-Encoding: chunked\r\nTransfer-Encoding: chunked\r\n", Err(400)),
         ("Content-Length : 7\r\n", Err(400)),
         ("Host: a\r\n", Err(400)),
         ("A: b\r\n c\r\n", Err(400)),
@@ -165,27 +123,15 @@ fn what_could_be_read_in_two_ways_is_refused() {
     for (headers, expected) in cases {
         assert_eq!(&body(headers), expected, "{headers:?}");
     }
-    assert_eq!(
-        asked("POST / HTTP/1.0\r\nTransfer-Encoding: chunked\r\n\r\n").err(),
-        Some(400)
-    );
+    assert_eq!(asked("POST / HTTP/1.0\r\nTransfer-Encoding: chunked\r\n\r\n").err(), Some(400));
     assert_eq!(asked("POST / HTTP/1.1\r\n\r\n").err(), Some(400), "no host");
     assert!(asked("POST / HTTP/1.0\r\n\r\n").is_ok());
     assert_eq!(asked("no head\r\n\r\n").err(), Some(400));
     let many = "a: b\r\n".repeat(HEADERS + 1);
-    assert_eq!(
-        asked(&format!("POST / HTTP/1.1\r\nHost: a\r\n{many}\r\n")).err(),
-        Some(431)
-    );
+    assert_eq!(asked(&format!("POST / HTTP/1.1\r\nHost: a\r\n{many}\r\n")).err(), Some(431));
     let long = "a".repeat(READ_AHEAD);
-    assert_eq!(
-        asked(&format!("POST / HTTP/1.1\r\nHost: a\r\na: {long}")).err(),
-        Some(431)
-    );
-    assert_eq!(
-        asked(&format!("POST / HTTP/1.1\r\nHost: a\r\na: {long}\r\n\r\n")).err(),
-        Some(431)
-    );
+    assert_eq!(asked(&format!("POST / HTTP/1.1\r\nHost: a\r\na: {long}")).err(), Some(431));
+    assert_eq!(asked(&format!("POST / HTTP/1.1\r\nHost: a\r\na: {long}\r\n\r\n")).err(), Some(431));
 }
 
 #[test]
@@ -203,11 +149,7 @@ fn what_becomes_of_the_connection() {
         assert_eq!(asked.connection, expected, "{version} {headers}");
     }
     let waits = |version: &str| {
-        asked(&format!(
-            "POST / HTTP/{version}\r\nHost: a\r\nExpect: 100-Continue\r\n\r\n"
-        ))
-        .unwrap()
-        .waits
+        asked(&format!("POST / HTTP/{version}\r\nHost: a\r\nExpect: 100-Continue\r\n\r\n")).unwrap().waits
     };
     assert!(waits("1.1") && !waits("1.0"));
 }

@@ -54,36 +54,20 @@ struct Served {
 
 /// Slot 1 is here, and the others are elsewhere.
 fn served(here: Option<Outcome>, elsewhere: Outcome) -> Served {
-    let kept = Arc::new(Kept {
-        posts: Mutex::default(),
-        outcome: here,
-    });
-    let others = Arc::new(Others {
-        posts: Mutex::default(),
-        outcome: elsewhere,
-    });
+    let kept = Arc::new(Kept { posts: Mutex::default(), outcome: here });
+    let others = Arc::new(Others { posts: Mutex::default(), outcome: elsewhere });
     let reading = Arc::<Reading>::default();
     let slots = Slots::several(Resources::new(SLOTS, reading.clone()), Some(others.clone()));
     slots.set(0, Place::At("other:1".into()));
     slots.set(1, Place::Here(kept.clone()));
     let (budget, metrics) = (Budget::new(64 << 20), Arc::new(Metrics::new().unwrap()));
     let intake = Intake::of(slots.clone(), Arc::new(()), reading, budget.clone(), metrics);
-    Served {
-        kept,
-        others,
-        slots,
-        intake,
-        budget,
-    }
+    Served { kept, others, slots, intake, budget }
 }
 
 impl Served {
     async fn post(&self, encoding: Encoding, body: Bytes) -> Outcome {
-        let head = Head {
-            sender: "A".into(),
-            encoding,
-            packing: Packing::Plain,
-        };
+        let head = Head { sender: "A".into(), encoding, packing: Packing::Plain };
         let said = self.intake.put(head, body, self.budget.hold()).await;
         assert_eq!(self.budget.used(), 0);
         said
@@ -105,10 +89,7 @@ fn attributes(name: &str) -> String {
 /// The element of a resource that has a slot, with so many points.
 fn element(slot: u16, points: usize) -> String {
     let name = (0..).map(|number| number.to_string());
-    let name = name
-        .clone()
-        .find(|name| slot_of(&attributes(name), SLOTS) == slot)
-        .unwrap();
+    let name = name.clone().find(|name| slot_of(&attributes(name), SLOTS) == slot).unwrap();
     let point = r#"{"asInt":"1","startTimeUnixNano":"1","timeUnixNano":"2"}"#;
     format!(
         r#"{{"resource":{{"attributes":{}}},"scopeMetrics":[{{"scope":{{"name":"","version":"","attributes":[]}},"metrics":[{{"name":"m","unit":"","sum":{{"aggregationTemporality":1,"isMonotonic":false,"dataPoints":[{}]}}}}]}}]}}"#,
@@ -130,10 +111,7 @@ fn in_protobuf(body: &Bytes) -> Bytes {
 }
 
 fn late(point: u64) -> Outcome {
-    Outcome::Refused {
-        status: 400,
-        message: format!("out of order: point {point}, frontier 5"),
-    }
+    Outcome::Refused { status: 400, message: format!("out of order: point {point}, frontier 5") }
 }
 
 #[tokio::test]
@@ -141,15 +119,9 @@ async fn each_slot_is_asked_for_its_resources() {
     let elements = [element(1, 2), element(2, 3), element(1, 1), element(0, 4)];
     let served = served(Some(Outcome::taken(0)), late(1));
     let body = request(&elements);
-    for (encoding, body) in [
-        (Encoding::Json, body.clone()),
-        (Encoding::Protobuf, in_protobuf(&body)),
-    ] {
+    for (encoding, body) in [(Encoding::Json, body.clone()), (Encoding::Protobuf, in_protobuf(&body))] {
         let said = served.post(encoding, body).await;
-        let Outcome::Taken {
-            rejected, message, ..
-        } = &said
-        else {
+        let Outcome::Taken { rejected, message, .. } = &said else {
             panic!("{said:?}");
         };
         // Of slot 2 the request's point 3; of slot 0 its point 7.
@@ -161,20 +133,12 @@ async fn each_slot_is_asked_for_its_resources() {
         assert!(binary.windows(why.len()).any(|part| part == why.as_bytes()) && binary.contains(&7));
         let kept = served.kept();
         let of_slot = crate::otlp::series::posted(&kept[0].1).unwrap();
-        assert_eq!(
-            (kept.len(), kept[0].0.as_str(), of_slot.series.len()),
-            (1, "A", 1)
-        );
+        assert_eq!((kept.len(), kept[0].0.as_str(), of_slot.series.len()), (1, "A", 1));
         let mut others = served.others();
         others.sort();
-        let slots: Vec<_> = others
-            .iter()
-            .map(|(slot, sender, _)| (*slot, sender.as_str()))
-            .collect();
+        let slots: Vec<_> = others.iter().map(|(slot, sender, _)| (*slot, sender.as_str())).collect();
         assert_eq!(slots, [(0, "A"), (2, "A")]);
-        let points = others
-            .into_iter()
-            .map(|(_, _, body)| Original { encoding, body }.points());
+        let points = others.into_iter().map(|(_, _, body)| Original { encoding, body }.points());
         assert_eq!(points.collect::<Vec<_>>(), [4, 3]);
     }
 }
@@ -218,15 +182,10 @@ async fn what_can_t_be_read_is_refused_with_its_part() {
 #[tokio::test]
 async fn a_slot_that_fails_makes_all_of_it_to_be_sent_again() {
     let served = served(None, Outcome::taken(0));
-    let said = served
-        .post(Encoding::Json, request(&[element(1, 1), element(2, 1)]))
-        .await;
+    let said = served.post(Encoding::Json, request(&[element(1, 1), element(2, 1)])).await;
     assert_eq!(said.status(), 503);
     let lone = Slots::<Kept>::several(Resources::new(SLOTS, Arc::default()), None);
-    let part = Original {
-        encoding: Encoding::Json,
-        body: request(&[element(1, 1)]),
-    };
+    let part = Original { encoding: Encoding::Json, body: request(&[element(1, 1)]) };
     let nobody = lone.elsewhere(1, "A", part).await;
     assert_eq!((nobody.status(), nobody.refusal()), (503, Some(NO_OWNER)));
 }
@@ -235,20 +194,11 @@ async fn a_slot_that_fails_makes_all_of_it_to_be_sent_again() {
 async fn a_part_that_another_instance_got_is_taken_where_its_slot_is() {
     let served = served(Some(Outcome::taken(0)), late(0));
     let body = request(&[element(1, 2)]);
-    let part = |body: &Bytes| Original {
-        encoding: Encoding::Json,
-        body: body.clone(),
-    };
-    assert_eq!(
-        served.intake.forwarded(1, "B", part(&body)).await,
-        Some(Outcome::taken(0))
-    );
+    let part = |body: &Bytes| Original { encoding: Encoding::Json, body: body.clone() };
+    assert_eq!(served.intake.forwarded(1, "B", part(&body)).await, Some(Outcome::taken(0)));
     assert_eq!(served.kept(), [("B".to_string(), body.clone())]);
     assert_eq!(served.intake.forwarded(2, "B", part(&body)).await, None);
-    let wrong = served
-        .intake
-        .forwarded(1, "B", part(&Bytes::from_static(b"{")))
-        .await;
+    let wrong = served.intake.forwarded(1, "B", part(&Bytes::from_static(b"{"))).await;
     assert_eq!(wrong.map(|said| said.status()), Some(400));
     assert_eq!((served.kept().len(), served.budget.used()), (0, 0));
 }

@@ -36,31 +36,15 @@ async fn a_series_that_is_put_back_goes_on_from_there() {
         assert_eq!(run.post(number).await, Outcome::taken(0));
         run.flush().await;
     }
-    assert_eq!(
-        refusal(run.post(20).await),
-        "out of order: point 0, frontier 1001"
-    );
+    assert_eq!(refusal(run.post(20).await), "out of order: point 0, frontier 1001");
     let series = run.keys();
-    assert_eq!(
-        run.amend(Amend::PutBack {
-            series: series.clone(),
-            to: 10
-        })
-        .await,
-        Ok(())
-    );
+    assert_eq!(run.amend(Amend::PutBack { series: series.clone(), to: 10 }).await, Ok(()));
     assert_eq!(refusal(run.post(5).await), "out of order: point 0, frontier 10");
     assert_eq!(run.post(20).await, Outcome::taken(0));
-    assert_eq!(
-        refusal(run.slot.post("B".into(), point("a", 30).into()).await),
-        "other writer: point 0"
-    );
+    assert_eq!(refusal(run.slot.post("B".into(), point("a", 30).into()).await), "other writer: point 0");
     // It never goes ahead by that.
     assert_eq!(run.amend(Amend::PutBack { series, to: 900 }).await, Ok(()));
-    assert_eq!(
-        run.slot.outbox.series().into_values().next().unwrap().frontier,
-        21
-    );
+    assert_eq!(run.slot.outbox.series().into_values().next().unwrap().frontier, 21);
     assert_eq!(run.post(21).await, Outcome::taken(0));
     run.flush().await;
     assert_eq!(run.forwarded().await["a"], (4, 0));
@@ -98,10 +82,7 @@ async fn a_series_with_points_that_are_kept_back_is_left_as_it_was() {
     let order = |order| run.orders.order(order);
     order(Order::Quarantine("A".into())).await;
     let series = run.keys();
-    let put_back = Amend::PutBack {
-        series: series.clone(),
-        to: 3,
-    };
+    let put_back = Amend::PutBack { series: series.clone(), to: 3 };
     for amend in [put_back.clone(), Amend::Forget(series.clone())] {
         assert_eq!(run.amend(amend).await, Err(series[0].clone()));
     }
@@ -115,13 +96,7 @@ async fn a_series_with_points_that_are_kept_back_is_left_as_it_was() {
 }
 
 fn cumulative(start: u64, time: u64, value: i64) -> Point {
-    Point {
-        name: "m".into(),
-        start: BEGIN + start,
-        time: BEGIN + time,
-        value,
-        all: 0,
-    }
+    Point { name: "m".into(), start: BEGIN + start, time: BEGIN + time, value, all: 0 }
 }
 
 /// What a run has come to stays known, so nothing of it is lost or counted again.
@@ -131,26 +106,13 @@ async fn the_run_of_a_series_that_is_put_back_goes_on() {
     let path = place.path().join("data");
     let mut run = Run::begin_runs(&path, Options::default()).await;
     for (time, value) in [(10, 5), (1_000_000, 7)] {
-        assert_eq!(
-            run.cumulative("A", &[cumulative(0, time, value)]).await,
-            Outcome::taken(0)
-        );
+        assert_eq!(run.cumulative("A", &[cumulative(0, time, value)]).await, Outcome::taken(0));
     }
     run.flush().await;
     let series = run.keys();
-    assert_eq!(
-        run.amend(Amend::PutBack {
-            series,
-            to: BEGIN + 20
-        })
-        .await,
-        Ok(())
-    );
+    assert_eq!(run.amend(Amend::PutBack { series, to: BEGIN + 20 }).await, Ok(()));
     for (start, time, value) in [(0, 10, 5), (0, 30, 9), (40, 50, 3), (40, 60, 4)] {
-        assert_eq!(
-            run.cumulative("A", &[cumulative(start, time, value)]).await,
-            Outcome::taken(0)
-        );
+        assert_eq!(run.cumulative("A", &[cumulative(start, time, value)]).await, Outcome::taken(0));
         run.end().await;
         run = Run::begin_runs(&path, Options::default()).await;
     }
@@ -167,16 +129,10 @@ async fn a_series_goes_from_delta_to_cumulative_once_it_is_forgotten() {
     assert_eq!(run.slot.post("A".into(), delta.into()).await, Outcome::taken(0));
     run.flush().await;
     let left_out = run.cumulative("A", &[cumulative(0, 30, 8)]).await;
-    assert!(
-        matches!(left_out, Outcome::Taken { rejected: 1, .. }),
-        "{left_out:?}"
-    );
+    assert!(matches!(left_out, Outcome::Taken { rejected: 1, .. }), "{left_out:?}");
     assert_eq!(run.amend(Amend::Forget(run.keys())).await, Ok(()));
     for (time, value) in [(40, 9), (50, 11)] {
-        assert_eq!(
-            run.cumulative("A", &[cumulative(0, time, value)]).await,
-            Outcome::taken(0)
-        );
+        assert_eq!(run.cumulative("A", &[cumulative(0, time, value)]).await, Outcome::taken(0));
     }
     run.flush().await;
     assert_eq!(run.forwarded().await["m"], (7, 0));
@@ -213,22 +169,11 @@ async fn an_order_is_carried_out_or_not_over_kills_and_no_point_is_lost() {
         making.make(&of);
         Ok(())
     });
-    let run = Run::begin_in(
-        Folder::open_on(disk, &data, Durability::Process).unwrap(),
-        settings(),
-    )
-    .await;
+    let run = Run::begin_in(Folder::open_on(disk, &data, Durability::Process).unwrap(), settings()).await;
     assert_eq!(run.post(1_000).await, Outcome::taken(0));
     run.flush().await;
     kills.are_made.store(true, SeqCst);
-    assert_eq!(
-        run.amend(Amend::PutBack {
-            series: run.keys(),
-            to: 10
-        })
-        .await,
-        Ok(())
-    );
+    assert_eq!(run.amend(Amend::PutBack { series: run.keys(), to: 10 }).await, Ok(()));
     kills.is_answered.store(true, SeqCst);
     for number in [20, 21] {
         assert_eq!(run.post(number).await, Outcome::taken(0));
@@ -246,10 +191,7 @@ async fn an_order_is_carried_out_or_not_over_kills_and_no_point_is_lost() {
         run.flush().await;
         let (sum, _) = run.forwarded().await["a"];
         let least = 1 + posts as i128 + more;
-        assert!(
-            sum == least || sum == least + 1,
-            "kill {number}: {sum} of {least}"
-        );
+        assert!(sum == least || sum == least + 1, "kill {number}: {sum} of {least}");
         let faults = run.slot.metrics.faults.with_label_values(&["replay"]).get();
         assert_eq!(faults, 0, "kill {number}");
         run.end().await;

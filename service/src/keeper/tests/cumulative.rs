@@ -24,13 +24,7 @@ pub struct Point {
 
 impl Point {
     fn text(&self, temporality: u8) -> String {
-        let Point {
-            name,
-            start,
-            time,
-            value,
-            all,
-        } = self;
+        let Point { name, start, time, value, all } = self;
         let span = format!(r#""startTimeUnixNano":"{start}","timeUnixNano":"{time}""#);
         let head = format!(r#""aggregationTemporality":{temporality},"dataPoints":[{{{span}"#);
         match &name[..1] {
@@ -97,10 +91,7 @@ pub async fn killed(run: Run, place: &Path, number: usize, options: Options) -> 
 }
 
 pub fn copy(from: &Path, to: &Path) {
-    let copied = std::process::Command::new("cp")
-        .arg("-r")
-        .args([from, to])
-        .status();
+    let copied = std::process::Command::new("cp").arg("-r").args([from, to]).status();
     assert!(copied.unwrap().success());
 }
 
@@ -130,10 +121,7 @@ impl Plain {
             let value = runs.iter().map(|run| i128::from(run.0)).sum();
             (value, runs.iter().map(|run| i128::from(run.1)).sum())
         };
-        self.runs
-            .iter()
-            .map(|(name, runs)| (name.clone(), sum(runs)))
-            .collect()
+        self.runs.iter().map(|(name, runs)| (name.clone(), sum(runs))).collect()
     }
 }
 
@@ -148,37 +136,20 @@ pub struct Program {
 impl Program {
     pub fn new(sender: &'static str) -> Program {
         let names = ["m", "u", "h"].map(|kind| format!("{kind}-{sender}"));
-        let point = |name| Point {
-            name,
-            start: BEGIN,
-            time: BEGIN,
-            value: 0,
-            all: 0,
-        };
-        Program {
-            sender,
-            start: BEGIN,
-            points: names.map(point).into(),
-            sent: Vec::new(),
-        }
+        let point = |name| Point { name, start: BEGIN, time: BEGIN, value: 0, all: 0 };
+        Program { sender, start: BEGIN, points: names.map(point).into(), sent: Vec::new() }
     }
 
     /// What it sends next; nothing where that is lost on its way.
     pub fn next(&mut self, now: u64, chance: &mut TestRandom) -> Option<Vec<Point>> {
         if chance.below(12) == 0 {
             self.start = now - 1;
-            self.points
-                .iter_mut()
-                .for_each(|point| (point.value, point.all) = (0, 0));
+            self.points.iter_mut().for_each(|point| (point.value, point.all) = (0, 0));
         }
         for point in &mut self.points {
             let more = chance.below(9) as i64;
             (point.start, point.time) = (self.start, now);
-            point.value += if point.name.starts_with('u') {
-                more - 4
-            } else {
-                more
-            };
+            point.value += if point.name.starts_with('u') { more - 4 } else { more };
             point.all += more + chance.below(5) as i64;
         }
         let few = 1 + chance.below(3) as usize;
@@ -193,13 +164,7 @@ impl Program {
 }
 
 pub fn point(name: &str, start: u64, time: u64, value: i64) -> Point {
-    Point {
-        name: name.into(),
-        start,
-        time,
-        value,
-        all: value,
-    }
+    Point { name: name.into(), start, time, value, all: value }
 }
 
 pub fn rejected(outcome: &Outcome) -> (u64, String) {

@@ -51,22 +51,10 @@ async fn series_are_forgotten_where_there_are_too_many() {
     assert_eq!(refused(&post(&run, "A", &new, 10).await), "too many series");
     until_taken(&run, "C", &new, 10).await;
     assert_eq!(run.slot.metrics.forgotten_series.get(), MOST as u64 - 2);
-    assert_eq!(
-        refused(&post(&run, "A", &used, 20).await),
-        "out of order: point 0, frontier 30"
-    );
-    assert_eq!(
-        refused(&post(&run, "C", &used, 30).await),
-        "other writer: point 0"
-    );
-    assert_eq!(
-        refused(&post(&run, "B", &["held".into()], 30).await),
-        "quarantined"
-    );
-    assert_eq!(
-        refused(&post(&run, "C", &["held".into()], 30).await),
-        "other writer: point 0"
-    );
+    assert_eq!(refused(&post(&run, "A", &used, 20).await), "out of order: point 0, frontier 30");
+    assert_eq!(refused(&post(&run, "C", &used, 30).await), "other writer: point 0");
+    assert_eq!(refused(&post(&run, "B", &["held".into()], 30).await), "quarantined");
+    assert_eq!(refused(&post(&run, "C", &["held".into()], 30).await), "other writer: point 0");
     // Nobody is the owner of what was forgotten.
     assert_eq!(post(&run, "C", &names(8..9), 30).await, Outcome::taken(0));
     for kind in ["reading", "replay", "owner"] {
@@ -86,10 +74,7 @@ async fn none_is_forgotten_where_none_is_old_enough() {
         assert_eq!(post(&run, "A", part, 10).await, Outcome::taken(0));
     }
     assert_eq!(run.flush().await, 10);
-    assert_eq!(
-        refused(&post(&run, "A", &names(MOST..MOST + 1), 10).await),
-        "too many series"
-    );
+    assert_eq!(refused(&post(&run, "A", &names(MOST..MOST + 1), 10).await), "too many series");
     tokio::time::sleep(Duration::from_millis(200)).await;
     assert_eq!(run.slot.outbox.series_count(), MOST);
     assert_eq!(run.slot.metrics.forgotten_series.get(), 0);

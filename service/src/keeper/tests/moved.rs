@@ -169,10 +169,7 @@ impl World {
                 outbox.settle()?;
             }
             let known = self.sink.insert((outbox.epoch(), waiting.number), body.clone());
-            assert!(
-                known.is_none_or(|known| known == body),
-                "another body under one key"
-            );
+            assert!(known.is_none_or(|known| known == body), "another body under one key");
             outbox.acknowledge(waiting.number)?;
         }
         Ok(())
@@ -181,9 +178,7 @@ impl World {
     fn sums(&self) -> BTreeMap<String, i64> {
         let mut sums = BTreeMap::new();
         for point in self.sink.values().flat_map(|body| forwarded(body).unwrap()) {
-            let Value::Sum(value) = point.value else {
-                panic!("{point:?}")
-            };
+            let Value::Sum(value) = point.value else { panic!("{point:?}") };
             *sums.entry(point.series.parts().unwrap().name).or_default() += value;
         }
         sums
@@ -244,14 +239,7 @@ async fn lose_at(call: u64, more: Option<u64>, how: How) -> u64 {
     let (store, next) = (Arc::new(Store::default()), Next::default());
     let run = began(losing(&store, &next, call, more, how)).await;
     let (sink, points, time) = Default::default();
-    let mut world = World {
-        run,
-        next,
-        moves: 0,
-        sink,
-        points,
-        time,
-    };
+    let mut world = World { run, next, moves: 0, sink, points, time };
     for act in ACTS {
         world.act(act).await;
     }
@@ -334,10 +322,7 @@ async fn what_was_forwarded_waits_for_the_store_too() {
     let (budget, metrics) = (Budget::new(8 << 20), run.slot.metrics.clone());
     let intake = Intake::of(slots, Arc::new(()), Arc::default(), budget, metrics);
     stalls.store(true, SeqCst);
-    let part = Original {
-        encoding: Encoding::Json,
-        body: point("a", 1).into(),
-    };
+    let part = Original { encoding: Encoding::Json, body: point("a", 1).into() };
     let forwarded = tokio::spawn(async move { intake.forwarded(0, "A", part).await });
     while run.slot.ungrouped() == 0 {
         tokio::time::sleep(Duration::from_millis(1)).await;
@@ -365,10 +350,7 @@ async fn nobody_waits_for_the_store_with_the_lock_of_the_book() {
     let post = tokio::spawn(async move { slot.post("A".into(), point("a", 2).into()).await });
     let began = Instant::now();
     while run.slot.ungrouped() == 0 || run.slot.unavailable().is_none() {
-        assert!(
-            began.elapsed() < Duration::from_secs(10),
-            "it waits for the store"
-        );
+        assert!(began.elapsed() < Duration::from_secs(10), "it waits for the store");
         tokio::time::sleep(Duration::from_millis(5)).await;
     }
     let shown = (run.slot.unavailable(), run.slot.outbox.may_deliver(1));

@@ -10,10 +10,7 @@ use std::collections::BTreeMap;
 
 #[tokio::test(flavor = "multi_thread")]
 async fn runs_over_kills_and_quarantines_come_to_the_sum_of_their_last_values() {
-    let options = Options {
-        first: First::Count,
-        reset: Reset::Refuse,
-    };
+    let options = Options { first: First::Count, reset: Reset::Refuse };
     for seed in 1..=4 {
         let place = tempfile::tempdir().unwrap();
         let (mut chance, mut now, mut kills) = (TestRandom(seed), BEGIN + 10, 0);
@@ -30,11 +27,7 @@ async fn runs_over_kills_and_quarantines_come_to_the_sum_of_their_last_values() 
                     kills += 1;
                 }
                 2 => {
-                    let order = if quarantined {
-                        Order::Lift
-                    } else {
-                        Order::Quarantine
-                    };
+                    let order = if quarantined { Order::Lift } else { Order::Quarantine };
                     let done = run.orders.order(order("B".into())).await;
                     assert_eq!(done, Some(Done::Answered(Outcome::taken(0))));
                     quarantined = !quarantined;
@@ -70,11 +63,7 @@ async fn runs_over_kills_and_quarantines_come_to_the_sum_of_their_last_values() 
         assert_eq!(sums, plain.sums(), "seed {seed}");
         assert!(kills > 3 && sums.len() == 6, "{kills} kills");
         for kind in ["reading", "replay", "owner"] {
-            assert_eq!(
-                run.slot.metrics.faults.with_label_values(&[kind]).get(),
-                0,
-                "{kind}"
-            );
+            assert_eq!(run.slot.metrics.faults.with_label_values(&[kind]).get(), 0, "{kind}");
         }
         run.end().await;
     }
@@ -139,10 +128,7 @@ async fn the_same_counts_in_delta_and_cumulative_come_to_the_same() {
 async fn a_run_whose_series_was_forgotten_counts_from_there_on() {
     let place = tempfile::tempdir().unwrap();
     let run = Run::begin_runs(&place.path().join("data"), Options::default()).await;
-    assert_eq!(
-        run.cumulative("A", &[point("m", BEGIN, BEGIN + 10, 5)]).await,
-        Outcome::taken(0)
-    );
+    assert_eq!(run.cumulative("A", &[point("m", BEGIN, BEGIN + 10, 5)]).await, Outcome::taken(0));
     run.flush().await;
     assert_eq!(run.slot.outbox.series_count(), 1);
     run.slot.outbox.leave_these(&run.keys()).unwrap();
@@ -153,20 +139,11 @@ async fn a_run_whose_series_was_forgotten_counts_from_there_on() {
     let late = run.cumulative("A", &[point("m", BEGIN, BEGIN + 9, 4)]).await;
     let why = "1 cumulative point from before series were forgotten".to_string();
     assert_eq!(rejected(&late), (1, why));
-    assert_eq!(
-        run.cumulative("A", &[point("m", BEGIN, BEGIN + 20, 9)]).await,
-        Outcome::taken(0)
-    );
+    assert_eq!(run.cumulative("A", &[point("m", BEGIN, BEGIN + 20, 9)]).await, Outcome::taken(0));
     assert_eq!(run.slot.metrics.noted_runs.get(), 1);
-    assert_eq!(
-        run.cumulative("A", &[point("m", BEGIN, BEGIN + 30, 11)]).await,
-        Outcome::taken(0)
-    );
+    assert_eq!(run.cumulative("A", &[point("m", BEGIN, BEGIN + 30, 11)]).await, Outcome::taken(0));
     // Another series of that time may be one that was forgotten; one that began after it is not.
-    let others = [
-        point("n", BEGIN + 9, BEGIN + 30, 4),
-        point("o", BEGIN + 10, BEGIN + 30, 3),
-    ];
+    let others = [point("n", BEGIN + 9, BEGIN + 30, 4), point("o", BEGIN + 10, BEGIN + 30, 3)];
     assert_eq!(run.cumulative("A", &others).await, Outcome::taken(0));
     run.flush().await;
     let sums = run.forwarded().await;
@@ -181,16 +158,12 @@ async fn what_is_refused_has_its_name() {
     let run = Run::begin_runs(&place.path().join("data"), Options::default()).await;
     let old = point("m", 10, BEGIN, 5);
     assert_eq!(
-        run.cumulative("A", &[old.clone(), point("m2", BEGIN, BEGIN + 1, 3)])
-            .await,
+        run.cumulative("A", &[old.clone(), point("m2", BEGIN, BEGIN + 1, 3)]).await,
         Outcome::taken(0)
     );
     assert_eq!(run.slot.metrics.noted_runs.get(), 1);
     // The same again, also of another, adds nothing.
-    assert_eq!(
-        run.cumulative("A", std::slice::from_ref(&old)).await,
-        Outcome::taken(0)
-    );
+    assert_eq!(run.cumulative("A", std::slice::from_ref(&old)).await, Outcome::taken(0));
     let other = run.cumulative("B", &[point("m", 10, BEGIN + 5, 7)]).await;
     let message = "other writer: point 0".into();
     assert_eq!(other, Outcome::Refused { status: 400, message });
@@ -199,21 +172,12 @@ async fn what_is_refused_has_its_name() {
     assert_eq!(said, (1, "1 cumulative point that went down".into()));
     let earlier = [point("m", 11, BEGIN + 6, 8)];
     let said = rejected(&run.cumulative("A", &earlier).await);
-    assert_eq!(
-        said,
-        (
-            1,
-            "1 point of a run that began before the last point of another".into()
-        )
-    );
+    assert_eq!(said, (1, "1 point of a run that began before the last point of another".into()));
     run.flush().await;
     // A point of another's that is no later than the run is no repeat: it names the one, though another was left out.
     let other = [point("m3", BEGIN, BEGIN + 1, 1), point("m", 10, BEGIN, 5)];
     let message = "other writer: point 1".into();
-    assert_eq!(
-        run.cumulative("B", &other).await,
-        Outcome::Refused { status: 400, message }
-    );
+    assert_eq!(run.cumulative("B", &other).await, Outcome::Refused { status: 400, message });
     let sums = run.forwarded().await;
     assert_eq!((sums["m"].0, sums["m2"].0), (2, 3));
     run.end().await;
@@ -225,23 +189,15 @@ async fn a_post_learns_at_once_where_all_of_its_series_end() {
     let place = tempfile::tempdir().unwrap();
     let run = Run::begin_runs(&place.path().join("data"), Options::default()).await;
     let points = |names: std::ops::Range<u64>, start, time| -> Vec<Point> {
-        names
-            .map(|name| point(&format!("m{name}"), start, time, 1))
-            .collect()
+        names.map(|name| point(&format!("m{name}"), start, time, 1)).collect()
     };
     let deltas = text(&points(0..600, BEGIN, BEGIN + 20), 1);
     assert_eq!(run.slot.post("A".into(), deltas.into()).await, Outcome::taken(0));
     let said = rejected(&run.cumulative("A", &points(0..700, BEGIN + 10, BEGIN + 30)).await);
-    assert_eq!(
-        said,
-        (600, "600 cumulative points of series with delta points".into())
-    );
+    assert_eq!(said, (600, "600 cumulative points of series with delta points".into()));
     run.flush().await;
     let sums = run.forwarded().await;
-    assert!(
-        sums.len() == 700 && sums.values().all(|sum| sum.0 == 1),
-        "{sums:?}"
-    );
+    assert!(sums.len() == 700 && sums.values().all(|sum| sum.0 == 1), "{sums:?}");
     run.end().await;
 }
 
@@ -254,10 +210,7 @@ async fn delta_and_cumulative_points_of_a_series_never_count_one_span_twice() {
     let delta = |name: &str, start, end, value| text(&[point(name, start, end, value)], 1);
     let mixed = "1 cumulative point of a series with delta points".to_string();
     for (name, flushes) in [("m", false), ("n", true)] {
-        assert_eq!(
-            run.cumulative("A", &[point(name, BEGIN, BEGIN + 10, 5)]).await,
-            Outcome::taken(0)
-        );
+        assert_eq!(run.cumulative("A", &[point(name, BEGIN, BEGIN + 10, 5)]).await, Outcome::taken(0));
         let body = delta(name, BEGIN + 10, BEGIN + 20, 2);
         assert_eq!(run.slot.post("A".into(), body.into()).await, Outcome::taken(0));
         if flushes {
@@ -265,10 +218,7 @@ async fn delta_and_cumulative_points_of_a_series_never_count_one_span_twice() {
             run = Run::begin_runs(&path, Options::default()).await;
         }
         let beside = format!("m-{name}");
-        let points = [
-            point(&beside, BEGIN, BEGIN + 20, 4),
-            point(name, BEGIN, BEGIN + 20, 7),
-        ];
+        let points = [point(&beside, BEGIN, BEGIN + 20, 4), point(name, BEGIN, BEGIN + 20, 7)];
         assert_eq!(rejected(&run.cumulative("A", &points).await), (1, mixed.clone()));
         // One that began behind them is another run.
         let anew = [point(name, BEGIN + 20, BEGIN + 30, 1)];
@@ -281,11 +231,7 @@ async fn delta_and_cumulative_points_of_a_series_never_count_one_span_twice() {
     assert_eq!(rejected(&run.cumulative("A", &all).await), (1, mixed.clone()));
     run.flush().await;
     assert_eq!(rejected(&run.cumulative("A", &all).await), (1, mixed));
-    assert_eq!(
-        run.cumulative("A", &[point("d", BEGIN + 10, BEGIN + 30, 3)])
-            .await,
-        Outcome::taken(0)
-    );
+    assert_eq!(run.cumulative("A", &[point("d", BEGIN + 10, BEGIN + 30, 3)]).await, Outcome::taken(0));
     run.flush().await;
     let sums = run.forwarded().await;
     let sum = |name: &str| sums[name].0;
@@ -299,10 +245,7 @@ async fn a_journal_that_is_cut_anywhere_goes_on_with_what_is_posted_again() {
     const HEADER: usize = 64; // and the mark ahead of it
     let place = tempfile::tempdir().unwrap();
     let path = place.path().join("data0");
-    let options = Options {
-        first: First::Count,
-        reset: Reset::Refuse,
-    };
+    let options = Options { first: First::Count, reset: Reset::Refuse };
     let run = Run::begin_runs(&path, options).await;
     let (mut chance, mut plain, mut program) = (TestRandom(7), Plain::default(), Program::new("A"));
     let mut posts = Vec::new();
@@ -321,11 +264,7 @@ async fn a_journal_that_is_cut_anywhere_goes_on_with_what_is_posted_again() {
         std::fs::write(cut.join(name), &whole[..end]).unwrap();
         let run = Run::begin_runs(&cut, options).await;
         for points in &posts {
-            assert_eq!(
-                run.cumulative("A", points).await,
-                Outcome::taken(0),
-                "cut at {end}"
-            );
+            assert_eq!(run.cumulative("A", points).await, Outcome::taken(0), "cut at {end}");
         }
         run.flush().await;
         assert_eq!(run.forwarded().await, plain.sums(), "cut at {end}");

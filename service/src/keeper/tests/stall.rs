@@ -34,10 +34,7 @@ async fn stall(stalled: Call, folder: &'static str) {
     let first = tokio::spawn(async move {
         match folder {
             "outbox" => drop(orders.order(Order::Checkpoint).await),
-            _ => assert_eq!(
-                slot.post("A".into(), point("a", 2).into()).await,
-                Outcome::taken(0)
-            ),
+            _ => assert_eq!(slot.post("A".into(), point("a", 2).into()).await, Outcome::taken(0)),
         }
     });
     while run.slot.unavailable().is_none() {
@@ -51,11 +48,7 @@ async fn stall(stalled: Call, folder: &'static str) {
         assert_eq!(outcome, Outcome::Refused { status, message });
     }
     // What an operator is shown.
-    let shown = (
-        run.slot.unavailable(),
-        run.slot.held().posts,
-        run.slot.outbox.stuck(),
-    );
+    let shown = (run.slot.unavailable(), run.slot.held().posts, run.slot.outbox.stuck());
     assert_eq!(shown, (Some(NO_ANSWER), 0, None));
     assert!(run.slot.journal_size().0 > 0 && run.slot.outbox.waiting().0 == 0);
     let call = run.slot.disk_call();
@@ -81,9 +74,7 @@ async fn sum_of_all(slot: &Slot) -> i64 {
     while slot.outbox.waiting().0 > 0 {
         let (waiting, body) = slot.outbox.first().await.unwrap();
         for point in forwarded(&body).unwrap() {
-            let Value::Sum(value) = point.value else {
-                panic!("{point:?}")
-            };
+            let Value::Sum(value) = point.value else { panic!("{point:?}") };
             sum += value;
         }
         slot.outbox.acknowledge(waiting.number).unwrap();

@@ -38,8 +38,7 @@ impl Desk {
             Err(why) => return message(400, &why),
         };
         let (what, of) = sought.act();
-        self.act_by(actor, what, of, |who| self.amended(who, sought, anyway))
-            .await
+        self.act_by(actor, what, of, |who| self.amended(who, sought, anyway)).await
     }
 
     async fn amended(self: &Arc<Self>, who: String, sought: Sought, anyway: Anyway) -> Response<Body> {
@@ -47,10 +46,7 @@ impl Desk {
             let what = "can't tell what it has already, so what is posted again would count twice";
             return message(
                 409,
-                &format!(
-                    "the sink {} {what}; give --anyway where nobody posts it again",
-                    self.sink.name()
-                ),
+                &format!("the sink {} {what}; give --anyway where nobody posts it again", self.sink.name()),
             );
         }
         // What was posted so far is known then.
@@ -58,10 +54,7 @@ impl Desk {
         if flushed.status() != StatusCode::OK {
             return flushed;
         }
-        let found = self
-            .in_all_slots(&who, &Command::Find(sought.clone()))
-            .await
-            .all();
+        let found = self.in_all_slots(&who, &Command::Find(sought.clone())).await.all();
         let found = match found.map(|answers| InAllSlots::read(&answers)) {
             Ok(Ok(found)) => found,
             Ok(Err(refused)) => return refused.into(),
@@ -75,11 +68,7 @@ impl Desk {
 
     async fn carried_out(self: &Arc<Self>, who: &str, sought: &Sought, meant: Meant) -> Response<Body> {
         let command = Command::Amend(meant.sought.clone());
-        let answers = match self
-            .in_slots(who, &command, meant.slots.iter().copied())
-            .await
-            .all()
-        {
+        let answers = match self.in_slots(who, &command, meant.slots.iter().copied()).await.all() {
             Ok(answers) => answers,
             Err(not_all) => return not_all.into(),
         };
@@ -123,10 +112,7 @@ impl Desk {
             Err(why) => format!("the sink can't be read: {why}"),
             Ok(None) => "the sink has nothing of it yet".into(),
             Ok(Some(hours)) if hours.is_empty() => "the sink has nothing of it from that hour on".into(),
-            Ok(Some(hours)) => format!(
-                "the sink has of it from that hour on {} (by_hour)",
-                in_hours(&hours)
-            ),
+            Ok(Some(hours)) => format!("the sink has of it from that hour on {} (by_hour)", in_hours(&hours)),
         };
         format!("; {what}")
     }
@@ -138,10 +124,9 @@ fn refused_by(refused: &Answer, answers: &[(u16, Answer)]) -> Response<Body> {
     let done: Vec<u16> = done.map(|(slot, _)| *slot).collect();
     match &done[..] {
         [] => refused.clone().into(),
-        done => message(
-            refused.status,
-            &format!("{}; it is done in {}", refused.message(), slots_shown(done)),
-        ),
+        done => {
+            message(refused.status, &format!("{}; it is done in {}", refused.message(), slots_shown(done)))
+        }
     }
 }
 

@@ -61,12 +61,7 @@ pub struct Meant {
 impl Sought {
     pub fn new(written: String, to: Option<u64>, all: bool, now: u64) -> Result<Sought, String> {
         written.parse::<Named>()?;
-        Ok(Sought {
-            written,
-            to,
-            all,
-            now,
-        })
+        Ok(Sought { written, to, all, now })
     }
 
     /// What is written down of it.
@@ -160,9 +155,7 @@ impl InAllSlots {
         let mut found = InAllSlots::default();
         for (slot, answer) in answers {
             let read = serde_json::from_str(&answer.body).ok();
-            let in_slot = read
-                .filter(|_| answer.status == 200)
-                .ok_or_else(|| answer.clone())?;
+            let in_slot = read.filter(|_| answer.status == 200).ok_or_else(|| answer.clone())?;
             found.in_slot.push((*slot, in_slot));
         }
         Ok(found)
@@ -174,9 +167,7 @@ impl InAllSlots {
 
     fn first(&self, of: fn(&InSlot) -> &Vec<(String, u64)>) -> Vec<Was> {
         let all = self.in_slot.iter().flat_map(|(_, in_slot)| of(in_slot));
-        let mut all: Vec<Was> = all
-            .map(|(key, end)| (SeriesKey(key.as_str().into()), *end))
-            .collect();
+        let mut all: Vec<Was> = all.map(|(key, end)| (SeriesKey(key.as_str().into()), *end)).collect();
         all.sort_unstable();
         all.truncate(NAMED);
         all
@@ -211,10 +202,7 @@ impl InAllSlots {
         let beyond = self.count(|of| of.beyond);
         if beyond == 0 {
             let last = self.in_slot.iter().map(|(_, of)| of.last).max().unwrap_or(0);
-            return Err(format!(
-                "what is named so ends at {}: there is nothing to put back",
-                time(last)
-            ));
+            return Err(format!("what is named so ends at {}: there is nothing to put back", time(last)));
         }
         let first = self.first(|of| &of.first_beyond);
         let has_some = self.in_slot.iter().filter(|(_, of)| of.beyond > 0);
@@ -223,10 +211,7 @@ impl InAllSlots {
             slots: has_some.map(|(slot, _)| *slot).collect(),
             sought: match (sought.all, first.first()) {
                 // No other that is new since is meant.
-                (false, Some((key, _))) => Sought {
-                    written: key.0.to_string(),
-                    ..sought.clone()
-                },
+                (false, Some((key, _))) => Sought { written: key.0.to_string(), ..sought.clone() },
                 _ => sought.clone(),
             },
             first,
@@ -248,12 +233,7 @@ mod tests {
 
     fn series(ends: &[(&str, &str, u64)]) -> Vec<(SeriesKey, Series)> {
         let one = |(name, shop, frontier): &(&str, &str, u64)| {
-            let about = Series {
-                frontier: *frontier,
-                owner: Some("A".into()),
-                seen: 0,
-                run: None,
-            };
+            let about = Series { frontier: *frontier, owner: Some("A".into()), seen: 0, run: None };
             (key(name, shop), about)
         };
         ends.iter().map(one).collect()
@@ -281,18 +261,12 @@ mod tests {
     fn the_series_that_are_meant_are_found_in_their_slots() {
         let to = Some(NOW - HOUR / 2);
         let one = meant(&sought("a{shop=s1}", to, false)).unwrap();
-        assert_eq!(
-            (one.count, &one.first[..]),
-            (1, &[(key("a", "s1"), NOW + HOUR)][..])
-        );
+        assert_eq!((one.count, &one.first[..]), (1, &[(key("a", "s1"), NOW + HOUR)][..]));
         assert_eq!(one.slots, [5]);
         // By all that identifies it: no other is meant.
         assert_eq!(*one.sought.written, *key("a", "s1").0);
         let those = meant(&sought("a", to, true)).unwrap();
-        assert_eq!(
-            (those.count, &those.slots[..], &*those.sought.written),
-            (1, &[5][..], "a")
-        );
+        assert_eq!((those.count, &those.slots[..], &*those.sought.written), (1, &[5][..], "a"));
         let all = meant(&sought("a", None, true)).unwrap();
         assert_eq!((all.count, &all.slots[..]), (2, &[2, 5][..]));
         assert_eq!(all.first[0].0, key("a", "s1"));
@@ -302,22 +276,10 @@ mod tests {
     fn it_is_said_why_none_is_meant() {
         let to = Some(NOW - HOUR / 2);
         for (written, to, part) in [
-            (
-                "b",
-                Some(NOW + SECOND),
-                "after the service's clock, which says 2026-11-27 13:00:00",
-            ),
+            ("b", Some(NOW + SECOND), "after the service's clock, which says 2026-11-27 13:00:00"),
             ("c", to, "no series is named c"),
-            (
-                "a",
-                to,
-                "2 series are named so, as a{\"shop\":\"s1\"} and a{\"shop\":\"s2\"}",
-            ),
-            (
-                "a{shop=s2}",
-                to,
-                "ends at 2026-11-27 12:00:00: there is nothing to put back",
-            ),
+            ("a", to, "2 series are named so, as a{\"shop\":\"s1\"} and a{\"shop\":\"s2\"}"),
+            ("a{shop=s2}", to, "ends at 2026-11-27 12:00:00: there is nothing to put back"),
         ] {
             let why = meant(&sought(written, to, false)).unwrap_err();
             assert!(why.contains(part), "{written}: {why}");

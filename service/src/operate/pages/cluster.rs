@@ -30,14 +30,7 @@ fn instances(html: &mut Html, cluster: &ClusterStatus) {
         ]
     });
     html.markup("<section><h2>Instances</h2>");
-    let heads = [
-        "name",
-        "address",
-        "version",
-        "last beat#",
-        "slots#",
-        "what is wrong",
-    ];
+    let heads = ["name", "address", "version", "last beat#", "slots#", "what is wrong"];
     html.table(&heads, rows.collect()).markup("</section>\n");
 }
 
@@ -53,29 +46,14 @@ fn databases(html: &mut Html, cluster: &ClusterStatus) {
         ]
     });
     html.markup("<section><h2>Databases of the store</h2>");
-    let heads = [
-        "database",
-        "copies#",
-        "asked for#",
-        "in doubt for#",
-        "what is wrong",
-    ];
+    let heads = ["database", "copies#", "asked for#", "in doubt for#", "what is wrong"];
     html.table(&heads, rows.collect()).markup("</section>\n");
 }
 
 fn slots(html: &mut Html, status: &Status) {
     let rows = status.slots.iter().take(ROWS).map(row);
     html.markup("<section><h2>Slots</h2>");
-    let heads = [
-        "slot#",
-        "instance",
-        "term#",
-        "series#",
-        "posts#",
-        "requests#",
-        "oldest#",
-        "what is wrong",
-    ];
+    let heads = ["slot#", "instance", "term#", "series#", "posts#", "requests#", "oldest#", "what is wrong"];
     html.table(&heads, rows.collect());
     if status.slots.len() > ROWS {
         html.markup("<p class=note>")
@@ -118,10 +96,7 @@ mod tests {
             ..SlotStatus::default()
         };
         let mut status = Status {
-            slots: vec![
-                slot(0, Some("a"), None),
-                slot(7, None, Some("no instance has it")),
-            ],
+            slots: vec![slot(0, Some("a"), None), slot(7, None, Some("no instance has it"))],
             ..Status::default()
         };
         let mut html = Html::default();

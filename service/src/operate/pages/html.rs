@@ -59,11 +59,7 @@ impl Html {
         }
         self.markup("<table><thead><tr>");
         for head in heads {
-            self.markup("<th")
-                .markup(class(head))
-                .markup(">")
-                .markup(title(head))
-                .markup("</th>");
+            self.markup("<th").markup(class(head)).markup(">").markup(title(head)).markup("</th>");
         }
         self.markup("</tr></thead><tbody>\n");
         for row in rows {
@@ -117,12 +113,9 @@ impl Cell {
     fn write(self, html: &mut Html) {
         match self {
             Cell::Text(text) => html.text(text),
-            Cell::Series { text, id } => html
-                .markup("<a href=\"series?id=")
-                .query(&id)
-                .markup("\">")
-                .text(text)
-                .markup("</a>"),
+            Cell::Series { text, id } => {
+                html.markup("<a href=\"series?id=").query(&id).markup("\">").text(text).markup("</a>")
+            }
         };
     }
 }
@@ -153,14 +146,8 @@ mod tests {
         let mut html = Html::default();
         html.text("</td><script>alert(1)</script>\" onload='x' &amp;\n\u{202e}\u{1b}[2J");
         let text = html.into_text();
-        assert!(
-            !text.contains(['<', '>', '"', '\'']) && !text.contains(char::is_control),
-            "{text}"
-        );
-        assert!(
-            text.starts_with("&lt;/td&gt;&lt;script&gt;") && text.contains("&amp;amp;"),
-            "{text}"
-        );
+        assert!(!text.contains(['<', '>', '"', '\'']) && !text.contains(char::is_control), "{text}");
+        assert!(text.starts_with("&lt;/td&gt;&lt;script&gt;") && text.contains("&amp;amp;"), "{text}");
         let mut long = Html::default();
         long.text("<".repeat(100_000)).query("\"&?#<é");
         assert_eq!(long.into_text(), "&lt;".repeat(SHOWN) + "..%22%26%3F%23%3C%C3%A9");
@@ -171,8 +158,7 @@ mod tests {
         let mut html = Html::default();
         let id = "a&b".to_string();
         let row = vec![Cell::of("<i>"), Cell::Series { text: "n".into(), id }];
-        html.table(&["name", "total#"], vec![row])
-            .table(&["name"], Vec::new());
+        html.table(&["name", "total#"], vec![row]).table(&["name"], Vec::new());
         assert_eq!(
             html.into_text(),
             "<table><thead><tr><th>name</th><th class=n>total</th></tr></thead><tbody>\n<tr><td data-head=\"name\">&lt;i&gt;</td>\
@@ -183,9 +169,6 @@ mod tests {
     #[test]
     fn numbers_are_in_groups() {
         let numbers = ["0", "999", "1000", "-1234567", "18446744073709551616"].map(grouped);
-        assert_eq!(
-            numbers,
-            ["0", "999", "1,000", "-1,234,567", "18,446,744,073,709,551,616"]
-        );
+        assert_eq!(numbers, ["0", "999", "1,000", "-1,234,567", "18,446,744,073,709,551,616"]);
     }
 }

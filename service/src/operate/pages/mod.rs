@@ -71,9 +71,7 @@ impl Desk {
             Page::Script => reply(200, "text/javascript", include_str!("page.js")),
         };
         for (name, value) in HEADERS {
-            response
-                .headers_mut()
-                .insert(name, HeaderValue::from_static(value));
+            response.headers_mut().insert(name, HeaderValue::from_static(value));
         }
         response
     }
@@ -93,15 +91,10 @@ fn frame(place: Place, status: &Status, body: Html) -> String {
     html.markup("</head><body><header><h1>totxegun</h1>");
     match &status.unavailable {
         None => html.markup("<p id=state class=\"state good\">takes posts</p>"),
-        Some(why) => html
-            .markup("<p id=state class=\"state bad\">posts get 503: ")
-            .text(why)
-            .markup("</p>"),
+        Some(why) => html.markup("<p id=state class=\"state bad\">posts get 503: ").text(why).markup("</p>"),
     };
     let current = |here: Place| if here == place { " aria-current=page" } else { "" };
-    html.markup("<nav><a href=\"./\"")
-        .markup(current(Place::Overview))
-        .markup(">Overview</a>");
+    html.markup("<nav><a href=\"./\"").markup(current(Place::Overview)).markup(">Overview</a>");
     html.markup("<a href=series")
         .markup(current(Place::Series))
         .markup(">Series</a></nav></header>\n<main id=main>");
@@ -112,10 +105,7 @@ fn frame(place: Place, status: &Status, body: Html) -> String {
         .text(&status.version)
         .markup(", up ")
         .text(seconds_shown(status.uptime_seconds));
-    end.markup("; senders post to ")
-        .text(&status.listen)
-        .markup("; sink ")
-        .text(&status.sink);
+    end.markup("; senders post to ").text(&status.listen).markup("; sink ").text(&status.sink);
     end.markup("</footer></body></html>\n");
     whole + &end.into_text()
 }

@@ -36,9 +36,7 @@ impl Desk {
             status,
             senders: self.activity.last(usize::MAX),
             letters,
-            now: SystemTime::now()
-                .duration_since(UNIX_EPOCH)
-                .map_or(0, |since| since.as_secs()),
+            now: SystemTime::now().duration_since(UNIX_EPOCH).map_or(0, |since| since.as_secs()),
         };
         let mut html = Html::default();
         seen.tiles(&mut html);
@@ -69,27 +67,18 @@ impl Seen<'_> {
         let series: usize = self.status.slots.iter().map(|slot| slot.series).sum();
         let class_if = |is_so: bool, class: &'static str| if is_so { class } else { "" };
         let refused = class_if(last.refused > 0.0, "refused");
-        let (troubled, dead) = (
-            class_if(self.trouble().is_some(), "bad"),
-            class_if(self.status.dead > 0, "bad"),
-        );
+        let (troubled, dead) =
+            (class_if(self.trouble().is_some(), "bad"), class_if(self.status.dead > 0, "bad"));
         html.markup("<section class=tiles>");
         for (what, class, value) in [
             ("posts a second", "posted", grouped(last.taken.round())),
             ("refused a second", refused, grouped(last.refused.round())),
-            (
-                "requests delivered a second",
-                "delivered",
-                grouped(last.delivered.round()),
-            ),
+            ("requests delivered a second", "delivered", grouped(last.delivered.round())),
             ("requests wait for the sink", troubled, grouped(waiting)),
             ("dead requests", dead, grouped(self.status.dead)),
             ("series", "", grouped(series)),
         ] {
-            html.markup("<div class=\"tile ")
-                .markup(class)
-                .markup("\"><b>")
-                .text(value);
+            html.markup("<div class=\"tile ").markup(class).markup("\"><b>").text(value);
             html.markup("</b><span>").markup(what).markup("</span></div>");
         }
         html.markup("</section>\n");
@@ -97,10 +86,8 @@ impl Seen<'_> {
 
     fn rates(&self, html: &mut Html) {
         let rates = self.desk.pulse.rates();
-        let line = |class, value: fn(&Rates) -> f64| Line {
-            class,
-            values: rates.iter().map(value).collect(),
-        };
+        let line =
+            |class, value: fn(&Rates) -> f64| Line { class, values: rates.iter().map(value).collect() };
         let all = [
             line("delivered", |rates| rates.delivered),
             line("refused", |rates| rates.refused),
@@ -121,9 +108,7 @@ impl Seen<'_> {
     fn waits(&self, html: &mut Html) {
         html.markup("<section><h2>What waits</h2>");
         if let Some(trouble) = self.trouble() {
-            html.markup("<p class=\"note bad\">The sink: ")
-                .text(trouble)
-                .markup("</p>");
+            html.markup("<p class=\"note bad\">The sink: ").text(trouble).markup("</p>");
         }
         let quarantined = self.status.slots.iter().flat_map(|slot| &slot.quarantined);
         let names: BTreeSet<&str> = quarantined.map(String::as_str).collect();
@@ -140,9 +125,7 @@ impl Seen<'_> {
         let slots = &self.status.slots;
         let row = |what: &str, many: u64, bytes: u64, age: Option<u64>| {
             let age = age.map_or_else(String::new, seconds_shown);
-            [what.to_string(), grouped(many), bytes_shown(bytes), age]
-                .map(Cell::Text)
-                .into()
+            [what.to_string(), grouped(many), bytes_shown(bytes), age].map(Cell::Text).into()
         };
         let stock = |what, many, of: fn(&SlotStatus) -> &Stock| {
             let ages = slots.iter().filter_map(|slot| of(slot).age_seconds);
@@ -151,9 +134,9 @@ impl Seen<'_> {
         };
         let posts = slots.iter().map(|slot| slot.posts).sum();
         let requests = self.status.waiting();
-        let (held_posts, held_bytes) = slots.iter().fold((0, 0), |(posts, bytes), slot| {
-            (posts + slot.held.posts, bytes + slot.held.bytes)
-        });
+        let (held_posts, held_bytes) = slots
+            .iter()
+            .fold((0, 0), |(posts, bytes), slot| (posts + slot.held.posts, bytes + slot.held.bytes));
         let mut rows = vec![
             stock("posts, for a flush", posts, |slot| &slot.journal),
             stock("requests, for the sink", requests, |slot| &slot.outbox),
@@ -167,8 +150,7 @@ impl Seen<'_> {
     fn refused(&self, html: &mut Html) {
         let of = |(name, of): &'_ (String, OfSender)| -> Vec<(String, &'static str, OfReason)> {
             let all = of.refused.iter();
-            all.map(|(reason, of)| (name.clone(), *reason, of.clone()))
-                .collect()
+            all.map(|(reason, of)| (name.clone(), *reason, of.clone())).collect()
         };
         let mut all: Vec<_> = self.senders.iter().flat_map(of).collect();
         all.sort_by_key(|(_, _, of)| std::cmp::Reverse(of.last));
@@ -185,10 +167,7 @@ impl Seen<'_> {
             ]
         });
         html.markup("<section><h2>Refused posts</h2>");
-        html.table(
-            &["sender", "status", "last answer", "posts#", "last#", "what to do"],
-            rows.collect(),
-        );
+        html.table(&["sender", "status", "last answer", "posts#", "last#", "what to do"], rows.collect());
         left_out(html, count);
         html.markup("</section>\n");
     }
@@ -200,12 +179,7 @@ impl Seen<'_> {
         all.truncate(ROWS);
         let rows = all.into_iter().map(|(name, cause, points)| {
             let to_do = Cause::named(&cause).map_or("", Cause::to_do);
-            vec![
-                Cell::of(sender(&name)),
-                Cell::of(cause),
-                Cell::of(grouped(points)),
-                Cell::of(to_do),
-            ]
+            vec![Cell::of(sender(&name)), Cell::of(cause), Cell::of(grouped(points)), Cell::of(to_do)]
         });
         html.markup("<section><h2>Points not taken</h2>");
         html.table(&["sender", "cause", "points#", "what to do"], rows.collect());
@@ -224,10 +198,7 @@ impl Seen<'_> {
             ]
         });
         html.markup("<section><h2>Senders, by their last post</h2>");
-        html.table(
-            &["sender", "last post#", "posts taken#", "refused#"],
-            rows.collect(),
-        );
+        html.table(&["sender", "last post#", "posts taken#", "refused#"], rows.collect());
         left_out(html, self.senders.len());
         html.markup("</section>\n");
     }
@@ -239,26 +210,13 @@ impl Seen<'_> {
         let (memory, most_memory) = (books.memory_bytes, books.most_memory_bytes);
         let rows = vec![
             limit("series", series, books.most_series, grouped, "--most-series"),
-            limit(
-                "memory of the book",
-                memory,
-                most_memory,
-                bytes_shown,
-                "--book-memory",
-            ),
-            limit(
-                "memory of posts under way",
-                used,
-                most,
-                bytes_shown,
-                "--most-bytes",
-            ),
+            limit("memory of the book", memory, most_memory, bytes_shown, "--book-memory"),
+            limit("memory of posts under way", used, most, bytes_shown, "--most-bytes"),
         ];
         html.markup("<section><h2>Limits</h2>");
         html.table(&["what", "now#", "at most#", "used#", "option"], rows);
         let free = levels.disk_free_bytes.get().max(0) as u64;
-        html.markup("<p class=note>Free on the disk: ")
-            .text(bytes_shown(free));
+        html.markup("<p class=note>Free on the disk: ").text(bytes_shown(free));
         html.markup("</p></section>\n");
     }
 
@@ -291,23 +249,13 @@ impl Seen<'_> {
 /// How much of a limit is used, and which option sets it.
 fn limit(what: &str, now: u64, most: u64, shown: fn(u64) -> String, option: &str) -> Vec<Cell> {
     let part = format!("{:.0} %", 100.0 * now as f64 / most.max(1) as f64);
-    [
-        what.to_string(),
-        shown(now),
-        shown(most),
-        part,
-        option.to_string(),
-    ]
-    .map(Cell::Text)
-    .into()
+    [what.to_string(), shown(now), shown(most), part, option.to_string()].map(Cell::Text).into()
 }
 
 /// That a table does not have all.
 fn left_out(html: &mut Html, count: usize) {
     if count > ROWS {
-        html.markup("<p class=note>")
-            .text(grouped(count - ROWS))
-            .markup(" more</p>");
+        html.markup("<p class=note>").text(grouped(count - ROWS)).markup(" more</p>");
     }
 }
 

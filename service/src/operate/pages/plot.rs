@@ -20,15 +20,10 @@ pub fn lines(html: &mut Html, lines: &[Line], places: usize) {
     begin(html, &grouped(top.ceil()));
     let step = WIDTH / (places.max(2) - 1) as f64;
     for line in lines {
-        html.markup("<polyline class=")
-            .markup(line.class)
-            .markup(" points=\"");
+        html.markup("<polyline class=").markup(line.class).markup(" points=\"");
         let first = places.saturating_sub(line.values.len());
         for (place, value) in line.values.iter().enumerate() {
-            html.number((first + place) as f64 * step)
-                .markup(",")
-                .number(height(*value, top))
-                .markup(" ");
+            html.number((first + place) as f64 * step).markup(",").number(height(*value, top)).markup(" ");
         }
         html.markup("\"/>");
     }
@@ -52,17 +47,9 @@ pub fn bars(html: &mut Html, bars: &[Bar]) {
     let ground = MARGIN + height(top);
     for (place, bar) in bars.iter().enumerate() {
         let above = if bar.value > 0.0 { height(bar.value) } else { 0.0 };
-        html.markup("<rect x=\"")
-            .number(place as f64 * step + 1.0)
-            .markup("\" y=\"")
-            .number(ground - above);
-        html.markup("\" width=\"")
-            .number(step - 2.0)
-            .markup("\" height=\"")
-            .number(height(bar.value));
-        html.markup("\"><title>")
-            .text(&bar.text)
-            .markup("</title></rect>");
+        html.markup("<rect x=\"").number(place as f64 * step + 1.0).markup("\" y=\"").number(ground - above);
+        html.markup("\" width=\"").number(step - 2.0).markup("\" height=\"").number(height(bar.value));
+        html.markup("\"><title>").text(&bar.text).markup("</title></rect>");
     }
     html.markup("</svg></div>\n");
 }
@@ -84,21 +71,12 @@ mod tests {
 
     #[test]
     fn bars_stand_on_zero_or_hang_from_it() {
-        let bar = |value: f64| Bar {
-            value,
-            text: format!("<{value}>"),
-        };
+        let bar = |value: f64| Bar { value, text: format!("<{value}>") };
         let mut html = Html::default();
         bars(&mut html, &[bar(3.0), bar(-1.0)]);
         let text = html.into_text();
-        assert!(
-            text.contains("<rect x=\"1.0\" y=\"18.0\" width=\"358.0\" height=\"93.0\">"),
-            "{text}"
-        );
-        assert!(
-            text.contains("<rect x=\"361.0\" y=\"111.0\" width=\"358.0\" height=\"31.0\">"),
-            "{text}"
-        );
+        assert!(text.contains("<rect x=\"1.0\" y=\"18.0\" width=\"358.0\" height=\"93.0\">"), "{text}");
+        assert!(text.contains("<rect x=\"361.0\" y=\"111.0\" width=\"358.0\" height=\"31.0\">"), "{text}");
         assert!(text.contains("<title>&lt;-1&gt;</title>"), "{text}");
     }
 
@@ -106,19 +84,9 @@ mod tests {
     fn the_last_value_is_at_the_right() {
         let mut html = Html::default();
         let values = vec![0.0, 4.0];
-        lines(
-            &mut html,
-            &[Line {
-                class: "posted",
-                values,
-            }],
-            3,
-        );
+        lines(&mut html, &[Line { class: "posted", values }], 3);
         let text = html.into_text();
-        assert!(
-            text.contains("class=posted points=\"360.0,142.0 720.0,18.0 \""),
-            "{text}"
-        );
+        assert!(text.contains("class=posted points=\"360.0,142.0 720.0,18.0 \""), "{text}");
         assert!(text.contains("<span>4</span>"), "{text}");
     }
 }

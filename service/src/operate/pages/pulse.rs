@@ -72,11 +72,7 @@ impl Counted {
         let (taken, refused) = metrics.posts_ended();
         let outcomes =
             ["taken", "partial"].map(|outcome| metrics.deliveries.with_label_values(&[outcome]).get());
-        Counted {
-            taken,
-            refused,
-            delivered: outcomes.iter().sum(),
-        }
+        Counted { taken, refused, delivered: outcomes.iter().sum() }
     }
 
     fn since(self, before: Counted) -> Rates {
@@ -99,18 +95,10 @@ mod tests {
         assert_eq!(pulse.rates(), []);
         for look in 0..1000 {
             let (taken, refused, delivered) = (look * look, look, 2 * look);
-            pulse.note(Counted {
-                taken,
-                refused,
-                delivered,
-            });
+            pulse.note(Counted { taken, refused, delivered });
         }
         let rates = pulse.rates();
-        let last = Rates {
-            taken: (999.0 * 999.0 - 998.0 * 998.0) / 2.0,
-            refused: 0.5,
-            delivered: 1.0,
-        };
+        let last = Rates { taken: (999.0 * 999.0 - 998.0 * 998.0) / 2.0, refused: 0.5, delivered: 1.0 };
         assert_eq!((rates.len(), rates.last()), (KEPT, Some(&last)));
     }
 }

@@ -47,9 +47,7 @@ impl Desk {
                     }
                 }
                 Err(why) => {
-                    html.markup("<p class=\"note bad\">The sink can't be read: ")
-                        .text(why)
-                        .markup("</p>");
+                    html.markup("<p class=\"note bad\">The sink can't be read: ").text(why).markup("</p>");
                 }
             },
         }
@@ -87,12 +85,7 @@ impl Wanted {
         let mut rows: Vec<SeriesTotal> = series.into_iter().filter(|one| self.takes(one)).collect();
         let count = rows.len();
         rows.truncate(ROWS);
-        FoundRows {
-            rows,
-            count,
-            of,
-            is_one: !self.id.is_empty(),
-        }
+        FoundRows { rows, count, of, is_one: !self.id.is_empty() }
     }
 
     fn takes(&self, series: &SeriesTotal) -> bool {
@@ -118,18 +111,14 @@ fn pairs<'s>(
 }
 
 fn joined(attributes: &Map<String, Value>) -> String {
-    let all = attributes
-        .iter()
-        .map(|(key, value)| format!("{key}={}", text(value)));
+    let all = attributes.iter().map(|(key, value)| format!("{key}={}", text(value)));
     all.collect::<Vec<String>>().join(", ")
 }
 
 fn form(html: &mut Html, wanted: &Wanted) {
-    html.markup("<form action=series><label>Name <input name=name type=search value=\"")
-        .text(&wanted.name);
+    html.markup("<form action=series><label>Name <input name=name type=search value=\"").text(&wanted.name);
     html.markup("\"></label><label>Attributes <input name=attribute type=search placeholder=\"route=/ shop\" value=\"");
-    html.text(&wanted.attribute)
-        .markup("\"></label><button>Search</button></form>\n");
+    html.text(&wanted.attribute).markup("\"></label><button>Search</button></form>\n");
 }
 
 impl FoundRows {
@@ -151,15 +140,7 @@ impl FoundRows {
             .markup(" of ")
             .text(grouped(self.of))
             .markup(" series</h2>");
-        let heads = [
-            "name",
-            "attributes",
-            "total#",
-            "unit",
-            "count#",
-            "until (UTC)",
-            "resource",
-        ];
+        let heads = ["name", "attributes", "total#", "unit", "count#", "until (UTC)", "resource"];
         html.table(&heads, self.rows.iter().map(row).collect());
         if self.count > ROWS {
             html.markup("<p class=note>These are the first ")
@@ -172,14 +153,8 @@ impl FoundRows {
 
 /// One of several.
 fn row(series: &SeriesTotal) -> Vec<Cell> {
-    let count = series
-        .histogram
-        .as_ref()
-        .map(|histogram| grouped(histogram.count));
-    let name = Cell::Series {
-        text: series.name.clone(),
-        id: identity(series),
-    };
+    let count = series.histogram.as_ref().map(|histogram| grouped(histogram.count));
+    let name = Cell::Series { text: series.name.clone(), id: identity(series) };
     vec![
         name,
         Cell::of(joined(&series.attributes)),
@@ -195,14 +170,9 @@ fn row(series: &SeriesTotal) -> Vec<Cell> {
 fn one(html: &mut Html, series: &SeriesTotal) {
     let rows = facts(series).into_iter();
     let rows = rows.map(|(what, value)| vec![Cell::of(what), Cell::Text(value)]);
-    html.markup("<section><h2>")
-        .text(&series.name)
-        .markup("</h2><p class=total>");
-    html.text(grouped(series.total))
-        .markup(" <small>")
-        .text(&series.unit);
-    html.markup("</small></p>")
-        .table(&["what", "value"], rows.collect());
+    html.markup("<section><h2>").text(&series.name).markup("</h2><p class=total>");
+    html.text(grouped(series.total)).markup(" <small>").text(&series.unit);
+    html.markup("</small></p>").table(&["what", "value"], rows.collect());
     html.markup("</section>\n");
     if let Some(histogram) = &series.histogram {
         buckets(html, histogram);
@@ -232,33 +202,23 @@ fn facts(series: &SeriesTotal) -> Vec<(&'static str, String)> {
 }
 
 fn buckets(html: &mut Html, histogram: &Histogram) {
-    let bounds = histogram
-        .bounds
-        .iter()
-        .map(|bound| format!("to {}", grouped(bound)));
+    let bounds = histogram.bounds.iter().map(|bound| format!("to {}", grouped(bound)));
     let names = bounds.chain(["over all of them".to_string()]);
     let counts = histogram.buckets.iter().map(grouped);
-    let rows = names
-        .zip(counts)
-        .map(|(name, count)| vec![Cell::Text(name), Cell::Text(count)]);
-    html.markup("<section><h2>Buckets</h2>")
-        .table(&["values", "count#"], rows.collect());
+    let rows = names.zip(counts).map(|(name, count)| vec![Cell::Text(name), Cell::Text(count)]);
+    html.markup("<section><h2>Buckets</h2>").table(&["values", "count#"], rows.collect());
     html.markup("</section>\n");
 }
 
 /// What came in each of the last hours: of a histogram how many values, else their sum. Nothing where the sink has no hours.
 async fn last_hours(html: &mut Html, totals: &Totals, series: &SeriesTotal) {
-    let now = SystemTime::now()
-        .duration_since(UNIX_EPOCH)
-        .map_or(0, |since| since.as_secs() / HOUR);
+    let now = SystemTime::now().duration_since(UNIX_EPOCH).map_or(0, |since| since.as_secs() / HOUR);
     let from = (now + 1).saturating_sub(HOURS);
     match totals.hours(series.clone(), from).await {
         Ok(None) => {}
         Ok(Some(hours)) => plot_of_hours(html, &hours, from),
         Err(why) => {
-            html.markup("<p class=\"note bad\">The hours can't be read: ")
-                .text(why)
-                .markup("</p>");
+            html.markup("<p class=\"note bad\">The hours can't be read: ").text(why).markup("</p>");
         }
     }
 }
@@ -268,23 +228,15 @@ fn plot_of_hours(html: &mut Html, hours: &[Hour], from: u64) {
     let of = |wanted: u64| hours.iter().find(|hour| hour.hour == wanted);
     let bar = |wanted: u64| {
         let value = of(wanted).map_or(Exact::default(), |hour| hour.count.unwrap_or(hour.total));
-        Bar {
-            value: value.0 as f64,
-            text: format!("{}: {}", hour(wanted), grouped(value)),
-        }
+        Bar { value: value.0 as f64, text: format!("{}: {}", hour(wanted), grouped(value)) }
     };
     html.markup("<section><h2>The last 48 hours</h2>");
     bars(html, &(from..from + HOURS).map(bar).collect::<Vec<Bar>>());
     let rows = hours.iter().rev().map(|one| {
         let count = one.count.map(grouped).unwrap_or_default();
-        vec![
-            Cell::Text(hour(one.hour)),
-            Cell::of(grouped(one.total)),
-            Cell::Text(count),
-        ]
+        vec![Cell::Text(hour(one.hour)), Cell::of(grouped(one.total)), Cell::Text(count)]
     });
-    html.table(&["hour (UTC)", "total#", "count#"], rows.collect())
-        .markup("</section>\n");
+    html.table(&["hour (UTC)", "total#", "count#"], rows.collect()).markup("</section>\n");
 }
 
 /// Nanoseconds since 1970 to the second, in UTC.
@@ -343,11 +295,7 @@ mod tests {
     #[test]
     fn each_of_the_last_hours_has_its_bar() {
         let hours = [(1000, 5, None), (1047, 7000, Some(Exact(3)))];
-        let hours = hours.map(|(hour, total, count)| Hour {
-            hour,
-            total: Exact(total),
-            count,
-        });
+        let hours = hours.map(|(hour, total, count)| Hour { hour, total: Exact(total), count });
         let mut html = Html::default();
         plot_of_hours(&mut html, &hours, 1000);
         let text = html.into_text();
@@ -366,18 +314,12 @@ mod tests {
         (made.unit, made.scope_name) = (hostile.into(), hostile.into());
         made.resource = made.attributes.clone();
         let mut html = Html::default();
-        form(
-            &mut html,
-            &Wanted::of("name=%22%3E%3Cscript%3E&attribute=%27%3Cscript%3E"),
-        );
+        form(&mut html, &Wanted::of("name=%22%3E%3Cscript%3E&attribute=%27%3Cscript%3E"));
         one(&mut html, &made);
         let found = Wanted::default().found(vec![made]);
         found.write(&mut html);
         let text = html.into_text();
-        assert!(
-            !text.contains("<script") && !text.contains("<img") && !text.contains("\"\">"),
-            "{text}"
-        );
+        assert!(!text.contains("<script") && !text.contains("<img") && !text.contains("\"\">"), "{text}");
         assert!(text.contains("1,234,567"), "{text}");
     }
 }

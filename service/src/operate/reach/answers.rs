@@ -69,11 +69,8 @@ impl Desk {
 }
 
 fn outcome(answers: &[(u16, Answer)]) -> String {
-    let mut done: Vec<u16> = answers
-        .iter()
-        .filter(|(_, answer)| answer.status == 200)
-        .map(|(slot, _)| *slot)
-        .collect();
+    let mut done: Vec<u16> =
+        answers.iter().filter(|(_, answer)| answer.status == 200).map(|(slot, _)| *slot).collect();
     done.sort_unstable();
     let failed = answers.iter().find(|(_, answer)| answer.status != 200);
     let done = match &done[..] {
@@ -84,11 +81,7 @@ fn outcome(answers: &[(u16, Answer)]) -> String {
         None => done,
         Some((slot, answer)) => {
             let text = format!("slot {slot}: {}: {}", answer.status, answer.message());
-            [done, text]
-                .into_iter()
-                .filter(|part| !part.is_empty())
-                .collect::<Vec<_>>()
-                .join("; ")
+            [done, text].into_iter().filter(|part| !part.is_empty()).collect::<Vec<_>>().join("; ")
         }
     }
 }

@@ -40,10 +40,7 @@ pub struct Answer {
 
 impl Answer {
     pub fn new(status: u16, body: impl Into<String>) -> Answer {
-        Answer {
-            status,
-            body: body.into(),
-        }
+        Answer { status, body: body.into() }
     }
 
     /// Why it was not done, or something that is told of it.

@@ -25,11 +25,7 @@ pub struct Ended {
 
 impl Ended {
     pub fn of(command: &Command, slots: usize) -> Ended {
-        Ended {
-            is_act: command.changes(),
-            of: slots,
-            in_slot: BTreeMap::new(),
-        }
+        Ended { is_act: command.changes(), of: slots, in_slot: BTreeMap::new() }
     }
 
     pub fn note(&mut self, slot: u16, done: Result<Answer, NotDone>) {
@@ -43,9 +39,7 @@ impl Ended {
     /// The answers that there are, in the order of their slots.
     pub fn answers(self) -> Vec<(u16, Answer)> {
         let there = self.in_slot.into_iter();
-        there
-            .filter_map(|(slot, done)| Some((slot, done.ok()?)))
-            .collect()
+        there.filter_map(|(slot, done)| Some((slot, done.ok()?))).collect()
     }
 
     /// The answers of all slots, in their order; the error is that some have not done it. Of a single slot its own answer
@@ -76,9 +70,7 @@ impl Ended {
         if self.of == 1 && left.contains_key(ENDING) {
             return ENDING.into();
         }
-        let each = left
-            .iter()
-            .map(|(why, slots)| format!("{}: {why}", slots_shown(slots)));
+        let each = left.iter().map(|(why, slots)| format!("{}: {why}", slots_shown(slots)));
         let each = each.collect::<Vec<String>>().join("; ");
         let done = self.of - left.values().map(Vec::len).sum::<usize>();
         let (did, again) = match self.is_act {

@@ -97,8 +97,7 @@ impl Desk {
             Place::Here => {
                 let why = self.others.as_ref().map_or(ENDING, |_| MOVED);
                 let done = self.here(&command, &slots).await.into_iter();
-                done.map(|(slot, answer)| (slot, answer.ok_or_else(|| NotDone::because(why))))
-                    .collect()
+                done.map(|(slot, answer)| (slot, answer.ok_or_else(|| NotDone::because(why)))).collect()
             }
             Place::At { name, address } => self.there(&name, &address, who, command, slots).await,
             Place::Nobody => all_left(&slots, NOBODY),
@@ -117,11 +116,8 @@ impl Desk {
         let Some(others) = &self.others else {
             return all_left(&slots, NOBODY);
         };
-        let question = Question::Do {
-            who: format!("{who} (at {})", others.instance),
-            command,
-            slots: slots.clone(),
-        };
+        let question =
+            Question::Do { who: format!("{who} (at {})", others.instance), command, slots: slots.clone() };
         let asked = tokio::select! {
             asked = others.ask::<Vec<(u16, Answer)>>(address, &question, WITHIN) => asked,
             () = others.have_left(address, &slots) => return all_left(&slots, MOVED),
@@ -136,10 +132,7 @@ impl Desk {
                 }
                 all
             }
-            Err(why) => all_left(
-                &slots,
-                &format!("instance {name} at {address} does not answer: {why}"),
-            ),
+            Err(why) => all_left(&slots, &format!("instance {name} at {address} does not answer: {why}")),
         }
     }
 

@@ -67,12 +67,6 @@ impl Desk {
         let seen = others.cluster.status();
         let databases = others.databases.status(&self.units, &seen.beat_ages);
         let own = self.units.all().len();
-        others.metrics.set(
-            own,
-            &seen,
-            &databases,
-            others.asks.forwarded(),
-            &others.databases.counts,
-        );
+        others.metrics.set(own, &seen, &databases, others.asks.forwarded(), &others.databases.counts);
     }
 }

@@ -94,16 +94,7 @@ impl Status {
     }
 
     fn add_one(&mut self, other: Status, shown: &mut InstanceStatus) {
-        let Status {
-            dead,
-            books,
-            slots,
-            senders,
-            rounded,
-            cumulative,
-            cluster,
-            ..
-        } = other;
+        let Status { dead, books, slots, senders, rounded, cumulative, cluster, .. } = other;
         if let Some(own) = cluster.and_then(|cluster| cluster.instances.into_iter().next()) {
             shown.slots = own.slots;
             shown.trouble = own.trouble.or(shown.trouble.take());
@@ -112,8 +103,7 @@ impl Status {
         self.books.add(&books);
         self.slots.extend(slots);
         self.senders.extend(senders);
-        self.senders
-            .sort_by(|one, other| other.part().total_cmp(&one.part()));
+        self.senders.sort_by(|one, other| other.part().total_cmp(&one.part()));
         self.senders.truncate(shares::SHOWN);
         for one in rounded {
             self.add_rounded(one);
@@ -129,15 +119,13 @@ impl Status {
         same.together += other.together;
         same.series += other.series;
         same.greatest.extend(other.greatest);
-        same.greatest
-            .sort_by(|one, other| other.together.total_cmp(&one.together));
+        same.greatest.sort_by(|one, other| other.together.total_cmp(&one.together));
         same.greatest.truncate(SHOWN_OF_RULE);
     }
 
     /// In the order of the slots. Of two that say they have one the later term counts.
     fn add_unknown(&mut self, slots: &[OwnedSlot], silent: &BTreeMap<String, String>, refused: &[Refusal]) {
-        self.slots
-            .sort_by_key(|slot| (slot.slot, std::cmp::Reverse(slot.term)));
+        self.slots.sort_by_key(|slot| (slot.slot, std::cmp::Reverse(slot.term)));
         self.slots.dedup_by_key(|slot| slot.slot);
         for of in slots {
             let Err(place) = self.slots.binary_search_by_key(&of.slot, |slot| slot.slot) else {
@@ -150,8 +138,7 @@ impl Status {
                 (None, None) if of.owner.is_empty() => "no instance has it".to_string(),
                 (None, None) => "it is being moved".to_string(),
             };
-            self.slots
-                .insert(place, SlotStatus::unknown(of.slot, &of.owner, of.term, why));
+            self.slots.insert(place, SlotStatus::unknown(of.slot, &of.owner, of.term, why));
         }
     }
 }
@@ -163,9 +150,7 @@ fn shown(other: &OtherInstance, slots: &[OwnedSlot]) -> InstanceStatus {
         version: other.version.clone(),
         beat_seconds: Some(u64::from(other.still) * BEAT / 1000),
         slots: slots.iter().filter(|slot| slot.owner == other.name).count(),
-        trouble: other
-            .leaves
-            .then(|| "it is ending, and hands over its slots".to_string()),
+        trouble: other.leaves.then(|| "it is ending, and hands over its slots".to_string()),
     }
 }
 
@@ -196,20 +181,13 @@ mod tests {
             owner: Some(owner.into()),
             term: Some(term),
             waiting,
-            journal: Stock {
-                bytes: 1,
-                age_seconds: None,
-            },
+            journal: Stock { bytes: 1, age_seconds: None },
             ..SlotStatus::default()
         }
     }
 
     fn status(name: &str, slots: Vec<SlotStatus>) -> Status {
-        let own = InstanceStatus {
-            name: name.into(),
-            slots: slots.len(),
-            ..InstanceStatus::default()
-        };
+        let own = InstanceStatus { name: name.into(), slots: slots.len(), ..InstanceStatus::default() };
         Status {
             dead: 1,
             slots,
@@ -254,26 +232,11 @@ mod tests {
         // Slot 1 has just come to b; slot 5 is on its way there.
         let b = status("b", vec![slot(0, "b", 7, 2), slot(1, "b", 3, 1)]);
         let c = Err("its beats have stopped".to_string());
-        let refusal = Refusal {
-            slot: 6,
-            instance: "a".into(),
-            reason: "1.seg was changed".into(),
-        };
+        let refusal = Refusal { slot: 6, instance: "a".into(), reason: "1.seg was changed".into() };
         // Slot 0 is at b by now.
-        let of_0 = Refusal {
-            slot: 0,
-            ..refusal.clone()
-        };
-        all.add(
-            vec![(other("b", 0), Ok(b)), (other("c", 9), c)],
-            &rows,
-            &[of_0, refusal],
-        );
-        let seen: Vec<_> = all
-            .slots
-            .iter()
-            .map(|slot| (slot.slot, slot.term.unwrap()))
-            .collect();
+        let of_0 = Refusal { slot: 0, ..refusal.clone() };
+        all.add(vec![(other("b", 0), Ok(b)), (other("c", 9), c)], &rows, &[of_0, refusal]);
+        let seen: Vec<_> = all.slots.iter().map(|slot| (slot.slot, slot.term.unwrap())).collect();
         assert_eq!(seen, [(0, 7), (1, 3), (2, 1), (3, 9), (4, 3), (5, 1), (6, 8)]);
         assert_eq!((all.waiting(), all.dead), (2 + 1 + 5, 2));
         let unknown: Vec<_> = all.slots.iter().map(|slot| slot.unknown.as_deref()).collect();
@@ -289,10 +252,8 @@ mod tests {
         assert_eq!(unknown, wanted);
         assert_eq!(all.unknown(), Some((2, "instance c: its beats have stopped")));
         let instances = &all.cluster.unwrap().instances;
-        let shown: Vec<_> = instances
-            .iter()
-            .map(|one| (&*one.name, one.slots, one.trouble.as_deref()))
-            .collect();
+        let shown: Vec<_> =
+            instances.iter().map(|one| (&*one.name, one.slots, one.trouble.as_deref())).collect();
         let refused = Some("it can't open slot 0 (and 1 more): 1.seg was changed");
         let gone = Some("its beats have stopped");
         assert_eq!(shown, [("a", 2, refused), ("b", 2, None), ("c", 1, gone)]);

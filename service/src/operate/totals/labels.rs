@@ -9,15 +9,7 @@ use std::fmt::Write;
 pub type Labels = BTreeMap<String, String>;
 
 /// What the page itself says of a series. An attribute of such a name is shown as `exported_NAME`.
-const OURS: [&str; 7] = [
-    "job",
-    "instance",
-    "le",
-    "otel_scope_name",
-    "otel_scope_version",
-    METRIC,
-    SERIES,
-];
+const OURS: [&str; 7] = ["job", "instance", "le", "otel_scope_name", "otel_scope_version", METRIC, SERIES];
 
 /// Which metric it is, where several come to one name.
 pub const METRIC: &str = "otel_metric_name";
@@ -100,10 +92,7 @@ fn put(labels: &mut Labels, name: &str, value: String) {
 pub fn written(labels: &Labels, bound: Option<&str>) -> String {
     let mut written = String::new();
     let bound = bound.map(|bound| ("le", bound));
-    let all = labels
-        .iter()
-        .map(|(name, value)| (name.as_str(), value.as_str()))
-        .chain(bound);
+    let all = labels.iter().map(|(name, value)| (name.as_str(), value.as_str())).chain(bound);
     for (name, value) in all {
         written.push(if written.is_empty() { '{' } else { ',' });
         let _ = write!(written, "{name}=\""); // a text takes all

@@ -44,10 +44,7 @@ impl Totals {
             Address::Postgres(server) => Source::Postgres(server.clone()),
             Address::Otlp { .. } => return None,
         };
-        Some(Totals {
-            source,
-            turn: Arc::new(Semaphore::new(1)),
-        })
+        Some(Totals { source, turn: Arc::new(Semaphore::new(1)) })
     }
 
     /// What came of a series in each hour from this one on (since 1970); none where the sink has no hours yet.
@@ -109,9 +106,7 @@ fn made(totals: &[SeriesTotal]) -> Result<String, String> {
     let page = page::page(totals);
     match page.len() {
         0..=MOST => Ok(page),
-        length => Err(format!(
-            "the page is {length} bytes long, over {MOST}: ask the sink by SQL"
-        )),
+        length => Err(format!("the page is {length} bytes long, over {MOST}: ask the sink by SQL")),
     }
 }
 

@@ -51,10 +51,7 @@ pub fn page(totals: &[SeriesTotal]) -> String {
     let mut families = Families::new();
     for series in totals {
         let name = names::metric(&series.name, &series.unit, series.kind);
-        families
-            .entry((Rank::of(series.kind), name))
-            .or_default()
-            .push(series);
+        families.entry((Rank::of(series.kind), name)).or_default().push(series);
     }
     let mut page = String::new();
     let mut used = HashSet::from([TARGET.to_string()]);
@@ -77,17 +74,10 @@ fn free(name: &str, rank: Rank, used: &mut HashSet<String>) -> String {
 }
 
 fn family(page: &mut String, name: &str, rank: Rank, series: &[&SeriesTotal]) {
-    let sources: BTreeSet<(&str, &str)> = series
-        .iter()
-        .map(|one| (one.name.as_str(), one.unit.as_str()))
-        .collect();
+    let sources: BTreeSet<(&str, &str)> =
+        series.iter().map(|one| (one.name.as_str(), one.unit.as_str())).collect();
     head(page, name, rank, &sources);
-    let is_mixed = sources
-        .iter()
-        .map(|(name, _)| name)
-        .collect::<BTreeSet<_>>()
-        .len()
-        > 1;
+    let is_mixed = sources.iter().map(|(name, _)| name).collect::<BTreeSet<_>>().len() > 1;
     for (series, labels) in series.iter().zip(distinct(series, is_mixed)) {
         match &series.histogram {
             Some(histogram) => buckets(page, name, &labels, series, histogram),
@@ -104,11 +94,7 @@ fn head(page: &mut String, name: &str, rank: Rank, sources: &BTreeSet<(&str, &st
             unit => format!("{name} in {unit}"),
         })
         .collect();
-    let help = told
-        .join(", ")
-        .replace('\\', "\\\\")
-        .replace('\n', "\\n")
-        .replace('\0', "\u{fffd}");
+    let help = told.join(", ").replace('\\', "\\\\").replace('\n', "\\n").replace('\0', "\u{fffd}");
     let kind = rank.text();
     let _ = writeln!(page, "# HELP {name} OpenTelemetry: {help}"); // a text takes all
     let _ = writeln!(page, "# TYPE {name} {kind}"); // a text takes all
@@ -150,11 +136,7 @@ pub fn identity(series: &SeriesTotal) -> String {
     ])
     .to_string();
     let turned: Vec<u8> = all.bytes().rev().collect();
-    format!(
-        "{:08x}{:08x}",
-        crc32fast::hash(all.as_bytes()),
-        crc32fast::hash(&turned)
-    )
+    format!("{:08x}{:08x}", crc32fast::hash(all.as_bytes()), crc32fast::hash(&turned))
 }
 
 /// A bucket of the page has all that is not over its bound.
@@ -163,19 +145,9 @@ fn buckets(page: &mut String, name: &str, labels: &Labels, series: &SeriesTotal,
     let mut below = 0;
     for (bound, count) in histogram.bounds.iter().zip(&histogram.buckets) {
         below += count.0;
-        line(
-            page,
-            &bucket,
-            &labels::written(labels, Some(&bound.to_string())),
-            below,
-        );
+        line(page, &bucket, &labels::written(labels, Some(&bound.to_string())), below);
     }
-    line(
-        page,
-        &bucket,
-        &labels::written(labels, Some("+Inf")),
-        histogram.count,
-    );
+    line(page, &bucket, &labels::written(labels, Some("+Inf")), histogram.count);
     let labels = labels::written(labels, None);
     // The sum of a part of the points would give a mean that is none.
     if histogram.points_without_sum == 0 {

@@ -42,10 +42,7 @@ fn histogram(name: &str, bounds: &[i64], buckets: &[i128], points_without_sum: u
 /// All lines but the heads.
 fn samples(totals: &[SeriesTotal]) -> Vec<String> {
     let page = page(totals);
-    page.lines()
-        .filter(|line| !line.starts_with('#'))
-        .map(String::from)
-        .collect()
+    page.lines().filter(|line| !line.starts_with('#')).map(String::from).collect()
 }
 
 #[test]
@@ -55,12 +52,7 @@ fn names_have_units_and_no_word_twice() {
         ("orders", "{order}", Kind::Monotonic, "orders_total"),
         ("orders.total", "1", Kind::Monotonic, "orders_total"),
         ("total.orders", "1", Kind::Monotonic, "orders_total"),
-        (
-            "http.server-sent",
-            "By",
-            Kind::Monotonic,
-            "http_server_sent_bytes_total",
-        ),
+        ("http.server-sent", "By", Kind::Monotonic, "http_server_sent_bytes_total"),
         ("sent_bytes_total", "By", Kind::Monotonic, "sent_bytes_total"),
         ("wait", "s", Kind::Histogram, "wait_seconds"),
         ("wait.seconds", "s", Kind::Histogram, "wait_seconds"),
@@ -122,25 +114,15 @@ fn buckets_add_up() {
         ]
     );
     let partly = samples(&[histogram("wait", &[], &[4], 1)]);
-    assert_eq!(
-        partly,
-        ["wait_seconds_bucket{le=\"+Inf\"} 4", "wait_seconds_count 4"]
-    );
+    assert_eq!(partly, ["wait_seconds_bucket{le=\"+Inf\"} 4", "wait_seconds_count 4"]);
 }
 
 #[test]
 fn a_resource_is_a_target() {
-    let mut one = series(
-        "a",
-        "",
-        Kind::Monotonic,
-        5,
-        json!({"job": "mine", "exported.job": "x"}),
-    );
-    one.resource = object(
-        json!({"service.name": "shop", "service.namespace": "eu", "service.instance.id": 7,
-        "host.name": "h", "host_name": "i"}),
-    );
+    let mut one = series("a", "", Kind::Monotonic, 5, json!({"job": "mine", "exported.job": "x"}));
+    one.resource =
+        object(json!({"service.name": "shop", "service.namespace": "eu", "service.instance.id": 7,
+        "host.name": "h", "host_name": "i"}));
     one.scope_name = "lib".into();
     one.scope_version = "1.2".into();
     one.scope_attributes = object(json!({"name": "n", "x": "y"}));
@@ -160,13 +142,7 @@ fn what_comes_to_one_name_is_told_apart() {
         series("a.b", "", Kind::Monotonic, 1, json!({})),
         series("a_b", "", Kind::Monotonic, 2, json!({})),
     ]);
-    assert_eq!(
-        mixed,
-        [
-            "a_b_total{otel_metric_name=\"a.b\"} 1",
-            "a_b_total{otel_metric_name=\"a_b\"} 2"
-        ]
-    );
+    assert_eq!(mixed, ["a_b_total{otel_metric_name=\"a.b\"} 1", "a_b_total{otel_metric_name=\"a_b\"} 2"]);
     let kinds = samples(&[
         series("a.total", "", Kind::Sum, 1, json!({})),
         series("a", "", Kind::Monotonic, 2, json!({})),
@@ -197,10 +173,8 @@ fn series_of_the_same_labels_are_told_apart_and_keep_their_names() {
         histogram("w", &[2], &[1, 1], 0),
     ];
     let lines = samples(&all);
-    let names: std::collections::HashSet<&str> = lines
-        .iter()
-        .filter_map(|line| Some(line.rsplit_once(' ')?.0))
-        .collect();
+    let names: std::collections::HashSet<&str> =
+        lines.iter().filter_map(|line| Some(line.rsplit_once(' ')?.0)).collect();
     assert_eq!(names.len(), lines.len(), "{lines:?}");
     assert!(lines.iter().filter(|line| line.contains("otel_series=")).count() == 3 + 8);
     let turned: Vec<SeriesTotal> = all.iter().rev().cloned().collect();
@@ -213,25 +187,13 @@ fn series_of_the_same_labels_are_told_apart_and_keep_their_names() {
 
 #[test]
 fn promtool_finds_nothing() {
-    let mut one = series(
-        "http.requests",
-        "{request}",
-        Kind::Monotonic,
-        5,
-        json!({"http.route": "/\"\\\n"}),
-    );
+    let mut one = series("http.requests", "{request}", Kind::Monotonic, 5, json!({"http.route": "/\"\\\n"}));
     one.resource = object(json!({"service.name": "shop", "host.name": "h"}));
     one.scope_name = "lib".into();
     let page = page(&[
         one,
         series("queue", "{job}", Kind::Sum, -5, json!({})),
-        series(
-            "sent",
-            "By",
-            Kind::Monotonic,
-            i128::from(u64::MAX) + 1,
-            json!({"b": 1}),
-        ),
+        series("sent", "By", Kind::Monotonic, i128::from(u64::MAX) + 1, json!({"b": 1})),
         series("load", "1", Kind::Sum, 5, json!({})),
         histogram("wait", &[-5, 10], &[1, 2, 4], 0),
         histogram("wait", &[-5, 11], &[1, 2, 4], 1),

@@ -9,19 +9,14 @@ fn refused(refused: Refused) -> Outcome {
 }
 
 fn later(seconds: u64) -> Outcome {
-    Outcome::Later {
-        seconds,
-        message: format!("over its share: again in {seconds} s"),
-    }
+    Outcome::Later { seconds, message: format!("over its share: again in {seconds} s") }
 }
 
 /// A resource with so many points, of which the first is no point of the profile.
 fn resource(points: usize) -> String {
     let point = r#"{"asInt":"1","startTimeUnixNano":"1","timeUnixNano":"2"}"#;
-    let all: Vec<&str> = std::iter::once(r#"{"asDouble":0.5}"#)
-        .chain(std::iter::repeat(point))
-        .take(points)
-        .collect();
+    let all: Vec<&str> =
+        std::iter::once(r#"{"asDouble":0.5}"#).chain(std::iter::repeat(point)).take(points).collect();
     format!(
         r#"{{"scopeMetrics":[{{"metrics":[{{"sum":{{"aggregationTemporality":1,"dataPoints":[{}]}}}}]}}]}}"#,
         all.join(",")
@@ -42,19 +37,14 @@ fn part(outcome: Outcome, resources: &[(u32, usize)]) -> OfPart {
 
 fn said(parts: &[OfPart]) -> (u16, u64, String) {
     match combined(parts, &Reading::default()) {
-        Outcome::Taken {
-            rejected, message, ..
-        } => (200, rejected, message.unwrap_or_default()),
+        Outcome::Taken { rejected, message, .. } => (200, rejected, message.unwrap_or_default()),
         other => (other.status(), 0, other.refusal().unwrap_or_default().to_string()),
     }
 }
 
 #[test]
 fn all_that_is_taken_is_taken() {
-    let both = [
-        part(Outcome::taken(0), &[(0, 2)]),
-        part(Outcome::taken(0), &[(1, 3)]),
-    ];
+    let both = [part(Outcome::taken(0), &[(0, 2)]), part(Outcome::taken(0), &[(1, 3)])];
     assert_eq!(combined(&both, &Reading::default()), Outcome::taken(0));
 }
 
@@ -62,16 +52,8 @@ fn all_that_is_taken_is_taken() {
 #[test]
 fn what_may_be_taken_later_makes_all_of_it_to_be_sent_again() {
     let busy = refused(Refused::Full);
-    let late = refused(Refused::OutOfOrder {
-        point: 0,
-        frontier: 5,
-    });
-    for others in [
-        Outcome::taken(0),
-        Outcome::taken(2),
-        late,
-        refused(Refused::Quarantined),
-    ] {
+    let late = refused(Refused::OutOfOrder { point: 0, frontier: 5 });
+    for others in [Outcome::taken(0), Outcome::taken(2), late, refused(Refused::Quarantined)] {
         for (again, wanted) in [(busy.clone(), 503), (later(7), 429)] {
             let parts = [part(others.clone(), &[(0, 2)]), part(again.clone(), &[(1, 2)])];
             assert_eq!(combined(&parts, &Reading::default()), again);
@@ -87,10 +69,7 @@ fn what_may_be_taken_later_makes_all_of_it_to_be_sent_again() {
 /// Else a sender whose answer was lost would take its repeat for lost.
 #[test]
 fn what_is_taken_in_part_is_taken() {
-    let late = refused(Refused::OutOfOrder {
-        point: 1,
-        frontier: 5,
-    });
+    let late = refused(Refused::OutOfOrder { point: 1, frontier: 5 });
     let parts = [part(late, &[(0, 3), (2, 4)]), part(Outcome::taken(0), &[(1, 2)])];
     let wanted = "7 points are refused: out of order: point 1, frontier 5";
     assert_eq!(said(&parts), (200, 7, wanted.into()));
@@ -120,21 +99,12 @@ fn reasons_are_named_together() {
     assert_eq!(said(&parts), (200, 12, wanted.into()));
     let many: Vec<OfPart> = (0..30)
         .map(|place| {
-            let refusal = Outcome::Refused {
-                status: 400,
-                message: format!("reason {place}"),
-            };
-            part(
-                if place == 0 { Outcome::taken(0) } else { refusal },
-                &[(place, 1)],
-            )
+            let refusal = Outcome::Refused { status: 400, message: format!("reason {place}") };
+            part(if place == 0 { Outcome::taken(0) } else { refusal }, &[(place, 1)])
         })
         .collect();
     let (_, points, text) = said(&many);
-    assert!(
-        points == 29 && text.ends_with("reason 5; and 24 more reasons"),
-        "{text}"
-    );
+    assert!(points == 29 && text.ends_with("reason 5; and 24 more reasons"), "{text}");
 }
 
 /// By its place among the points of the profile, as where one slot has all.
@@ -144,35 +114,20 @@ fn a_refusal_names_the_point_s_place_in_the_request() {
     let at = |resource: u32| (resource, sizes[resource as usize]);
     let late = |point| refused(Refused::OutOfOrder { point, frontier: 5 });
     for (point, place) in [(0, 3), (1, 4), (2, 5), (6, 9)] {
-        let parts = [
-            part(late(point), &[at(1), at(2), at(3)]),
-            part(refused(Refused::Quarantined), &[at(0)]),
-        ];
+        let parts =
+            [part(late(point), &[at(1), at(2), at(3)]), part(refused(Refused::Quarantined), &[at(0)])];
         let wanted = format!("out of order: point {place}, frontier 5");
         assert_eq!(said(&parts), (400, 0, wanted));
     }
     let other = Outcome::Refused {
         status: 400,
-        message: refused(Refused::OtherWriter { point: 1 })
-            .refusal()
-            .unwrap()
-            .to_string()
+        message: refused(Refused::OtherWriter { point: 1 }).refusal().unwrap().to_string()
             + ": `m` {} is another's",
     };
-    let parts = [
-        part(other.clone(), &[at(3)]),
-        part(late(0), &[at(0), at(1), at(2)]),
-    ];
-    assert_eq!(
-        said(&parts),
-        (400, 0, "other writer: point 6: `m` {} is another's".into())
-    );
+    let parts = [part(other.clone(), &[at(3)]), part(late(0), &[at(0), at(1), at(2)])];
+    assert_eq!(said(&parts), (400, 0, "other writer: point 6: `m` {} is another's".into()));
     let beyond = [part(late(9), &[at(0)]), part(other, &[at(1)])];
-    assert_eq!(
-        said(&beyond).2,
-        "out of order: point 9, frontier 5",
-        "it is left as it is"
-    );
+    assert_eq!(said(&beyond).2, "out of order: point 9, frontier 5", "it is left as it is");
 }
 
 #[test]

@@ -96,10 +96,7 @@ impl Edge {
             return Some(Edge { at, is_exact: true });
         }
         let least = (numerator << (PLACES as i32 - power)) / denominator; // between 1 and 2, and so below 2^63
-        Some(Edge {
-            at: at + fraction(least, least + 1)?,
-            is_exact: false,
-        })
+        Some(Edge { at: at + fraction(least, least + 1)?, is_exact: false })
     }
 
     /// How an edge of this number at a scale compares with the number: base^index to it. The scale is one of an SDK.

@@ -43,20 +43,14 @@ impl Large {
 
     fn compared(&self, other: &Large) -> Ordering {
         let digits = |number: &Large| number.0.iter().rev().copied().collect::<Vec<u32>>();
-        self.0
-            .len()
-            .cmp(&other.0.len())
-            .then_with(|| digits(self).cmp(&digits(other)))
+        self.0.len().cmp(&other.0.len()).then_with(|| digits(self).cmp(&digits(other)))
     }
 }
 
 /// base^index to a fraction: both to the power 2^scale.
 fn in_full(numerator: u64, denominator: u64, scale: u32, index: i64) -> Ordering {
     let two = Large::power(2, index.unsigned_abs() as u32);
-    let (over, under) = (
-        Large::power(numerator, 1 << scale),
-        Large::power(denominator, 1 << scale),
-    );
+    let (over, under) = (Large::power(numerator, 1 << scale), Large::power(denominator, 1 << scale));
     match index >= 0 {
         true => two.times(&under).compared(&over),
         false => under.compared(&over.times(&two)),
@@ -80,11 +74,7 @@ fn edges_compare_as_powers_that_are_taken_in_full() {
             let near = (logarithm * f64::from(1 << scale)).floor() as i64;
             for index in near - 2..near + 4 {
                 let wanted = in_full(numerator, denominator, scale, index);
-                assert_eq!(
-                    edge(text).compared(scale as i32, index),
-                    wanted,
-                    "{text} {scale} {index}"
-                );
+                assert_eq!(edge(text).compared(scale as i32, index), wanted, "{text} {scale} {index}");
             }
         }
     }
@@ -153,10 +143,7 @@ fn a_bucket_falls_into_one_of_the_view_or_has_a_bound_within() {
         (Bucket::Negative { scale: 0, index: 5 }, Ok(0)),
         (Bucket::Zero { threshold: 0.0 }, Ok(0)),
         (Bucket::Zero { threshold: 1.0 }, Ok(0)),
-        (
-            Bucket::Zero { threshold: 1.5 },
-            within(Bucket::Zero { threshold: 1.5 }, 1.0),
-        ),
+        (Bucket::Zero { threshold: 1.5 }, within(Bucket::Zero { threshold: 1.5 }, 1.0)),
     ] {
         assert_eq!(view.place(bucket), wanted, "{bucket:?}");
     }
@@ -179,10 +166,7 @@ fn negative_buckets_have_their_lower_end() {
         (Bucket::Positive { scale: 0, index: -2 }, Ok(4)),
         (Bucket::Positive { scale: 0, index: -1 }, Ok(5)),
         (Bucket::Zero { threshold: 0.0 }, Ok(3)),
-        (
-            Bucket::Zero { threshold: 0.25 },
-            within(Bucket::Zero { threshold: 0.25 }, 0.0),
-        ),
+        (Bucket::Zero { threshold: 0.25 }, within(Bucket::Zero { threshold: 0.25 }, 0.0)),
     ] {
         assert_eq!(view.place(bucket), wanted, "{bucket:?}");
     }
@@ -198,10 +182,7 @@ fn negative_buckets_have_their_lower_end() {
 
 #[test]
 fn bounds_are_read_or_refused() {
-    assert_eq!(
-        bounds("-1,0,0.015625,0.1,4096").written(),
-        r#"-1,0,"0.015625","0.1",4096"#
-    );
+    assert_eq!(bounds("-1,0,0.015625,0.1,4096").written(), r#"-1,0,"0.015625","0.1",4096"#);
     let many: Vec<String> = (0..256).map(|bound| bound.to_string()).collect();
     for (text, why) in [
         ("", "no"),

@@ -10,14 +10,7 @@ use std::fmt;
 const KIND: &str = "exponentialHistogram";
 const KINDS: [&str; 5] = ["gauge", "sum", "histogram", KIND, "summary"];
 /// What the view keeps of a point.
-const KEPT: [&str; 6] = [
-    "startTimeUnixNano",
-    "timeUnixNano",
-    "count",
-    "sum",
-    "flags",
-    "attributes",
-];
+const KEPT: [&str; 6] = ["startTimeUnixNano", "timeUnixNano", "count", "sum", "flags", "attributes"];
 /// A point that is not taken has nothing but its attributes, and why in this member.
 const WHY_NOT: &str = "exponential";
 /// How much of a metric's name stands in an answer.
@@ -33,9 +26,7 @@ pub struct View {
 /// How many bytes the view of a text may have more. A count has up to 20 digits.
 pub fn most_more(text: &[u8], bounds: &Bounds) -> Result<usize, NotJson> {
     let document = Document::parse(text)?;
-    let points = metrics(&document)
-        .flat_map(|(_, data)| elements(data, "dataPoints"))
-        .count();
+    let points = metrics(&document).flat_map(|(_, data)| elements(data, "dataPoints")).count();
     Ok(points * (bounds.written().len() + 21 * (bounds.0.len() + 1)))
 }
 
@@ -68,13 +59,11 @@ pub fn why_not(point: Value<'_>) -> Option<Value<'_>> {
 fn metrics<'d>(document: &'d Document<'_>) -> impl Iterator<Item = (Value<'d>, Value<'d>)> {
     let scopes =
         elements(document.root(), "resourceMetrics").flat_map(|resource| elements(resource, "scopeMetrics"));
-    scopes
-        .flat_map(|scope| elements(scope, "metrics"))
-        .filter_map(|metric| {
-            let there = metric.named(KINDS)?;
-            let is_one = there.iter().flatten().count() == 1;
-            Some((metric, there[3].filter(|_| is_one)?))
-        })
+    scopes.flat_map(|scope| elements(scope, "metrics")).filter_map(|metric| {
+        let there = metric.named(KINDS)?;
+        let is_one = there.iter().flatten().count() == 1;
+        Some((metric, there[3].filter(|_| is_one)?))
+    })
 }
 
 fn elements<'d>(object: Value<'d>, name: &str) -> impl Iterator<Item = Value<'d>> {
@@ -131,11 +120,7 @@ impl Viewing<'_, '_> {
 
     fn taken(&mut self, point: Value<'_>, counts: &[u64]) {
         let counts: Vec<String> = counts.iter().map(u64::to_string).collect();
-        let more = format!(
-            "\"bucketCounts\":[{}],\"explicitBounds\":[{}]",
-            counts.join(","),
-            self.explicit
-        );
+        let more = format!("\"bucketCounts\":[{}],\"explicitBounds\":[{}]", counts.join(","), self.explicit);
         self.point(point, &KEPT, &more);
     }
 
@@ -144,10 +129,7 @@ impl Viewing<'_, '_> {
         write_text(&mut more, &why.to_string());
         self.point(point, &["attributes"], &more);
         if self.unfit.is_none() {
-            let name = metric
-                .named(["name"])
-                .and_then(|[name]| name?.text())
-                .unwrap_or_default();
+            let name = metric.named(["name"]).and_then(|[name]| name?.text()).unwrap_or_default();
             let name: String = name.chars().take(NAME_SHOWN).collect();
             self.unfit = Some(format!("of the exponential histogram `{name}` {why}"));
         }
@@ -187,16 +169,10 @@ impl fmt::Display for WhyNot {
             WhyNot::Within { bucket, bound } => match bucket {
                 Bucket::Zero { .. } => write!(out, "the zero bucket has the bound {bound} within"),
                 Bucket::Positive { scale, index } => {
-                    write!(
-                        out,
-                        "the bucket {index} of scale {scale} has the bound {bound} within"
-                    )
+                    write!(out, "the bucket {index} of scale {scale} has the bound {bound} within")
                 }
                 Bucket::Negative { scale, index } => {
-                    write!(
-                        out,
-                        "the negative bucket {index} of scale {scale} has the bound {bound} within"
-                    )
+                    write!(out, "the negative bucket {index} of scale {scale} has the bound {bound} within")
                 }
             },
         }
@@ -206,9 +182,8 @@ impl fmt::Display for WhyNot {
 impl Bounds {
     /// The counts of the view of a point.
     pub(super) fn counts(&self, point: Value<'_>) -> Result<Vec<u64>, WhyNot> {
-        let [scale, zeros, threshold, positive, negative] = point
-            .named(["scale", "zeroCount", "zeroThreshold", "positive", "negative"])
-            .unwrap_or_default();
+        let [scale, zeros, threshold, positive, negative] =
+            point.named(["scale", "zeroCount", "zeroThreshold", "positive", "negative"]).unwrap_or_default();
         let scale = i32::try_from(whole("scale", scale)?).map_err(|_| WhyNot::Scale)?;
         if !(COARSEST..=FINEST as i32).contains(&scale) {
             return Err(WhyNot::Scale);
@@ -295,9 +270,8 @@ fn buckets<'d>(
     side: &'static str,
     found: Option<Value<'d>>,
 ) -> Result<impl Iterator<Item = (i64, Result<u64, WhyNot>)> + use<'d>, WhyNot> {
-    let [offset, counts] = found
-        .map_or(Some([None; 2]), |side| side.named(["offset", "bucketCounts"]))
-        .unwrap_or_default();
+    let [offset, counts] =
+        found.map_or(Some([None; 2]), |side| side.named(["offset", "bucketCounts"])).unwrap_or_default();
     let offset = i64::from(i32::try_from(whole(side, offset)?).map_err(|_| WhyNot::Unreadable(side))?);
     let counts = match counts {
         None => None,

@@ -47,11 +47,7 @@ impl Decimal {
             }
             _ => (numerator, power(-exponent)?),
         };
-        (numerator <= i128::MAX as u128).then_some(Decimal {
-            is_negative,
-            numerator,
-            denominator,
-        })
+        (numerator <= i128::MAX as u128).then_some(Decimal { is_negative, numerator, denominator })
     }
 
     pub fn is_below_zero(&self) -> bool {
@@ -67,10 +63,7 @@ impl Decimal {
 
     /// The nearest whole number; of two the even one.
     pub fn nearest(&self) -> Nearest {
-        let (below, rest) = (
-            self.numerator / self.denominator,
-            self.numerator % self.denominator,
-        );
+        let (below, rest) = (self.numerator / self.denominator, self.numerator % self.denominator);
         let over = self.denominator - rest;
         let is_up = match rest.cmp(&over) {
             Ordering::Less => false,
@@ -78,10 +71,7 @@ impl Decimal {
             Ordering::Greater => true,
         };
         let (size, by) = if is_up { (below + 1, over) } else { (below, rest) };
-        Nearest {
-            whole: self.signed(size),
-            by: by as f64 / self.denominator as f64,
-        }
+        Nearest { whole: self.signed(size), by: by as f64 / self.denominator as f64 }
     }
 
     fn signed(&self, size: u128) -> i128 {

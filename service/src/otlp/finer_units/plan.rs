@@ -30,10 +30,7 @@ pub(super) struct Delta<'d> {
 impl<'d> Delta<'d> {
     pub fn of(finer_units: &FinerUnits, metric: Value<'d>) -> Option<Delta<'d>> {
         let found = metric.named(DATA)?;
-        let mut there = DATA
-            .into_iter()
-            .zip(found)
-            .filter_map(|(kind, data)| Some((kind, data?)));
+        let mut there = DATA.into_iter().zip(found).filter_map(|(kind, data)| Some((kind, data?)));
         let (kind, data) = there.next()?;
         let is_one = there.next().is_none() && DATA[..2].contains(&kind);
         (is_one && finer_units.adds_up(data)).then_some(Delta { kind, data })
@@ -78,9 +75,7 @@ fn has_fraction(point: Value<'_>) -> bool {
         return false;
     };
     let bounds = bounds.and_then(Value::elements).into_iter().flatten();
-    sum.into_iter()
-        .chain(bounds)
-        .any(|value| book_whole(value).is_none())
+    sum.into_iter().chain(bounds).any(|value| book_whole(value).is_none())
 }
 
 pub(super) fn member<'d>(object: Value<'d>, name: &str) -> Option<Value<'d>> {
@@ -88,10 +83,7 @@ pub(super) fn member<'d>(object: Value<'d>, name: &str) -> Option<Value<'d>> {
 }
 
 pub(super) fn elements<'d>(object: Value<'d>, name: &str) -> impl Iterator<Item = Value<'d>> {
-    member(object, name)
-        .and_then(Value::elements)
-        .into_iter()
-        .flatten()
+    member(object, name).and_then(Value::elements).into_iter().flatten()
 }
 
 /// How a metric is taken. Where nothing is known of its name yet, its points decide.
@@ -106,9 +98,7 @@ pub(super) fn taken<'r>(finer_units: &'r FinerUnits, metric: Value<'_>) -> Taken
 
 /// The same of a metric without points; none where nothing is decided yet.
 pub(super) fn decided<'r>(finer_units: &'r FinerUnits, metric: Value<'_>) -> Option<Taken<'r>> {
-    plan(finer_units, metric, |units, name, unit, _| {
-        units.decided(name, unit)
-    })
+    plan(finer_units, metric, |units, name, unit, _| units.decided(name, unit))
 }
 
 fn plan<'r, 'd>(
@@ -125,11 +115,9 @@ fn plan<'r, 'd>(
     };
     let name = || member(metric, "name").map_or(Some("".into()), Value::text);
     if let Some(rule) = finer_units.rules.get(&*own) {
-        if let (Some(units), Some(to), Some(_)) = (
-            &finer_units.units,
-            Unit::of(&rule.to),
-            Delta::of(finer_units, metric),
-        ) {
+        if let (Some(units), Some(to), Some(_)) =
+            (&finer_units.units, Unit::of(&rule.to), Delta::of(finer_units, metric))
+        {
             name().iter().for_each(|name| units.note(name, to));
         }
         return Some(Taken::In(rule));

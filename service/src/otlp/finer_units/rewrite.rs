@@ -31,9 +31,7 @@ pub fn rewritten(text: &[u8], finer_units: &FinerUnits) -> Result<(String, Round
         unfit: None,
     };
     rewriting.request(&document);
-    let Rewriting {
-        out, marks, unfit, ..
-    } = rewriting;
+    let Rewriting { out, marks, unfit, .. } = rewriting;
     let rounded = rounded(&out, marks, finer_units.profile)?;
     Ok((out, Rounded { unfit, ..rounded }))
 }
@@ -75,10 +73,7 @@ type Edit = (Range<usize>, String);
 impl<'r> Rewriting<'r> {
     fn request(&mut self, document: &Document<'_>) {
         for element in elements(document.root(), "resourceMetrics") {
-            let resource = Resource {
-                value: member(element, "resource"),
-                shown: OnceCell::new(),
-            };
+            let resource = Resource { value: member(element, "resource"), shown: OnceCell::new() };
             for scope in elements(element, "scopeMetrics") {
                 for metric in elements(scope, "metrics") {
                     self.metric(metric, &resource);
@@ -100,11 +95,7 @@ impl<'r> Rewriting<'r> {
             Taken::Whole(unit) => return self.first_double(value, unit.name()),
             Taken::In(rule) => rule,
         };
-        let metric = Metric {
-            rule,
-            name: member(value, "name"),
-            resource,
-        };
+        let metric = Metric { rule, name: member(value, "name"), resource };
         let there = value.named(DATA).into_iter().flatten().flatten().count();
         for (name, part) in value.members().into_iter().flatten() {
             match &*name {
@@ -149,10 +140,7 @@ impl<'r> Rewriting<'r> {
 
     fn double(&mut self, metric: &Metric<'r, '_>, value: Value<'_>, is_monotonic: bool) {
         let product = exact(value, metric.rule).filter(|product| !(is_monotonic && product.is_below_zero()));
-        match product
-            .map(|product| product.nearest())
-            .filter(|near| is_word(&near.whole))
-        {
+        match product.map(|product| product.nearest()).filter(|near| is_word(&near.whole)) {
             Some(near) => {
                 let range = value.range().start - AS_DOUBLE.len()..value.range().end;
                 self.put((range, format!("\"asInt\":\"{}\"", near.whole)));
@@ -176,10 +164,7 @@ impl<'r> Rewriting<'r> {
         }
         if let Some(sum) = sum {
             let product = exact(sum, metric.rule).filter(|product| !product.is_below_zero());
-            match product
-                .map(|product| product.nearest())
-                .filter(|near| is_whole_double(&near.whole))
-            {
+            match product.map(|product| product.nearest()).filter(|near| is_whole_double(&near.whole)) {
                 Some(near) => {
                     edits.push((sum.range(), near.whole.to_string()));
                     by = near.by;
@@ -233,10 +218,7 @@ impl<'r> Rewriting<'r> {
         let Rule { from, to, .. } = metric.rule;
         let value = format!("{what} {shown} {from}");
         let unit = if to.is_empty() { "numbers" } else { to };
-        self.unfit = Some(format!(
-            "{} of `{name}` can't be had in whole {unit}",
-            value.trim_end()
-        ));
+        self.unfit = Some(format!("{} of `{name}` can't be had in whole {unit}", value.trim_end()));
     }
 }
 

@@ -48,17 +48,10 @@ impl Rounded {
         for point in &points {
             match by_rule.get_mut(&*point.of.rule) {
                 Some(rounding) => rounding.add(point.by),
-                None => by_rule
-                    .entry(point.of.rule.to_string())
-                    .or_default()
-                    .add(point.by),
+                None => by_rule.entry(point.of.rule.to_string()).or_default().add(point.by),
             }
         }
-        Rounded {
-            by_rule,
-            points,
-            unfit: None,
-        }
+        Rounded { by_rule, points, unfit: None }
     }
 }
 
@@ -128,18 +121,11 @@ pub(super) fn rounded(text: &str, marks: Vec<Mark<'_>>, profile: Profile) -> Res
         points.clear(); // the book refuses it whole
     }
     let by_rule = rules.0.into_iter().map(|of| (of.text.to_string(), of.sum));
-    Ok(Rounded {
-        by_rule: by_rule.collect(),
-        points,
-        unfit: None,
-    })
+    Ok(Rounded { by_rule: by_rule.collect(), points, unfit: None })
 }
 
 fn point(mark: Mark<'_>, seen: &Seen<'_, '_>, rules: &Rules<'_>) -> RoundedPoint {
-    RoundedPoint {
-        of: Arc::new(series_shown(seen, rules.text(mark.rule), mark.resource)),
-        by: mark.by,
-    }
+    RoundedPoint { of: Arc::new(series_shown(seen, rules.text(mark.rule), mark.resource)), by: mark.by }
 }
 
 fn series_shown(seen: &Seen<'_, '_>, rule: Arc<str>, resource: Arc<str>) -> ShownSeries {
@@ -157,9 +143,7 @@ fn series_shown(seen: &Seen<'_, '_>, rule: Arc<str>, resource: Arc<str>) -> Show
 pub fn shown_of(request: &[u8], rule: Arc<str>) -> Option<ShownSeries> {
     let document = Document::parse(request).ok()?;
     let resource = elements(document.root(), "resourceMetrics").next()?;
-    let resource = member(resource, "resource")
-        .map(resource_shown)
-        .unwrap_or_default();
+    let resource = member(resource, "resource").map(resource_shown).unwrap_or_default();
     let mut series = None;
     visit(&document, |seen| {
         if seen.found.is_ok() {

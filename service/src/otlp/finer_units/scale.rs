@@ -44,11 +44,7 @@ pub fn scale_of(request: &[u8], finer_units: &FinerUnits) -> Option<Scaled> {
         Some(Taken::Whole(_)) => (None, "".into()),
         Some(Taken::In(rule)) => (Some(rule.factor), rule.to_string().into()),
     };
-    Some(Scaled::By(Scale {
-        factor,
-        rule,
-        is_monotonic,
-    }))
+    Some(Scaled::By(Scale { factor, rule, is_monotonic }))
 }
 
 /// A value's bits in the finer unit, and what it was rounded by. None of what is not taken, which the request's text names.

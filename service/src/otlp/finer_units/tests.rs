@@ -19,10 +19,7 @@ fn prepared(metric: &str, rules: &[&str]) -> (serde_json::Value, Prepared) {
     let body = format!(r#"{{"resourceMetrics":[{{"scopeMetrics":[{{"metrics":[{metric}]}}]}}]}}"#);
     let prepared = prepare(Encoding::Json, body.into(), &reading(rules)).unwrap();
     let read: serde_json::Value = serde_json::from_slice(&prepared.body).unwrap();
-    (
-        read["resourceMetrics"][0]["scopeMetrics"][0]["metrics"][0].clone(),
-        prepared,
-    )
+    (read["resourceMetrics"][0]["scopeMetrics"][0]["metrics"][0].clone(), prepared)
 }
 
 fn histogram(point: &str) -> String {
@@ -76,9 +73,7 @@ fn rules_are_read_or_refused() {
         assert!(text.parse::<Rule>().is_err(), "{text}");
     }
     let twice = ["s=us", "s=ms"].map(|rule| rule.parse().unwrap());
-    assert!(FinerUnits::new(twice)
-        .unwrap_err()
-        .contains("two rules for the unit `s`"));
+    assert!(FinerUnits::new(twice).unwrap_err().contains("two rules for the unit `s`"));
 }
 
 #[test]
@@ -119,11 +114,7 @@ fn decimals_are_exact_and_halves_go_to_the_even() {
         let is_up = rest > 500_000_000 || (rest == 500_000_000 && below % 2 == 1);
         let whole = below + i128::from(is_up);
         let by = (scaled - whole * 1_000_000_000).abs() as f64 / 1e9;
-        assert_eq!(
-            product.nearest(),
-            Nearest { whole, by },
-            "{number} times {factor}"
-        );
+        assert_eq!(product.nearest(), Nearest { whole, by }, "{number} times {factor}");
         assert_eq!(product.whole(), (rest == 0).then_some(below));
     }
 }
@@ -135,18 +126,9 @@ fn a_histogram_of_seconds_is_one_of_microseconds() {
     assert_eq!(metric["unit"], "us");
     let point = &metric["histogram"]["dataPoints"][0];
     assert_eq!(point["explicitBounds"], serde_json::json!([5000, 10_000_000]));
-    assert_eq!(
-        (point["sum"].clone(), point["count"].clone()),
-        (1_370_000.into(), "3".into())
-    );
-    let half = Rounding {
-        values: 1,
-        together: 0.5,
-    };
-    assert_eq!(
-        prepared.rounded.by_rule,
-        [("s=1000000:us".to_string(), half)].into()
-    );
+    assert_eq!((point["sum"].clone(), point["count"].clone()), (1_370_000.into(), "3".into()));
+    let half = Rounding { values: 1, together: 0.5 };
+    assert_eq!(prepared.rounded.by_rule, [("s=1000000:us".to_string(), half)].into());
     assert_eq!((foreign(&prepared), prepared.rounded.unfit), (0, None));
 }
 
@@ -163,11 +145,7 @@ fn sums_of_doubles_and_of_whole_numbers_are_taken() {
     ] {
         let (metric, prepared) = prepared(&sum(point), &["By", "s=ms"]);
         let found = &metric["sum"]["dataPoints"][0];
-        assert_eq!(
-            (found["asInt"].as_str(), found.get("asDouble")),
-            (Some(whole), None),
-            "{point}"
-        );
+        assert_eq!((found["asInt"].as_str(), found.get("asDouble")), (Some(whole), None), "{point}");
         let counted: u64 = prepared.rounded.by_rule.values().map(|one| one.values).sum();
         assert_eq!((foreign(&prepared), counted), (0, values), "{point}");
     }
@@ -193,10 +171,7 @@ fn what_can_not_be_had_stays_foreign_and_is_named() {
             histogram(r#""bucketCounts":[1,0],"count":1,"explicitBounds":[9007199254740992]"#),
             "the bound 9007199254740992 s",
         ),
-        (
-            histogram(r#""bucketCounts":[1,0],"count":1,"explicitBounds":["Infinity"]"#),
-            "the bound inf s",
-        ),
+        (histogram(r#""bucketCounts":[1,0],"count":1,"explicitBounds":["Infinity"]"#), "the bound inf s"),
         (histogram(r#""count":1,"sum":1e12"#), "the sum 1000000000000 s"),
         (histogram(r#""count":1,"sum":-1e-9"#), "the sum -1e-9 s"),
         (histogram(r#""count":1,"sum":"NaN""#), "the sum NaN s"),
@@ -204,33 +179,18 @@ fn what_can_not_be_had_stays_foreign_and_is_named() {
         (value(r#""asDouble":1e300"#), "the value 1e300 s"),
         (value(r#""asDouble":"-Infinity""#), "the value -inf s"),
         (value(r#""asDouble":-1e-9"#), "the value -1e-9 s"),
-        (
-            value(r#""asInt":"9223372036854775807""#),
-            "the value 9223372036854775807 s",
-        ),
+        (value(r#""asInt":"9223372036854775807""#), "the value 9223372036854775807 s"),
     ] {
         let (_, prepared) = prepared(&metric, &["s=us"]);
         let unfit = prepared.rounded.unfit.clone().unwrap_or_default();
         assert!(unfit.contains(named), "{metric}: {unfit}");
-        assert_eq!(
-            (foreign(&prepared), prepared.rounded.by_rule.len()),
-            (1, 0),
-            "{metric}"
-        );
+        assert_eq!((foreign(&prepared), prepared.rounded.by_rule.len()), (1, 0), "{metric}");
     }
     // What is foreign for another reason has nothing to name.
     let cumulative = sum(r#""asDouble":0.5"#).replace("DELTA", "CUMULATIVE");
-    for metric in [
-        cumulative,
-        sum(r#""asDouble":0.5,"asInt":1"#),
-        sum(r#""asInt":0.5"#),
-    ] {
+    for metric in [cumulative, sum(r#""asDouble":0.5,"asInt":1"#), sum(r#""asInt":0.5"#)] {
         let (_, prepared) = prepared(&metric, &["s=us"]);
-        assert_eq!(
-            (foreign(&prepared), prepared.rounded),
-            (1, Rounded::default()),
-            "{metric}"
-        );
+        assert_eq!((foreign(&prepared), prepared.rounded), (1, Rounded::default()), "{metric}");
     }
 }
 

@@ -59,10 +59,7 @@ struct Names {
 
 impl Default for Names {
     fn default() -> Names {
-        Names {
-            units: HashMap::new(),
-            left: MOST,
-        }
+        Names { units: HashMap::new(), left: MOST }
     }
 }
 
@@ -140,10 +137,7 @@ impl Units {
 
     /// Whether such a series was noted.
     pub fn has(&self, metric: &str, unit: Unit) -> bool {
-        self.read()
-            .units
-            .get(metric)
-            .is_some_and(|known| known & bit(unit) != 0)
+        self.read().units.get(metric).is_some_and(|known| known & bit(unit) != 0)
     }
 
     /// Notes a series.
@@ -290,10 +284,7 @@ mod tests {
         let back = slot();
         back.note("a", unit("s"));
         assert_eq!(decide(&back, "s", true), "s");
-        assert_eq!(
-            [decide(&one, "s", false), decide(&other, "s", true)],
-            ["us", "us"]
-        );
+        assert_eq!([decide(&one, "s", false), decide(&other, "s", true)], ["us", "us"]);
         // What another slot has since been found to have changes nothing of a slot that has decided.
         let late = slot();
         late.note("a", unit("ms"));
@@ -306,9 +297,6 @@ mod tests {
         let units = Units::default();
         units.write().left = 2 * (ENTRY + 1);
         let decide = |metric| units.decide(metric, unit("s"), true).name();
-        assert_eq!(
-            ["a", "b", "c", "a", "c"].map(decide),
-            ["us", "us", "s", "us", "s"]
-        );
+        assert_eq!(["a", "b", "c", "a", "c"].map(decide), ["us", "us", "s", "us", "s"]);
     }
 }

@@ -22,10 +22,7 @@ pub struct Time {
 
 impl Time {
     pub fn new() -> Time {
-        Time {
-            first: 10_000_000_000,
-            text: *b"1000000000000000000",
-        }
+        Time { first: 10_000_000_000, text: *b"1000000000000000000" }
     }
 
     /// A time of 19 digits, as those from 2001 to 2286 have.

@@ -44,10 +44,7 @@ fn named(element: Value<'_>, name: &str) -> Option<String> {
     pairs.extend(all.iter().map(|pair| pair.raw().to_string()));
     let attributes = format!("\"attributes\":[{}]", pairs.join(","));
     let others = resource.map(|resource| without(resource, "attributes"));
-    let resource = format!(
-        "\"resource\":{}",
-        with_member(&attributes, &others.unwrap_or_default())
-    );
+    let resource = format!("\"resource\":{}", with_member(&attributes, &others.unwrap_or_default()));
     Some(with_member(&resource, &without(element, "resource")))
 }
 
@@ -59,9 +56,7 @@ fn pair(name: &str) -> String {
 
 /// The members of an object but one.
 fn without(object: Value<'_>, left_out: &str) -> String {
-    let text = members(object, |name, value| {
-        (name != left_out).then(|| value.raw().to_string())
-    });
+    let text = members(object, |name, value| (name != left_out).then(|| value.raw().to_string()));
     text[1..text.len() - 1].to_string()
 }
 

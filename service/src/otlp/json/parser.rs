@@ -31,24 +31,14 @@ pub(super) fn parse(text: &str) -> Result<Document<'_>, NotJson> {
         return Err(NotJson::TooLong);
     }
     let entries = Vec::with_capacity(text.len() / 16 + 8);
-    let mut parser = Parser {
-        text,
-        at: 0,
-        entries,
-        open: Vec::new(),
-        near_range: false,
-    };
+    let mut parser = Parser { text, at: 0, entries, open: Vec::new(), near_range: false };
     loop {
         let mut next = parser.value()?;
         while let Next::Separator = next {
             next = parser.separator()?;
         }
         if let Next::End = next {
-            return Ok(Document {
-                text,
-                entries: parser.entries,
-                near_range: parser.near_range,
-            });
+            return Ok(Document { text, entries: parser.entries, near_range: parser.near_range });
         }
     }
 }
@@ -100,16 +90,11 @@ fn escaped_unit(bytes: &[u8]) -> Option<(char, usize)> {
     if !(0xdc00..0xe000).contains(&second) {
         return None;
     }
-    Some((
-        char::from_u32(0x10000 + ((first - 0xd800) << 10) + (second - 0xdc00))?,
-        12,
-    ))
+    Some((char::from_u32(0x10000 + ((first - 0xd800) << 10) + (second - 0xdc00))?, 12))
 }
 
 fn hexadecimal(digits: &[u8]) -> Option<u32> {
-    digits.iter().try_fold(0, |number, digit| {
-        Some(number * 16 + char::from(*digit).to_digit(16)?)
-    })
+    digits.iter().try_fold(0, |number, digit| Some(number * 16 + char::from(*digit).to_digit(16)?))
 }
 
 impl<'a> Parser<'a> {
@@ -118,10 +103,7 @@ impl<'a> Parser<'a> {
     }
 
     fn expected(&self, expected: &'static str) -> NotJson {
-        NotJson::Unexpected {
-            at: self.at,
-            expected,
-        }
+        NotJson::Unexpected { at: self.at, expected }
     }
 
     fn skip_blanks(&mut self) {
@@ -133,11 +115,7 @@ impl<'a> Parser<'a> {
     /// Adds an entry that ends where it is read to, with nothing in it.
     fn add(&mut self, from: usize) {
         let next = self.entries.len() as u32 + 1;
-        self.entries.push(Entry {
-            at: from as u32,
-            end: self.at as u32,
-            next,
-        });
+        self.entries.push(Entry { at: from as u32, end: self.at as u32, next });
     }
 
     fn value(&mut self) -> Result<Next, NotJson> {
@@ -182,10 +160,7 @@ impl<'a> Parser<'a> {
 
     /// The byte that ends the innermost container.
     fn closer(&self) -> u8 {
-        let innermost = self
-            .open
-            .last()
-            .map(|index| self.entries[*index as usize].at as usize);
+        let innermost = self.open.last().map(|index| self.entries[*index as usize].at as usize);
         match innermost.map(|at| self.text.as_bytes()[at]) {
             Some(b'{') => b'}',
             _ => b']',
@@ -216,11 +191,7 @@ impl<'a> Parser<'a> {
     fn separator(&mut self) -> Result<Next, NotJson> {
         self.skip_blanks();
         let Some(innermost) = self.open.last().copied() else {
-            return if self.at == self.text.len() {
-                Ok(Next::End)
-            } else {
-                Err(self.expected("the end"))
-            };
+            return if self.at == self.text.len() { Ok(Next::End) } else { Err(self.expected("the end")) };
         };
         match self.peek() {
             Some(b',') => {
@@ -281,10 +252,7 @@ impl<'a> Parser<'a> {
             self.digits()?;
         }
         if long {
-            let size = self.text[from..self.at]
-                .parse::<f64>()
-                .unwrap_or(f64::INFINITY)
-                .abs();
+            let size = self.text[from..self.at].parse::<f64>().unwrap_or(f64::INFINITY).abs();
             if size.is_infinite() {
                 return Err(NotJson::OutOfRange(from));
             }

@@ -80,10 +80,7 @@ fn texts_are_json_or_not() {
     }
     assert_eq!(Document::parse(b"\"\xff\"").err(), Some(NotJson::NotText(1)));
     let number = "9".repeat(400);
-    assert_eq!(
-        Document::parse(number.as_bytes()).err(),
-        Some(NotJson::OutOfRange(0))
-    );
+    assert_eq!(Document::parse(number.as_bytes()).err(), Some(NotJson::OutOfRange(0)));
 }
 
 #[test]
@@ -112,35 +109,23 @@ fn nesting_ends_at_127() {
         let refused = Document::parse(nested(128).as_bytes()).err();
         assert_eq!(refused, Some(NotJson::TooDeep(127 * open.len())));
     }
-    assert!(matches!(
-        Document::parse("[".repeat(4 << 20).as_bytes()),
-        Err(NotJson::TooDeep(_))
-    ));
+    assert!(matches!(Document::parse("[".repeat(4 << 20).as_bytes()), Err(NotJson::TooDeep(_))));
 }
 
 #[test]
 fn of_a_name_the_last_counts_and_null_is_absent() {
     let document = Document::parse(br#"{"a":1,"b":2,"\u0061":3,"b":null}"#).unwrap();
     let [a, b, c] = document.root().named(["a", "b", "c"]).unwrap();
-    assert_eq!(
-        (a.and_then(Value::number), b.is_none(), c.is_none()),
-        (Some("3"), true, true)
-    );
+    assert_eq!((a.and_then(Value::number), b.is_none(), c.is_none()), (Some("3"), true, true));
     assert!(Document::parse(b"[]").unwrap().root().named(["a"]).is_none());
 }
 
 #[test]
 fn texts_are_written_as_they_were() {
-    let all: String = (0..0x250)
-        .filter_map(char::from_u32)
-        .chain("\u{2028}\u{1f600}".chars())
-        .collect();
+    let all: String = (0..0x250).filter_map(char::from_u32).chain("\u{2028}\u{1f600}".chars()).collect();
     let mut out = String::new();
     write_text(&mut out, &all);
-    assert_eq!(
-        Document::parse(out.as_bytes()).unwrap().root().text().unwrap(),
-        all
-    );
+    assert_eq!(Document::parse(out.as_bytes()).unwrap().root().text().unwrap(), all);
     let mut out = String::new();
     write_text(&mut out, "\u{1}\u{8}\t\n\u{c}\r\u{1f}\"\\/\u{7f}é");
     assert_eq!(out, "\"\\u0001\\b\\t\\n\\f\\r\\u001f\\\"\\\\/\u{7f}é\"");
@@ -148,18 +133,10 @@ fn texts_are_written_as_they_were() {
 
 #[test]
 fn numbers_near_the_range_are_known() {
-    for (text, near) in [
-        ("1e307", false),
-        ("[1.7e308]", true),
-        ("-1e308", true),
-        ("1", false),
-        ("1e-320", false),
-    ] {
-        assert_eq!(
-            Document::parse(text.as_bytes()).unwrap().is_near_range(),
-            near,
-            "{text}"
-        );
+    for (text, near) in
+        [("1e307", false), ("[1.7e308]", true), ("-1e308", true), ("1", false), ("1e-320", false)]
+    {
+        assert_eq!(Document::parse(text.as_bytes()).unwrap().is_near_range(), near, "{text}");
     }
 }
 
@@ -176,11 +153,7 @@ fn the_ends_of_texts_and_digits_are_those_that_a_look_at_each_byte_finds() {
                 }
                 let plain = bytes.iter().take_while(|byte| is_plain(byte)).count();
                 let digits = bytes.iter().take_while(|byte| byte.is_ascii_digit()).count();
-                assert_eq!(
-                    (plain_length(&bytes), digits_length(&bytes)),
-                    (plain, digits),
-                    "{bytes:?}"
-                );
+                assert_eq!((plain_length(&bytes), digits_length(&bytes)), (plain, digits), "{bytes:?}");
                 let is_plain_ascii = plain == length && bytes.is_ascii();
                 assert_eq!(super::is_plain_ascii(&bytes), is_plain_ascii, "{bytes:?}");
             }

@@ -46,9 +46,7 @@ pub fn is_span(start: u64, end: u64) -> bool {
 
 /// Whether buckets add up to their count.
 pub fn adds_up(buckets: &[[u8; 8]], count: u64) -> bool {
-    let all = buckets
-        .iter()
-        .map(|bucket| u128::from(u64::from_le_bytes(*bucket)));
+    let all = buckets.iter().map(|bucket| u128::from(u64::from_le_bytes(*bucket)));
     all.sum::<u128>() == u128::from(count)
 }
 

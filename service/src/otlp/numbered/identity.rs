@@ -72,9 +72,8 @@ impl Find for Learner<'_> {
             Some(_) => self.in_finer(&written.text)?,
             None => written.text,
         };
-        let series = scale
-            .filter(|scale| scale.is_finer())
-            .and_then(|scale| shown_of(&text, scale.rule.clone()));
+        let series =
+            scale.filter(|scale| scale.is_finer()).and_then(|scale| shown_of(&text, scale.rule.clone()));
         let flags = if is_cumulative { CUMULATIVE } else { 0 };
         let number = self.name(within, own.attributes, text, flags)?;
         if let Some(series) = series {
@@ -96,10 +95,7 @@ impl Learner<'_> {
     /// Whether deltas are made of a metric's points.
     fn makes_deltas(&self, path: &Path<'_>) -> bool {
         let is_wanted = self.reading.cumulative == Cumulative::On;
-        is_wanted
-            && path
-                .head
-                .is_some_and(|head| temporality(head.tail) == CUMULATIVE_OF_OTLP)
+        is_wanted && path.head.is_some_and(|head| temporality(head.tail) == CUMULATIVE_OF_OTLP)
     }
 
     /// The number of a series that has these bytes, by a request of one point, with these flags.
@@ -147,9 +143,7 @@ fn request(path: &Path<'_>, points: &[u8]) -> Vec<u8> {
         };
         field(2, &[head.before, &data].concat())
     });
-    let scope = path.scope.map_or_else(Vec::new, |scope| {
-        field(2, &[&field(1, scope), &metric[..]].concat())
-    });
+    let scope = path.scope.map_or_else(Vec::new, |scope| field(2, &[&field(1, scope), &metric[..]].concat()));
     field(1, &[field(1, path.resource), scope].concat())
 }
 

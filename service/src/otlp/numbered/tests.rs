@@ -14,19 +14,10 @@ fn fixed(number: u8, bits: u64) -> Vec<u8> {
 
 /// A request with these data of a metric.
 fn request(data: &[u8]) -> Vec<u8> {
-    let metric = [
-        &field(1, b"m")[..],
-        &field(2, b"what it is"),
-        &field(3, b"1"),
-        data,
-    ]
-    .concat();
+    let metric = [&field(1, b"m")[..], &field(2, b"what it is"), &field(3, b"1"), data].concat();
     let scope = [field(1, &field(1, b"s")), long(2, &metric)].concat();
     let resource = field(1, &field(1, &field(1, b"r")));
-    long(
-        1,
-        &[resource, long(2, &scope), field(3, b"https://schema")].concat(),
-    )
+    long(1, &[resource, long(2, &scope), field(3, b"https://schema")].concat())
 }
 
 /// A field of 128 bytes to 16 KiB, or less.
@@ -60,10 +51,7 @@ struct Book {
 
 impl Book {
     fn new(most: usize) -> Book {
-        Book {
-            series: Series::new(Arc::default(), most),
-            named: RefCell::default(),
-        }
+        Book { series: Series::new(Arc::default(), most), named: RefCell::default() }
     }
 
     fn read(&self, body: &[u8]) -> Option<(Vec<u64>, u64)> {
@@ -94,12 +82,7 @@ fn points_are_read_as_encoders_write_them() {
     let book = Book::new(1 << 20);
     let (value, flags) = (&fixed(6, 5), &vec![0x40, 2]);
     let (a, b) = (&attribute(7, b"a"), &attribute(7, b"b"));
-    let parts = [
-        fixed(2, 1),
-        fixed(6, 5),
-        field(4, b"12345678"),
-        attribute(7, b"k"),
-    ];
+    let parts = [fixed(2, 1), fixed(6, 5), field(4, b"12345678"), attribute(7, b"k")];
     let exemplar = &field(5, &parts.concat());
     let orders: [&[&Vec<u8>]; 5] = [
         &[value, a, b],
@@ -154,10 +137,8 @@ fn histograms_are_read_by_their_bounds() {
         book.read(&histograms(&points.iter().map(point).collect::<Vec<_>>()))
     };
     let says = |number| vec![number, 10, 20, 3, 1, 12, 1, 2];
-    for order in [
-        [span, total, buckets, five, a, least, most],
-        [span, total, least, most, buckets, five, a],
-    ] {
+    for order in [[span, total, buckets, five, a, least, most], [span, total, least, most, buckets, five, a]]
+    {
         assert_eq!(at(&[&order]), Some((says(0), 0)));
     }
     // Of one metric each has its own.
@@ -166,17 +147,10 @@ fn histograms_are_read_by_their_bounds() {
     let no_sum = at(&[&[span, buckets, five, a]]);
     assert_eq!(no_sum, Some((vec![0, 10, 20, 3, 0, 0, 1, 2], 0)));
     let no_buckets = at(&[&[span, a]]);
-    assert_eq!(
-        no_buckets,
-        Some((vec![2, 10, 20, 3, 0, 0, 3], 0)),
-        "one bucket has all"
-    );
+    assert_eq!(no_buckets, Some((vec![2, 10, 20, 3, 0, 0, 3], 0)), "one bucket has all");
     let (half, half_bound) = (&double(5, 0.5), &bound(0.5));
-    let foreign: [&[&Vec<u8>]; 3] = [
-        &[span, half, buckets, five, a],
-        &[span, total, buckets, a],
-        &[span, total, buckets, half_bound, a],
-    ];
+    let foreign: [&[&Vec<u8>]; 3] =
+        [&[span, half, buckets, five, a], &[span, total, buckets, a], &[span, total, buckets, half_bound, a]];
     assert_eq!(at(&foreign), Some((vec![], 3)));
 }
 

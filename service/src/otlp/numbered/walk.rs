@@ -165,10 +165,7 @@ impl<'b, F: Find> Walk<'b, F> {
     fn resource(&mut self, message: &'b [u8]) -> Result<(), Stop> {
         let mut fields = Fields::of(message);
         let resource = fields.bytes(1).unwrap_or_default();
-        self.path = Path {
-            resource,
-            ..Path::default()
-        };
+        self.path = Path { resource, ..Path::default() };
         let top = self.find.top(self.reading.finer_units.decides())?;
         let level = self.find.level(&self.path, top, resource)?;
         each(&RESOURCE_METRICS, 2, fields, |scope| self.scope(level, scope))
@@ -207,11 +204,7 @@ impl<'b, F: Find> Walk<'b, F> {
         if !behind.all(|field| matches!(field, Ok((number, _)) if number != u32::from(POINTS))) {
             return Err(Stop::Slow);
         }
-        let head = Head {
-            before,
-            data: number,
-            tail,
-        };
+        let head = Head { before, data: number, tail };
         let level = self.head(scope, head)?;
         self.points(level, number, Fields::of(points))
     }
@@ -253,10 +246,7 @@ impl<'b, F: Find> Walk<'b, F> {
         let attributes = run(&mut fields, 7);
         let flags = fields.number(8);
         let value = value.or_else(|| number(&mut fields));
-        let own = Own {
-            bounds: None,
-            attributes,
-        };
+        let own = Own { bounds: None, attributes };
         let number = self.series(level, own, scale, &fields)?;
         let value = match (value, scale) {
             (Some(Number::Whole(bits)), None) => Some(bits),
@@ -293,10 +283,7 @@ impl<'b, F: Find> Walk<'b, F> {
         let flags = fields.number(10);
         pass_extremes(&mut fields);
         let level = self.level_of_bounds(level, bounds)?;
-        let own = Own {
-            bounds: Some(bounds),
-            attributes,
-        };
+        let own = Own { bounds: Some(bounds), attributes };
         let number = self.series(level, own, scale, &fields)?;
         let whole = [count.to_le_bytes()];
         let buckets = match buckets.is_empty() && bound_count == 0 {

@@ -15,9 +15,7 @@ const POINTS: Names = ["dataPoints", "data_points"];
 pub fn with(request: &[u8], choose: &mut Choose<'_>) -> Option<Vec<u8>> {
     let document = Document::parse(request).ok()?;
     let text = list(document.root(), RESOURCES, |resource| {
-        list(resource, SCOPES, |scope| {
-            list(scope, METRICS, |one| metric(one, choose))
-        })
+        list(resource, SCOPES, |scope| list(scope, METRICS, |one| metric(one, choose)))
     });
     text.map(String::into_bytes)
 }
@@ -33,12 +31,7 @@ fn list<'d>(
         if !names.contains(&name) {
             return Some(value.raw().to_string());
         }
-        let left: Vec<String> = value
-            .elements()
-            .into_iter()
-            .flatten()
-            .filter_map(&mut each)
-            .collect();
+        let left: Vec<String> = value.elements().into_iter().flatten().filter_map(&mut each).collect();
         is_any |= !left.is_empty();
         Some(format!("[{}]", left.join(",")))
     });
@@ -63,26 +56,18 @@ pub fn members<'d>(object: Value<'d>, mut each: impl FnMut(&str, Value<'d>) -> O
 fn metric(object: Value<'_>, choose: &mut Choose<'_>) -> Option<String> {
     let mut chosen = Vec::new();
     for (place, kind) in KINDS.iter().enumerate() {
-        let of_kind = object
-            .members()
-            .into_iter()
-            .flatten()
-            .filter(|(name, _)| kind.is(name));
+        let of_kind = object.members().into_iter().flatten().filter(|(name, _)| kind.is(name));
         for (_, data) in of_kind {
-            let data = list(data, POINTS, |point| {
-                choose(place).then(|| point.raw().to_string())
-            });
+            let data = list(data, POINTS, |point| choose(place).then(|| point.raw().to_string()));
             chosen.push((kind.name, data));
         }
     }
     chosen.iter().any(|(_, data)| data.is_some()).then(|| {
-        members(object, |name, value| {
-            match KINDS.iter().find(|kind| kind.is(name)) {
-                None => Some(value.raw().to_string()),
-                Some(kind) => {
-                    let place = chosen.iter().position(|(known, _)| *known == kind.name)?;
-                    chosen.remove(place).1
-                }
+        members(object, |name, value| match KINDS.iter().find(|kind| kind.is(name)) {
+            None => Some(value.raw().to_string()),
+            Some(kind) => {
+                let place = chosen.iter().position(|(known, _)| *known == kind.name)?;
+                chosen.remove(place).1
             }
         })
     })

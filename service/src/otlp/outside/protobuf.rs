@@ -12,9 +12,7 @@ const POINTS: u32 = 1;
 /// The request with the points that are chosen; nothing where none is, or where it can't be read.
 pub fn with(request: &[u8], choose: &mut Choose<'_>) -> Option<Vec<u8>> {
     list(request, RESOURCES, |resource| {
-        list(resource, SCOPES, |scope| {
-            list(scope, METRICS, |one| metric(one, choose))
-        })
+        list(resource, SCOPES, |scope| list(scope, METRICS, |one| metric(one, choose)))
     })
 }
 

@@ -22,10 +22,7 @@ fn of(request: &Value, reading: &Reading) -> (Option<(Value, u64)>, Causes) {
     let body = Bytes::from(request.to_string());
     let prepared = prepare(Encoding::Json, body.clone(), reading).unwrap();
     let foreign = crate::otlp::series::posted(&prepared.body).unwrap().foreign;
-    let original = Original {
-        encoding: Encoding::Json,
-        body,
-    };
+    let original = Original { encoding: Encoding::Json, body };
     let (outside, causes) = original.outside(foreign, Profile::Deltas, || Some(prepared.body));
     let read = |outside: Outside| (serde_json::from_slice(&outside.body).unwrap(), outside.points);
     (outside.map(read), causes)
@@ -51,10 +48,7 @@ fn what_is_outside_is_handed_on_as_it_came() {
     let (found, causes) = of(&metrics(all), &Reading::default());
     assert_eq!(found, Some((left, 5)));
     assert_eq!(causes.iter().collect::<Vec<_>>(), [(Cause::Other, 1)]);
-    let (found, causes) = of(
-        &metrics(json!([sum(json!([whole, negative]))])),
-        &Reading::default(),
-    );
+    let (found, causes) = of(&metrics(json!([sum(json!([whole, negative]))])), &Reading::default());
     assert_eq!((found, causes.count()), (None, 1));
 }
 
@@ -72,26 +66,14 @@ fn fields_of_protobuf_are_copied() {
     let unknown = [0xa8, 0x06, 0x05]; // a number of field 101
     let metric = |data: u8, points: &[&[u8]], more: &[u8]| {
         let points: Vec<u8> = points.iter().flat_map(|point| field(1, point)).collect();
-        [
-            &field(1, b"m")[..],
-            &field(data, &[&points, more].concat()),
-            &unknown,
-        ]
-        .concat()
+        [&field(1, b"m")[..], &field(data, &[&points, more].concat()), &unknown].concat()
     };
     let request = |all: &[Vec<u8>]| {
         let all: Vec<u8> = all.iter().flat_map(|metric| field(2, metric)).collect();
         let scope = [&field(1, b"\x0a\x01s")[..], &all, &unknown].concat();
-        field(
-            1,
-            &[&field(1, b"")[..], &field(2, &scope), &field(3, b"url")].concat(),
-        )
+        field(1, &[&field(1, b"")[..], &field(2, &scope), &field(3, b"url")].concat())
     };
-    let span = [
-        &[0x11][..],
-        &[1, 0, 0, 0, 0, 0, 0, 0, 0x19, 2, 0, 0, 0, 0, 0, 0, 0],
-    ]
-    .concat();
+    let span = [&[0x11][..], &[1, 0, 0, 0, 0, 0, 0, 0, 0x19, 2, 0, 0, 0, 0, 0, 0, 0]].concat();
     let whole = [&span[..], &[0x31, 5, 0, 0, 0, 0, 0, 0, 0]].concat();
     let double = [&span[..], &[0x21, 0, 0, 0, 0, 0, 0, 0xd0, 0x3f]].concat();
     let gauge = metric(5, &[&double, b""], &unknown);
@@ -100,18 +82,12 @@ fn fields_of_protobuf_are_copied() {
         request(&[gauge.clone(), metric(7, &[&whole, &double, &whole], &delta)]),
         request(&[metric(7, &[&whole], &delta), gauge.clone()]),
     ];
-    let wanted = [
-        request(&[gauge.clone(), metric(7, &[&double], &delta)]),
-        request(&[gauge]),
-    ];
+    let wanted = [request(&[gauge.clone(), metric(7, &[&double], &delta)]), request(&[gauge])];
     for (body, wanted) in bodies.into_iter().zip(wanted) {
         let body = Bytes::from(body);
         let prepared = prepare(Encoding::Protobuf, body.clone(), &Reading::default()).unwrap();
         let foreign = crate::otlp::series::posted(&prepared.body).unwrap().foreign;
-        let original = Original {
-            encoding: Encoding::Protobuf,
-            body,
-        };
+        let original = Original { encoding: Encoding::Protobuf, body };
         let (outside, causes) = original.outside(foreign, Profile::Deltas, || Some(prepared.body));
         let outside = outside.unwrap();
         assert_eq!((&outside.body[..], outside.points), (&wanted[..], foreign));
@@ -124,29 +100,20 @@ fn fields_of_protobuf_are_copied() {
 fn random_requests_have_their_points() {
     let mut handed = 0;
     for seed in [3, 4] {
-        for body in crate::otlp::posts_of_test(seed, 2_000)
-            .into_iter()
-            .map(Bytes::from)
-        {
+        for body in crate::otlp::posts_of_test(seed, 2_000).into_iter().map(Bytes::from) {
             let Ok(prepared) = prepare(Encoding::Protobuf, body.clone(), &Reading::default()) else {
                 continue;
             };
             let all = points(&prepared.body, Profile::Deltas).unwrap();
             let foreign = all.iter().filter(|point| point.cause.is_some()).count() as u64;
             let passed = all.iter().filter(|point| point.is_passed()).count() as u64;
-            let original = Original {
-                encoding: Encoding::Protobuf,
-                body,
-            };
+            let original = Original { encoding: Encoding::Protobuf, body };
             let (outside, causes) = original.outside(foreign, Profile::Deltas, || Some(prepared.body));
             let points = outside.as_ref().map_or(0, |outside| outside.points);
             assert_eq!((points, causes.count()), (passed, foreign - passed));
             if let Some(outside) = outside {
                 let again = prepare(Encoding::Protobuf, outside.body, &Reading::default()).unwrap();
-                assert_eq!(
-                    super::points(&again.body, Profile::Deltas).unwrap().len() as u64,
-                    passed
-                );
+                assert_eq!(super::points(&again.body, Profile::Deltas).unwrap().len() as u64, passed);
                 handed += 1;
             }
         }

@@ -10,10 +10,8 @@ use std::collections::BTreeMap;
 const SLOTS: u16 = 7;
 
 fn resources(dropped: &[&str]) -> Resources {
-    let reading = Reading {
-        dropped: dropped.iter().map(ToString::to_string).collect(),
-        ..Reading::default()
-    };
+    let reading =
+        Reading { dropped: dropped.iter().map(ToString::to_string).collect(), ..Reading::default() };
     Resources::new(SLOTS, Arc::new(reading))
 }
 
@@ -86,14 +84,9 @@ fn in_other_words(request: &ExportMetricsServiceRequest, random: &mut Random) ->
 }
 
 fn spellings(request: &ExportMetricsServiceRequest) -> Vec<Bytes> {
-    let spelling = |draw: u8| Spelling {
-        proto_names: draw & 1 != 0,
-        numbers: draw & 2 != 0,
-        enum_names: draw & 4 != 0,
-    };
-    (0..8)
-        .map(|draw| spelling(draw).request(request).into())
-        .collect()
+    let spelling =
+        |draw: u8| Spelling { proto_names: draw & 1 != 0, numbers: draw & 2 != 0, enum_names: draw & 4 != 0 };
+    (0..8).map(|draw| spelling(draw).request(request).into()).collect()
 }
 
 /// How many requests are drawn: more of them where it is told so.
@@ -148,9 +141,7 @@ fn what_is_dropped_of_a_resource_has_no_say() {
                 attributes: [("service.name", "shop"), ("pod", pod)]
                     .map(|(key, value)| KeyValue {
                         key: key.into(),
-                        value: Some(AnyValue {
-                            value: Some(Any::Text(value.into())),
-                        }),
+                        value: Some(AnyValue { value: Some(Any::Text(value.into())) }),
                     })
                     .into(),
             }),
@@ -192,19 +183,13 @@ fn what_can_t_be_read_is_slot_0_s() {
         let Split::Parts(parts) = resources.split(Encoding::Protobuf, &body) else {
             panic!("{unread:02x?}");
         };
-        let found: Vec<_> = parts
-            .iter()
-            .map(|part| (part.slot, &part.body[..], &part.resources[..]))
-            .collect();
+        let found: Vec<_> =
+            parts.iter().map(|part| (part.slot, &part.body[..], &part.resources[..])).collect();
         assert_eq!(found, [(slot, &sound[..], &[0][..]), (UNREAD, &unread, &[1])]);
     }
     for whole in [&b"\x08\x01"[..], b"\x0a\x05a", b"\x0a"] {
         let body = Bytes::from([&sound[..], whole].concat());
-        assert_eq!(
-            resources.split(Encoding::Protobuf, &body),
-            Split::Whole(UNREAD),
-            "{whole:02x?}"
-        );
+        assert_eq!(resources.split(Encoding::Protobuf, &body), Split::Whole(UNREAD), "{whole:02x?}");
     }
     let sound = r#"{"resource":{"attributes":[{"key":"a","value":{"stringValue":"x"}}]}}"#;
     let list = |elements: &str| Bytes::from(format!(r#"{{"resourceMetrics":[{elements}]}}"#));

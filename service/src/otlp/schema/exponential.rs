@@ -15,12 +15,7 @@ static EXPONENTIAL_HISTOGRAM: Message = Message {
     name: "ExponentialHistogram",
     fields: &[
         field!("dataPoints", "data_points", 1, Kind::Messages(&POINT)),
-        field!(
-            "aggregationTemporality",
-            "aggregation_temporality",
-            2,
-            Kind::Temporality,
-        ),
+        field!("aggregationTemporality", "aggregation_temporality", 2, Kind::Temporality,),
     ],
     one_of: &[],
     refused: &[],
@@ -30,12 +25,7 @@ static POINT: Message = Message {
     name: "ExponentialHistogramDataPoint",
     fields: &[
         field!("attributes", "attributes", 1, Kind::Parts(&KEY_VALUE)),
-        field!(
-            "startTimeUnixNano",
-            "start_time_unix_nano",
-            2,
-            Kind::Whole(Wire::Fixed64),
-        ),
+        field!("startTimeUnixNano", "start_time_unix_nano", 2, Kind::Whole(Wire::Fixed64),),
         field!("timeUnixNano", "time_unix_nano", 3, Kind::Whole(Wire::Fixed64)),
         field!("count", "count", 4, Kind::Whole(Wire::Fixed64)),
         field!("sum", "sum", 5, Kind::Double),

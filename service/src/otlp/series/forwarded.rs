@@ -25,13 +25,8 @@ pub fn forwarded(body: &[u8]) -> ReadResult<Vec<ForwardedPoint>> {
         each(of_resource, "scopeMetrics", |of_scope| {
             let scope = member(of_scope, "scope")?;
             let (name, version) = (member(scope, "name")?.raw(), member(scope, "version")?.raw());
-            let above = format!(
-                "[{resource},{name},{version},{}",
-                list(scope, "attributes")?.raw()
-            );
-            each(of_scope, "metrics", |metric| {
-                add_points(&mut points, &above, metric)
-            })
+            let above = format!("[{resource},{name},{version},{}", list(scope, "attributes")?.raw());
+            each(of_scope, "metrics", |metric| add_points(&mut points, &above, metric))
         })
     })?;
     Ok(points)
@@ -43,10 +38,8 @@ pub fn protobuf_of_forwarded(body: &[u8]) -> ReadResult<Vec<u8>> {
     let mut request = ExportMetricsServiceRequest::default();
     each(document.root(), "resourceMetrics", |of_resource| {
         let attributes = attributes(member(of_resource, "resource")?)?;
-        let mut found = ResourceMetrics {
-            resource: Some(Resource { attributes }),
-            scope_metrics: Vec::new(),
-        };
+        let mut found =
+            ResourceMetrics { resource: Some(Resource { attributes }), scope_metrics: Vec::new() };
         each(of_resource, "scopeMetrics", |of_scope| {
             found.scope_metrics.push(scope_message(of_scope)?);
             Ok(())
@@ -70,10 +63,7 @@ fn member<'d>(object: Json<'d>, name: &str) -> ReadResult<Json<'d>> {
 }
 
 fn optional<'d>(object: Json<'d>, name: &str) -> ReadResult<Option<Json<'d>>> {
-    object
-        .named([name])
-        .map(|found| found[0])
-        .ok_or_else(|| missing(name))
+    object.named([name]).map(|found| found[0]).ok_or_else(|| missing(name))
 }
 
 fn list<'d>(object: Json<'d>, name: &str) -> ReadResult<Json<'d>> {
@@ -82,16 +72,11 @@ fn list<'d>(object: Json<'d>, name: &str) -> ReadResult<Json<'d>> {
 }
 
 fn each<'d>(object: Json<'d>, name: &str, mut one: impl FnMut(Json<'d>) -> ReadResult<()>) -> ReadResult<()> {
-    member(object, name)?
-        .elements()
-        .ok_or_else(|| missing(name))?
-        .try_for_each(&mut one)
+    member(object, name)?.elements().ok_or_else(|| missing(name))?.try_for_each(&mut one)
 }
 
 fn whole<T: TryFrom<i128>>(value: Json<'_>, name: &str) -> ReadResult<T> {
-    book_whole(value)
-        .and_then(|whole| T::try_from(whole).ok())
-        .ok_or_else(|| missing(name))
+    book_whole(value).and_then(|whole| T::try_from(whole).ok()).ok_or_else(|| missing(name))
 }
 
 fn number<T: TryFrom<i128>>(object: Json<'_>, name: &str) -> ReadResult<T> {
@@ -104,46 +89,25 @@ fn numbers<T: TryFrom<i128>>(object: Json<'_>, name: &str) -> ReadResult<Vec<T>>
 }
 
 fn text(object: Json<'_>, name: &str) -> ReadResult<String> {
-    member(object, name)?
-        .text()
-        .map(String::from)
-        .ok_or_else(|| missing(name))
+    member(object, name)?.text().map(String::from).ok_or_else(|| missing(name))
 }
 
 /// Whether a sum is monotonic.
 fn is_monotonic(sum: Json<'_>) -> ReadResult<bool> {
-    member(sum, "isMonotonic")?
-        .truth()
-        .ok_or_else(|| missing("isMonotonic"))
+    member(sum, "isMonotonic")?.truth().ok_or_else(|| missing("isMonotonic"))
 }
 
 fn add_points<'d>(points: &mut Vec<ForwardedPoint>, above: &str, metric: Json<'d>) -> ReadResult<()> {
-    let above = format!(
-        "{above},{},{}",
-        member(metric, "name")?.raw(),
-        member(metric, "unit")?.raw()
-    );
+    let above = format!("{above},{},{}", member(metric, "name")?.raw(), member(metric, "unit")?.raw());
     let add = |points: &mut Vec<ForwardedPoint>, point: Json<'d>, kind: &str, value: Value| {
         let attributes = list(point, "attributes")?.raw();
         let series = SeriesKey(Arc::from(format!("{above},{kind},{attributes}]")));
-        let (start, end) = (
-            number(point, "startTimeUnixNano")?,
-            number(point, "timeUnixNano")?,
-        );
-        points.push(ForwardedPoint {
-            series,
-            start,
-            end,
-            value,
-        });
+        let (start, end) = (number(point, "startTimeUnixNano")?, number(point, "timeUnixNano")?);
+        points.push(ForwardedPoint { series, start, end, value });
         Ok(())
     };
     if let Some(sum) = optional(metric, "sum")? {
-        let kind = if is_monotonic(sum)? {
-            "\"monotonic\""
-        } else {
-            "\"sum\""
-        };
+        let kind = if is_monotonic(sum)? { "\"monotonic\"" } else { "\"sum\"" };
         return each(sum, "dataPoints", |point| {
             add(points, point, kind, Value::Sum(number(point, "asInt")?))
         });
@@ -168,10 +132,7 @@ fn scope_message(of_scope: Json<'_>) -> ReadResult<ScopeMetrics> {
         version: text(scope, "version")?,
         attributes: attributes(scope)?,
     };
-    Ok(ScopeMetrics {
-        scope: Some(scope),
-        metrics,
-    })
+    Ok(ScopeMetrics { scope: Some(scope), metrics })
 }
 
 fn metric_message(metric: Json<'_>) -> ReadResult<Metric> {
@@ -186,19 +147,11 @@ fn metric_message(metric: Json<'_>) -> ReadResult<Metric> {
             aggregation_temporality: DELTA,
         }),
     };
-    Ok(Metric {
-        name: text(metric, "name")?,
-        unit: text(metric, "unit")?,
-        data: Some(data),
-    })
+    Ok(Metric { name: text(metric, "name")?, unit: text(metric, "unit")?, data: Some(data) })
 }
 
 fn all<T>(object: Json<'_>, name: &str, one: impl Fn(Json<'_>) -> ReadResult<T>) -> ReadResult<Vec<T>> {
-    member(object, name)?
-        .elements()
-        .ok_or_else(|| missing(name))?
-        .map(one)
-        .collect()
+    member(object, name)?.elements().ok_or_else(|| missing(name))?.map(one).collect()
 }
 
 fn sum_message(point: Json<'_>) -> ReadResult<NumberDataPoint> {
@@ -221,10 +174,7 @@ fn histogram_message(point: Json<'_>) -> ReadResult<HistogramDataPoint> {
         count: number(point, "count")?,
         sum: sum.map(double),
         bucket_counts: numbers(point, "bucketCounts")?,
-        explicit_bounds: numbers(point, "explicitBounds")?
-            .into_iter()
-            .map(double)
-            .collect(),
+        explicit_bounds: numbers(point, "explicitBounds")?.into_iter().map(double).collect(),
         attributes: attributes(point)?,
         flags: 0,
     })
@@ -232,10 +182,7 @@ fn histogram_message(point: Json<'_>) -> ReadResult<HistogramDataPoint> {
 
 fn attributes(object: Json<'_>) -> ReadResult<Vec<KeyValue>> {
     all(object, "attributes", |pair| {
-        Ok(KeyValue {
-            key: text(pair, "key")?,
-            value: Some(any(member(pair, "value")?)?),
-        })
+        Ok(KeyValue { key: text(pair, "key")?, value: Some(any(member(pair, "value")?)?) })
     })
 }
 
@@ -248,9 +195,9 @@ fn any(value: Json<'_>) -> ReadResult<AnyValue> {
         (Some(text), None, None, None) => text.text().map(|text| Any::Text(text.into())),
         (None, Some(truth), None, None) => truth.truth().map(Any::Bool),
         (None, None, Some(int), None) => Some(Any::Int(whole(int, "intValue")?)),
-        (None, None, None, Some(array)) => Some(Any::Array(ArrayValue {
-            values: all(array, "values", any)?,
-        })),
+        (None, None, None, Some(array)) => {
+            Some(Any::Array(ArrayValue { values: all(array, "values", any)? }))
+        }
         _ => return Err(missing("a single value")),
     };
     Ok(AnyValue { value })

@@ -42,10 +42,7 @@ pub fn write_attributes<'d>(out: &mut String, one: &'static str, found: Option<V
     }
     // Of the same keys none is allowed, so the values have no say in the order.
     pairs.sort_unstable_by(|one, other| one.0.as_bytes().cmp(other.0.as_bytes()));
-    let of = |key, what, value| Why {
-        key,
-        ..Why::new(what, one, value)
-    };
+    let of = |key, what, value| Why { key, ..Why::new(what, one, value) };
     if let Some(two) = pairs.windows(2).find(|two| two[0].0 == two[1].0) {
         return Err(of(two[0].2, What::SameKeys, None));
     }

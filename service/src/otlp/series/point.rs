@@ -51,14 +51,7 @@ pub fn sum_kind<'d>(put: &mut Put, data: Value<'d>) -> Read<'d, ()> {
 /// A sum's point.
 pub fn sum_point<'d>(put: &mut Put, point: Value<'d>, temporality: Temporality) -> Read<'d, ()> {
     let [start, end, number, double, flags, attributes] = point
-        .named([
-            "startTimeUnixNano",
-            "timeUnixNano",
-            "asInt",
-            "asDouble",
-            "flags",
-            "attributes",
-        ])
+        .named(["startTimeUnixNano", "timeUnixNano", "asInt", "asDouble", "flags", "attributes"])
         .unwrap_or_default();
     let span = span(start, end, flags, temporality)?;
     if double.is_some() {

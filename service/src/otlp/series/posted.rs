@@ -46,10 +46,7 @@ pub fn posted(body: &[u8]) -> Option<Posted> {
 /// The same of points of this profile.
 pub fn posted_with(body: &[u8], profile: Profile) -> Option<Posted> {
     let document = Document::parse(body).ok()?;
-    let mut posted = Posted {
-        series: HashMap::new(),
-        foreign: 0,
-    };
+    let mut posted = Posted { series: HashMap::new(), foreign: 0 };
     visit_with(&document, profile, |seen| match seen.found {
         Err(_) => posted.foreign += 1,
         Ok(_) => posted.add(seen.key, seen.end()),
@@ -117,11 +114,7 @@ pub fn visit_with<'d>(
     profile: Profile,
     each: impl FnMut(Seen<'_, 'd>),
 ) -> Option<()> {
-    let mut walk = Walk {
-        each,
-        profile,
-        put: Put::default(),
-    };
+    let mut walk = Walk { each, profile, put: Put::default() };
     let [resources] = document.root().named(["resourceMetrics"])?;
     for resource in objects(resources)? {
         walk.resource(resource)?;
@@ -197,20 +190,10 @@ impl<'d, F: FnMut(Seen<'_, 'd>)> Walk<F> {
     }
 
     fn metric(&mut self, value: Value<'d>, known: ForeignCheck<'d>) -> Option<()> {
-        let [name, unit, gauge, sum, histogram, exponential, summary] = value.named([
-            "name",
-            "unit",
-            "gauge",
-            "sum",
-            "histogram",
-            "exponentialHistogram",
-            "summary",
-        ])?;
-        let others = [
-            part("gauge", gauge)?,
-            part("exponentialHistogram", exponential)?,
-            part("summary", summary)?,
-        ];
+        let [name, unit, gauge, sum, histogram, exponential, summary] =
+            value.named(["name", "unit", "gauge", "sum", "histogram", "exponentialHistogram", "summary"])?;
+        let others =
+            [part("gauge", gauge)?, part("exponentialHistogram", exponential)?, part("summary", summary)?];
         let (sum, histogram) = (part("sum", sum)?, part("histogram", histogram)?);
         let there = others.iter().chain([&sum, &histogram]).flatten().count();
         let known = match there {
@@ -218,9 +201,7 @@ impl<'d, F: FnMut(Seen<'_, 'd>)> Walk<F> {
             _ => known.and(Err(Why::new(What::SeveralKinds, "data", None))),
         };
         for other in others.into_iter().flatten() {
-            let why = known
-                .err()
-                .unwrap_or(Why::new(What::OtherKind, in_words(other.kind), None));
+            let why = known.err().unwrap_or(Why::new(What::OtherKind, in_words(other.kind), None));
             for point in objects(other.points)? {
                 self.show(value, other.kind, point, Err(why));
             }
@@ -273,14 +254,7 @@ impl<'d, F: FnMut(Seen<'_, 'd>)> Walk<F> {
         point: Value<'d>,
         found: Result<Temporality, Why<'d>>,
     ) {
-        (self.each)(Seen {
-            metric,
-            kind,
-            point,
-            key: &self.put.key,
-            words: &self.put.words,
-            found,
-        });
+        (self.each)(Seen { metric, kind, point, key: &self.put.key, words: &self.put.words, found });
     }
 }
 

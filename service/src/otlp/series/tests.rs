@@ -39,34 +39,19 @@ fn foreign(body: &str) -> u64 {
 fn points_of_sums_are_of_the_profile_or_foreign() {
     let cases = [
         (SOUND, 0),
-        (
-            r#""startTimeUnixNano":1,"timeUnixNano":18446744073709551615,"asInt":0"#,
-            0,
-        ),
+        (r#""startTimeUnixNano":1,"timeUnixNano":18446744073709551615,"asInt":0"#, 0),
         (r#""startTimeUnixNano":"01","timeUnixNano":"2","asInt":"-0""#, 0),
-        (
-            r#""startTimeUnixNano":1,"timeUnixNano":2,"asInt":"9223372036854775807","flags":2"#,
-            0,
-        ),
-        (
-            r#""startTimeUnixNano":9,"startTimeUnixNano":1,"timeUnixNano":2,"asInt":5"#,
-            0,
-        ),
+        (r#""startTimeUnixNano":1,"timeUnixNano":2,"asInt":"9223372036854775807","flags":2"#, 0),
+        (r#""startTimeUnixNano":9,"startTimeUnixNano":1,"timeUnixNano":2,"asInt":5"#, 0),
         (
             r#""startTimeUnixNano":1,"timeUnixNano":2,"asInt":5,"asDouble":null,"flags":null,"attributes":null"#,
             0,
         ),
-        (
-            r#""startTimeUnixNano":1,"timeUnixNano":2,"asInt":5,"count":"x","other":{}"#,
-            0,
-        ),
+        (r#""startTimeUnixNano":1,"timeUnixNano":2,"asInt":5,"count":"x","other":{}"#, 0),
         (r#""startTimeUnixNano":0,"timeUnixNano":2,"asInt":5"#, 1),
         (r#""timeUnixNano":2,"asInt":5"#, 1),
         (r#""startTimeUnixNano":2,"timeUnixNano":2,"asInt":5"#, 1),
-        (
-            r#""startTimeUnixNano":1,"timeUnixNano":"18446744073709551616","asInt":5"#,
-            1,
-        ),
+        (r#""startTimeUnixNano":1,"timeUnixNano":"18446744073709551616","asInt":5"#, 1),
         (r#""startTimeUnixNano":1,"timeUnixNano":2"#, 1),
         (r#""startTimeUnixNano":1,"timeUnixNano":2,"asInt":5.0"#, 1),
         (r#""startTimeUnixNano":1,"timeUnixNano":2,"asInt":5e0"#, 1),
@@ -74,23 +59,11 @@ fn points_of_sums_are_of_the_profile_or_foreign() {
         (r#""startTimeUnixNano":1,"timeUnixNano":2,"asInt":"+5""#, 1),
         (r#""startTimeUnixNano":1,"timeUnixNano":2,"asInt":" 5""#, 1),
         (r#""startTimeUnixNano":1,"timeUnixNano":2,"asInt":-1"#, 1),
-        (
-            r#""startTimeUnixNano":1,"timeUnixNano":2,"asInt":"9223372036854775808""#,
-            1,
-        ),
-        (
-            r#""startTimeUnixNano":1,"timeUnixNano":2,"asInt":5,"asDouble":5"#,
-            1,
-        ),
+        (r#""startTimeUnixNano":1,"timeUnixNano":2,"asInt":"9223372036854775808""#, 1),
+        (r#""startTimeUnixNano":1,"timeUnixNano":2,"asInt":5,"asDouble":5"#, 1),
         (r#""startTimeUnixNano":1,"timeUnixNano":2,"asInt":5,"flags":1"#, 1),
-        (
-            r#""startTimeUnixNano":1,"timeUnixNano":2,"asInt":5,"flags":4294967296"#,
-            1,
-        ),
-        (
-            r#""startTimeUnixNano":1,"timeUnixNano":2,"asInt":5,"attributes":{}"#,
-            1,
-        ),
+        (r#""startTimeUnixNano":1,"timeUnixNano":2,"asInt":5,"flags":4294967296"#, 1),
+        (r#""startTimeUnixNano":1,"timeUnixNano":2,"asInt":5,"attributes":{}"#, 1),
     ];
     for (point, expected) in cases {
         assert_eq!(foreign(&sum(point)), expected, "{point}");
@@ -109,31 +82,19 @@ fn points_of_histograms_are_of_the_profile_or_foreign() {
     };
     let (most, over) = (many(255), many(256));
     let cases = [
-        (
-            r#""count":"3","sum":7,"bucketCounts":["1","2"],"explicitBounds":[10]"#,
-            0,
-        ),
+        (r#""count":"3","sum":7,"bucketCounts":["1","2"],"explicitBounds":[10]"#, 0),
         (r#""count":3"#, 0),
-        (
-            r#""bucketCounts":[0,"0"],"explicitBounds":["-9007199254740992"]"#,
-            0,
-        ),
+        (r#""bucketCounts":[0,"0"],"explicitBounds":["-9007199254740992"]"#, 0),
         (r#""count":1,"bucketCounts":[1],"sum":9007199254740992"#, 0),
         (&most, 0),
         (&over, 1),
         (r#""count":3,"explicitBounds":[10]"#, 1),
         (r#""count":3,"bucketCounts":[1,2]"#, 1),
         (r#""count":4,"bucketCounts":[1,2],"explicitBounds":[10]"#, 1),
-        (
-            r#""bucketCounts":[18446744073709551615,1],"explicitBounds":[10]"#,
-            1,
-        ),
+        (r#""bucketCounts":[18446744073709551615,1],"explicitBounds":[10]"#, 1),
         (r#""count":0,"bucketCounts":[0,0,0],"explicitBounds":[10,10]"#, 1),
         (r#""count":0,"bucketCounts":[0,0],"explicitBounds":[5.0]"#, 1),
-        (
-            r#""count":0,"bucketCounts":[0,0],"explicitBounds":[9007199254740993]"#,
-            1,
-        ),
+        (r#""count":0,"bucketCounts":[0,0],"explicitBounds":[9007199254740993]"#, 1),
         (r#""count":0,"bucketCounts":[0,null],"explicitBounds":[1]"#, 1),
         (r#""count":0,"sum":-1"#, 1),
         (r#""count":0,"sum":9007199254740993"#, 1),
@@ -152,10 +113,7 @@ fn attributes_are_of_the_profile_or_foreign() {
         format!("[{}]", pairs.join(","))
     };
     let values = |count: usize| {
-        format!(
-            r#"[{{"value":{{"arrayValue":{{"values":[{}]}}}}}}]"#,
-            vec!["{}"; count].join(",")
-        )
+        format!(r#"[{{"value":{{"arrayValue":{{"values":[{}]}}}}}}]"#, vec!["{}"; count].join(","))
     };
     let long = |length: usize| format!(r#"[{{"key":"{}"}}]"#, "k".repeat(length));
     let cases = [
@@ -199,10 +157,7 @@ fn metrics_that_are_foreign() {
         format!(r#"{{"sum":{{{points}}}}}"#),
         format!(r#"{{"sum":{{"aggregationTemporality":1,"isMonotonic":1,{points}}}}}"#),
         format!(r#"{{"name":5,"sum":{{"aggregationTemporality":1,{points}}}}}"#),
-        format!(
-            r#"{{"unit":"{}","sum":{{"aggregationTemporality":1,{points}}}}}"#,
-            "u".repeat(4097)
-        ),
+        format!(r#"{{"unit":"{}","sum":{{"aggregationTemporality":1,{points}}}}}"#, "u".repeat(4097)),
     ];
     for metric in cases {
         assert_eq!(foreign(&request(&metric)), 1, "{metric}");
@@ -254,26 +209,12 @@ fn a_key_is_what_the_book_writes() {
         (format!(r#"{above},"h","",[-1,2],[]]"#), 9),
     ];
     let expected = expected.map(|(key, end)| (SeriesKey(key.into()), end));
-    assert_eq!(
-        (found.series, found.foreign),
-        (HashMap::from(expected.clone()), 0)
-    );
+    assert_eq!((found.series, found.foreign), (HashMap::from(expected.clone()), 0));
     let parts = expected[0].0.parts().unwrap();
-    assert_eq!(
-        (&*parts.scope_name, &*parts.name, parts.kind),
-        ("s\"", "é", Kind::Monotonic)
-    );
+    assert_eq!((&*parts.scope_name, &*parts.name, parts.kind), ("s\"", "é", Kind::Monotonic));
     assert_eq!(parts.attributes, attributes);
-    assert_eq!(
-        expected[2].0.parts().unwrap().kind,
-        Kind::Histogram { bounds: vec![-1, 2] }
-    );
-    for key in [
-        "",
-        "[]",
-        r#"[[],"","",[],"","","mono",[]]"#,
-        r#"[[],"","",[],"","","sum",[],1]"#,
-    ] {
+    assert_eq!(expected[2].0.parts().unwrap().kind, Kind::Histogram { bounds: vec![-1, 2] });
+    for key in ["", "[]", r#"[[],"","",[],"","","mono",[]]"#, r#"[[],"","",[],"","","sum",[],1]"#] {
         assert!(SeriesKey(key.into()).parts().is_err(), "{key}");
     }
 }
@@ -292,38 +233,13 @@ fn forwarded_points_are_read_in_order() {
         value,
     };
     let expected = [
-        point(
-            r#""m","s","sum",[{"key":"k","value":{"intValue":"5"}}]"#,
-            10,
-            20,
-            Value::Sum(-9),
-        ),
-        point(
-            r#""h","",[-4],[]"#,
-            1,
-            2,
-            Value::Histogram {
-                count: 3,
-                sum: Some(7),
-                buckets: vec![1, 2],
-            },
-        ),
-        point(
-            r#""h","",[],[]"#,
-            1,
-            2,
-            Value::Histogram {
-                count: 1,
-                sum: None,
-                buckets: vec![1],
-            },
-        ),
+        point(r#""m","s","sum",[{"key":"k","value":{"intValue":"5"}}]"#, 10, 20, Value::Sum(-9)),
+        point(r#""h","",[-4],[]"#, 1, 2, Value::Histogram { count: 3, sum: Some(7), buckets: vec![1, 2] }),
+        point(r#""h","",[],[]"#, 1, 2, Value::Histogram { count: 1, sum: None, buckets: vec![1] }),
     ];
     assert_eq!(points, expected);
     let found = posted(FORWARDED.as_bytes()).unwrap();
-    assert!(expected
-        .iter()
-        .all(|point| found.series.get(&point.series) == Some(&point.end)));
+    assert!(expected.iter().all(|point| found.series.get(&point.series) == Some(&point.end)));
     for length in 0..FORWARDED.len() {
         assert!(forwarded(&FORWARDED.as_bytes()[..length]).is_err());
     }
@@ -344,25 +260,12 @@ fn a_forwarded_request_in_protobuf() {
     let bytes = protobuf_of_forwarded(FORWARDED.as_bytes()).unwrap();
     let request = ExportMetricsServiceRequest::decode(&bytes[..]).unwrap();
     let scope = &request.resource_metrics[0].scope_metrics[0];
-    let Some(Data::Sum(sum)) = &scope.metrics[0].data else {
-        panic!("{scope:?}")
-    };
-    let Some(Data::Histogram(histogram)) = &scope.metrics[1].data else {
-        panic!("{scope:?}")
-    };
-    assert_eq!(
-        (sum.data_points[0].value.clone(), sum.aggregation_temporality),
-        (Some(Number::AsInt(-9)), 1)
-    );
-    assert_eq!(
-        (histogram.data_points[0].sum, histogram.data_points[1].sum),
-        (Some(7.0), None)
-    );
+    let Some(Data::Sum(sum)) = &scope.metrics[0].data else { panic!("{scope:?}") };
+    let Some(Data::Histogram(histogram)) = &scope.metrics[1].data else { panic!("{scope:?}") };
+    assert_eq!((sum.data_points[0].value.clone(), sum.aggregation_temporality), (Some(Number::AsInt(-9)), 1));
+    assert_eq!((histogram.data_points[0].sum, histogram.data_points[1].sum), (Some(7.0), None));
     assert_eq!(histogram.data_points[0].explicit_bounds, [-4.0]);
     let again =
         crate::otlp::prepare(crate::otlp::Encoding::Protobuf, bytes.into(), &Default::default()).unwrap();
-    assert_eq!(
-        posted(&again.body).unwrap().series,
-        posted(FORWARDED.as_bytes()).unwrap().series
-    );
+    assert_eq!(posted(&again.body).unwrap().series, posted(FORWARDED.as_bytes()).unwrap().series);
 }

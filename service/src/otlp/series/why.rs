@@ -56,12 +56,7 @@ pub enum What {
 
 impl<'d> Why<'d> {
     pub fn new(what: What, field: &'static str, value: Option<Value<'d>>) -> Why<'d> {
-        Why {
-            what,
-            field,
-            value,
-            key: None,
-        }
+        Why { what, field, value, key: None }
     }
 }
 

@@ -56,9 +56,7 @@ impl Body {
                 self.text.push(',');
             }
         }
-        zero.above[same..]
-            .iter()
-            .for_each(|begin| self.text.push_str(begin));
+        zero.above[same..].iter().for_each(|begin| self.text.push_str(begin));
         self.text.push_str(&zero.point);
         self.above = zero.above;
     }
@@ -82,13 +80,8 @@ impl Zero {
         let start = frontier.checked_sub(1).filter(|start| *start > 0);
         let start = start.ok_or_else(|| NotForwarded(format!("a frontier of {frontier}")))?;
         let document = Document::parse(key.0.as_bytes()).map_err(|error| NotForwarded(error.to_string()))?;
-        let parts: Vec<&str> = document
-            .root()
-            .elements()
-            .into_iter()
-            .flatten()
-            .map(|part| part.raw())
-            .collect();
+        let parts: Vec<&str> =
+            document.root().elements().into_iter().flatten().map(|part| part.raw()).collect();
         let [resource, scope, version, scope_attributes, name, unit, bounds, attributes] = parts[..] else {
             return Err(NotForwarded(format!("the key {}", key.0)));
         };

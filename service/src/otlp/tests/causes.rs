@@ -22,14 +22,8 @@ fn each_cause_is_named() {
     for (metric, wanted) in [
         (r#"{"gauge":{"dataPoints":[{},{}]}}"#.to_string(), "2 gauges"),
         (r#"{"summary":{"dataPoints":[{}]}}"#.to_string(), "1 summary"),
-        (
-            r#"{"exponentialHistogram":{"dataPoints":[{}]}}"#.to_string(),
-            "1 exponential histogram",
-        ),
-        (
-            sum(r#","aggregationTemporality":2,"isMonotonic":true"#),
-            "1 cumulative sum",
-        ),
+        (r#"{"exponentialHistogram":{"dataPoints":[{}]}}"#.to_string(), "1 exponential histogram"),
+        (sum(r#","aggregationTemporality":2,"isMonotonic":true"#), "1 cumulative sum"),
         (sum(r#","aggregationTemporality":2"#), "1 UpDownCounter"),
         (sum(""), "1 point of another form"),
         (histogram(2, ""), "1 cumulative histogram"),
@@ -39,9 +33,7 @@ fn each_cause_is_named() {
         (point(SPAN), "1 point without a value"),
         (point(r#""timeUnixNano":"2","asInt":1"#), "1 point without a span"),
         (
-            point(&format!(
-                r#"{SPAN},"asInt":1,"attributes":[{{"key":"k","value":{{"doubleValue":1.5}}}}]"#
-            )),
+            point(&format!(r#"{SPAN},"asInt":1,"attributes":[{{"key":"k","value":{{"doubleValue":1.5}}}}]"#)),
             "1 point with bad attributes",
         ),
     ] {
@@ -57,10 +49,7 @@ fn causes_add_up_to_what_was_not_taken() {
     let gauges = r#"{"gauge":{"dataPoints":[{},{}]}}"#;
     assert_eq!(said(gauges, 5), "3 points of another form, 2 gauges");
     assert_eq!(said(gauges, 1), "1 point of another form");
-    assert_eq!(
-        Causes::of(b"no JSON", Profile::Deltas, 2).to_string(),
-        "2 points of another form"
-    );
+    assert_eq!(Causes::of(b"no JSON", Profile::Deltas, 2).to_string(), "2 points of another form");
 }
 
 /// Where deltas are made of cumulative points, these are no cause by themselves, unless the book was given none of them.
@@ -71,11 +60,7 @@ fn a_cumulative_point_that_is_not_taken_has_its_own_cause() {
             r#"{{"sum":{{"aggregationTemporality":2,"isMonotonic":true,"dataPoints":[{{{SPAN},{value}}}]}}}}"#
         )
     };
-    let both = request(&format!(
-        r#"{},{}"#,
-        counter(r#""asDouble":1.5"#),
-        counter(r#""asInt":"1""#)
-    ));
+    let both = request(&format!(r#"{},{}"#, counter(r#""asDouble":1.5"#), counter(r#""asInt":"1""#)));
     let said = |profile, foreign| {
         let body = prepared(Encoding::Json, both.clone()).unwrap();
         Causes::of(&body, profile, foreign).to_string()
@@ -90,11 +75,7 @@ fn an_up_down_counter_is_told_what_helps() {
     let why = |more: &str| {
         let metric = format!(r#"{{"sum":{{"aggregationTemporality":2{more},"dataPoints":[{{}}]}}}}"#);
         let written = prepared(Encoding::Json, request(&metric)).unwrap();
-        explained(&written, Profile::Deltas, Clock::default().window())
-            .unwrap()
-            .remove(0)
-            .foreign
-            .unwrap()
+        explained(&written, Profile::Deltas, Clock::default().window()).unwrap().remove(0).foreign.unwrap()
     };
     assert!(why("").contains("UpDownCounter is also with the temporality preference delta: use two Counters"));
     let counter = why(r#","isMonotonic":true"#);

@@ -8,9 +8,7 @@ const SPAN: &str = r#""startTimeUnixNano":"1","timeUnixNano":"2""#;
 fn why(body: String) -> String {
     let written = prepared(Encoding::Json, body.clone()).unwrap();
     let points = explained(&written, Profile::Deltas, Clock::default().window()).unwrap();
-    let [point] = &points[..] else {
-        panic!("{body}: {points:?}")
-    };
+    let [point] = &points[..] else { panic!("{body}: {points:?}") };
     assert_eq!(posted(&written).unwrap().foreign, 1, "{body}");
     point.foreign.clone().unwrap_or_else(|| panic!("{body} is taken"))
 }
@@ -20,15 +18,11 @@ fn point(more: &str) -> String {
 }
 
 fn histogram(more: &str) -> String {
-    request(&format!(
-        r#"{{"histogram":{{"aggregationTemporality":1,"dataPoints":[{{{SPAN},{more}}}]}}}}"#
-    ))
+    request(&format!(r#"{{"histogram":{{"aggregationTemporality":1,"dataPoints":[{{{SPAN},{more}}}]}}}}"#))
 }
 
 fn attribute(value: &str) -> String {
-    point(&format!(
-        r#""asInt":1,"attributes":[{{"key":"k","value":{value}}}]"#
-    ))
+    point(&format!(r#""asInt":1,"attributes":[{{"key":"k","value":{value}}}]"#))
 }
 
 #[test]
@@ -37,14 +31,8 @@ fn each_kind_of_foreign_point_has_its_reason() {
     let sums = |more: &str| of_metric(&format!(r#""sum":{{"dataPoints":[{{{SPAN},"asInt":1}}]{more}}}"#));
     let long = "x".repeat(4097);
     let many = vec![r#"{"stringValue":"x"}"#; 129].join(",");
-    let pairs = (0..129)
-        .map(|key| format!(r#"{{"key":"{key}"}}"#))
-        .collect::<Vec<_>>()
-        .join(",");
-    let bounds = (0..256)
-        .map(|bound| bound.to_string())
-        .collect::<Vec<_>>()
-        .join(",");
+    let pairs = (0..129).map(|key| format!(r#"{{"key":"{key}"}}"#)).collect::<Vec<_>>().join(",");
+    let bounds = (0..256).map(|bound| bound.to_string()).collect::<Vec<_>>().join(",");
     let resource = |attributes: &str| {
         let metric = point(r#""asInt":1"#);
         metric.replacen(
@@ -54,36 +42,21 @@ fn each_kind_of_foreign_point_has_its_reason() {
         )
     };
     for (body, words) in [
-        (
-            of_metric(r#""gauge":{"dataPoints":[{}]}"#),
-            "gauges are not added up",
-        ),
-        (
-            of_metric(r#""summary":{"dataPoints":[{}]}"#),
-            "summaries are not added up",
-        ),
+        (of_metric(r#""gauge":{"dataPoints":[{}]}"#), "gauges are not added up"),
+        (of_metric(r#""summary":{"dataPoints":[{}]}"#), "summaries are not added up"),
         (
             of_metric(r#""exponentialHistogram":{"dataPoints":[{}]}"#),
             "exponential histograms are not added up",
         ),
-        (
-            of_metric(r#""gauge":{"dataPoints":[{}]},"sum":{}"#),
-            "more than one kind",
-        ),
+        (of_metric(r#""gauge":{"dataPoints":[{}]},"sum":{}"#), "more than one kind"),
         (sums(r#","aggregationTemporality":2"#), "it is cumulative"),
         (
             sums(r#","aggregationTemporality":"AGGREGATION_TEMPORALITY_UNSPECIFIED""#),
             "aggregationTemporality is 0",
         ),
         (sums(""), "aggregationTemporality is nothing"),
-        (
-            sums(r#","aggregationTemporality":1,"isMonotonic":"yes""#),
-            "isMonotonic is yes, neither",
-        ),
-        (
-            point(r#""asInt":1"#).replacen(r#"{"sum""#, r#"{"name":5,"sum""#, 1),
-            "metric name is 5, no text",
-        ),
+        (sums(r#","aggregationTemporality":1,"isMonotonic":"yes""#), "isMonotonic is yes, neither"),
+        (point(r#""asInt":1"#).replacen(r#"{"sum""#, r#"{"name":5,"sum""#, 1), "metric name is 5, no text"),
         (
             point(r#""asInt":1"#).replacen(r#"{"sum""#, &format!(r#"{{"unit":"{long}","sum""#), 1),
             "unit has more than 4096 bytes",
@@ -93,94 +66,43 @@ fn each_kind_of_foreign_point_has_its_reason() {
             "resource attribute `weight`: its value is a double, 0.5",
         ),
         (resource("5"), "resource attribute is 5, no list"),
-        (
-            attribute(r#"{"bytesValue":"AA=="}"#),
-            "attribute `k`: its value is bytes",
-        ),
-        (
-            attribute(r#"{"kvlistValue":{}}"#),
-            "attribute `k`: its value is a map",
-        ),
-        (
-            attribute(r#"{"arrayValue":{"values":[{"arrayValue":{}}]}}"#),
-            "a list in a list",
-        ),
-        (
-            attribute(r#"{"arrayValue":{"values":[{"doubleValue":1.5}]}}"#),
-            "its value is a double, 1.5",
-        ),
-        (
-            attribute(&format!(r#"{{"arrayValue":{{"values":[{many}]}}}}"#)),
-            "a list of more than 128",
-        ),
-        (
-            attribute(r#"{"intValue":1,"boolValue":true}"#),
-            "more than one value",
-        ),
-        (
-            attribute(r#"{"intValue":"9223372036854775808"}"#),
-            "its value can't be read: 9223372036854775808",
-        ),
-        (
-            attribute(&format!(r#"{{"stringValue":"{long}"}}"#)),
-            "its value can't be read: xxx",
-        ),
+        (attribute(r#"{"bytesValue":"AA=="}"#), "attribute `k`: its value is bytes"),
+        (attribute(r#"{"kvlistValue":{}}"#), "attribute `k`: its value is a map"),
+        (attribute(r#"{"arrayValue":{"values":[{"arrayValue":{}}]}}"#), "a list in a list"),
+        (attribute(r#"{"arrayValue":{"values":[{"doubleValue":1.5}]}}"#), "its value is a double, 1.5"),
+        (attribute(&format!(r#"{{"arrayValue":{{"values":[{many}]}}}}"#)), "a list of more than 128"),
+        (attribute(r#"{"intValue":1,"boolValue":true}"#), "more than one value"),
+        (attribute(r#"{"intValue":"9223372036854775808"}"#), "its value can't be read: 9223372036854775808"),
+        (attribute(&format!(r#"{{"stringValue":"{long}"}}"#)), "its value can't be read: xxx"),
         (
             point(r#""asInt":1,"attributes":[{"key":"k"},{"key":"k"}]"#),
             "attribute `k`: its key is there twice",
         ),
-        (
-            point(&format!(r#""asInt":1,"attributes":[{pairs}]"#)),
-            "more than 128 attributes",
-        ),
-        (
-            sum(r#"{"timeUnixNano":"2","asInt":1}"#),
-            "startTimeUnixNano is nothing",
-        ),
-        (
-            sum(r#"{"startTimeUnixNano":"2","timeUnixNano":"2","asInt":1}"#),
-            "timeUnixNano is 2, not over",
-        ),
+        (point(&format!(r#""asInt":1,"attributes":[{pairs}]"#)), "more than 128 attributes"),
+        (sum(r#"{"timeUnixNano":"2","asInt":1}"#), "startTimeUnixNano is nothing"),
+        (sum(r#"{"startTimeUnixNano":"2","timeUnixNano":"2","asInt":1}"#), "timeUnixNano is 2, not over"),
         (
             sum(r#"{"startTimeUnixNano":"x","timeUnixNano":"2","asInt":1}"#),
             "startTimeUnixNano is x, no whole number",
         ),
         (point(r#""asInt":1,"flags":1"#), "no value was recorded"),
-        (
-            point(r#""asInt":1,"flags":4294967296"#),
-            "flags is 4294967296, over",
-        ),
+        (point(r#""asInt":1,"flags":4294967296"#), "flags is 4294967296, over"),
         (point(r#""asDouble":1.25"#), "it is a double, 1.25"),
         (point(r#""asDouble":5"#), "it is a double, 5"),
         (point(r#""asDouble":9007199254740992"#), "serve with --whole"),
-        (
-            point(r#""asDouble":1e300"#),
-            "it is a double, 1e300, which also --whole",
-        ),
-        (
-            point(r#""asDouble":"NaN""#),
-            "it is a double, NaN, which also --whole",
-        ),
-        (
-            point(r#""asDouble":"-Infinity""#),
-            "it is a double, -Infinity, which also --whole",
-        ),
+        (point(r#""asDouble":1e300"#), "it is a double, 1e300, which also --whole"),
+        (point(r#""asDouble":"NaN""#), "it is a double, NaN, which also --whole"),
+        (point(r#""asDouble":"-Infinity""#), "it is a double, -Infinity, which also --whole"),
         (point(r#""flags":0"#), "it has no asInt"),
         (point(r#""asInt":5.5"#), "asInt is 5.5, no whole number"),
-        (
-            point(r#""asInt":"9223372036854775808""#),
-            "asInt is 9223372036854775808, over",
-        ),
+        (point(r#""asInt":"9223372036854775808""#), "asInt is 9223372036854775808, over"),
         (
             sums(r#","aggregationTemporality":1,"isMonotonic":true"#)
                 .replace(r#""asInt":1"#, r#""asInt":-1"#),
             "asInt of a monotonic sum is -1",
         ),
         (histogram(r#""count":0.5"#), "count is 0.5, no whole number"),
-        (
-            histogram(r#""sum":1.37"#),
-            "sum is 1.37, no whole number: measure in a finer unit",
-        ),
+        (histogram(r#""sum":1.37"#), "sum is 1.37, no whole number: measure in a finer unit"),
         (histogram(r#""sum":-1"#), "sum is -1, below zero"),
         (histogram(r#""sum":1e300"#), "sum is 1e300, no whole number"),
         (
@@ -191,23 +113,11 @@ fn each_kind_of_foreign_point_has_its_reason() {
             histogram(r#""bucketCounts":[1,2,3],"count":6,"explicitBounds":[5,5]"#),
             "explicitBounds do not ascend at 5",
         ),
-        (
-            histogram(&format!(r#""explicitBounds":[{bounds}]"#)),
-            "explicitBounds are more than 255",
-        ),
+        (histogram(&format!(r#""explicitBounds":[{bounds}]"#)), "explicitBounds are more than 255"),
         (histogram(r#""explicitBounds":5"#), "explicitBounds is 5, no list"),
-        (
-            histogram(r#""bucketCounts":[1,2],"count":3"#),
-            "not one more than explicitBounds",
-        ),
-        (
-            histogram(r#""bucketCounts":[1,2],"count":4,"explicitBounds":[5]"#),
-            "do not add up to the count",
-        ),
-        (
-            histogram(r#""bucketCounts":[1,-2],"explicitBounds":[5]"#),
-            "a bucket is -2, below zero",
-        ),
+        (histogram(r#""bucketCounts":[1,2],"count":3"#), "not one more than explicitBounds"),
+        (histogram(r#""bucketCounts":[1,2],"count":4,"explicitBounds":[5]"#), "do not add up to the count"),
+        (histogram(r#""bucketCounts":[1,-2],"explicitBounds":[5]"#), "a bucket is -2, below zero"),
     ] {
         let found = why(body.clone());
         assert!(found.contains(words), "{body}: {found}");
@@ -220,9 +130,6 @@ fn a_point_that_the_book_counts_is_found_again() {
         r#"{{"name":"m","sum":{{"aggregationTemporality":1,"dataPoints":[{{{SPAN},"asInt":1}},{{}},{{{SPAN},"asInt":1,"attributes":[{{"key":"k"}}]}}]}}}}"#
     ));
     let key = |place| point_at(body.as_bytes(), Profile::Deltas, place).map(|(_, key)| key.0.to_string());
-    assert_eq!(
-        key(1).unwrap(),
-        r#"[[],"","",[],"m","","sum",[{"key":"k","value":{}}]]"#
-    );
+    assert_eq!(key(1).unwrap(), r#"[[],"","",[],"m","","sum",[{"key":"k","value":{}}]]"#);
     assert!(key(0).is_some() && key(2).is_none());
 }

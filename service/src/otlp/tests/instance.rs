@@ -7,10 +7,7 @@ use crate::otlp::series::SeriesKey;
 use std::collections::BTreeSet;
 
 fn reading() -> Reading {
-    Reading {
-        instance_from_sender: true,
-        ..Reading::default()
-    }
+    Reading { instance_from_sender: true, ..Reading::default() }
 }
 
 fn named(encoding: Encoding, body: impl Into<Bytes>) -> (Bytes, usize) {
@@ -19,10 +16,7 @@ fn named(encoding: Encoding, body: impl Into<Bytes>) -> (Bytes, usize) {
 
 fn instance(name: &str) -> KeyValue {
     let value = Any::Text(name.into());
-    KeyValue {
-        key: INSTANCE.into(),
-        value: Some(AnyValue { value: Some(value) }),
-    }
+    KeyValue { key: INSTANCE.into(), value: Some(AnyValue { value: Some(value) }) }
 }
 
 /// The same request as a sender would post it that names itself.
@@ -50,11 +44,7 @@ fn any_request_is_as_if_its_sender_had_named_itself() {
         for one in &mut request.resource_metrics {
             match random.below(4) {
                 0 => one.resource = None,
-                1 => one
-                    .resource
-                    .get_or_insert_with(Resource::default)
-                    .attributes
-                    .push(instance("own")),
+                1 => one.resource.get_or_insert_with(Resource::default).attributes.push(instance("own")),
                 _ => {}
             }
         }
@@ -77,18 +67,9 @@ fn json_is_read_in_any_form() {
     const PAIR: &str = r#"{"key":"service.instance.id","value":{"stringValue":"shop-1"}}"#;
     for (of_resource, wanted) in [
         ("", format!(r#""resource":{{"attributes":[{PAIR}]}},"#)),
-        (
-            r#""resource":null,"#,
-            format!(r#""resource":{{"attributes":[{PAIR}]}},"#),
-        ),
-        (
-            r#""resource":{"x":1},"#,
-            format!(r#""resource":{{"attributes":[{PAIR}],"x":1}},"#),
-        ),
-        (
-            r#""resource":{"attributes":null},"#,
-            format!(r#""resource":{{"attributes":[{PAIR}]}},"#),
-        ),
+        (r#""resource":null,"#, format!(r#""resource":{{"attributes":[{PAIR}]}},"#)),
+        (r#""resource":{"x":1},"#, format!(r#""resource":{{"attributes":[{PAIR}],"x":1}},"#)),
+        (r#""resource":{"attributes":null},"#, format!(r#""resource":{{"attributes":[{PAIR}]}},"#)),
         (
             r#""resource":{"attributes":[{"key":"a"}]},"#,
             format!(r#""resource":{{"attributes":[{PAIR},{{"key":"a"}}]}},"#),
@@ -119,10 +100,7 @@ fn a_request_is_left_as_it_is_where_there_is_no_name_to_give() {
     let body: Bytes = a_request().into();
     let off = with_instance("shop-1", Encoding::Protobuf, body.clone(), &Reading::default());
     assert_eq!(off.unwrap(), (body.clone(), 0));
-    assert_eq!(
-        with_instance("-", Encoding::Protobuf, body.clone(), &reading()).unwrap(),
-        (body.clone(), 0)
-    );
+    assert_eq!(with_instance("-", Encoding::Protobuf, body.clone(), &reading()).unwrap(), (body.clone(), 0));
     let cut = body.slice(..body.len() - 1);
     assert_eq!(named(Encoding::Protobuf, cut.clone()), (cut, 0));
 }
@@ -133,10 +111,7 @@ fn a_resource_in_parts_is_one() {
     let part = |key: &str| {
         let mut pair = instance("v");
         pair.key = key.into();
-        let resource = Resource {
-            attributes: vec![pair],
-        }
-        .encode_to_vec();
+        let resource = Resource { attributes: vec![pair] }.encode_to_vec();
         [&[0x0a, resource.len() as u8], &resource[..]].concat()
     };
     let request = |parts: &[Vec<u8>]| {
@@ -157,18 +132,12 @@ fn a_resource_in_parts_is_one() {
 fn a_request_of_very_many_resources_is_refused_by_name() {
     let many = |count: usize| format!(r#"{{"resourceMetrics":[{}]}}"#, vec!["{}"; count].join(","));
     let empty = |count: usize| [0x0a, 0].repeat(count);
-    for (encoding, body) in [
-        (Encoding::Json, Bytes::from(many(100_000))),
-        (Encoding::Protobuf, empty(100_000).into()),
-    ] {
+    for (encoding, body) in
+        [(Encoding::Json, Bytes::from(many(100_000))), (Encoding::Protobuf, empty(100_000).into())]
+    {
         let length = body.len();
-        let refused = with_instance("shop-1", encoding, body, &reading())
-            .unwrap_err()
-            .to_string();
-        assert!(
-            refused.contains("resources without a service.instance.id"),
-            "{length} {refused}"
-        );
+        let refused = with_instance("shop-1", encoding, body, &reading()).unwrap_err().to_string();
+        assert!(refused.contains("resources without a service.instance.id"), "{length} {refused}");
     }
     assert_eq!(named(Encoding::Json, many(10_000)).1, 10_000);
     assert_eq!(named(Encoding::Protobuf, empty(10_000)).1, 10_000);

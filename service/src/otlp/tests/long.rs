@@ -14,16 +14,11 @@ use prost::Message;
 const POINTS: u64 = 50;
 
 fn text(length: usize) -> AnyValue {
-    AnyValue {
-        value: Some(Any::Text("x".repeat(length))),
-    }
+    AnyValue { value: Some(Any::Text("x".repeat(length))) }
 }
 
 fn attribute(key: String, value: AnyValue) -> KeyValue {
-    KeyValue {
-        key,
-        value: Some(value),
-    }
+    KeyValue { key, value: Some(value) }
 }
 
 /// Attributes whose list is so long as it is written, and no other is as long.
@@ -51,24 +46,11 @@ fn request(
         attributes: point.clone(),
         flags: 0,
     };
-    let sum = Sum {
-        data_points: (0..POINTS).map(point).collect(),
-        aggregation_temporality: 1,
-        is_monotonic: true,
-    };
-    let metric = Metric {
-        name: "m".into(),
-        unit: String::new(),
-        data: Some(Data::Sum(sum)),
-    };
-    let scope = InstrumentationScope {
-        attributes: scope,
-        ..Default::default()
-    };
-    let scope_metrics = vec![ScopeMetrics {
-        scope: Some(scope),
-        metrics: vec![metric],
-    }];
+    let sum =
+        Sum { data_points: (0..POINTS).map(point).collect(), aggregation_temporality: 1, is_monotonic: true };
+    let metric = Metric { name: "m".into(), unit: String::new(), data: Some(Data::Sum(sum)) };
+    let scope = InstrumentationScope { attributes: scope, ..Default::default() };
+    let scope_metrics = vec![ScopeMetrics { scope: Some(scope), metrics: vec![metric] }];
     ExportMetricsServiceRequest {
         resource_metrics: vec![ResourceMetrics {
             resource: Some(Resource { attributes: resource }),
@@ -86,11 +68,7 @@ fn bodies(request: &ExportMetricsServiceRequest) -> [bytes::Bytes; 2] {
 
 #[test]
 fn a_list_that_is_too_long_makes_foreign_what_it_identifies() {
-    for (length, expected) in [
-        (LONGEST_LIST / 2, 0),
-        (LONGEST_LIST, 0),
-        (LONGEST_LIST + 1, POINTS),
-    ] {
+    for (length, expected) in [(LONGEST_LIST / 2, 0), (LONGEST_LIST, 0), (LONGEST_LIST + 1, POINTS)] {
         let (none, long) = (Vec::new, || list(length));
         for (of, request) in [
             ("resource attribute", request(long(), none(), none())),
@@ -99,10 +77,8 @@ fn a_list_that_is_too_long_makes_foreign_what_it_identifies() {
         ] {
             for body in bodies(&request) {
                 assert_eq!(posted(&body).unwrap().foreign, expected, "{of} {length}");
-                let why = explained(&body, Profile::Deltas, Clock::default().window())
-                    .unwrap()
-                    .remove(0)
-                    .foreign;
+                let why =
+                    explained(&body, Profile::Deltas, Clock::default().window()).unwrap().remove(0).foreign;
                 let wanted = format!("{of} is a list of over 16384 bytes, no list of attributes");
                 assert_eq!(why, (expected > 0).then_some(wanted));
             }
@@ -114,9 +90,7 @@ fn a_list_that_is_too_long_makes_foreign_what_it_identifies() {
 #[test]
 fn a_long_resource_that_points_share_is_no_memory() {
     let values = (0..128).map(|_| text(4096)).collect();
-    let array = AnyValue {
-        value: Some(Any::Array(ArrayValue { values })),
-    };
+    let array = AnyValue { value: Some(Any::Array(ArrayValue { values })) };
     let long = request(vec![attribute("a".into(), array)], Vec::new(), Vec::new());
     for body in bodies(&long) {
         let posted = posted(&body).unwrap();

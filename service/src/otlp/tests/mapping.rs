@@ -17,10 +17,7 @@ impl Spelling {
         }
         name.chars()
             .flat_map(|one| {
-                one.is_ascii_uppercase()
-                    .then_some('_')
-                    .into_iter()
-                    .chain([one.to_ascii_lowercase()])
+                one.is_ascii_uppercase().then_some('_').into_iter().chain([one.to_ascii_lowercase()])
             })
             .collect()
     }
@@ -71,10 +68,9 @@ impl Spelling {
                 let values = self.list(&array.values, |value| self.any(value));
                 self.object([("arrayValue", self.object([("values", values)]))])
             }
-            Some(Any::Map(list)) => self.object([(
-                "kvlistValue",
-                self.object([("values", self.attributes(&list.values))]),
-            )]),
+            Some(Any::Map(list)) => {
+                self.object([("kvlistValue", self.object([("values", self.attributes(&list.values))]))])
+            }
         }
     }
 
@@ -82,10 +78,7 @@ impl Spelling {
         self.list(attributes, |pair| {
             self.object([
                 ("key", json!(pair.key)),
-                (
-                    "value",
-                    pair.value.as_ref().map_or(Value::Null, |value| self.any(value)),
-                ),
+                ("value", pair.value.as_ref().map_or(Value::Null, |value| self.any(value))),
             ])
         })
     }
@@ -96,10 +89,8 @@ impl Spelling {
             Some(Number::AsInt(int)) => (self.whole(int.into()), Value::Null),
             Some(Number::AsDouble(double)) => (Value::Null, self.double(double)),
         };
-        let (start, end) = (
-            self.whole(point.start_time_unix_nano.into()),
-            self.whole(point.time_unix_nano.into()),
-        );
+        let (start, end) =
+            (self.whole(point.start_time_unix_nano.into()), self.whole(point.time_unix_nano.into()));
         self.object([
             ("startTimeUnixNano", start),
             ("timeUnixNano", end),
@@ -111,24 +102,16 @@ impl Spelling {
     }
 
     fn histogram_point(&self, point: &HistogramDataPoint) -> Value {
-        let (start, end) = (
-            self.whole(point.start_time_unix_nano.into()),
-            self.whole(point.time_unix_nano.into()),
-        );
+        let (start, end) =
+            (self.whole(point.start_time_unix_nano.into()), self.whole(point.time_unix_nano.into()));
         self.object([
             ("attributes", self.attributes(&point.attributes)),
             ("startTimeUnixNano", start),
             ("timeUnixNano", end),
             ("count", self.whole(point.count.into())),
             ("sum", point.sum.map_or(Value::Null, |sum| self.double(sum))),
-            (
-                "bucketCounts",
-                self.list(&point.bucket_counts, |count| self.whole((*count).into())),
-            ),
-            (
-                "explicitBounds",
-                self.list(&point.explicit_bounds, |bound| self.double(*bound)),
-            ),
+            ("bucketCounts", self.list(&point.bucket_counts, |count| self.whole((*count).into()))),
+            ("explicitBounds", self.list(&point.explicit_bounds, |bound| self.double(*bound))),
         ])
     }
 
@@ -149,20 +132,14 @@ impl Spelling {
                 sum = self.object([
                     ("dataPoints", points),
                     ("isMonotonic", json!(data.is_monotonic)),
-                    (
-                        "aggregationTemporality",
-                        self.temporality(data.aggregation_temporality),
-                    ),
+                    ("aggregationTemporality", self.temporality(data.aggregation_temporality)),
                 ]);
             }
             Some(Data::Histogram(data)) => {
                 let points = self.list(&data.data_points, |point| self.histogram_point(point));
                 histogram = self.object([
                     ("dataPoints", points),
-                    (
-                        "aggregationTemporality",
-                        self.temporality(data.aggregation_temporality),
-                    ),
+                    ("aggregationTemporality", self.temporality(data.aggregation_temporality)),
                 ]);
             }
         }

@@ -37,18 +37,9 @@ fn a_point_is_written_alike_in_any_order() {
     let cases = [
         (vec![], String::new()),
         (vec![&text], format!(r#","attributes":[{of_text}]"#)),
-        (
-            vec![&text, &whole],
-            format!(r#","attributes":[{of_text},{of_whole}]"#),
-        ),
-        (
-            vec![&whole, &truth],
-            format!(r#","attributes":[{of_whole},{of_truth}]"#),
-        ),
-        (
-            vec![&text, &flags],
-            format!(r#","attributes":[{of_text}],"flags":1"#),
-        ),
+        (vec![&text, &whole], format!(r#","attributes":[{of_text},{of_whole}]"#)),
+        (vec![&whole, &truth], format!(r#","attributes":[{of_whole},{of_truth}]"#)),
+        (vec![&text, &flags], format!(r#","attributes":[{of_text}],"flags":1"#)),
         (vec![&exemplar, &whole], format!(r#","attributes":[{of_whole}]"#)),
         (vec![&whole, &unknown], format!(r#","attributes":[{of_whole}]"#)),
     ];
@@ -87,10 +78,7 @@ fn a_point_is_written_alike_in_any_order() {
 #[test]
 fn a_point_of_a_histogram_is_written_alike_with_other_fields() {
     let packed = |number, all: &[u64]| {
-        bytes(
-            number,
-            &all.iter().flat_map(|bits| bits.to_le_bytes()).collect::<Vec<_>>(),
-        )
+        bytes(number, &all.iter().flat_map(|bits| bits.to_le_bytes()).collect::<Vec<_>>())
     };
     let bits = |double: f64| double.to_bits();
     let fields = [

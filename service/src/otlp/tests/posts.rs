@@ -37,10 +37,7 @@ pub fn posts(seed: u64, many: usize) -> Vec<Vec<u8>> {
 
 /// Gives each point a span behind all others, and nearly all of them values that can be added up.
 fn set(request: &mut ExportMetricsServiceRequest, random: &mut Random, clock: &mut u64) {
-    let scopes = request
-        .resource_metrics
-        .iter_mut()
-        .flat_map(|resource| &mut resource.scope_metrics);
+    let scopes = request.resource_metrics.iter_mut().flat_map(|resource| &mut resource.scope_metrics);
     for metric in scopes.flat_map(|scope| &mut scope.metrics) {
         match &mut metric.data {
             None => {}
@@ -81,10 +78,7 @@ fn set_sum(point: &mut NumberDataPoint, random: &mut Random) {
 }
 
 fn set_histogram(point: &mut HistogramDataPoint, random: &mut Random) {
-    point
-        .bucket_counts
-        .iter_mut()
-        .for_each(|bucket| *bucket = random.below(9));
+    point.bucket_counts.iter_mut().for_each(|bucket| *bucket = random.below(9));
     point.count = point.bucket_counts.iter().sum::<u64>() + random.below(20) / 19;
     point.sum = match random.below(12) {
         0 => None,

@@ -33,11 +33,7 @@ fn a_list_in_a_list_makes_no_other_point_foreign() {
         let list = (0..depth).fold(vec![0x10, 1], |inner, _| bytes(5, &bytes(1, &inner)));
         let read = read(sum(&[point(&attribute(&list)), point(b"")]));
         let foreign = u64::from(depth > 1);
-        assert_eq!(
-            (read.foreign, read.series.len() as u64),
-            (foreign, 2 - foreign),
-            "{depth}"
-        );
+        assert_eq!((read.foreign, read.series.len() as u64), (foreign, 2 - foreign), "{depth}");
     }
 }
 
@@ -91,20 +87,13 @@ fn of_several_kinds_of_data_all_points_are_foreign() {
 #[test]
 fn a_message_that_is_there_in_parts_is_one() {
     let of_sum = |points: &[u8]| bytes(7, points);
-    let points = [
-        bytes(1, &point(b"")),
-        bytes(1, &point(&attribute(&bytes(1, b"t")))),
-    ];
+    let points = [bytes(1, &point(b"")), bytes(1, &point(&attribute(&bytes(1, b"t"))))];
     let (first, second) = (of_sum(&points[0]), of_sum(&[&points[1][..], &[0x10, 1]].concat()));
     let metric = [&first[..], &bytes(1, b"m"), &second, &of_sum(b"")].concat();
     let scope = bytes(2, &bytes(2, &metric));
     let resource = |key: &[u8]| bytes(1, &bytes(1, &[&bytes(1, key)[..], &bytes(2, &[24, 5])].concat()));
     let body = bytes(1, &[&resource(b"a")[..], &scope, &resource(b"b")].concat());
-    let mut series: Vec<String> = read(body)
-        .series
-        .into_keys()
-        .map(|key| key.0.to_string())
-        .collect();
+    let mut series: Vec<String> = read(body).series.into_keys().map(|key| key.0.to_string()).collect();
     series.sort();
     let above = r#"[[{"key":"a","value":{"intValue":"5"}},{"key":"b","value":{"intValue":"5"}}],"","",[],"m","","sum","#;
     let expected = [r#"[]]"#, r#"[{"key":"k","value":{"stringValue":"t"}}]]"#];
@@ -122,10 +111,7 @@ fn parts_may_be_in_parts() {
     let of_sum = [bytes(7, &bytes(1, &whole)), bytes(7, &[0x10, 1])].concat();
     let read = read(within_request(&of_sum));
     let series: Vec<String> = read.series.into_keys().map(|key| key.0.to_string()).collect();
-    assert_eq!(
-        series,
-        [r#"[[],"","",[],"","","sum",[{"key":"k","value":{"intValue":"7"}}]]"#]
-    );
+    assert_eq!(series, [r#"[[],"","",[],"","","sum",[{"key":"k","value":{"intValue":"7"}}]]"#]);
 }
 
 /// Other readers of protobuf refuse it: each part is a message by itself, and what is cut at its end does not go on in
@@ -155,11 +141,7 @@ fn a_part_that_is_cut_is_refused() {
         is_refused(sum_in_parts(cut), "Sum: cut within a field");
     }
     is_refused(within_request(&in_parts(7, &group, 3)), "Sum: cut within a field");
-    for whole in [
-        value_in_parts(0),
-        value_in_parts(text.len()),
-        sum_in_parts(points.len() - 2),
-    ] {
+    for whole in [value_in_parts(0), value_in_parts(text.len()), sum_in_parts(points.len() - 2)] {
         assert_eq!(read(whole).series.len(), 1);
     }
 }

@@ -27,17 +27,7 @@ impl Random {
     }
 
     fn number(&mut self) -> u64 {
-        let edges = [
-            0,
-            1,
-            2,
-            5,
-            1 << 53,
-            (1 << 53) + 1,
-            i64::MAX as u64,
-            1 << 63,
-            u64::MAX,
-        ];
+        let edges = [0, 1, 2, 5, 1 << 53, (1 << 53) + 1, i64::MAX as u64, 1 << 63, u64::MAX];
         edges[self.below(9) as usize]
     }
 
@@ -70,22 +60,15 @@ impl Random {
             3 => Some(Any::Int(self.number() as i64)),
             4 if self.below(4) == 0 => Some(Any::Double(self.double())),
             5 if self.below(4) == 0 => Some(Any::Bytes(self.text().into_bytes())),
-            6 => Some(Any::Array(ArrayValue {
-                values: self.list(3, |random| random.any(depth + 1)),
-            })),
-            7 if self.below(4) == 0 => Some(Any::Map(KeyValueList {
-                values: self.attributes(depth + 1),
-            })),
+            6 => Some(Any::Array(ArrayValue { values: self.list(3, |random| random.any(depth + 1)) })),
+            7 if self.below(4) == 0 => Some(Any::Map(KeyValueList { values: self.attributes(depth + 1) })),
             _ => Some(Any::Int(5)),
         };
         AnyValue { value }
     }
 
     fn attributes(&mut self, depth: u64) -> Vec<KeyValue> {
-        self.list(3, |random| KeyValue {
-            key: random.text(),
-            value: Some(random.any(depth)),
-        })
+        self.list(3, |random| KeyValue { key: random.text(), value: Some(random.any(depth)) })
     }
 
     /// A small one, or one as programs have it.
@@ -107,13 +90,7 @@ impl Random {
             0 => self.number(),
             _ => start_time_unix_nano + self.below(3) * 100_000_000,
         };
-        NumberDataPoint {
-            start_time_unix_nano,
-            time_unix_nano,
-            value,
-            attributes: self.attributes(0),
-            flags,
-        }
+        NumberDataPoint { start_time_unix_nano, time_unix_nano, value, attributes: self.attributes(0), flags }
     }
 
     fn histogram_point(&mut self) -> HistogramDataPoint {
@@ -148,18 +125,12 @@ impl Random {
                 aggregation_temporality,
             })),
         };
-        Metric {
-            name: self.text(),
-            unit: ["", "s", "By", "a\"b"][self.below(4) as usize].to_string(),
-            data,
-        }
+        Metric { name: self.text(), unit: ["", "s", "By", "a\"b"][self.below(4) as usize].to_string(), data }
     }
 
     pub fn request(&mut self) -> ExportMetricsServiceRequest {
         let resource_metrics = self.list(4, |random| ResourceMetrics {
-            resource: (random.below(3) > 0).then(|| Resource {
-                attributes: random.attributes(0),
-            }),
+            resource: (random.below(3) > 0).then(|| Resource { attributes: random.attributes(0) }),
             scope_metrics: random.list(4, |random| ScopeMetrics {
                 scope: (random.below(3) > 0).then(|| InstrumentationScope {
                     name: random.text(),
@@ -176,11 +147,7 @@ impl Random {
 /// Requests in the book's form, each as it comes of protobuf and of JSON.
 pub fn requests(many: usize) -> Vec<[Bytes; 2]> {
     let mut random = Random(11);
-    let spelling = Spelling {
-        proto_names: false,
-        numbers: false,
-        enum_names: false,
-    };
+    let spelling = Spelling { proto_names: false, numbers: false, enum_names: false };
     let one = |_| {
         let request = random.request();
         let both = [
@@ -201,14 +168,8 @@ fn both_encodings_of_a_request_mean_the_same() {
 fn both_encodings_mean_the_same_in_finer_units() {
     let rules = ["s=us", "By", "a\"b=3:c"].map(|rule| rule.parse().unwrap());
     let finer_units = FinerUnits::new(rules).unwrap();
-    let rounded = both_mean_the_same(&Reading {
-        finer_units,
-        ..Reading::default()
-    });
-    assert!(
-        rounded.len() == 3 && rounded.values().all(|one| one.values > 10),
-        "{rounded:?}"
-    );
+    let rounded = both_mean_the_same(&Reading { finer_units, ..Reading::default() });
+    assert!(rounded.len() == 3 && rounded.values().all(|one| one.values > 10), "{rounded:?}");
 }
 
 /// What is decided by the one encoding holds for the other.
@@ -246,20 +207,13 @@ fn both_mean_the_same(reading: &Reading) -> BTreeMap<String, Rounding> {
             .sum::<usize>();
         assert_eq!(explained.len(), all);
         for draw in 0..8 {
-            let spelling = Spelling {
-                proto_names: draw & 1 != 0,
-                numbers: draw & 2 != 0,
-                enum_names: draw & 4 != 0,
-            };
+            let spelling =
+                Spelling { proto_names: draw & 1 != 0, numbers: draw & 2 != 0, enum_names: draw & 4 != 0 };
             let text = spelling.request(&request);
             let written = prepared(Encoding::Json, text.clone().into_bytes());
             assert_eq!(written.rounded, binary.rounded, "{text}");
             let found = posted(&written.body).unwrap();
-            assert_eq!(
-                (found.series, found.foreign),
-                (expected.series.clone(), expected.foreign),
-                "{text}"
-            );
+            assert_eq!((found.series, found.foreign), (expected.series.clone(), expected.foreign), "{text}");
         }
         series += expected.series.len();
         foreign += expected.foreign;
@@ -320,11 +274,7 @@ fn cut_and_changed_bytes_never_panic() {
     let mut random = Random(7);
     for _ in 0..3 {
         let request = random.request();
-        let spelling = Spelling {
-            proto_names: false,
-            numbers: true,
-            enum_names: true,
-        };
+        let spelling = Spelling { proto_names: false, numbers: true, enum_names: true };
         for (encoding, body) in [
             (Encoding::Protobuf, request.encode_to_vec()),
             (Encoding::Json, spelling.request(&request).into_bytes()),

@@ -12,35 +12,14 @@ fn what_is_no_request_or_would_be_lost_is_refused() {
         ("{}{}", "not JSON"),
         (r#"{"resourceSpans":[{}]}"#, "resourceSpans is not of metrics"),
         (r#"{"scopeMetrics":[{}]}"#, "belongs into resourceMetrics"),
-        (
-            r#"{"resourceMetrics":{}}"#,
-            "resourceMetrics is no array of objects",
-        ),
-        (
-            r#"{"resourceMetrics":[null]}"#,
-            "resourceMetrics is no array of objects",
-        ),
-        (
-            r#"{"resourceMetrics":[],"resource_metrics":[]}"#,
-            "resourceMetrics is there twice",
-        ),
-        (
-            r#"{"resourceMetrics":[],"resourceMetrics":null}"#,
-            "resourceMetrics is there twice",
-        ),
-        (
-            r#"{"resourceMetrics":[{"instrumentationLibraryMetrics":[{}]}]}"#,
-            "old version of OTLP",
-        ),
+        (r#"{"resourceMetrics":{}}"#, "resourceMetrics is no array of objects"),
+        (r#"{"resourceMetrics":[null]}"#, "resourceMetrics is no array of objects"),
+        (r#"{"resourceMetrics":[],"resource_metrics":[]}"#, "resourceMetrics is there twice"),
+        (r#"{"resourceMetrics":[],"resourceMetrics":null}"#, "resourceMetrics is there twice"),
+        (r#"{"resourceMetrics":[{"instrumentationLibraryMetrics":[{}]}]}"#, "old version of OTLP"),
         (r#"{"resourceMetrics":[{"resource":5}]}"#, "resource is no object"),
-        (
-            r#"{"resourceMetrics":[{"scopeMetrics":[{"metrics":[{"intSum":{}}]}]}]}"#,
-            "old version of OTLP",
-        ),
-        (
-            r#"{"resourceMetrics":[{"scopeMetrics":[{"metrics":[{"sum":[]}]}]}]}"#,
-            "sum is no object",
-        ),
+        (r#"{"resourceMetrics":[{"scopeMetrics":[{"metrics":[{"intSum":{}}]}]}]}"#, "old version of OTLP"),
+        (r#"{"resourceMetrics":[{"scopeMetrics":[{"metrics":[{"sum":[]}]}]}]}"#, "sum is no object"),
         (
             r#"{"resourceMetrics":[{"scopeMetrics":[{"metrics":[{"gauge":{"dataPoints":[5]}}]}]}]}"#,
             "no array of objects",
@@ -70,9 +49,8 @@ fn protobuf_that_is_malformed_or_would_be_lost_is_refused() {
     };
     let nested = |depth: usize| (0..depth).fold(vec![0x10, 1], |inner, _| bytes(5, &bytes(1, &inner)));
     let in_parts = |depth: usize| {
-        (0..depth).fold(bytes(7, &[0; 1000]), |inner, _| {
-            [bytes(5, b""), bytes(5, &bytes(1, &inner))].concat()
-        })
+        (0..depth)
+            .fold(bytes(7, &[0; 1000]), |inner, _| [bytes(5, b""), bytes(5, &bytes(1, &inner))].concat())
     };
     let cases = [
         (vec![0x0a], "cut"),
@@ -89,18 +67,9 @@ fn protobuf_that_is_malformed_or_would_be_lost_is_refused() {
         (bytes(1, &bytes(1000, b"")), "old version of OTLP"),
         (within_request(&bytes(1, b"\xff")), "name is not UTF-8"),
         (within_request(&bytes(6, b"")), "intSum is of an old version"),
-        (
-            within_request(&bytes(7, &bytes(1, &bytes(1, b"")))),
-            "labels is of an old version",
-        ),
-        (
-            within_request(&bytes(7, &bytes(1, &bytes(5, b"\x0a")))),
-            "Exemplar: cut",
-        ),
-        (
-            within_request(&bytes(9, &bytes(1, &bytes(6, b"1234567")))),
-            "bucketCounts of another wire type",
-        ),
+        (within_request(&bytes(7, &bytes(1, &bytes(1, b"")))), "labels is of an old version"),
+        (within_request(&bytes(7, &bytes(1, &bytes(5, b"\x0a")))), "Exemplar: cut"),
+        (within_request(&bytes(9, &bytes(1, &bytes(6, b"1234567")))), "bucketCounts of another wire type"),
         (within_request(&bytes(5, &bytes(1, &[0x38]))), "cut"),
         (attribute(&bytes(6, &bytes(1, b"\x0a"))), "KeyValue: cut"),
         (attribute(&bytes(7, b"\xff")[..2]), "cut"),
@@ -122,9 +91,7 @@ fn many_small_messages_take_little_memory() {
     assert_eq!(posted(&written).unwrap().foreign, 1 << 20);
     let deep = [br#"{"x":"#.repeat(1 << 19), b"[".repeat(1 << 20)];
     for body in deep {
-        assert!(prepared(Encoding::Json, body.clone())
-            .unwrap_err()
-            .contains("nested more than 127"));
+        assert!(prepared(Encoding::Json, body.clone()).unwrap_err().contains("nested more than 127"));
     }
     // A protobuf of 1.1 MB or more whose JSON is over 4 MiB is one post.
     let long = bytes(
@@ -135,11 +102,7 @@ fn many_small_messages_take_little_memory() {
         ]
         .concat(),
     );
-    let written = prepared(
-        Encoding::Protobuf,
-        within_request(&bytes(7, &long.repeat(25_000))),
-    )
-    .unwrap();
+    let written = prepared(Encoding::Protobuf, within_request(&bytes(7, &long.repeat(25_000)))).unwrap();
     assert!(written.len() > 4 << 20);
     assert_eq!(posted(&written).unwrap().foreign, 25_000);
 }

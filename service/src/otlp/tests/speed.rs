@@ -38,10 +38,6 @@ fn speed_of_long_bodies() {
     time("posted", &|| drop(posted(body.as_bytes())));
     time("forwarded", &|| drop(series::forwarded(body.as_bytes())));
     time("JSON as it is", &|| drop(prepared(Encoding::Json, body.clone())));
-    time("JSON that is written", &|| {
-        drop(prepared(Encoding::Json, typed.clone()))
-    });
-    time("protobuf", &|| {
-        drop(prepared(Encoding::Protobuf, protobuf.clone()))
-    });
+    time("JSON that is written", &|| drop(prepared(Encoding::Json, typed.clone())));
+    time("protobuf", &|| drop(prepared(Encoding::Protobuf, protobuf.clone())));
 }

@@ -37,29 +37,17 @@ fn filled(path: &Path, slots: u16, posts: u64) {
     folder.set_slots(slots).unwrap();
     for slot in 0..slots {
         let (journal, outbox) = folder.slot(slot).unwrap();
-        let own = senders()
-            .into_iter()
-            .filter(|sender| slot_of(sender, slots) == slot);
-        let bodies: Vec<_> = own
-            .clone()
-            .map(|sender| request(&sender, frontier(&sender, slots)))
-            .collect();
+        let own = senders().into_iter().filter(|sender| slot_of(sender, slots) == slot);
+        let bodies: Vec<_> = own.clone().map(|sender| request(&sender, frontier(&sender, slots))).collect();
         journal.turn();
         outbox.commit(&bodies, 2).unwrap();
-        let owners: HashMap<SeriesKey, String> = outbox
-            .series()
-            .into_keys()
-            .map(|key| (key.clone(), key.parts().unwrap().name))
-            .collect();
+        let owners: HashMap<SeriesKey, String> =
+            outbox.series().into_keys().map(|key| (key.clone(), key.parts().unwrap().name)).collect();
         outbox.own(owners).unwrap();
         for sender in own {
             for number in 1..=posts {
                 let body = request(&sender, frontier(&sender, slots) + number);
-                let post = Post {
-                    body: Body::Text(body.into()),
-                    sender: sender.clone(),
-                    foreign: 0,
-                };
+                let post = Post { body: Body::Text(body.into()), sender: sender.clone(), foreign: 0 };
                 journal.write(journal.append(&post, &NoNames)).unwrap();
             }
         }
@@ -86,9 +74,7 @@ async fn known(path: &Path) -> (u16, Vec<BTreeMap<String, u64>>, BTreeMap<String
         while outbox.waiting().0 > 0 {
             let (waiting, body) = outbox.first().await.unwrap();
             for point in forwarded(&body).unwrap() {
-                let Value::Sum(value) = point.value else {
-                    panic!("{point:?}")
-                };
+                let Value::Sum(value) = point.value else { panic!("{point:?}") };
                 *sums.entry(point.series.parts().unwrap().name).or_default() += value;
             }
             outbox.acknowledge(waiting.number).unwrap();
@@ -110,10 +96,7 @@ fn wanted(from: u16, posts: u64) -> Vec<BTreeMap<String, u64>> {
 }
 
 fn sums(posts: u64) -> BTreeMap<String, i64> {
-    senders()
-        .into_iter()
-        .map(|sender| (sender, 1 + posts as i64))
-        .collect()
+    senders().into_iter().map(|sender| (sender, 1 + posts as i64)).collect()
 }
 
 /// In memory, where that can be: each call of the disk is made on many copies.
@@ -122,11 +105,7 @@ fn place() -> tempfile::TempDir {
 }
 
 fn copy(from: &Path, to: &Path) {
-    let copied = std::process::Command::new("cp")
-        .arg("-a")
-        .arg(from)
-        .arg(to)
-        .status();
+    let copied = std::process::Command::new("cp").arg("-a").arg(from).arg(to).status();
     assert!(copied.unwrap().success());
 }
 
@@ -146,11 +125,7 @@ async fn slot_0_has_all_series_and_what_waits_stays_where_it_is() {
         adopted(&path, MOST).await.unwrap();
         adopted(&path, MOST).await.unwrap();
         let (slots, all, found, requests) = known(&path).await;
-        assert_eq!(
-            (slots, all, found),
-            (1, wanted(from, posts), sums(posts)),
-            "of {from} slots"
-        );
+        assert_eq!((slots, all, found), (1, wanted(from, posts), sums(posts)), "of {from} slots");
         assert!(requests >= WAIT, "{requests}");
     }
 }
@@ -181,11 +156,7 @@ async fn a_kill_at_any_call_loses_and_doubles_nothing() {
         left_with.push(Folder::open(&left, Durability::Process).unwrap().slots());
         adopted(&left, MOST).await.unwrap();
         let (slots, all, found, _) = known(&left).await;
-        assert_eq!(
-            (slots, all, found),
-            (1, wanted(FROM, POSTS), sums(POSTS)),
-            "call {call}"
-        );
+        assert_eq!((slots, all, found), (1, wanted(FROM, POSTS), sums(POSTS)), "call {call}");
         std::fs::remove_dir_all(&left).unwrap();
     }
     eprintln!("{calls} calls");
@@ -200,12 +171,8 @@ async fn too_many_series_are_named_and_change_nothing() {
     let place = place();
     let path = place.path().join("data");
     filled(&path, 2, 2);
-    let series = |number: usize| Series {
-        frontier: 2,
-        owner: Some("s1".into()),
-        seen: number as u64,
-        run: None,
-    };
+    let series =
+        |number: usize| Series { frontier: 2, owner: Some("s1".into()), seen: number as u64, run: None };
     let many = (0..FEW).map(|number| {
         let key = format!("[[],\"\",\"\",[],\"m{number}\",\"\",\"sum\",[]]");
         (SeriesKey(key.into()), series(number))
@@ -215,10 +182,7 @@ async fn too_many_series_are_named_and_change_nothing() {
     drop(folder);
     assert_eq!(slot_of("s1", 2), 1, "so they stay there");
     let text = adopted(&path, FEW).await.unwrap_err().to_string();
-    assert!(
-        text.contains("1012 series") && text.contains("--most-series"),
-        "{text}"
-    );
+    assert!(text.contains("1012 series") && text.contains("--most-series"), "{text}");
     assert_eq!(Folder::open(&path, Durability::Process).unwrap().slots(), 2);
     adopted(&path, FEW + WAIT as usize).await.unwrap();
     assert_eq!(Folder::open(&path, Durability::Process).unwrap().slots(), 1);
@@ -251,11 +215,7 @@ fn held(path: &Path) -> (Vec<String>, BTreeMap<String, Vec<u64>>, usize) {
         true
     });
     read.unwrap();
-    let others = folder
-        .slots_with_files()
-        .unwrap()
-        .into_iter()
-        .filter(|slot| *slot > 0);
+    let others = folder.slots_with_files().unwrap().into_iter().filter(|slot| *slot > 0);
     let left = others.filter(|slot| !folder.outbox(*slot).unwrap().quarantined().is_empty());
     (outbox.quarantined().into_iter().collect(), posts, left.count())
 }
@@ -267,10 +227,7 @@ fn wanted_of_held(from: u16, posts: u64) -> (Vec<String>, BTreeMap<String, Vec<u
         let frontier = frontier(sender, from);
         (frontier + 1..=frontier + posts).collect()
     };
-    let all = names
-        .iter()
-        .map(|sender| (sender.clone(), ends(sender)))
-        .collect();
+    let all = names.iter().map(|sender| (sender.clone(), ends(sender))).collect();
     (names, all, 0)
 }
 
@@ -279,10 +236,7 @@ async fn quarantined_senders_and_their_posts_come_to_slot_0_also_over_a_kill_at_
     const FROM: u16 = 3;
     const POSTS: u64 = 3;
     let slots_of_held = HELD.map(|sender| slot_of(sender, FROM));
-    assert!(
-        (0..FROM).all(|slot| slots_of_held.contains(&slot)),
-        "{slots_of_held:?}"
-    );
+    assert!((0..FROM).all(|slot| slots_of_held.contains(&slot)), "{slots_of_held:?}");
     let place = place();
     let path = place.path().join("data");
     filled(&path, FROM, POSTS);

@@ -24,10 +24,7 @@ pub(super) struct InStore {
 impl InStore {
     pub fn open(store: Arc<PostgresStore>) -> anyhow::Result<InStore> {
         let known = store.sink()?;
-        Ok(InStore {
-            known: Mutex::new(KnownSink::of_line(&known)),
-            store,
-        })
+        Ok(InStore { known: Mutex::new(KnownSink::of_line(&known)), store })
     }
 
     fn known(&self) -> MutexGuard<'_, Option<KnownSink>> {

@@ -33,25 +33,12 @@ fn over(
         stopped.wait_true().await;
         end.await.map_err(Trouble::from)
     });
-    let settings = crate::keeper::Settings {
-        every: Duration::from_secs(3600),
-        forget: None,
-    };
+    let settings = crate::keeper::Settings { every: Duration::from_secs(3600), forget: None };
     let orders = Keeper::new(slot.clone(), settings).1;
     let delivery = Arc::default();
-    let undelivered = Undelivered {
-        number,
-        outbox,
-        delivery,
-    };
+    let undelivered = Undelivered { number, outbox, delivery };
     Unit {
-        of_desk: Arc::new(operate::Unit {
-            slot,
-            orders,
-            undelivered,
-            former: Vec::new(),
-            dead,
-        }),
+        of_desk: Arc::new(operate::Unit { slot, orders, undelivered, former: Vec::new(), dead }),
         keeper,
         deliveries: JoinSet::new(),
         stop_keeper,
@@ -70,10 +57,7 @@ impl Unit {
 }
 
 pub fn no_disk() -> Fault {
-    Fault::Io {
-        path: "/outbox".into(),
-        source: std::io::Error::other("no disk"),
-    }
+    Fault::Io { path: "/outbox".into(), source: std::io::Error::other("no disk") }
 }
 
 /// It is in the middle of a change of its files, as a rule of a commit.
@@ -114,10 +98,6 @@ fn a_slot_has_more_than_its_share_and_than_it_has_already() {
         (100_000, 2, 0, 100_000),
         (1, 1024, 0, 1),
     ] {
-        assert_eq!(
-            room(most, slots, known),
-            wanted,
-            "{most} series, {slots} slots, {known} known"
-        );
+        assert_eq!(room(most, slots, known), wanted, "{most} series, {slots} slots, {known} known");
     }
 }

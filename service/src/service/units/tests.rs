@@ -59,11 +59,7 @@ fn settings(place: &Path) -> Settings {
         data: place.into(),
         listen: String::new(),
         listen_grpc: None,
-        operate: Operate {
-            tcp: None,
-            socket: PathBuf::new(),
-            tokens: None,
-        },
+        operate: Operate { tcp: None, socket: PathBuf::new(), tokens: None },
         door: Door::default(),
         behind_proxy: false,
         of_each: Share::default(),
@@ -109,23 +105,12 @@ impl Service {
         let place = settings.data.clone();
         let shared = Arc::new(Shared::new(metrics.clone(), settings.clock));
         let sink = Arc::<Taken>::default();
-        let reporter = Reporter::new(
-            settings.report_options.clone(),
-            metrics.clone(),
-            Arc::default(),
-            None,
-        );
+        let reporter = Reporter::new(settings.report_options.clone(), metrics.clone(), Arc::default(), None);
         let slots = Slots::several(Resources::new(SLOTS, reading.clone()), None);
         let of_desk = operate::Units::of(SLOTS);
         let (at_work, ends) = AtWork::new(of_desk.clone());
         let budget = Budget::new(settings.most_bytes);
-        let intake = Intake::of(
-            slots.clone(),
-            reporter.clone(),
-            reading,
-            budget.clone(),
-            metrics.clone(),
-        );
+        let intake = Intake::of(slots.clone(), reporter.clone(), reading, budget.clone(), metrics.clone());
         let desk = Arc::new(Desk {
             others,
             units: of_desk,
@@ -144,23 +129,8 @@ impl Service {
             most_series: 1000,
             begun: Instant::now(),
         });
-        let units = Units {
-            settings,
-            shared,
-            sink: sink.clone(),
-            reporter,
-            slots,
-            at_work,
-        };
-        Service {
-            place,
-            sink,
-            units,
-            ends,
-            intake,
-            budget,
-            desk,
-        }
+        let units = Units { settings, shared, sink: sink.clone(), reporter, slots, at_work };
+        Service { place, sink, units, ends, intake, budget, desk }
     }
 
     async fn open(&self, number: u16) {
@@ -168,13 +138,7 @@ impl Service {
         let folder = Folder::open(&place, Durability::Process).unwrap();
         let (journal, outbox) = folder.slot(0).unwrap();
         let dead = Arc::new(folder.dead().unwrap());
-        let files = Files {
-            number,
-            journal,
-            outbox: Arc::new(outbox),
-            dead,
-            former: Vec::new(),
-        };
+        let files = Files { number, journal, outbox: Arc::new(outbox), dead, former: Vec::new() };
         self.units.open(files).await.unwrap();
         let is_ready = |unit: Arc<operate::Unit>| unit.slot.is_ready();
         while !self.desk.units.get(number).is_some_and(is_ready) {
@@ -184,11 +148,7 @@ impl Service {
 
     /// Posts a point of each of these slots' processes, which ends then.
     async fn post(&self, slots: &[u16], end: u64) -> Outcome {
-        let head = Head {
-            sender: "A".into(),
-            encoding: Encoding::Json,
-            packing: Packing::Plain,
-        };
+        let head = Head { sender: "A".into(), encoding: Encoding::Json, packing: Packing::Plain };
         let body = request(slots, end);
         self.intake.put(head, body, self.budget.hold()).await
     }
@@ -279,11 +239,7 @@ async fn a_slot_that_is_lost_ends_alone() {
     let lost = service.units.at_work.units().all().remove(1);
     service.units.lose(1);
     assert_eq!(service.post(&[1], 20).await.status(), 503);
-    assert_eq!(
-        lost.slot.unavailable(),
-        Some(MOVED),
-        "also for who had found it before"
-    );
+    assert_eq!(lost.slot.unavailable(), Some(MOVED), "also for who had found it before");
     assert_eq!(service.post(&[0, 2], 20).await, Outcome::taken(0));
     assert!(service.ends.try_recv().is_err(), "nothing else has ended");
     assert!(service.units.at_work.units().get(1).is_none());
@@ -317,21 +273,10 @@ async fn orders_are_all_slots_and_503_where_one_is_not_here() {
     service.open(2).await;
     let quarantine = ("POST", "/quarantine/A");
     let (status, text) = service.ask(quarantine.0, quarantine.1).await;
-    assert!(
-        status == 503 && text.contains("2 of 3 slots did it, and not slot 1"),
-        "{status} {text}"
-    );
-    assert_eq!(
-        service.post(&[0, 2], 10).await.status(),
-        403,
-        "those that are here refuse it"
-    );
+    assert!(status == 503 && text.contains("2 of 3 slots did it, and not slot 1"), "{status} {text}");
+    assert_eq!(service.post(&[0, 2], 10).await.status(), 403, "those that are here refuse it");
     service.open(1).await;
-    assert_eq!(
-        service.ask(quarantine.0, quarantine.1).await.0,
-        200,
-        "also where some had it"
-    );
+    assert_eq!(service.ask(quarantine.0, quarantine.1).await.0, 200, "also where some had it");
     assert_eq!(service.post(&[0, 1, 2], 10).await.status(), 403);
     assert_eq!(service.ask(quarantine.0, quarantine.1).await.0, 400, "all had it");
     assert_eq!(service.ask("POST", "/lift/A").await.0, 200);
@@ -355,10 +300,7 @@ async fn what_is_shown_is_of_all_slots() {
     let said: serde_json::Value = serde_json::from_str(&text).unwrap();
     let slots = said["slots"].as_array().unwrap().iter();
     let slots: Vec<u64> = slots.map(|slot| slot["slot"].as_u64().unwrap()).collect();
-    assert_eq!(
-        (status, slots, said["ready"].as_bool()),
-        (200, vec![0, 1, 2], Some(true))
-    );
+    assert_eq!((status, slots, said["ready"].as_bool()), (200, vec![0, 1, 2], Some(true)));
     let (_, metrics) = service.ask("GET", "/metrics").await;
     for line in ["totxegun_series 3", "totxegun_ready 1"] {
         assert!(metrics.lines().any(|found| found == line), "{line} in\n{metrics}");

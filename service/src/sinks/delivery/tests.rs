@@ -22,12 +22,7 @@ impl Sink for Script {
     fn deliver<'a>(&'a self, request: &'a Forwarded) -> Pin<Box<dyn Future<Output = Fate> + Send + 'a>> {
         self.came.lock().expect("came").push(request.clone());
         self.at.lock().expect("at").push(Instant::now());
-        let fate = self
-            .fates
-            .lock()
-            .expect("fates")
-            .pop_front()
-            .unwrap_or(Fate::Taken);
+        let fate = self.fates.lock().expect("fates").pop_front().unwrap_or(Fate::Taken);
         Box::pin(async move { fate })
     }
 
@@ -60,10 +55,7 @@ struct Memory {
 }
 
 fn fault() -> Fault {
-    Fault::Io {
-        path: "f".into(),
-        source: std::io::Error::other("broken"),
-    }
+    Fault::Io { path: "f".into(), source: std::io::Error::other("broken") }
 }
 
 impl Memory {
@@ -86,13 +78,9 @@ impl Store for &Memory {
 
     async fn first(&self) -> Result<(Waiting, Vec<u8>), Fault> {
         match self.waiting.lock().expect("waiting").front() {
-            Some(number) => Ok((
-                Waiting {
-                    number: *number,
-                    since: 0,
-                },
-                format!("body {number}").into_bytes(),
-            )),
+            Some(number) => {
+                Ok((Waiting { number: *number, since: 0 }, format!("body {number}").into_bytes()))
+            }
             None => Err(fault()),
         }
     }
@@ -147,10 +135,7 @@ struct Tried {
 }
 
 fn again(after: Option<Duration>) -> Fate {
-    Fate::Again {
-        reason: "busy".into(),
-        after,
-    }
+    Fate::Again { reason: "busy".into(), after }
 }
 
 /// Delivers all that waits.
@@ -167,10 +152,7 @@ async fn run_until(
     fates: Vec<Fate>,
     stop: watch::Receiver<bool>,
 ) -> (Tried, Result<(), Fault>) {
-    let sink = Arc::new(Script {
-        fates: Mutex::new(fates.into()),
-        ..Script::default()
-    });
+    let sink = Arc::new(Script { fates: Mutex::new(fates.into()), ..Script::default() });
     run_at(sink, memory, stop).await
 }
 
@@ -195,21 +177,12 @@ async fn run_at(
 }
 
 fn waiting(numbers: impl IntoIterator<Item = u64>) -> Memory {
-    Memory {
-        waiting: Mutex::new(numbers.into_iter().collect()),
-        ..Memory::default()
-    }
+    Memory { waiting: Mutex::new(numbers.into_iter().collect()), ..Memory::default() }
 }
 
 impl Tried {
     fn keys(&self) -> Vec<String> {
-        self.sink
-            .came
-            .lock()
-            .expect("came")
-            .iter()
-            .map(Forwarded::key)
-            .collect()
+        self.sink.came.lock().expect("came").iter().map(Forwarded::key).collect()
     }
 
     fn outcome(&self, outcome: &str) -> u64 {
@@ -223,14 +196,7 @@ async fn requests_go_in_order() {
     let tried = run(&memory, vec![]).await;
     assert_eq!(tried.keys(), ["2-e-5", "2-e-6", "2-e-9"]);
     assert_eq!(*memory.acknowledged.lock().expect("acknowledged"), [5, 6, 9]);
-    assert_eq!(
-        (
-            tried.outcome("taken"),
-            tried.outcome("again"),
-            tried.outcome("refused")
-        ),
-        (3, 0, 0)
-    );
+    assert_eq!((tried.outcome("taken"), tried.outcome("again"), tried.outcome("refused")), (3, 0, 0));
 }
 
 #[tokio::test]
@@ -241,11 +207,7 @@ async fn a_request_is_sent_again_unchanged_before_the_next() {
     let came = tried.sink.came.lock().expect("came");
     assert!(came[..3].iter().all(|request| *request == came[0]));
     assert_eq!((tried.outcome("taken"), tried.outcome("again")), (2, 2));
-    assert_eq!(
-        *tried.state.lock().expect("state"),
-        Delivery::default(),
-        "no trouble is left"
-    );
+    assert_eq!(*tried.state.lock().expect("state"), Delivery::default(), "no trouble is left");
 }
 
 #[tokio::test]
@@ -260,22 +222,14 @@ async fn what_a_sink_asks_for_is_waited() {
 async fn trouble_is_told_while_it_lasts_and_a_stop_ends_the_wait() {
     let (stop, told) = watch::channel(false);
     let memory = waiting([1]);
-    let ((tried, end), ()) = tokio::join!(
-        run_until(&memory, vec![again(Some(Duration::from_secs(60)))], told),
-        async move {
+    let ((tried, end), ()) =
+        tokio::join!(run_until(&memory, vec![again(Some(Duration::from_secs(60)))], told), async move {
             tokio::time::sleep(Duration::from_millis(200)).await;
             stop.send_replace(true);
-        }
-    );
+        });
     assert!(end.is_ok());
     assert_eq!(tried.keys(), ["2-e-1"]);
-    assert_eq!(
-        *tried.state.lock().expect("state"),
-        Delivery {
-            trouble: Some("busy".into()),
-            tries: 1
-        }
-    );
+    assert_eq!(*tried.state.lock().expect("state"), Delivery { trouble: Some("busy".into()), tries: 1 });
     assert!(memory.acknowledged.lock().expect("acknowledged").is_empty());
 }
 
@@ -284,28 +238,15 @@ async fn what_is_refused_is_kept_and_the_next_goes_on() {
     let memory = waiting([1, 2]);
     let tried = run(&memory, vec![again(None), Fate::refused("400")]).await;
     let dead = memory.dead.lock().expect("dead");
-    assert_eq!(
-        *dead,
-        [("2-e-1".to_string(), "400".to_string(), b"body 1".to_vec())]
-    );
+    assert_eq!(*dead, [("2-e-1".to_string(), "400".to_string(), b"body 1".to_vec())]);
     assert_eq!(*memory.acknowledged.lock().expect("acknowledged"), [1, 2]);
-    assert_eq!(
-        (
-            tried.outcome("taken"),
-            tried.outcome("again"),
-            tried.outcome("refused")
-        ),
-        (1, 1, 1)
-    );
+    assert_eq!((tried.outcome("taken"), tried.outcome("again"), tried.outcome("refused")), (1, 1, 1));
 }
 
 /// A sink that is down for a moment takes it then; one that never can is not asked for ever.
 #[tokio::test]
 async fn what_a_sink_fails_at_is_sent_again_for_a_while() {
-    let failed_for = |after| Fate::Failed {
-        reason: "500".into(),
-        after,
-    };
+    let failed_for = |after| Fate::Failed { reason: "500".into(), after };
     let failed = || failed_for(None);
     let memory = waiting([1]);
     let (begun, asked) = (std::time::Instant::now(), Duration::from_millis(700));
@@ -319,73 +260,35 @@ async fn what_a_sink_fails_at_is_sent_again_for_a_while() {
     let before = vec![failed(), again(Some(Duration::from_millis(500)))];
     let fates = before.into_iter().chain((0..100).map(|_| failed()));
     let tried = run(&memory, fates.collect()).await;
-    let dead: Vec<String> = memory
-        .dead
-        .lock()
-        .expect("dead")
-        .iter()
-        .map(|letter| letter.0.clone())
-        .collect();
+    let dead: Vec<String> = memory.dead.lock().expect("dead").iter().map(|letter| letter.0.clone()).collect();
     assert_eq!(dead, ["2-e-1", "2-e-2"]);
     let of_first = tried.keys().iter().filter(|key| *key == "2-e-1").count();
-    assert!(
-        of_first > 4,
-        "it was put aside although it had not failed for long: {of_first}"
-    );
+    assert!(of_first > 4, "it was put aside although it had not failed for long: {of_first}");
 }
 
 /// Kept under another key, it can't be taken for a request that the sink does not have.
 #[tokio::test]
 async fn what_is_taken_in_part_is_kept_and_not_sent_again() {
     let memory = waiting([1]);
-    let tried = run(
-        &memory,
-        vec![Fate::TakenPartly {
-            rejected: 3,
-            reason: "too old".into(),
-            left: None,
-        }],
-    )
-    .await;
+    let tried =
+        run(&memory, vec![Fate::TakenPartly { rejected: 3, reason: "too old".into(), left: None }]).await;
     assert_eq!(tried.keys(), ["2-e-1"]);
     let dead = memory.dead.lock().expect("dead");
     assert_eq!(dead[0].0, "2-e-1-partial");
-    assert!(
-        dead[0].1.contains("3 points rejected") && dead[0].1.contains("too old"),
-        "{}",
-        dead[0].1
-    );
+    assert!(dead[0].1.contains("3 points rejected") && dead[0].1.contains("too old"), "{}", dead[0].1);
     assert_eq!(*memory.acknowledged.lock().expect("acknowledged"), [1]);
-    assert_eq!(
-        tried
-            .metrics
-            .faults
-            .with_label_values(&["points_rejected_by_sink"])
-            .get(),
-        3
-    );
+    assert_eq!(tried.metrics.faults.with_label_values(&["points_rejected_by_sink"]).get(), 3);
     assert_eq!(tried.outcome("partial"), 1);
 }
 
 #[tokio::test]
 async fn of_what_is_taken_in_part_the_rest_alone_is_kept_where_it_is_known() {
     let memory = waiting([1]);
-    let part = Fate::TakenPartly {
-        rejected: 2,
-        reason: "overlaps".into(),
-        left: Some(b"the rest".to_vec()),
-    };
+    let part = Fate::TakenPartly { rejected: 2, reason: "overlaps".into(), left: Some(b"the rest".to_vec()) };
     let tried = run(&memory, vec![part]).await;
     let dead = memory.dead.lock().expect("dead");
-    assert_eq!(
-        (dead[0].0.as_str(), dead[0].2.as_slice()),
-        ("2-e-1-partial", &b"the rest"[..])
-    );
-    assert!(
-        dead[0].1.contains("2 points, kept here") && dead[0].1.contains("overlaps"),
-        "{}",
-        dead[0].1
-    );
+    assert_eq!((dead[0].0.as_str(), dead[0].2.as_slice()), ("2-e-1-partial", &b"the rest"[..]));
+    assert!(dead[0].1.contains("2 points, kept here") && dead[0].1.contains("overlaps"), "{}", dead[0].1);
     assert_eq!(*memory.acknowledged.lock().expect("acknowledged"), [1]);
     assert_eq!(tried.outcome("partial"), 1);
 }

@@ -59,9 +59,7 @@ pub(super) async fn fate(response: Response<Body>, sent: Encoding, deadline: Ins
         None if body.is_object() => Encoding::Json,
         known => known.unwrap_or(sent),
     };
-    let reason = |more: String| Fate::Refused {
-        reason: join(&head.status.to_string(), &more),
-    };
+    let reason = |more: String| Fate::Refused { reason: join(&head.status.to_string(), &more) };
     match head.status.as_u16() {
         200..=299 => taken(body, encoding),
         408 | 425 | 429 | 502..=504 => Fate::Again {
@@ -77,11 +75,8 @@ pub(super) async fn fate(response: Response<Body>, sent: Encoding, deadline: Ins
             after: asked(&head.headers),
         },
         300..=399 => {
-            let location = head
-                .headers
-                .get(LOCATION)
-                .and_then(|value| value.to_str().ok())
-                .unwrap_or("nowhere");
+            let location =
+                head.headers.get(LOCATION).and_then(|value| value.to_str().ok()).unwrap_or("nowhere");
             reason(format!(
                 "redirected to {}: give the sink's final address",
                 shown(&without_query(location))
@@ -135,10 +130,7 @@ fn taken(body: Read, encoding: Encoding) -> Fate {
             left: None,
         },
         Some(partial) if !partial.error_message.is_empty() => {
-            tracing::debug!(
-                "a sink took a request and says: {}",
-                shown(&partial.error_message)
-            );
+            tracing::debug!("a sink took a request and says: {}", shown(&partial.error_message));
             Fate::Taken
         }
         _ => Fate::Taken,
@@ -152,9 +144,7 @@ fn message(body: Read, encoding: Encoding) -> String {
     };
     let told = match encoding {
         Encoding::Protobuf => Status::decode(bytes.as_slice()).ok().map(|status| status.message),
-        Encoding::Json => serde_json::from_slice(&bytes)
-            .ok()
-            .map(|status: Status| status.message),
+        Encoding::Json => serde_json::from_slice(&bytes).ok().map(|status: Status| status.message),
     };
     shown(&told.unwrap_or_else(|| String::from_utf8_lossy(&bytes).into_owned()))
 }
@@ -193,16 +183,10 @@ mod tests {
     fn retry_after_is_seconds_or_a_date() {
         assert_eq!(after("7"), Some(Duration::from_secs(7)));
         assert_eq!(after(" 0 "), Some(Duration::ZERO));
-        assert_eq!(
-            after("99999999999999999999999"),
-            Some(Duration::from_secs(u64::MAX))
-        );
+        assert_eq!(after("99999999999999999999999"), Some(Duration::from_secs(u64::MAX)));
         let soon = httpdate::fmt_http_date(SystemTime::now() + Duration::from_secs(100));
         let wait = after(&soon).expect("a date");
-        assert!(
-            wait > Duration::from_secs(95) && wait <= Duration::from_secs(100),
-            "{wait:?}"
-        );
+        assert!(wait > Duration::from_secs(95) && wait <= Duration::from_secs(100), "{wait:?}");
         assert_eq!(after("Thu, 01 Jan 1970 00:00:10 GMT"), Some(Duration::ZERO));
         for bad in ["", "-1", "soon", "1.5"] {
             assert_eq!(after(bad), None, "{bad}");

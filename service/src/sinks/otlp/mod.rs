@@ -68,23 +68,11 @@ impl OtlpSink {
         gzip: bool,
         headers: &[(String, String)],
     ) -> Result<OtlpSink, BadOtlp> {
-        let encoding = if protobuf {
-            Encoding::Protobuf
-        } else {
-            Encoding::Json
-        };
+        let encoding = if protobuf { Encoding::Protobuf } else { Encoding::Json };
         let headers = read_headers(headers)?;
         let url: Uri = url.parse().map_err(|error| BadOtlp::Url(format!("{error}")))?;
         let client = connect::client(url.scheme_str() == Some("https"))?;
-        Ok(OtlpSink {
-            url,
-            encoding,
-            gzip,
-            headers,
-            client,
-            patience: PATIENCE,
-            keys: Keys::default(),
-        })
+        Ok(OtlpSink { url, encoding, gzip, headers, client, patience: PATIENCE, keys: Keys::default() })
     }
 
     async fn send(&self, request: &Forwarded) -> Fate {
@@ -111,10 +99,7 @@ impl OtlpSink {
         *post.method_mut() = hyper::Method::POST;
         *post.uri_mut() = self.url.clone();
         let headers = post.headers_mut();
-        headers.insert(
-            USER_AGENT,
-            HeaderValue::from_static(concat!("totxegun/", env!("CARGO_PKG_VERSION"))),
-        );
+        headers.insert(USER_AGENT, HeaderValue::from_static(concat!("totxegun/", env!("CARGO_PKG_VERSION"))));
         headers.extend(self.headers.clone());
         headers.insert(CONTENT_TYPE, HeaderValue::from_static(content));
         if self.gzip {

@@ -46,20 +46,14 @@ impl Drop for Server {
 }
 
 pub fn answer(status: &str, headers: &str, body: &str) -> String {
-    format!(
-        "HTTP/1.1 {status}\r\ncontent-length: {}\r\n{headers}\r\n{body}",
-        body.len()
-    )
+    format!("HTTP/1.1 {status}\r\ncontent-length: {}\r\n{headers}\r\n{body}", body.len())
 }
 
 impl Server {
     /// Does one act a request, the last one again and again.
     pub async fn start(acts: Vec<Act>) -> Server {
         let listener = TcpListener::bind("127.0.0.1:0").await.expect("a port is free");
-        let url = format!(
-            "http://{}/v1/metrics",
-            listener.local_addr().expect("it is bound")
-        );
+        let url = format!("http://{}/v1/metrics", listener.local_addr().expect("it is bound"));
         let came: Arc<Mutex<Vec<Came>>> = Arc::default();
         let seen = came.clone();
         let task = tokio::spawn(async move {
@@ -81,11 +75,7 @@ async fn serve(mut stream: TcpStream, connection: usize, acts: Vec<Act>, came: A
     while let Some((head, body)) = read(&mut stream).await {
         let turn = {
             let mut came = came.lock().expect("no test panics with it");
-            came.push(Came {
-                head,
-                body,
-                connection,
-            });
+            came.push(Came { head, body, connection });
             came.len() - 1
         };
         match &acts[turn.min(acts.len() - 1)] {
@@ -108,13 +98,9 @@ async fn read(stream: &mut TcpStream) -> Option<(String, Vec<u8>)> {
     };
     let mut body = bytes.split_off(end);
     let head = String::from_utf8(bytes).expect("a head is text");
-    let length = Came {
-        head: head.clone(),
-        body: Vec::new(),
-        connection: 0,
-    }
-    .header("content-length")
-    .map_or(0, |value| value.parse().expect("a number"));
+    let length = Came { head: head.clone(), body: Vec::new(), connection: 0 }
+        .header("content-length")
+        .map_or(0, |value| value.parse().expect("a number"));
     while body.len() < length {
         if stream.read_buf(&mut body).await.ok()? == 0 {
             return None;

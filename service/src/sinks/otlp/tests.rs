@@ -4,12 +4,7 @@ use super::script::{answer, Act, Server};
 use super::*;
 
 fn request(number: u64) -> Forwarded {
-    Forwarded {
-        slot: 3,
-        epoch: "e".into(),
-        number,
-        body: br#"{"resourceMetrics":[]}"#.to_vec(),
-    }
+    Forwarded { slot: 3, epoch: "e".into(), number, body: br#"{"resourceMetrics":[]}"#.to_vec() }
 }
 
 fn sink(server: &Server) -> OtlpSink {
@@ -29,12 +24,9 @@ async fn fate_of(status: &str, headers: &str, body: &str) -> Fate {
 
 #[tokio::test]
 async fn success_is_taken() {
-    for (status, body) in [
-        ("200 OK", "{}"),
-        ("200 OK", ""),
-        ("202 Accepted", "no json"),
-        ("204 No Content", ""),
-    ] {
+    for (status, body) in
+        [("200 OK", "{}"), ("200 OK", ""), ("202 Accepted", "no json"), ("204 No Content", "")]
+    {
         assert_eq!(fate_of(status, "", body).await, Fate::Taken, "{status} {body}");
     }
     let json = r#"{"partialSuccess":{"rejectedDataPoints":"0","errorMessage":"a word of advice"}}"#;
@@ -43,11 +35,7 @@ async fn success_is_taken() {
 
 #[tokio::test]
 async fn rejected_points_are_told() {
-    let rejected = Fate::TakenPartly {
-        rejected: 3,
-        reason: "too old".into(),
-        left: None,
-    };
+    let rejected = Fate::TakenPartly { rejected: 3, reason: "too old".into(), left: None };
     for body in [
         r#"{"partialSuccess":{"rejectedDataPoints":"3","errorMessage":"too old"}}"#,
         r#"{"partialSuccess":{"rejectedDataPoints":3,"errorMessage":"too old","more":1}}"#,
@@ -55,17 +43,9 @@ async fn rejected_points_are_told() {
         r#"{"partialSuccess":{"rejectedDataPoints":3.0,"errorMessage":"too old"}}"#,
         r#"{"partial_success":null,"partialSuccess":{"rejectedDataPoints":"3e0","errorMessage":"too old"}}"#,
     ] {
-        assert_eq!(
-            fate_of("200 OK", "content-type: application/json\r\n", body).await,
-            rejected,
-            "{body}"
-        );
+        assert_eq!(fate_of("200 OK", "content-type: application/json\r\n", body).await, rejected, "{body}");
     }
-    let without_reason = Fate::TakenPartly {
-        rejected: 3,
-        reason: String::new(),
-        left: None,
-    };
+    let without_reason = Fate::TakenPartly { rejected: 3, reason: String::new(), left: None };
     for json in [
         r#"{"partialSuccess":{"rejectedDataPoints":"3","errorMessage":null}}"#,
         r#"{"partialSuccess":{"rejectedDataPoints":"3","errorMessage":{}}}"#,
@@ -80,11 +60,7 @@ async fn rejected_points_are_told_in_protobuf() {
     let body = b"\x0a\x0b\x08\x03\x12\x07too old";
     let body = std::str::from_utf8(body).expect("ASCII");
     let headers = "content-type: application/x-protobuf\r\n";
-    let rejected = Fate::TakenPartly {
-        rejected: 3,
-        reason: "too old".into(),
-        left: None,
-    };
+    let rejected = Fate::TakenPartly { rejected: 3, reason: "too old".into(), left: None };
     assert_eq!(fate_of("200 OK", headers, body).await, rejected);
 }
 
@@ -96,25 +72,15 @@ async fn an_object_of_no_known_kind_is_json() {
         let server = Server::start(vec![Act::Write(answer("200 OK", headers, json))]).await;
         let mut sink = OtlpSink::open(&server.url, true, false, &[]).expect("a sink");
         sink.patience = Duration::from_secs(3);
-        let rejected = Fate::TakenPartly {
-            rejected: 3,
-            reason: "too old".into(),
-            left: None,
-        };
+        let rejected = Fate::TakenPartly { rejected: 3, reason: "too old".into(), left: None };
         assert_eq!(sink.deliver(&request(1)).await, rejected, "{headers}");
     }
 }
 
 #[tokio::test]
 async fn trouble_that_passes_is_tried_again() {
-    for status in [
-        "408 Request Timeout",
-        "425 Too Early",
-        "429 Too Many Requests",
-        "502 X",
-        "503 X",
-        "504 X",
-    ] {
+    for status in ["408 Request Timeout", "425 Too Early", "429 Too Many Requests", "502 X", "503 X", "504 X"]
+    {
         match fate_of(status, "", r#"{"message":"later"}"#).await {
             Fate::Again { reason, after: None } => assert!(reason.contains("later"), "{reason}"),
             other => panic!("{status}: {other:?}"),
@@ -150,21 +116,10 @@ async fn who_is_not_let_in_is_not_refused_for_good() {
 async fn retry_after_is_read() {
     let date = httpdate::fmt_http_date(std::time::SystemTime::now() + Duration::from_secs(90));
     for (value, least, most) in [("7", 7, 7), (date.as_str(), 85, 90)] {
-        match fate_of(
-            "503 Service Unavailable",
-            &format!("retry-after: {value}\r\n"),
-            "",
-        )
-        .await
-        {
-            Fate::Again {
-                after: Some(after), ..
-            } => {
+        match fate_of("503 Service Unavailable", &format!("retry-after: {value}\r\n"), "").await {
+            Fate::Again { after: Some(after), .. } => {
                 let least_of = Duration::from_secs(least);
-                assert!(
-                    least_of <= after && after <= Duration::from_secs(most),
-                    "{after:?}"
-                );
+                assert!(least_of <= after && after <= Duration::from_secs(most), "{after:?}");
             }
             other => panic!("{value}: {other:?}"),
         }
@@ -178,28 +133,17 @@ async fn retry_after_is_read() {
 #[tokio::test]
 async fn what_will_not_change_is_refused() {
     for status in ["400 Bad Request", "404 X", "409 X", "413 X", "415 X", "422 X"] {
-        match fate_of(
-            status,
-            "content-type: application/json\r\n",
-            r#"{"code":3,"message":"bad\npoint"}"#,
-        )
-        .await
+        match fate_of(status, "content-type: application/json\r\n", r#"{"code":3,"message":"bad\npoint"}"#)
+            .await
         {
             Fate::Refused { reason } => assert!(reason.ends_with(": bad point"), "{reason}"),
             other => panic!("{status}: {other:?}"),
         }
     }
-    match fate_of(
-        "307 Temporary Redirect",
-        "location: http://elsewhere/?key=secret\r\n",
-        "",
-    )
-    .await
-    {
-        Fate::Refused { reason } => assert!(
-            reason.contains("http://elsewhere/?..: ") && !reason.contains("secret"),
-            "{reason}"
-        ),
+    match fate_of("307 Temporary Redirect", "location: http://elsewhere/?key=secret\r\n", "").await {
+        Fate::Refused { reason } => {
+            assert!(reason.contains("http://elsewhere/?..: ") && !reason.contains("secret"), "{reason}")
+        }
         other => panic!("{other:?}"),
     }
 }
@@ -224,10 +168,7 @@ async fn no_answer_is_tried_again() {
 
 #[tokio::test]
 async fn nobody_there_is_tried_again() {
-    let free = std::net::TcpListener::bind("127.0.0.1:0")
-        .expect("a port")
-        .local_addr()
-        .expect("its address");
+    let free = std::net::TcpListener::bind("127.0.0.1:0").expect("a port").local_addr().expect("its address");
     let sink = OtlpSink::open(&format!("http://{free}/"), false, false, &[]).expect("a sink");
     match sink.deliver(&request(1)).await {
         Fate::Again { reason, .. } => assert!(reason.contains("refused"), "{reason}"),
@@ -241,11 +182,7 @@ async fn a_cut_or_late_body_does_not_change_the_status() {
     let cut = "HTTP/1.1 200 OK\r\ncontent-length: 100\r\n\r\n{\"par";
     assert_eq!(fate(Act::Last(cut.into())).await, Fate::Taken);
     assert_eq!(fate(Act::Write(cut.into())).await, Fate::Taken);
-    match fate(Act::Last(
-        "HTTP/1.1 503 X\r\ncontent-length: 100\r\n\r\nbusy".into(),
-    ))
-    .await
-    {
+    match fate(Act::Last("HTTP/1.1 503 X\r\ncontent-length: 100\r\n\r\nbusy".into())).await {
         Fate::Again { reason, .. } => assert_eq!(reason, "503 Service Unavailable"),
         other => panic!("{other:?}"),
     }
@@ -269,29 +206,16 @@ async fn a_huge_answer_is_cut_off() {
 #[tokio::test]
 async fn requests_share_a_connection_and_say_their_key() {
     let server = Server::start(vec![Act::Write(answer("200 OK", "", "{}"))]).await;
-    let headers = [
-        ("Authorization".to_string(), "Bearer t".to_string()),
-        ("x-tenant".into(), "a".into()),
-    ];
+    let headers = [("Authorization".to_string(), "Bearer t".to_string()), ("x-tenant".into(), "a".into())];
     let sink = OtlpSink::open(&server.url, false, false, &headers).expect("a sink");
     for number in 1..=3 {
         assert_eq!(sink.deliver(&request(number)).await, Fate::Taken);
     }
     let came = server.came();
-    assert_eq!(
-        came.iter().map(|one| one.connection).collect::<Vec<_>>(),
-        [0, 0, 0]
-    );
+    assert_eq!(came.iter().map(|one| one.connection).collect::<Vec<_>>(), [0, 0, 0]);
     for (one, number) in came.iter().zip(1..) {
-        assert!(
-            one.head.starts_with("POST /v1/metrics HTTP/1.1\r\n"),
-            "{}",
-            one.head
-        );
-        assert_eq!(
-            one.header("idempotency-key"),
-            Some(format!("3-e-{number}").as_str())
-        );
+        assert!(one.head.starts_with("POST /v1/metrics HTTP/1.1\r\n"), "{}", one.head);
+        assert_eq!(one.header("idempotency-key"), Some(format!("3-e-{number}").as_str()));
         assert_eq!(one.header("content-type"), Some("application/json"));
         assert_eq!(one.header("authorization"), Some("Bearer t"));
         assert_eq!(one.header("x-tenant"), Some("a"));
@@ -314,10 +238,7 @@ async fn a_request_that_is_sent_again_has_the_same_bytes_and_key() {
         fates.push(sink.deliver(&request(9)).await);
         tokio::time::sleep(Duration::from_millis(1100)).await;
     }
-    assert!(
-        matches!(fates[..], [Fate::Again { .. }, Fate::Again { .. }, Fate::Taken]),
-        "{fates:?}"
-    );
+    assert!(matches!(fates[..], [Fate::Again { .. }, Fate::Again { .. }, Fate::Taken]), "{fates:?}");
     let came = server.came();
     for one in &came {
         assert_eq!(one.body, came[0].body);
@@ -342,20 +263,14 @@ fn what_an_address_asks_for_is_not_shown() {
 fn bad_headers_are_named() {
     let open =
         |name: &str, value: &str| OtlpSink::open("http://h/", false, false, &[(name.into(), value.into())]);
-    for (name, value) in [
-        ("content-type", "x"),
-        ("Accept-Encoding", "gzip"),
-        ("Idempotency-Key", "x"),
-        ("x-a", "secret\nb"),
-    ] {
+    for (name, value) in
+        [("content-type", "x"), ("Accept-Encoding", "gzip"), ("Idempotency-Key", "x"), ("x-a", "secret\nb")]
+    {
         let error = open(name, value).err().expect(name).to_string();
         assert!(error.contains(name) && !error.contains("secret"), "{error}");
     }
     let forgotten = open("Bearer secret", "b").err().expect("no name").to_string();
-    assert!(
-        forgotten.contains("name") && !forgotten.contains("secret"),
-        "{forgotten}"
-    );
+    assert!(forgotten.contains("name") && !forgotten.contains("secret"), "{forgotten}");
     assert!(open("x-a", "b").is_ok());
 }
 

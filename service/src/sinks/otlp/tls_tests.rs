@@ -9,11 +9,7 @@ use std::sync::Arc;
 /// Runs `openssl` in a folder.
 fn openssl(folder: &Path, arguments: &str) {
     let words = arguments.split_whitespace();
-    let done = Command::new("openssl")
-        .current_dir(folder)
-        .args(words)
-        .stderr(Stdio::null())
-        .status();
+    let done = Command::new("openssl").current_dir(folder).args(words).stderr(Stdio::null()).status();
     assert!(done.expect("openssl is there").success(), "openssl {arguments}");
 }
 
@@ -25,20 +21,11 @@ fn bytes(folder: &Path, name: &str) -> Vec<u8> {
 fn certificates(folder: &Path) {
     std::fs::write(folder.join("names"), "subjectAltName=DNS:localhost\n").expect("written");
     let key = "-newkey ec -pkeyopt ec_paramgen_curve:prime256v1 -nodes";
-    openssl(
-        folder,
-        &format!("req -x509 {key} -keyout root.key -out root.pem -subj /CN=root -days 2"),
-    );
-    openssl(
-        folder,
-        &format!("req {key} -keyout key.pem -out request.pem -subj /CN=localhost"),
-    );
+    openssl(folder, &format!("req -x509 {key} -keyout root.key -out root.pem -subj /CN=root -days 2"));
+    openssl(folder, &format!("req {key} -keyout key.pem -out request.pem -subj /CN=localhost"));
     openssl(folder, "x509 -req -in request.pem -CA root.pem -CAkey root.key -CAcreateserial -days 2 -extfile names -outform DER -out server.der");
     openssl(folder, "x509 -in root.pem -outform DER -out root.der");
-    openssl(
-        folder,
-        "pkcs8 -topk8 -nocrypt -in key.pem -outform DER -out key.der",
-    );
+    openssl(folder, "pkcs8 -topk8 -nocrypt -in key.pem -outform DER -out key.der");
 }
 
 /// Answers one request 200, by this version of TLS alone.
@@ -70,9 +57,7 @@ fn serve(
                 _ => return String::new(),
             }
         }
-        stream
-            .write_all(b"HTTP/1.1 200 OK\r\ncontent-length: 2\r\n\r\n{}")
-            .expect("an answer");
+        stream.write_all(b"HTTP/1.1 200 OK\r\ncontent-length: 2\r\n\r\n{}").expect("an answer");
         String::from_utf8(read).expect("text")
     });
     (port, thread)
@@ -80,9 +65,7 @@ fn serve(
 
 fn sink(port: u16, roots: rustls::RootCertStore) -> OtlpSink {
     OtlpSink {
-        url: format!("https://localhost:{port}/v1/metrics")
-            .parse()
-            .expect("a URL"),
+        url: format!("https://localhost:{port}/v1/metrics").parse().expect("a URL"),
         encoding: Encoding::Json,
         gzip: false,
         headers: HeaderMap::new(),
@@ -96,27 +79,13 @@ fn sink(port: u16, roots: rustls::RootCertStore) -> OtlpSink {
 async fn a_sink_behind_tls_takes_where_its_root_is_known() {
     let folder = tempfile::tempdir().expect("a folder");
     certificates(folder.path());
-    let request = Forwarded {
-        slot: 0,
-        epoch: "e".into(),
-        number: 1,
-        body: b"body".to_vec(),
-    };
+    let request = Forwarded { slot: 0, epoch: "e".into(), number: 1, body: b"body".to_vec() };
     for version in [&rustls::version::TLS12, &rustls::version::TLS13] {
         let mut roots = rustls::RootCertStore::empty();
-        roots
-            .add(&rustls::Certificate(bytes(folder.path(), "root.der")))
-            .expect("a root");
+        roots.add(&rustls::Certificate(bytes(folder.path(), "root.der"))).expect("a root");
         let (port, thread) = serve(folder.path(), version);
-        assert_eq!(
-            sink(port, roots).deliver(&request).await,
-            Fate::Taken,
-            "{version:?}"
-        );
-        assert!(thread
-            .join()
-            .expect("it ended")
-            .contains("idempotency-key: 0-e-1"));
+        assert_eq!(sink(port, roots).deliver(&request).await, Fate::Taken, "{version:?}");
+        assert!(thread.join().expect("it ended").contains("idempotency-key: 0-e-1"));
     }
     let (port, thread) = serve(folder.path(), &rustls::version::TLS13);
     match sink(port, rustls::RootCertStore::empty()).deliver(&request).await {

@@ -37,11 +37,7 @@ impl FromStr for Period {
             24 => 10,
             _ => 7,
         };
-        Ok(Period {
-            text: hour_shown(from)[..length].into(),
-            from,
-            to,
-        })
+        Ok(Period { text: hour_shown(from)[..length].into(), from, to })
     }
 }
 
@@ -51,10 +47,7 @@ fn hours_of(text: &str) -> Option<(i64, i64)> {
         None => (text, None),
     };
     let parts: Vec<&str> = date.split('-').collect();
-    let (year, month) = (
-        number(parts.first()?, 4, 1970..=9999)?,
-        number(parts.get(1)?, 2, 1..=12)?,
-    );
+    let (year, month) = (number(parts.first()?, 4, 1970..=9999)?, number(parts.get(1)?, 2, 1..=12)?);
     let (first, end) = (days(year, month), days(year, month + 1));
     match (&parts[2..], hour) {
         ([], None) => Some((first * 24, end * 24)),

@@ -23,9 +23,7 @@ pub async fn read(
         return Ok(None);
     };
     let hours: Result<Vec<Hour>, Odd> = rows.iter().map(hour).collect();
-    hours
-        .map(Some)
-        .map_err(|odd| PostgresFault::told(&name, odd.to_string()))
+    hours.map(Some).map_err(|odd| PostgresFault::told(&name, odd.to_string()))
 }
 
 async fn rows(
@@ -36,10 +34,7 @@ async fn rows(
 ) -> Result<Option<Vec<Row>>, PostgresFault> {
     let fault = |error| PostgresFault::of(name, &error);
     let (client, _connection) = session::connect(server).await?;
-    client
-        .batch_execute("set default_transaction_read_only = on")
-        .await
-        .map_err(fault)?;
+    client.batch_execute("set default_transaction_read_only = on").await.map_err(fault)?;
     let view = client.query_one("select to_regclass('totxegun.by_hour') is not null", &[]);
     if !view.await.map_err(fault)?.get::<_, bool>(0) {
         return Ok(None);

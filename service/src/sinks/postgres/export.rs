@@ -19,9 +19,7 @@ const ONE_MOMENT: &str = "set transaction isolation level repeatable read, read 
 
 /// Each line; and what of it is closed.
 pub fn read(server: &Server, period: &Period, each: Each<'_>) -> Result<Closed> {
-    let runtime = tokio::runtime::Builder::new_current_thread()
-        .enable_all()
-        .build()?;
+    let runtime = tokio::runtime::Builder::new_current_thread().enable_all().build()?;
     runtime.block_on(lines(server, period, each))
 }
 

@@ -20,10 +20,7 @@ pub enum PostgresFault {
 
 impl PostgresFault {
     pub(super) fn told(server: &str, what: impl Into<String>) -> PostgresFault {
-        PostgresFault::Server {
-            server: server.into(),
-            what: what.into(),
-        }
+        PostgresFault::Server { server: server.into(), what: what.into() }
     }
 
     pub(super) fn of(server: &str, error: &tokio_postgres::Error) -> PostgresFault {

@@ -31,11 +31,7 @@ impl Fence {
         let here = identity(client).await?;
         let place = databases.iter().position(|one| one.is_some() && *one == here);
         let Some(place) = place else { return Ok(None) };
-        Ok(Some(Fence {
-            delivered: client.prepare(DELIVERED).await?,
-            place,
-            databases: databases.len(),
-        }))
+        Ok(Some(Fence { delivered: client.prepare(DELIVERED).await?, place, databases: databases.len() }))
     }
 
     fn has(&self, slot: u16) -> bool {

@@ -41,13 +41,8 @@ pub(super) fn rows<'a>(all: &[Adding<'a>]) -> Vec<MetricHourRow<'a>> {
 
 impl ToSql for MetricHourRow<'_> {
     fn to_sql(&self, of: &Type, out: &mut BytesMut) -> Written {
-        let values: [&dyn ToSql; 5] = [
-            &self.metric,
-            &self.hour,
-            &self.points,
-            &Numeric(self.total),
-            &Numeric(self.count),
-        ];
+        let values: [&dyn ToSql; 5] =
+            [&self.metric, &self.hour, &self.points, &Numeric(self.total), &Numeric(self.count)];
         row(&values, of, out)
     }
 

@@ -133,10 +133,7 @@ impl PostgresSink {
             Ok(None) => Fate::Taken,
             Ok(Some(left)) => left.fate(&request.body),
             Err(NotTaken::Refused(reason)) => Fate::refused(reason),
-            Err(NotTaken::Failed(fault)) => Fate::Failed {
-                reason: fault.to_string(),
-                after: None,
-            },
+            Err(NotTaken::Failed(fault)) => Fate::Failed { reason: fault.to_string(), after: None },
             Err(NotTaken::Fault(fault)) => Fate::again(fault.to_string()),
         }
     }
@@ -144,16 +141,12 @@ impl PostgresSink {
 
 /// On a thread with a runtime of its own, since a start is not asynchronous.
 fn try_once(server: &Server, memory: Arc<dyn Memory>) -> anyhow::Result<Result<(), PostgresFault>> {
-    let runtime = tokio::runtime::Builder::new_current_thread()
-        .enable_all()
-        .build()?;
+    let runtime = tokio::runtime::Builder::new_current_thread().enable_all().build()?;
     let server = server.clone();
     let open = async move { Session::open(&server, &*memory, false, AT_START).await.map(drop) };
     let thread = std::thread::Builder::new().name("postgres".into());
     let thread = thread.spawn(move || runtime.block_on(open))?;
-    thread
-        .join()
-        .map_err(|_| anyhow::anyhow!("the thread that asks PostgreSQL has failed"))
+    thread.join().map_err(|_| anyhow::anyhow!("the thread that asks PostgreSQL has failed"))
 }
 
 impl Sink for PostgresSink {
@@ -186,9 +179,7 @@ mod tests {
     /// Else requests of many slots would be called late by a server that was never asked, and wait all the longer.
     #[tokio::test]
     async fn who_waits_for_another_delivery_is_not_late() {
-        let listener = tokio::net::TcpListener::bind("127.0.0.1:0")
-            .await
-            .expect("a port");
+        let listener = tokio::net::TcpListener::bind("127.0.0.1:0").await.expect("a port");
         let address = format!("//u@{}/d", listener.local_addr().expect("its address"));
         let asked = Arc::new(AtomicUsize::new(0));
         let count = asked.clone();
@@ -219,9 +210,7 @@ mod tests {
         let (one, other) = (request(0), request(1));
         let fates = tokio::join!(sink.send(&one, None), sink.send(&other, None));
         for fate in [fates.0, fates.1] {
-            let Fate::Again { reason, .. } = fate else {
-                panic!("{fate:?}")
-            };
+            let Fate::Again { reason, .. } = fate else { panic!("{fate:?}") };
             assert!(reason.ends_with("no answer within 0.3 s"), "{reason}");
         }
         assert_eq!(asked.load(SeqCst), 2);

@@ -42,10 +42,7 @@ impl Writing<'_> {
         };
         let before: Vec<Before> = each(all, known)
             .filter(is_before)
-            .map(|(point, known)| Before {
-                point,
-                series: known.id,
-            })
+            .map(|(point, known)| Before { point, series: known.id })
             .collect();
         let mut refused = Refused::default();
         if before.is_empty() {
@@ -84,15 +81,10 @@ impl Writing<'_> {
     ) -> Result<Vec<(u64, Before<'a>)>, NotTaken> {
         let (series, starts, ends) = columns(before);
         let mut between = Vec::new();
-        for row in self
-            .rows(&self.statements.hours_beside, &[&series, &starts, &ends])
-            .await?
-        {
+        for row in self.rows(&self.statements.hours_beside, &[&series, &starts, &ends]).await? {
             let one = before[row.get::<_, i64>(0) as usize - 1];
-            let time = |column: usize| {
-                row.get::<_, Option<&str>>(column)
-                    .and_then(|text| text.parse::<u64>().ok())
-            };
+            let time =
+                |column: usize| row.get::<_, Option<&str>>(column).and_then(|text| text.parse::<u64>().ok());
             let (point, is_deleted) = (one.point, row.get::<_, bool>(3));
             match (time(1), time(2)) {
                 _ if is_deleted => refused.add(point, || deleted(point, "hours")),
@@ -116,10 +108,7 @@ impl Writing<'_> {
         let last = part.iter().map(|(last, _)| *last).max().unwrap_or(0) as i64;
         let statements = self.statements;
         let rows = match last < 0 {
-            true => {
-                self.rows(&statements.far_overlap, &[&series, &starts, &ends])
-                    .await
-            }
+            true => self.rows(&statements.far_overlap, &[&series, &starts, &ends]).await,
             false => {
                 let columns: [&(dyn ToSql + Sync); 6] = [&series, &starts, &ends, &first, &end, &last];
                 self.rows(&statements.overlap, &columns).await

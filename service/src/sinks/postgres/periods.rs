@@ -87,10 +87,7 @@ async fn settled(
     let fault = |error: Error| PostgresFault::told(name, shown(&error));
     let (mut client, _connection) = session::connect(server).await?;
     if schema::version(&client, name).await? != schema::KNOWN {
-        return Err(PostgresFault::told(
-            name,
-            "the schema is not of this version yet: the log says why",
-        ));
+        return Err(PostgresFault::told(name, "the schema is not of this version yet: the log says why"));
     }
     let transaction = client.transaction().await.map_err(fault)?;
     transaction.query(ALONE, &[&LOCK]).await.map_err(fault)?;
@@ -126,9 +123,7 @@ async fn close(
     let (from, to) = (period.from as i32, period.to as i32);
     let row = "insert into totxegun.closed (from_hour, to_hour, period, who)
         values ($1::int4, $2::int4, $3::text, $4::text)";
-    transaction
-        .execute(row, &[&from, &to, &period.to_string(), &who])
-        .await?;
+    transaction.execute(row, &[&from, &to, &period.to_string(), &who]).await?;
     Ok(Told::Done(closed(period)))
 }
 
@@ -137,9 +132,7 @@ async fn open(transaction: &Transaction<'_>, all: &Closed, period: &Period) -> R
         return Ok(told);
     }
     let row = "delete from totxegun.closed where from_hour = $1::int4 and to_hour = $2::int4";
-    transaction
-        .execute(row, &[&(period.from as i32), &(period.to as i32)])
-        .await?;
+    transaction.execute(row, &[&(period.from as i32), &(period.to as i32)]).await?;
     Ok(Told::Done(all.opened(period)))
 }
 
@@ -149,16 +142,9 @@ async fn correct(
     who: &str,
     correction: &Correction,
 ) -> Result<Told, Error> {
-    let Correction {
-        series,
-        hour,
-        value,
-        reason,
-    } = correction;
+    let Correction { series, hour, value, reason } = correction;
     let of_hour = hour.from as i32;
-    let found = transaction
-        .query_opt(OF_CORRECTION, &[series, &of_hour, value, reason])
-        .await?;
+    let found = transaction.query_opt(OF_CORRECTION, &[series, &of_hour, value, reason]).await?;
     if let Some(row) = found {
         return Ok(correction.was_there(row.get(0), row.get(1)));
     }
@@ -172,9 +158,7 @@ async fn correct(
     }
     let counted_in = all.counted_in(hour.from);
     let hour = counted_in as i32;
-    transaction
-        .execute(CORRECT, &[series, &of_hour, &hour, value, reason, &who])
-        .await?;
+    transaction.execute(CORRECT, &[series, &of_hour, &hour, value, reason, &who]).await?;
     add(transaction, *series, hour, *value).await?;
     Ok(correction.made(counted_in))
 }
@@ -183,21 +167,12 @@ async fn correct(
 async fn add(transaction: &Transaction<'_>, series: i64, hour: i32, value: i64) -> Result<(), Error> {
     let last: Option<i32> = transaction.query_one(LAST_HOUR, &[&series]).await?.get(0);
     if last < Some(hour) {
-        transaction
-            .execute(statements::HOURS_OVER, &[&[series].as_slice()])
-            .await?;
+        transaction.execute(statements::HOURS_OVER, &[&[series].as_slice()]).await?;
         transaction.execute(BEGIN_HOUR, &[&series, &hour]).await?;
     }
     match last <= Some(hour) {
         true => transaction.execute(TO_LAST_HOUR, &[&series, &value]).await?,
-        false => {
-            transaction
-                .execute(TO_PAST_HOUR, &[&series, &hour, &value])
-                .await?
-        }
+        false => transaction.execute(TO_PAST_HOUR, &[&series, &hour, &value]).await?,
     };
-    transaction
-        .execute(TO_METRIC, &[&series, &hour, &value])
-        .await
-        .map(drop)
+    transaction.execute(TO_METRIC, &[&series, &hour, &value]).await.map(drop)
 }

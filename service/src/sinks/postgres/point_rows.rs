@@ -87,8 +87,7 @@ impl<'a> Adding<'a> {
     /// What counts in earlier hours than that, and the others.
     pub(super) fn parted(&self) -> (&[InHour<'a>], &[InHour<'a>]) {
         let last = self.last_hour();
-        self.hours
-            .split_at(self.hours.partition_point(|hour| hour.hour < last))
+        self.hours.split_at(self.hours.partition_point(|hour| hour.hour < last))
     }
 }
 
@@ -96,10 +95,7 @@ impl Adding<'_> {
     /// What of it belongs to closed hours.
     pub(super) fn late(&self) -> impl Iterator<Item = LateRow<'_>> {
         let late = self.hours.iter().filter(|hour| hour.is_late());
-        late.map(|late| LateRow {
-            series: self.known.id,
-            late,
-        })
+        late.map(|late| LateRow { series: self.known.id, late })
     }
 }
 
@@ -119,9 +115,7 @@ pub(super) struct TotalRow<'a>(pub(super) &'a Adding<'a>);
 
 impl ToSql for TotalRow<'_> {
     fn to_sql(&self, of: &Type, out: &mut BytesMut) -> Written {
-        let Adding {
-            of: series, known, ..
-        } = self.0;
+        let Adding { of: series, known, .. } = self.0;
         let (earlier, last) = self.0.parted();
         let (all, before) = (Total::of(&series.points), Total::of(points(earlier)));
         let values: [&dyn ToSql; 15] = [

@@ -66,8 +66,7 @@ pub(super) fn without(
         return (all, known);
     }
     let mut both: Vec<(OfSeries, StoredSeries)> = all.into_iter().zip(known).collect();
-    both.iter_mut()
-        .for_each(|(series, _)| series.points.retain(|point| !refused.has(point)));
+    both.iter_mut().for_each(|(series, _)| series.points.retain(|point| !refused.has(point)));
     both.retain(|(series, _)| !series.points.is_empty());
     both.into_iter().unzip()
 }
@@ -86,12 +85,7 @@ pub(super) struct Taken {
 impl Taken {
     /// Of the columns `id`, `points`, `digest` and `left_out`.
     pub(super) fn of(row: &Row) -> Taken {
-        Taken {
-            row: row.get(0),
-            points: row.get(1),
-            digest: row.get(2),
-            left_out: row.get(3),
-        }
+        Taken { row: row.get(0), points: row.get(1), digest: row.get(2), left_out: row.get(3) }
     }
 }
 
@@ -122,15 +116,12 @@ impl Writing<'_> {
         all: &[OfSeries],
     ) -> Result<Option<LeftOut>, NotTaken> {
         let each = || {
-            all.iter()
-                .flat_map(|series| series.points.iter().map(move |point| (&series.digest[..], point)))
+            all.iter().flat_map(|series| series.points.iter().map(move |point| (&series.digest[..], point)))
         };
         let digests: Vec<&[u8]> = each().map(|(digest, _)| digest).collect();
         let starts: Vec<Numeric> = each().map(|(_, point)| point.start.into()).collect();
         let ends: Vec<Numeric> = each().map(|(_, point)| point.end.into()).collect();
-        let rows = self
-            .rows(&before.left, &[&taken.row, &digests, &starts, &ends])
-            .await?;
+        let rows = self.rows(&before.left, &[&taken.row, &digests, &starts, &ends]).await?;
         let was_left = |row: &Row| row.get::<_, bool>(1);
         if rows.len() as i64 != points(all) - taken.points || !rows.iter().all(was_left) {
             return Err(NotTaken::Refused(OTHER_REQUEST.into()));
@@ -153,11 +144,7 @@ fn left_out(taken: &Taken, request: &Forwarded) -> Result<Option<LeftOut>, NotTa
     let points = series::forwarded(&request.body)?;
     let first = places.first().and_then(|place| points.get(*place));
     let reason = first.map_or(String::new(), was_there);
-    Ok(Some(LeftOut {
-        places,
-        reason,
-        ..LeftOut::default()
-    }))
+    Ok(Some(LeftOut { places, reason, ..LeftOut::default() }))
 }
 
 fn was_there(point: &ForwardedPoint) -> String {

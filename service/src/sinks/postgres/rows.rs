@@ -38,11 +38,7 @@ impl<'a> InHour<'a> {
     /// Of points, at least one, that end in one hour.
     fn of(points: &'a [ForwardedPoint], closed: &Closed) -> InHour<'a> {
         let of = hour_of(&points[0]);
-        InHour {
-            of,
-            hour: closed.counted_in(of.into()) as i32,
-            points,
-        }
+        InHour { of, hour: closed.counted_in(of.into()) as i32, points }
     }
 
     pub(super) fn is_late(&self) -> bool {
@@ -67,11 +63,8 @@ pub(super) fn read(body: &[u8]) -> Result<Content, NotTaken> {
         all.entry(point.series.clone()).or_default().push(point);
     }
     let mut digests = Digests::default();
-    let of_series = |(key, points): (SeriesKey, _)| OfSeries {
-        digest: digests.of(&key).to_vec(),
-        key,
-        points,
-    };
+    let of_series =
+        |(key, points): (SeriesKey, _)| OfSeries { digest: digests.of(&key).to_vec(), key, points };
     let mut all: Vec<OfSeries> = all.into_iter().map(of_series).collect();
     all.sort_unstable_by(|one, other| one.digest.cmp(&other.digest));
     all.iter_mut().try_for_each(OfSeries::put_in_order)?;
@@ -108,9 +101,7 @@ impl OfSeries {
         match odd {
             Some(point) => {
                 let shown = shown(point);
-                Err(NotTaken::Refused(format!(
-                    "its value is not of the series' kind: {shown}"
-                )))
+                Err(NotTaken::Refused(format!("its value is not of the series' kind: {shown}")))
             }
             None => Ok(()),
         }
@@ -136,9 +127,7 @@ impl Total {
                     all.total += i128::from(sum.unwrap_or(0));
                     all.without_sum += i64::from(sum.is_none());
                     let to = all.buckets.get_or_insert_with(|| vec![0; buckets.len()]);
-                    to.iter_mut()
-                        .zip(buckets)
-                        .for_each(|(all, bucket)| *all += i128::from(*bucket));
+                    to.iter_mut().zip(buckets).for_each(|(all, bucket)| *all += i128::from(*bucket));
                 }
             }
         }

@@ -11,10 +11,7 @@ const STEPS: &[&str] = &[
     include_str!("version2.sql"),
     include_str!("version3.sql"),
     include_str!("version4.sql"),
-    concat!(
-        include_str!("version5.sql"),
-        include_str!("version5_comments.sql")
-    ),
+    concat!(include_str!("version5.sql"), include_str!("version5_comments.sql")),
     include_str!("version6.sql"),
     include_str!("version7.sql"),
 ];
@@ -54,9 +51,7 @@ pub(super) async fn migrate(
     }
     let row = client.query_one("select id from totxegun.sink", &[]).await;
     let row = row.map_err(|error| PostgresFault::of(server, &error))?;
-    memory
-        .admit(Some(row.get(0)), is_replaced)
-        .map_err(PostgresFault::Another)
+    memory.admit(Some(row.get(0)), is_replaced).map_err(PostgresFault::Another)
 }
 
 async fn bring_up(client: &mut Client, server: &str, was_there: bool) -> Result<(), PostgresFault> {
@@ -65,10 +60,7 @@ async fn bring_up(client: &mut Client, server: &str, was_there: bool) -> Result<
     // Some seconds for a million series, once.
     let patient = transaction.batch_execute("set local statement_timeout = '5min'");
     patient.await.map_err(fault)?;
-    transaction
-        .execute("select pg_advisory_xact_lock($1)", &[&LOCK])
-        .await
-        .map_err(fault)?;
+    transaction.execute("select pg_advisory_xact_lock($1)", &[&LOCK]).await.map_err(fault)?;
     // Another service may have done it since: the version is read anew, under the lock.
     let found = check(&transaction, server).await?;
     if found.version == KNOWN {
@@ -78,10 +70,7 @@ async fn bring_up(client: &mut Client, server: &str, was_there: bool) -> Result<
         tell_of_lost(&transaction, server, was_there).await?;
     }
     if !found.is_there {
-        transaction
-            .batch_execute("create schema totxegun")
-            .await
-            .map_err(fault)?;
+        transaction.batch_execute("create schema totxegun").await.map_err(fault)?;
     }
     for step in &STEPS[found.version as usize..] {
         transaction.batch_execute(step).await.map_err(fault)?;
@@ -94,10 +83,7 @@ async fn bring_up(client: &mut Client, server: &str, was_there: bool) -> Result<
         format!("delete from totxegun.version; insert into totxegun.version values ('totxegun', {KNOWN})");
     transaction.batch_execute(&row).await.map_err(fault)?;
     transaction.commit().await.map_err(fault)?;
-    tracing::info!(
-        "{server}: the schema totxegun was brought from version {} to {KNOWN}",
-        found.version
-    );
+    tracing::info!("{server}: the schema totxegun was brought from version {} to {KNOWN}", found.version);
     Ok(())
 }
 
@@ -168,18 +154,13 @@ async fn check(client: &impl GenericClient, server: &str) -> Result<FoundSchema,
     let row = client.query_one(query, &[]).await.map_err(fault)?;
     let encoding: String = row.get(3);
     if encoding != "UTF8" {
-        return Err(PostgresFault::Encoding {
-            server: server.into(),
-            encoding,
-        });
+        return Err(PostgresFault::Encoding { server: server.into(), encoding });
     }
     let (is_there, is_used, is_marked): (bool, bool, bool) = (row.get(0), row.get(1), row.get(2));
     if !is_used {
         return Ok(FoundSchema { is_there, version: 0 });
     }
-    let foreign = || PostgresFault::Foreign {
-        server: server.into(),
-    };
+    let foreign = || PostgresFault::Foreign { server: server.into() };
     if !is_marked {
         return Err(foreign());
     }
@@ -188,11 +169,9 @@ async fn check(client: &impl GenericClient, server: &str) -> Result<FoundSchema,
     let [row] = &rows[..] else { return Err(foreign()) };
     let version = row.get::<_, Option<String>>(0).and_then(|text| text.parse().ok());
     match version {
-        Some(found) if found > KNOWN => Err(PostgresFault::Later {
-            server: server.into(),
-            found,
-            known: KNOWN,
-        }),
+        Some(found) if found > KNOWN => {
+            Err(PostgresFault::Later { server: server.into(), found, known: KNOWN })
+        }
         Some(version) if version > 0 => Ok(FoundSchema { is_there, version }),
         _ => Err(foreign()),
     }

@@ -52,13 +52,7 @@ pub(super) struct StoredSeries {
 impl StoredSeries {
     /// As it is found, before it is locked.
     fn of(row: &Row, is_new: bool) -> StoredSeries {
-        StoredSeries {
-            id: row.get(1),
-            is_new,
-            metric: row.get(2),
-            last_end: None,
-            last_hour: None,
-        }
+        StoredSeries { id: row.get(1), is_new, metric: row.get(2), last_end: None, last_hour: None }
     }
 }
 

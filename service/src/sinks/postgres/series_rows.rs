@@ -111,10 +111,7 @@ impl<'a> SeriesRows<'a> {
         }
         let mut is_exact = true;
         self.objects.push(held_list(list, &mut is_exact)?);
-        let place = Place {
-            number: self.objects.len() as i32,
-            is_exact,
-        };
+        let place = Place { number: self.objects.len() as i32, is_exact };
         self.places.insert(list.into(), place);
         Ok(place)
     }

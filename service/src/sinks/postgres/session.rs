@@ -87,13 +87,7 @@ impl Session {
         };
         let prepared = timeout(patience, preparing).await.map_err(late)?;
         let (statements, fence) = prepared.map_err(|error| PostgresFault::of(&name, &error))?;
-        Ok(Session {
-            client,
-            statements,
-            seen: Seen::default(),
-            fence,
-            _connection: connection,
-        })
+        Ok(Session { client, statements, seen: Seen::default(), fence, _connection: connection })
     }
 }
 

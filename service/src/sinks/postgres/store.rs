@@ -34,11 +34,7 @@ pub(super) async fn take(
 ) -> Result<Option<LeftOut>, NotTaken> {
     let transaction = session.client.transaction().await;
     let transaction = transaction.map_err(|error| NotTaken::of(server, &error))?;
-    let writing = Writing {
-        transaction,
-        statements: &session.statements,
-        server,
-    };
+    let writing = Writing { transaction, statements: &session.statements, server };
     let (_, key) = tokio::try_join!(writing.hold_periods(), writing.key(request, &content))?;
     let row = match key {
         Key::New(row) => row,
@@ -113,17 +109,12 @@ impl Writing<'_> {
         let (slot, number) = (i32::from(request.slot), Numeric::from(request.number));
         let points = repeat::points(&content.all);
         let rows = self
-            .rows(
-                &self.statements.key,
-                &[&slot, &request.epoch, &number, &points, &KNOWN, &content.digest],
-            )
+            .rows(&self.statements.key, &[&slot, &request.epoch, &number, &points, &KNOWN, &content.digest])
             .await?;
         if let Some(row) = rows.first() {
             return Ok(Key::New(row.get(0)));
         }
-        let rows = self
-            .rows(&self.statements.is_taken, &[&slot, &request.epoch, &number])
-            .await?;
+        let rows = self.rows(&self.statements.is_taken, &[&slot, &request.epoch, &number]).await?;
         if let Some(row) = rows.first() {
             return Ok(Key::Taken(Taken::of(row)));
         }
@@ -133,15 +124,11 @@ impl Writing<'_> {
     /// Writes down what of the request is not added, so a repeat is told the same.
     async fn leave_out(&self, row: i64, added: i64, left: &LeftOut) -> Result<(), NotTaken> {
         let places: Vec<i32> = left.places.iter().map(|place| *place as i32).collect();
-        self.write(&self.statements.set_left_out, &[&row, &added, &places], 1)
-            .await
+        self.write(&self.statements.set_left_out, &[&row, &added, &places], 1).await
     }
 
     async fn spans(&self, all: &[OfSeries], known: &[StoredSeries]) -> Result<(), NotTaken> {
-        let row = |(point, known): (_, &StoredSeries)| SpanRow {
-            series: known.id,
-            point,
-        };
+        let row = |(point, known): (_, &StoredSeries)| SpanRow { series: known.id, point };
         let rows: Vec<SpanRow> = each(all, known).map(row).collect();
         self.write(&self.statements.spans, &[&rows], rows.len()).await
     }
@@ -149,10 +136,7 @@ impl Writing<'_> {
     async fn totals(&self, all: &[Adding<'_>]) -> Result<(), NotTaken> {
         self.past_hours(all).await?;
         let (first, more): (Vec<_>, Vec<_>) = all.iter().map(TotalRow).partition(|row| row.0.known.is_new);
-        for (statement, rows) in [
-            (&self.statements.first_totals, first),
-            (&self.statements.totals, more),
-        ] {
+        for (statement, rows) in [(&self.statements.first_totals, first), (&self.statements.totals, more)] {
             if !rows.is_empty() {
                 self.write(statement, &[&rows], rows.len()).await?;
             }
@@ -160,8 +144,7 @@ impl Writing<'_> {
         self.late(all).await?;
         // Behind all else, since other services wait for these rows.
         let rows = metric_rows::rows(all);
-        self.write(&self.statements.metric_hours, &[&rows], rows.len())
-            .await
+        self.write(&self.statements.metric_hours, &[&rows], rows.len()).await
     }
 
     /// Writes hours that are over by this request, and adds to those what comes late.
@@ -174,18 +157,12 @@ impl Writing<'_> {
         let of_series = |one| {
             let (earlier, _) = Adding::parted(one);
             let hours = earlier.chunk_by(|one, next| one.hour == next.hour);
-            hours.map(|hours| HourRow {
-                series: one.known.id,
-                hours,
-            })
+            hours.map(|hours| HourRow { series: one.known.id, hours })
         };
         let rows: Vec<HourRow> = all.iter().flat_map(of_series).collect();
         match rows.is_empty() {
             true => Ok(()),
-            false => {
-                self.write(&self.statements.past_hours, &[&rows], rows.len())
-                    .await
-            }
+            false => self.write(&self.statements.past_hours, &[&rows], rows.len()).await,
         }
     }
 
@@ -194,10 +171,7 @@ impl Writing<'_> {
         let rows: Vec<LateRow> = all.iter().flat_map(Adding::late).collect();
         match rows.is_empty() {
             true => Ok(()),
-            false => {
-                self.write(&self.statements.late_hours, &[&rows], rows.len())
-                    .await
-            }
+            false => self.write(&self.statements.late_hours, &[&rows], rows.len()).await,
         }
     }
 
@@ -219,7 +193,5 @@ pub(super) fn each<'a>(
     all: &'a [OfSeries],
     known: &'a [StoredSeries],
 ) -> impl Iterator<Item = (&'a ForwardedPoint, &'a StoredSeries)> {
-    all.iter()
-        .zip(known)
-        .flat_map(|(series, known)| series.points.iter().map(move |point| (point, known)))
+    all.iter().zip(known).flat_map(|(series, known)| series.points.iter().map(move |point| (point, known)))
 }

@@ -25,10 +25,7 @@ pub async fn read(server: &Server) -> Result<Vec<SeriesTotal>, PostgresFault> {
     let name = server.to_string();
     match timeout(PATIENCE, rows(server, &name)).await {
         Ok(rows) => made(&name, rows?).await,
-        Err(_) => Err(PostgresFault::told(
-            &name,
-            format!("no totals within {} s", PATIENCE.as_secs()),
-        )),
+        Err(_) => Err(PostgresFault::told(&name, format!("no totals within {} s", PATIENCE.as_secs()))),
     }
 }
 
@@ -36,10 +33,7 @@ pub async fn read(server: &Server) -> Result<Vec<SeriesTotal>, PostgresFault> {
 async fn rows(server: &Server, name: &str) -> Result<Vec<Row>, PostgresFault> {
     let fault = |error| PostgresFault::of(name, &error);
     let (client, _connection) = session::connect(server).await?;
-    client
-        .batch_execute("set default_transaction_read_only = on")
-        .await
-        .map_err(fault)?;
+    client.batch_execute("set default_transaction_read_only = on").await.map_err(fault)?;
     if schema::version(&client, name).await? == 0 {
         return Ok(Vec::new());
     }

@@ -102,21 +102,11 @@ mod tests {
             (-10_000, vec![2, 1, 0x4000, 0, 1, 0]),
             (1_2345_0678, vec![3, 2, 0, 0, 1, 2345, 678]),
             (u64::MAX.into(), vec![5, 4, 0, 0, 1844, 6744, 737, 955, 1615]),
-            (
-                i128::MIN,
-                vec![
-                    10, 9, 0x4000, 0, 170, 1411, 8346, 469, 2317, 3168, 7303, 7158, 8410, 5728,
-                ],
-            ),
+            (i128::MIN, vec![10, 9, 0x4000, 0, 170, 1411, 8346, 469, 2317, 3168, 7303, 7158, 8410, 5728]),
         ] {
             let mut out = BytesMut::new();
-            Numeric(number)
-                .to_sql(&Type::NUMERIC, &mut out)
-                .expect("a number");
-            let found: Vec<u16> = out
-                .chunks(2)
-                .map(|two| u16::from_be_bytes([two[0], two[1]]))
-                .collect();
+            Numeric(number).to_sql(&Type::NUMERIC, &mut out).expect("a number");
+            let found: Vec<u16> = out.chunks(2).map(|two| u16::from_be_bytes([two[0], two[1]])).collect();
             assert_eq!(found, words, "{number}");
         }
     }

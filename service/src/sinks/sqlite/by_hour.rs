@@ -114,25 +114,17 @@ mod tests {
         connection.execute_batch(VIEW).unwrap();
         let hours = |place: usize, from| {
             let hours = read(&path, &all[place], from).unwrap().unwrap().into_iter();
-            hours
-                .map(|it| (it.hour - ELEVEN, it.total.0, it.count.map(|count| count.0)))
-                .collect::<Vec<_>>()
+            hours.map(|it| (it.hour - ELEVEN, it.total.0, it.count.map(|count| count.0))).collect::<Vec<_>>()
         };
         let [number, text, histogram] = ["7", "8", "9"].map(|id| {
             let id: i64 = id.parse().unwrap();
-            all.iter()
-                .position(|one| found(&connection, one).unwrap() == Some(id))
-                .unwrap()
+            all.iter().position(|one| found(&connection, one).unwrap() == Some(id)).unwrap()
         });
         assert_eq!(hours(number, ELEVEN), [(0, 6, None), (1, 5, None)]);
         assert_eq!(hours(text, ELEVEN), [(1, 1 << 63, None)]);
         assert_eq!(hours(histogram, 0), [(1, -3, Some(4))]);
         let mut other = all[0].clone();
         other.unit = "By".into();
-        assert_eq!(
-            read(&path, &other, 0).unwrap(),
-            None,
-            "a series that the file does not have"
-        );
+        assert_eq!(read(&path, &other, 0).unwrap(), None, "a series that the file does not have");
     }
 }

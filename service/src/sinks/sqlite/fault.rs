@@ -14,11 +14,7 @@ pub enum SqliteFault {
     #[error("{0}")]
     Another(String),
     #[error("{path}: {what}")]
-    File {
-        path: PathBuf,
-        what: String,
-        source: Option<rusqlite::Error>,
-    },
+    File { path: PathBuf, what: String, source: Option<rusqlite::Error> },
     #[error("the thread that writes {path} can't be started: {source}")]
     Thread { path: PathBuf, source: std::io::Error },
 }
@@ -31,19 +27,11 @@ impl SqliteFault {
             }
             None => error.to_string(),
         };
-        SqliteFault::File {
-            path: path.into(),
-            what,
-            source: Some(error),
-        }
+        SqliteFault::File { path: path.into(), what, source: Some(error) }
     }
 
     pub(super) fn told(path: &Path, what: impl Into<String>) -> SqliteFault {
-        SqliteFault::File {
-            path: path.into(),
-            what: what.into(),
-            source: None,
-        }
+        SqliteFault::File { path: path.into(), what: what.into(), source: None }
     }
 
     /// Whether it stays until somebody names another file or starts another version.
@@ -67,14 +55,9 @@ impl SqliteFault {
 }
 
 fn what(code: ErrorCode, path: &Path) -> Option<String> {
-    let folder = path
-        .parent()
-        .filter(|folder| !folder.as_os_str().is_empty())
-        .unwrap_or(Path::new("."));
-    let is_of_rights = matches!(
-        code,
-        ErrorCode::ReadOnly | ErrorCode::PermissionDenied | ErrorCode::CannotOpen
-    );
+    let folder = path.parent().filter(|folder| !folder.as_os_str().is_empty()).unwrap_or(Path::new("."));
+    let is_of_rights =
+        matches!(code, ErrorCode::ReadOnly | ErrorCode::PermissionDenied | ErrorCode::CannotOpen);
     if is_of_rights && is_read_only(folder) {
         return Some(sealed(folder));
     }

@@ -39,12 +39,7 @@ impl Horizon {
             .prepare_cached(
                 "update horizon set spans_from_ns = ?1, hours_from = ?2, filled = ?3, fill_to = ?4",
             )?
-            .execute(params![
-                self.spans_from,
-                self.hours_from,
-                self.filled,
-                self.fill_to
-            ])
+            .execute(params![self.spans_from, self.hours_from, self.filled, self.fill_to])
             .map(drop)
     }
 }

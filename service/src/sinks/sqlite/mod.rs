@@ -49,11 +49,7 @@ pub struct SqliteSink {
 
 enum Job {
     Take(Forwarded, oneshot::Sender<Fate>),
-    Settle {
-        who: String,
-        deed: Deed,
-        done: oneshot::Sender<Told>,
-    },
+    Settle { who: String, deed: Deed, done: oneshot::Sender<Told> },
 }
 
 impl SqliteSink {
@@ -85,16 +81,8 @@ impl SqliteSink {
         let thread = std::thread::Builder::new()
             .name("sqlite".into())
             .spawn(write)
-            .map_err(|source| SqliteFault::Thread {
-                path: path.into(),
-                source,
-            })?;
-        Ok(SqliteSink {
-            path: path.into(),
-            jobs: Some(jobs),
-            thread: Some(thread),
-            keys: Keys::default(),
-        })
+            .map_err(|source| SqliteFault::Thread { path: path.into(), source })?;
+        Ok(SqliteSink { path: path.into(), jobs: Some(jobs), thread: Some(thread), keys: Keys::default() })
     }
 
     /// What the thread answers.
@@ -271,17 +259,11 @@ impl Writer {
     }
 
     fn is(&self, state: FileState) -> bool {
-        self.store
-            .as_ref()
-            .is_some_and(|store| store.file_state() == state)
+        self.store.as_ref().is_some_and(|store| store.file_state() == state)
     }
 
     fn take(&mut self, request: &Forwarded) -> Fate {
-        match self
-            .store()
-            .map_err(NotTaken::from)
-            .and_then(|store| store.take(request))
-        {
+        match self.store().map_err(NotTaken::from).and_then(|store| store.take(request)) {
             // It is written where nobody will read it: the key says what there is to be done.
             Ok(_) if !self.is(FileState::Intact) => Fate::again(format!(
                 "{} or its -wal was deleted meanwhile: it is opened again",
@@ -300,10 +282,9 @@ impl Writer {
     /// Where the file is opened anew meanwhile nothing is known of what was asked for: it may be asked for again.
     fn settle(&mut self, who: &str, deed: &Deed) -> Told {
         match self.store().and_then(|store| store.settle_period(who, deed)) {
-            Ok(_) if !self.is(FileState::Intact) => Told::Later(format!(
-                "{} or its -wal was deleted meanwhile",
-                self.path.display()
-            )),
+            Ok(_) if !self.is(FileState::Intact) => {
+                Told::Later(format!("{} or its -wal was deleted meanwhile", self.path.display()))
+            }
             Ok(told) => told,
             Err(fault) => {
                 self.close_after(&fault);

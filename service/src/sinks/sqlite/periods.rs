@@ -25,10 +25,7 @@ pub(super) fn read(transaction: &Transaction) -> rusqlite::Result<Closed> {
             })
         })?
         .collect::<rusqlite::Result<_>>()?;
-    Ok(Closed {
-        rows,
-        now: now / 3600,
-    })
+    Ok(Closed { rows, now: now / 3600 })
 }
 
 /// Carries a deed out, or leaves all as it was.
@@ -68,12 +65,7 @@ fn open(transaction: &Transaction, period: &Period) -> rusqlite::Result<Told> {
 }
 
 fn correct(transaction: &Transaction, who: &str, correction: &Correction) -> rusqlite::Result<Told> {
-    let Correction {
-        series,
-        hour,
-        value,
-        reason,
-    } = correction;
+    let Correction { series, hour, value, reason } = correction;
     if let Some((who, at)) = made_before(transaction, correction)? {
         return Ok(correction.was_there(&who, at));
     }
@@ -86,11 +78,9 @@ fn correct(transaction: &Transaction, who: &str, correction: &Correction) -> rus
     if !is_there {
         return Ok(correction.of_none());
     }
-    let so_far: i64 = transaction.query_row(
-        "select coalesce(sum(abs(value)), 0) from corrections",
-        [],
-        |row| row.get(0),
-    )?;
+    let so_far: i64 =
+        transaction
+            .query_row("select coalesce(sum(abs(value)), 0) from corrections", [], |row| row.get(0))?;
     if value.unsigned_abs() > (MOST_CORRECTED - so_far).unsigned_abs() {
         return Ok(correction.too_great());
     }
@@ -109,12 +99,7 @@ fn made_before(
     transaction: &Transaction,
     correction: &Correction,
 ) -> rusqlite::Result<Option<(String, i64)>> {
-    let Correction {
-        series,
-        hour,
-        value,
-        reason,
-    } = correction;
+    let Correction { series, hour, value, reason } = correction;
     transaction
         .query_row(
             "select who, made_at from corrections where series = ?1 and of_hour = ?2 and value = ?3 and reason = ?4",

@@ -28,20 +28,14 @@ pub(super) fn migrate(
         return Ok(());
     }
     // Another process may have done it since: the version is read anew, under the lock.
-    let transaction = connection
-        .transaction_with_behavior(TransactionBehavior::Immediate)
-        .map_err(fault)?;
+    let transaction = connection.transaction_with_behavior(TransactionBehavior::Immediate).map_err(fault)?;
     let version = check(&transaction, path, known)?;
     for step in &steps[version as usize..] {
         transaction.execute_batch(step).map_err(fault)?;
     }
     transaction.execute_batch(views).map_err(fault)?;
-    transaction
-        .pragma_update(None, "application_id", APPLICATION)
-        .map_err(fault)?;
-    transaction
-        .pragma_update(None, "user_version", known)
-        .map_err(fault)?;
+    transaction.pragma_update(None, "application_id", APPLICATION).map_err(fault)?;
+    transaction.pragma_update(None, "user_version", known).map_err(fault)?;
     transaction.commit().map_err(fault)?;
     if version > 0 {
         tracing::info!("{} was brought from schema {version} to {known}", path.display());
@@ -59,19 +53,13 @@ pub(super) fn id(connection: &Connection, path: &Path) -> Result<String, SqliteF
 /// The version of a file that is ours; 0 where it is empty.
 pub(super) fn check(connection: &Connection, path: &Path, known: i64) -> Result<i64, SqliteFault> {
     let number = |query: &str| -> Result<i64, SqliteFault> {
-        connection
-            .query_row(query, [], |row| row.get(0))
-            .map_err(|error| SqliteFault::of(path, error))
+        connection.query_row(query, [], |row| row.get(0)).map_err(|error| SqliteFault::of(path, error))
     };
     let version = number("pragma user_version")?;
     let application = number("pragma application_id")?;
     if application == APPLICATION {
         if version > known {
-            return Err(SqliteFault::Later {
-                path: path.into(),
-                found: version,
-                known,
-            });
+            return Err(SqliteFault::Later { path: path.into(), found: version, known });
         }
         if version > 0 {
             return Ok(version);
@@ -87,15 +75,10 @@ pub(super) fn check(connection: &Connection, path: &Path, known: i64) -> Result<
 mod tests {
     use super::*;
 
-    const TWO: &[&str] = &[
-        "create table a (x)",
-        "alter table a add column y; insert into a values (1, 2)",
-    ];
+    const TWO: &[&str] = &["create table a (x)", "alter table a add column y; insert into a values (1, 2)"];
 
     fn rows(connection: &Connection) -> i64 {
-        connection
-            .query_row("select count(*) from a where y = 2", [], |row| row.get(0))
-            .expect("table a")
+        connection.query_row("select count(*) from a where y = 2", [], |row| row.get(0)).expect("table a")
     }
 
     #[test]
@@ -127,9 +110,7 @@ mod tests {
         let mut connection = Connection::open_in_memory().expect("memory");
         let path = Path::new("/var/x.db");
         migrate(&mut connection, path, TWO, "").expect("version 2");
-        let error = migrate(&mut connection, path, &TWO[..1], "")
-            .expect_err("it is later")
-            .to_string();
+        let error = migrate(&mut connection, path, &TWO[..1], "").expect_err("it is later").to_string();
         assert!(
             error.contains("/var/x.db") && error.contains("schema 2") && error.contains("knows 1"),
             "{error}"
@@ -138,11 +119,7 @@ mod tests {
 
     #[test]
     fn a_file_of_another_program_is_not_touched() {
-        for foreign in [
-            "create table theirs (x)",
-            "pragma user_version = 3",
-            "pragma application_id = 5",
-        ] {
+        for foreign in ["create table theirs (x)", "pragma user_version = 3", "pragma application_id = 5"] {
             let mut connection = Connection::open_in_memory().expect("memory");
             connection.execute_batch(foreign).expect("theirs");
             let error = migrate(&mut connection, Path::new("x.db"), TWO, "").expect_err("it is theirs");

@@ -74,18 +74,15 @@ impl Store {
             false => admit(None),
         }
         .map_err(SqliteFault::Another)?;
-        let mode: String = connection
-            .query_row("pragma journal_mode = wal", [], |row| row.get(0))
-            .map_err(fault)?;
+        let mode: String =
+            connection.query_row("pragma journal_mode = wal", [], |row| row.get(0)).map_err(fault)?;
         if mode != "wal" {
             return Err(SqliteFault::told(
                 path,
                 "its file system has no write-ahead log: name a file on a local disk",
             ));
         }
-        connection
-            .execute_batch("pragma synchronous = full; pragma foreign_keys = on")
-            .map_err(fault)?;
+        connection.execute_batch("pragma synchronous = full; pragma foreign_keys = on").map_err(fault)?;
         schema::migrate(&mut connection, path, STEPS, VIEWS)?;
         settle(&connection, path)?;
         admit(Some(&schema::id(&connection, path)?)).map_err(SqliteFault::Another)?;
@@ -131,10 +128,8 @@ impl Store {
     pub(super) fn take(&mut self, request: &Forwarded) -> Result<Option<LeftOut>, NotTaken> {
         let points = series::forwarded(&request.body)?;
         let fault = |error: rusqlite::Error| -> NotTaken { not_taken(&self.path, error) };
-        let transaction = self
-            .connection
-            .transaction_with_behavior(TransactionBehavior::Immediate)
-            .map_err(fault)?;
+        let transaction =
+            self.connection.transaction_with_behavior(TransactionBehavior::Immediate).map_err(fault)?;
         let version: i64 = transaction
             .prepare_cached("pragma data_version")
             .and_then(|mut pragma| pragma.query_row([], |row| row.get(0)))
@@ -188,9 +183,7 @@ fn is_of_a_group(path: &Path) -> bool {
 /// is believed before it was written anew.
 fn settle(connection: &Connection, path: &Path) -> Result<(), SqliteFault> {
     let (busy, log, copied): (i64, i64, i64) = connection
-        .query_row("pragma wal_checkpoint(full)", [], |row| {
-            Ok((row.get(0)?, row.get(1)?, row.get(2)?))
-        })
+        .query_row("pragma wal_checkpoint(full)", [], |row| Ok((row.get(0)?, row.get(1)?, row.get(2)?)))
         .map_err(|error| SqliteFault::of(path, error))?;
     if busy != 0 || log != copied {
         let what = "another process has read it for long, so its log can't be made sure: end what reads it";
@@ -218,9 +211,7 @@ fn beside(path: &Path) -> [Option<(u64, u64)>; 2] {
 }
 
 fn place(path: &Path) -> Option<(u64, u64)> {
-    std::fs::metadata(path)
-        .ok()
-        .map(|found| (found.dev(), found.ino()))
+    std::fs::metadata(path).ok().map(|found| (found.dev(), found.ino()))
 }
 
 /// Content that no SQLite takes is refused for good; all else may mend itself.
@@ -328,9 +319,9 @@ impl Writing<'_> {
         self.of(|transaction| spans::insert(transaction, request, known.series, point))?;
         let total = match total {
             None => Total::of(point),
-            Some(total) => total
-                .and(point)
-                .map_err(|why| NotTaken::Refused(format!("{why}: {}", shown(point))))?,
+            Some(total) => {
+                total.and(point).map_err(|why| NotTaken::Refused(format!("{why}: {}", shown(point))))?
+            }
         };
         self.of(|transaction| total.write(transaction, known.series))?;
         self.hours.add(known, point.end, &point.value, &self.closed);

@@ -12,12 +12,7 @@ use super::totals::{read, Filter, SeriesTotal};
 use super::*;
 
 fn forwarded(number: u64, body: String) -> Forwarded {
-    Forwarded {
-        slot: 0,
-        epoch: "e".into(),
-        number,
-        body: body.into_bytes(),
-    }
+    Forwarded { slot: 0, epoch: "e".into(), number, body: body.into_bytes() }
 }
 
 fn metrics(metrics: &str) -> String {
@@ -61,10 +56,7 @@ impl Trial {
     fn new() -> Trial {
         let folder = tempfile::tempdir().expect("a folder");
         let path = folder.path().join("totals.db");
-        Trial {
-            folder,
-            writer: writer(&path),
-        }
+        Trial { folder, writer: writer(&path) }
     }
 
     fn path(&self) -> PathBuf {
@@ -101,22 +93,13 @@ impl Trial {
 
     fn totals(&self) -> Vec<(String, i128, u64)> {
         let rows = read(&self.path(), &Filter::default()).expect("it is read");
-        rows.into_iter()
-            .map(|row| (row.name, row.total.0, row.points))
-            .collect()
+        rows.into_iter().map(|row| (row.name, row.total.0, row.points)).collect()
     }
 
     fn ask(&self, query: &str) -> String {
-        let shell = std::process::Command::new("sqlite3")
-            .arg(self.path())
-            .arg(query)
-            .output()
-            .expect("sqlite3");
-        assert!(
-            shell.status.success(),
-            "{}",
-            String::from_utf8_lossy(&shell.stderr)
-        );
+        let shell =
+            std::process::Command::new("sqlite3").arg(self.path()).arg(query).output().expect("sqlite3");
+        assert!(shell.status.success(), "{}", String::from_utf8_lossy(&shell.stderr));
         String::from_utf8(shell.stdout).expect("text").trim().into()
     }
 }
@@ -162,15 +145,9 @@ fn gaps_between_keys_stay_open() {
     trial.taken(9, sum("a", 50, 60, 4));
     trial.taken(3, sum("a", 20, 30, 8));
     trial.taken(3, sum("a", 20, 30, 8));
-    let other = Forwarded {
-        slot: 1,
-        ..forwarded(1, sum("b", 10, 20, 16))
-    };
+    let other = Forwarded { slot: 1, ..forwarded(1, sum("b", 10, 20, 16)) };
     assert_eq!(trial.writer.take(&other), Fate::Taken);
-    let other = Forwarded {
-        epoch: "f".into(),
-        ..forwarded(1, sum("b", 20, 30, 32))
-    };
+    let other = Forwarded { epoch: "f".into(), ..forwarded(1, sum("b", 20, 30, 32)) };
     assert_eq!(trial.writer.take(&other), Fate::Taken);
     assert_eq!(trial.totals(), [("a".into(), 15, 4), ("b".into(), 48, 2)]);
 }
@@ -180,15 +157,9 @@ fn a_span_that_overlaps_is_refused() {
     let mut trial = Trial::new();
     trial.taken(1, sum("a", 100, 200, 1));
     trial.taken(2, sum("a", 300, 400, 1));
-    for (number, (start, end)) in (10..).zip([
-        (100, 200),
-        (150, 160),
-        (50, 101),
-        (199, 300),
-        (250, 301),
-        (1, 1000),
-        (399, 500),
-    ]) {
+    for (number, (start, end)) in
+        (10..).zip([(100, 200), (150, 160), (50, 101), (199, 300), (250, 301), (1, 1000), (399, 500)])
+    {
         trial.refused(number, sum("a", start, end, 9), "overlaps");
     }
     assert_eq!(trial.totals(), only("a", 2, 2));
@@ -196,11 +167,7 @@ fn a_span_that_overlaps_is_refused() {
     trial.taken(4, sum("a", 50, 100, 1));
     trial.taken(5, sum("a", 400, 500, 1));
     assert_eq!(trial.totals(), only("a", 5, 5));
-    trial.refused(
-        20,
-        metrics(&sum_of("c", &[sum_point(1, 10, 20, 1), sum_point(1, 15, 25, 1)])),
-        "overlaps",
-    );
+    trial.refused(20, metrics(&sum_of("c", &[sum_point(1, 10, 20, 1), sum_point(1, 15, 25, 1)])), "overlaps");
     assert_eq!(trial.totals(), only("a", 5, 5));
 }
 
@@ -208,10 +175,7 @@ fn a_span_that_overlaps_is_refused() {
 fn what_is_no_forwarded_request_is_refused() {
     let mut trial = Trial::new();
     for body in ["", "{", "[]", r#"{"resourceMetrics":5}"#] {
-        assert!(
-            matches!(trial.take(1, body.into()), Fate::Refused { .. }),
-            "{body}"
-        );
+        assert!(matches!(trial.take(1, body.into()), Fate::Refused { .. }), "{body}");
     }
     trial.refused(1, sum("a", 20, 20, 1), "");
     trial.taken(1, sum("a", 10, 20, 1));
@@ -227,17 +191,10 @@ fn sums_past_64_bits_are_exact() {
     }
     let total = 5 * i128::from(most);
     trial.reopen();
-    assert_eq!(
-        trial.totals(),
-        [("down".into(), -total, 5), ("up".into(), total, 5)]
-    );
+    assert_eq!(trial.totals(), [("down".into(), -total, 5), ("up".into(), total, 5)]);
     let rows = format!("down|{}\nup|{total}", -total);
     for view in ["totals", "totals_by_name", "totals_by_hour"] {
-        assert_eq!(
-            trial.ask(&format!("select name, total from {view} order by name")),
-            rows,
-            "{view}"
-        );
+        assert_eq!(trial.ask(&format!("select name, total from {view} order by name")), rows, "{view}");
     }
     trial.taken(200, sum("up", 1000, 1010, least));
     assert_eq!(
@@ -250,16 +207,8 @@ fn sums_past_64_bits_are_exact() {
 #[test]
 fn views_carry_and_borrow() {
     let mut trial = Trial::new();
-    let values = [
-        999_999_999_999,
-        1,
-        -1,
-        -1_000_000_000_000,
-        -5,
-        3_000_000_000_005,
-        -3_000_000_000_000,
-        12_345,
-    ];
+    let values =
+        [999_999_999_999, 1, -1, -1_000_000_000_000, -5, 3_000_000_000_005, -3_000_000_000_000, 12_345];
     let mut total = 0;
     for (number, value) in (1..).zip(values) {
         trial.taken(number, sum("a", number * 10, number * 10 + 10, value));
@@ -282,10 +231,7 @@ fn histograms_add_up_by_bucket() {
     let found = rows[0].histogram.as_ref().expect("a histogram");
     let first = 1 + i128::from(u64::MAX) + (1 << 63);
     assert_eq!(found.buckets, [first, 2, 7].map(Exact));
-    assert_eq!(
-        (found.count, rows[0].total, found.points_without_sum),
-        (Exact(first + 9), Exact(8), 1)
-    );
+    assert_eq!((found.count, rows[0].total, found.points_without_sum), (Exact(first + 9), Exact(8), 1));
     assert_eq!(found.bounds, [-5, 10]);
     for view in ["totals", "totals_by_name", "totals_by_hour"] {
         assert_eq!(
@@ -309,10 +255,7 @@ fn late_times_are_exact() {
     trial.refused(3, sum("a", u64::MAX - 1, u64::MAX, 1), "overlaps");
     trial.taken(3, sum("a", 1 << 63, u64::MAX - 10, 1));
     let rows = read(&trial.path(), &Filter::default()).expect("rows");
-    assert_eq!(
-        (rows[0].start_ns, rows[0].end_ns, rows[0].points),
-        (10, u64::MAX, 3)
-    );
+    assert_eq!((rows[0].start_ns, rows[0].end_ns, rows[0].points), (10, u64::MAX, 3));
 }
 
 #[test]
@@ -345,9 +288,8 @@ async fn a_sink_has_a_thread_that_ends_with_it() {
     let path = folder.path().join("totals.db");
     let sink = SqliteSink::open(&path, Retention::default(), Arc::new(())).expect("a sink");
     assert_eq!(sink.name(), format!("sqlite {}", path.display()));
-    let bodies: Vec<Forwarded> = (1..=20)
-        .map(|number| forwarded(number, sum("a", number, number + 1, 1)))
-        .collect();
+    let bodies: Vec<Forwarded> =
+        (1..=20).map(|number| forwarded(number, sum("a", number, number + 1, 1))).collect();
     for request in &bodies {
         assert_eq!(sink.deliver(request).await, Fate::Taken);
     }
@@ -355,10 +297,7 @@ async fn a_sink_has_a_thread_that_ends_with_it() {
     drop(sink.deliver(&bodies[0]));
     assert_eq!(sink.deliver(&bodies[1]).await, Fate::Taken);
     drop(sink);
-    assert!(
-        !folder.path().join("totals.db-wal").exists(),
-        "it is closed whole"
-    );
+    assert!(!folder.path().join("totals.db-wal").exists(), "it is closed whole");
     assert_eq!(read(&path, &Filter::default()).expect("rows")[0].total, Exact(20));
 }
 
@@ -372,19 +311,9 @@ fn totals_are_read_by_name_and_attribute() {
     );
     trial.taken(1, metrics(&both));
     let found = |name: Option<&str>, attributes: &[(&str, &str)]| -> Vec<i128> {
-        let attributes = attributes
-            .iter()
-            .map(|(key, value)| (key.to_string(), value.to_string()))
-            .collect();
-        let filter = Filter {
-            name: name.map(String::from),
-            attributes,
-        };
-        read(&trial.path(), &filter)
-            .expect("rows")
-            .iter()
-            .map(|row: &SeriesTotal| row.total.0)
-            .collect()
+        let attributes = attributes.iter().map(|(key, value)| (key.to_string(), value.to_string())).collect();
+        let filter = Filter { name: name.map(String::from), attributes };
+        read(&trial.path(), &filter).expect("rows").iter().map(|row: &SeriesTotal| row.total.0).collect()
     };
     assert_eq!(found(None, &[]), [3, 4, 5]);
     assert_eq!(found(Some("a"), &[]), [3, 4]);

@@ -135,9 +135,7 @@ impl Filter {
     /// Of series of its name.
     pub fn takes(&self, row: &SeriesTotal) -> bool {
         self.attributes.iter().all(|(key, value)| {
-            let found = [&row.attributes, &row.resource]
-                .into_iter()
-                .find_map(|all| all.get(key));
+            let found = [&row.attributes, &row.resource].into_iter().find_map(|all| all.get(key));
             found.is_some_and(|found| text(found) == *value)
         })
     }
@@ -176,10 +174,7 @@ pub fn read(path: &Path, filter: &Filter) -> Result<Vec<SeriesTotal>, SqliteFaul
 pub(super) fn open(path: &Path) -> Result<Connection, SqliteFault> {
     let fault = |error| SqliteFault::of(path, error);
     if !path.is_file() {
-        return Err(SqliteFault::told(
-            path,
-            "there is no such file: nothing was delivered to it yet",
-        ));
+        return Err(SqliteFault::told(path, "there is no such file: nothing was delivered to it yet"));
     }
     let flags = OpenFlags::SQLITE_OPEN_READ_ONLY | OpenFlags::SQLITE_OPEN_NO_MUTEX;
     let tried = Connection::open_with_flags(path, flags).and_then(|connection| {
@@ -228,11 +223,7 @@ pub(super) fn row(row: &Row) -> rusqlite::Result<SeriesTotal> {
         start_ns: whole(row, 9)?,
         end_ns: whole(row, 10)?,
         total: Exact::of_parts(row.get(11)?, row.get(12)?),
-        histogram: if kind == Kind::Histogram {
-            Some(histogram(row)?)
-        } else {
-            None
-        },
+        histogram: if kind == Kind::Histogram { Some(histogram(row)?) } else { None },
     })
 }
 

@@ -29,12 +29,7 @@ pub(super) struct Upkeep {
 
 impl Upkeep {
     pub(super) fn new(retention: Retention) -> Upkeep {
-        Upkeep {
-            retention,
-            step: STEP,
-            ended: Ended::default(),
-            due: Instant::now(),
-        }
+        Upkeep { retention, step: STEP, ended: Ended::default(), due: Instant::now() }
     }
 
     pub(super) fn is_due(&self) -> bool {
@@ -106,9 +101,8 @@ fn spans(
     let mut note = transaction.prepare_cached("update request set has_spans = 0 where id = ?1")?;
     let mut done = 0;
     while done < step {
-        let found: Option<(i64, Unsigned)> = next
-            .query_row([Unsigned(until)], |row| Ok((row.get(0)?, row.get(1)?)))
-            .optional()?;
+        let found: Option<(i64, Unsigned)> =
+            next.query_row([Unsigned(until)], |row| Ok((row.get(0)?, row.get(1)?))).optional()?;
         let Some((id, end)) = found else { break };
         if horizon.spans_from == Unsigned(0) {
             tell_of_spans(kept);

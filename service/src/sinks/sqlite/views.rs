@@ -59,11 +59,7 @@ macro_rules! billed {
             exact!("total_high", "total_low"),
             " else ",
             exact!(
-                concat!(
-                    "(total_high + (total_low + corrections - ",
-                    corrected!(),
-                    ") / 1000000000000)"
-                ),
+                concat!("(total_high + (total_low + corrections - ", corrected!(), ") / 1000000000000)"),
                 corrected!()
             ),
             " end as billed"

@@ -19,14 +19,10 @@ impl ToSql for Unsigned {
 impl FromSql for Unsigned {
     fn column_result(value: ValueRef<'_>) -> FromSqlResult<Unsigned> {
         match value {
-            ValueRef::Integer(number) => u64::try_from(number)
-                .map(Unsigned)
-                .map_err(|_| FromSqlError::OutOfRange(number)),
-            ValueRef::Text(_) => value
-                .as_str()?
-                .parse()
-                .map(Unsigned)
-                .map_err(|_| FromSqlError::InvalidType),
+            ValueRef::Integer(number) => {
+                u64::try_from(number).map(Unsigned).map_err(|_| FromSqlError::OutOfRange(number))
+            }
+            ValueRef::Text(_) => value.as_str()?.parse().map(Unsigned).map_err(|_| FromSqlError::InvalidType),
             _ => Err(FromSqlError::InvalidType),
         }
     }
@@ -74,34 +70,17 @@ mod tests {
     fn large_numbers_keep_their_order() {
         let connection = Connection::open_in_memory().expect("memory");
         connection.execute_batch("create table t (n)").expect("a table");
-        let numbers = [
-            0,
-            1,
-            1 << 62,
-            (1 << 63) - 1,
-            1 << 63,
-            (1 << 63) + 1,
-            9_999_999_999_999_999_999,
-            u64::MAX,
-        ];
+        let numbers =
+            [0, 1, 1 << 62, (1 << 63) - 1, 1 << 63, (1 << 63) + 1, 9_999_999_999_999_999_999, u64::MAX];
         for number in numbers.iter().rev() {
-            connection
-                .execute("insert into t values (?1)", [Unsigned(*number)])
-                .expect("a row");
+            connection.execute("insert into t values (?1)", [Unsigned(*number)]).expect("a row");
         }
         let mut query = connection.prepare("select n from t order by n").expect("a query");
-        let read: Vec<Unsigned> = query
-            .query_map([], |row| row.get(0))
-            .expect("rows")
-            .collect::<Result<_, _>>()
-            .expect("numbers");
+        let read: Vec<Unsigned> =
+            query.query_map([], |row| row.get(0)).expect("rows").collect::<Result<_, _>>().expect("numbers");
         assert_eq!(read, numbers.map(Unsigned));
         let less: i64 = connection
-            .query_row(
-                "select count(*) from t where n < ?1",
-                [Unsigned(u64::MAX)],
-                |row| row.get(0),
-            )
+            .query_row("select count(*) from t where n < ?1", [Unsigned(u64::MAX)], |row| row.get(0))
             .expect("a count");
         assert_eq!(less, 7);
     }
@@ -117,11 +96,9 @@ mod tests {
         ] {
             assert_eq!(Exact(total).parts(), Some(parts));
         }
-        for total in [
-            i128::from(i64::MIN),
-            i128::from(u64::MAX) * 1_000_000,
-            -12_345_678_901_234_567_890_123_456_789,
-        ] {
+        for total in
+            [i128::from(i64::MIN), i128::from(u64::MAX) * 1_000_000, -12_345_678_901_234_567_890_123_456_789]
+        {
             let (high, low) = Exact(total).parts().expect("it fits");
             assert_eq!(Exact::of_parts(high, low), Exact(total));
         }

@@ -32,9 +32,7 @@ impl Both {
 
     fn post(&mut self, sender: &str, body: Vec<u8>) {
         let body = Bytes::from(body);
-        let slow = self
-            .text(&body)
-            .and_then(|text| admitted(&self.slow, &self.numbers, sender, text));
+        let slow = self.text(&body).and_then(|text| admitted(&self.slow, &self.numbers, sender, text));
         let by_number = self.numbers.read(&self.fast, &body, &self.reading);
         self.by_number += usize::from(by_number.is_some());
         let request = by_number.map_or_else(|| self.text(&body), |by| Ok(Request::Numbered(by)));
@@ -47,9 +45,7 @@ impl Both {
 
     fn text(&self, body: &Bytes) -> Result<Request, String> {
         let prepared = prepare(Encoding::Protobuf, body.clone(), &self.reading);
-        prepared
-            .map(|prepared| Request::Text(prepared.body))
-            .map_err(|refused| refused.to_string())
+        prepared.map(|prepared| Request::Text(prepared.body)).map_err(|refused| refused.to_string())
     }
 
     /// What both forward: it is the same to the byte, and so is their report.
@@ -106,10 +102,7 @@ fn a_text_by_number_is_what_the_library_reads_of_it() {
         prepared.map(|prepared| prepared.body)
     });
     let mut both = Both::new(Reading::default());
-    for (number, text) in of_protobuf
-        .chain(requests_of_test(2_000).into_iter().flatten())
-        .enumerate()
-    {
+    for (number, text) in of_protobuf.chain(requests_of_test(2_000).into_iter().flatten()).enumerate() {
         let sender = ["A", "B"][number / 7 % 2];
         let slow = admitted(&both.slow, &both.numbers, sender, text.clone().into());
         let by_number = both.numbers.read_text(&both.fast, &text).unwrap();
@@ -127,12 +120,7 @@ fn a_text_by_number_is_what_the_library_reads_of_it() {
             both.flush();
         }
     }
-    assert!(
-        both.by_number > 5_000 && both.taken > 2_000,
-        "{} {}",
-        both.by_number,
-        both.taken
-    );
+    assert!(both.by_number > 5_000 && both.taken > 2_000, "{} {}", both.by_number, both.taken);
     assert!(both.foreign > 2_000, "{}", both.foreign);
 }
 
@@ -145,20 +133,13 @@ fn deltas(by: ByNumber) -> ByNumber {
         }
     }
     let foreign = by.foreign + by.cumulative.len() as u64;
-    ByNumber {
-        points,
-        foreign,
-        ..by
-    }
+    ByNumber { points, foreign, ..by }
 }
 
 fn admitted_as_it_is(core: &Arc<Core>, sender: &str, by: ByNumber) -> Result<u64, String> {
     let read = core.read_points(sender.into(), by.points, by.names, by.foreign);
     let admitted = read.and_then(|mut read| {
-        assert_eq!(
-            read.post.foreign, by.foreign,
-            "the library finds no other foreign"
-        );
+        assert_eq!(read.post.foreign, by.foreign, "the library finds no other foreign");
         core.lock().admit(&mut read)?;
         Ok(read.post.foreign)
     });
@@ -174,25 +155,15 @@ fn what_a_text_goes_by_is_what_it_says() {
         let prepared = prepare(Encoding::Protobuf, body.into(), &reading);
         prepared.map(|prepared| prepared.body)
     });
-    let (mut both, again) = (
-        Both::new(Reading::default()),
-        Core::apart(20_000, Across::None).unwrap(),
-    );
+    let (mut both, again) = (Both::new(Reading::default()), Core::apart(20_000, Across::None).unwrap());
     let start = Names::new().unwrap();
-    for (number, text) in of_protobuf
-        .chain(requests_of_test(2_000).into_iter().flatten())
-        .enumerate()
-    {
+    for (number, text) in of_protobuf.chain(requests_of_test(2_000).into_iter().flatten()).enumerate() {
         let sender = ["A", "B"][number / 7 % 2];
         let as_text = both.slow.read(sender.into(), text.clone());
         let slow = as_text.and_then(|mut read| both.slow.lock().admit(&mut read).map(|()| read.post.foreign));
         let fast = read(&both.fast, &both.numbers, sender, text.clone().into());
         let fast = fast.and_then(|mut read| both.fast.lock().admit(&mut read).map(|()| read));
-        assert_eq!(
-            fast.as_ref().map(|read| read.post.foreign),
-            slow.as_ref().copied(),
-            "{text:?}"
-        );
+        assert_eq!(fast.as_ref().map(|read| read.post.foreign), slow.as_ref().copied(), "{text:?}");
         if let Ok(fast) = fast {
             let mut replayed = replayed(&again, &start, &fast);
             assert_eq!(again.lock().admit(&mut replayed), Ok(()), "{text:?}");
@@ -204,12 +175,7 @@ fn what_a_text_goes_by_is_what_it_says() {
             assert!(slow == fast && slow == again);
         }
     }
-    assert!(
-        both.taken > 2_000 && both.foreign > 2_000,
-        "{} {}",
-        both.taken,
-        both.foreign
-    );
+    assert!(both.taken > 2_000 && both.foreign > 2_000, "{} {}", both.taken, both.foreign);
 }
 
 /// By names that a start has made of those that the journal has.
@@ -220,49 +186,27 @@ fn replayed(core: &Arc<Core>, start: &Arc<Names>, read: &Read) -> Read {
         own.push_words(number, &point[1..]);
     }
     let sender = read.post.sender.clone();
-    core.read_points(sender, own, start.clone(), read.post.foreign)
-        .unwrap()
+    core.read_points(sender, own, start.clone(), read.post.foreign).unwrap()
 }
 
 /// Where there is no room for its series a text stays one, but where it is of several hours.
 #[test]
 fn a_text_stays_one_where_there_is_no_room_for_its_series() {
     const HOUR: u64 = 3_600_000_000_000;
-    let point = |end: u64| {
-        format!(
-            r#"{{"asInt":"5","startTimeUnixNano":"{}","timeUnixNano":"{end}"}}"#,
-            end - 1
-        )
-    };
+    let point =
+        |end: u64| format!(r#"{{"asInt":"5","startTimeUnixNano":"{}","timeUnixNano":"{end}"}}"#, end - 1);
     let text = |ends: &[u64]| {
         let points: Vec<String> = ends.iter().map(|end| point(*end)).collect();
-        let sum = format!(
-            r#"{{"aggregationTemporality":1,"dataPoints":[{}]}}"#,
-            points.join(",")
-        );
+        let sum = format!(r#"{{"aggregationTemporality":1,"dataPoints":[{}]}}"#, points.join(","));
         format!(r#"{{"resourceMetrics":[{{"scopeMetrics":[{{"metrics":[{{"name":"a","sum":{sum}}}]}}]}}]}}"#)
     };
     let core = Core::new(1).unwrap();
     for (bytes, one_hour, two_hours) in [(0, 0, 2), (1 << 10, 1, 2)] {
-        let limits = Limits {
-            bytes,
-            kept: Duration::from_secs(60),
-        };
-        let numbers = Numbers {
-            limits,
-            ..Numbers::default()
-        };
-        for (ends, wanted) in [
-            (&[5][..], one_hour),
-            (&[5, HOUR + 5], two_hours),
-            (&[7], one_hour),
-        ] {
+        let limits = Limits { bytes, kept: Duration::from_secs(60) };
+        let numbers = Numbers { limits, ..Numbers::default() };
+        for (ends, wanted) in [(&[5][..], one_hour), (&[5, HOUR + 5], two_hours), (&[7], one_hour)] {
             let read = read(&core, &numbers, "A", Bytes::from(text(ends)).into()).unwrap();
-            assert_eq!(
-                by_number(&read).map_or(0, Points::count),
-                wanted,
-                "{bytes} bytes, {ends:?}"
-            );
+            assert_eq!(by_number(&read).map_or(0, Points::count), wanted, "{bytes} bytes, {ends:?}");
         }
     }
 }
@@ -271,18 +215,9 @@ fn a_text_stays_one_where_there_is_no_room_for_its_series() {
 #[test]
 fn a_text_has_numbers_also_where_there_is_no_room_for_them() {
     let core = Core::new(1).unwrap();
-    let numbers = Numbers {
-        limits: Limits {
-            bytes: 0,
-            kept: Duration::from_secs(60),
-        },
-        ..Numbers::default()
-    };
-    let text = requests_of_test(20)
-        .into_iter()
-        .flatten()
-        .max_by_key(Bytes::len)
-        .unwrap();
+    let numbers =
+        Numbers { limits: Limits { bytes: 0, kept: Duration::from_secs(60) }, ..Numbers::default() };
+    let text = requests_of_test(20).into_iter().flatten().max_by_key(Bytes::len).unwrap();
     let generation = |by: &ByNumber| files::Names::generation(&*by.names);
     let [one, other] = [(); 2].map(|()| numbers.read_text(&core, &text).unwrap().unwrap());
     assert!(one.points.count() > 0);
@@ -327,10 +262,7 @@ fn a_post_asks_for_the_room_that_it_takes_in_the_journal() {
 #[test]
 fn numbers_begin_anew_and_posts_under_way_keep_theirs() {
     let mut both = Both::new(Reading::default());
-    both.numbers.limits = Limits {
-        bytes: 1,
-        kept: Duration::ZERO,
-    };
+    both.numbers.limits = Limits { bytes: 1, kept: Duration::ZERO };
     let first = Bytes::from(posts_of_test(9, 1).remove(0));
     let mut generations = HashSet::new();
     for (number, body) in posts_of_test(8, 2_000).into_iter().enumerate() {
@@ -352,22 +284,10 @@ fn numbers_begin_anew_and_posts_under_way_keep_theirs() {
 
 #[test]
 fn what_goes_by_number_is_what_its_json_says() {
-    let dropping = Reading {
-        dropped: vec!["a".into(), "long name".into()],
-        ..Reading::default()
-    };
-    let finer = Reading {
-        finer_units: rules(&["s=us", "a\"b=3:c"]),
-        ..Reading::default()
-    };
-    let all_finer = Reading {
-        finer_units: rules(&["=", "s"]),
-        ..Reading::default()
-    };
-    let decided = Reading {
-        finer_units: FinerUnits::of([Choice::Auto]).unwrap(),
-        ..Reading::default()
-    };
+    let dropping = Reading { dropped: vec!["a".into(), "long name".into()], ..Reading::default() };
+    let finer = Reading { finer_units: rules(&["s=us", "a\"b=3:c"]), ..Reading::default() };
+    let all_finer = Reading { finer_units: rules(&["=", "s"]), ..Reading::default() };
+    let decided = Reading { finer_units: FinerUnits::of([Choice::Auto]).unwrap(), ..Reading::default() };
     for (reading, seed, least) in [
         (Reading::default(), 3, 0.5),
         (Reading::default(), 4, 0.5),
@@ -385,10 +305,7 @@ fn what_goes_by_number_is_what_its_json_says() {
             }
         }
         let share = both.by_number as f64 / POSTS as f64;
-        eprintln!(
-            "{share} by number, {} taken, {} foreign, {requests} requests",
-            both.taken, both.foreign
-        );
+        eprintln!("{share} by number, {} taken, {} foreign, {requests} requests", both.taken, both.foreign);
         assert!(share >= least && (least > 0.0 || both.by_number == 0), "{share}");
         assert!(both.taken > POSTS / 4 && both.foreign > POSTS as u64 && requests > 20);
     }

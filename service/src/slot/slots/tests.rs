@@ -116,10 +116,7 @@ fn the_parts_of_requests_give_the_counts_and_totals_of_the_whole() {
     }
     both.flush();
     let found = (both.split, both.taken, both.foreign);
-    assert!(
-        both.split > many / 8 && both.taken > many / 4 && both.foreign > 0,
-        "{found:?}"
-    );
+    assert!(both.split > many / 8 && both.taken > many / 4 && both.foreign > 0, "{found:?}");
 }
 
 const SLOTS: u16 = 4;
@@ -138,10 +135,7 @@ struct Heard(Mutex<Vec<String>>);
 
 impl Hears for Heard {
     fn answered(&self, sender: &str, outcome: &Outcome) {
-        self.0
-            .lock()
-            .unwrap()
-            .push(format!("{sender} {}", outcome.status()));
+        self.0.lock().unwrap().push(format!("{sender} {}", outcome.status()));
     }
 
     fn part_refused(&self, sender: &str, outcome: &Outcome) {
@@ -166,13 +160,7 @@ impl Service {
         });
         let (budget, heard) = (Budget::new(64 << 20), Arc::<Heard>::default());
         let intake = Intake::of(slots.clone(), heard.clone(), reading, budget.clone(), metrics);
-        Service {
-            slots,
-            all: all.collect(),
-            intake,
-            budget,
-            heard,
-        }
+        Service { slots, all: all.collect(), intake, budget, heard }
     }
 
     /// Has a slot here.
@@ -183,11 +171,7 @@ impl Service {
     }
 
     async fn post(&self, sender: &str, body: &Bytes) -> Outcome {
-        let head = Head {
-            sender: sender.into(),
-            encoding: Encoding::Json,
-            packing: Packing::Plain,
-        };
+        let head = Head { sender: sender.into(), encoding: Encoding::Json, packing: Packing::Plain };
         self.intake.put(head, body.clone(), self.budget.hold()).await
     }
 
@@ -244,10 +228,7 @@ fn request(processes: &[(&str, i64)], end: u64) -> Bytes {
 }
 
 fn refused(status: u16, message: &str) -> Outcome {
-    Outcome::Refused {
-        status,
-        message: message.into(),
-    }
+    Outcome::Refused { status, message: message.into() }
 }
 
 /// A sender drops what is answered 400: it would take for lost what is there.
@@ -260,18 +241,12 @@ async fn a_repeat_of_a_post_that_was_taken_in_part_is_taken() {
     service.open(1);
     assert_eq!(service.post("A", &body).await, refused(503, NO_OWNER));
     service.open(2);
-    let Outcome::Taken {
-        rejected, message, ..
-    } = service.post("A", &body).await
-    else {
+    let Outcome::Taken { rejected, message, .. } = service.post("A", &body).await else {
         panic!("what was taken in part is refused");
     };
     let why = "1 point is refused: out of order: point 0, frontier 10";
     assert_eq!((rejected, message.as_deref()), (1, Some(why)));
-    assert_eq!(
-        service.post("A", &body).await,
-        refused(400, "out of order: point 0, frontier 10")
-    );
+    assert_eq!(service.post("A", &body).await, refused(400, "out of order: point 0, frontier 10"));
     assert_eq!((service.totals(), service.budget.used()), (vec![5, 7], 0));
     assert_eq!(service.heard(), ["A 503", "A part 400", "A 200", "A 400"]);
 }
@@ -285,14 +260,8 @@ async fn a_series_of_two_senders_meets_in_one_slot() {
     let shared = process(3);
     let by_sender = |sender: &str| crate::otlp::slot_of(sender, SLOTS);
     let second = (0..).map(|number| format!("B{number}"));
-    let second = second
-        .clone()
-        .find(|name| by_sender(name) != by_sender("A"))
-        .unwrap();
-    assert_eq!(
-        service.post("A", &request(&[(&shared, 5)], 10)).await,
-        Outcome::taken(0)
-    );
+    let second = second.clone().find(|name| by_sender(name) != by_sender("A")).unwrap();
+    assert_eq!(service.post("A", &request(&[(&shared, 5)], 10)).await, Outcome::taken(0));
     let own = process(0);
     let both = request(&[(&own, 3), (&shared, 5)], 20);
     let said = service.post(&second, &both).await;
@@ -327,9 +296,8 @@ async fn slots_come_and_go_while_posts_go_on() {
             for end in 1..=last {
                 let all: Vec<(&str, i64)> = names.iter().map(|name| (name.as_str(), 1)).collect();
                 let body = request(&all, end * 10);
-                let body = String::from_utf8(body.to_vec())
-                    .unwrap()
-                    .replace("\"m\"", &format!("\"{sender}\""));
+                let body =
+                    String::from_utf8(body.to_vec()).unwrap().replace("\"m\"", &format!("\"{sender}\""));
                 while service.post(&sender, &body.clone().into()).await.status() == 503 {
                     tokio::task::yield_now().await;
                 }
@@ -344,14 +312,8 @@ async fn slots_come_and_go_while_posts_go_on() {
     let wanted = 4 * i64::from(SLOTS) * last as i64;
     assert_eq!(service.totals().into_iter().sum::<i64>(), wanted);
     let heard = service.heard();
-    let in_time = heard
-        .iter()
-        .filter(|heard| !heard.contains("part") && !heard.ends_with(" 503"));
-    assert_eq!(
-        in_time.count(),
-        4 * last as usize,
-        "each post has one answer at the end"
-    );
+    let in_time = heard.iter().filter(|heard| !heard.contains("part") && !heard.ends_with(" 503"));
+    assert_eq!(in_time.count(), 4 * last as usize, "each post has one answer at the end");
 }
 
 /// A folder's one is asked whatever a request has.

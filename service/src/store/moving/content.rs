@@ -40,11 +40,7 @@ impl From {
         let metrics = Metrics::new().map_err(|why| MoveFault(format!("there are no metrics: {why}")))?;
         let slot = Slot::new(number, journal, Arc::new(outbox), Arc::new(metrics), core);
         keeper::settle(&slot)?;
-        Ok(From {
-            number,
-            outbox: slot.outbox.clone(),
-            journal: Some(slot.journal.clone()),
-        })
+        Ok(From { number, outbox: slot.outbox.clone(), journal: Some(slot.journal.clone()) })
     }
 
     /// Of a store, under a term.
@@ -77,11 +73,7 @@ impl Content {
             } else {
                 let outbox = folder.outbox(number)?;
                 leave_others(&outbox, number, slots)?;
-                From {
-                    number,
-                    outbox: Arc::new(outbox),
-                    journal: None,
-                }
+                From { number, outbox: Arc::new(outbox), journal: None }
             };
             content.with(from);
         }
@@ -97,10 +89,7 @@ impl Content {
     /// The same, where the slot itself is let go.
     pub fn with_known(&mut self, from: &From) {
         for (key, series) in from.outbox.series() {
-            let is_known = self
-                .series
-                .get(&key)
-                .is_some_and(|known| known.frontier >= series.frontier);
+            let is_known = self.series.get(&key).is_some_and(|known| known.frontier >= series.frontier);
             if !is_known {
                 self.series.insert(key, series);
             }
@@ -114,10 +103,7 @@ impl Content {
     }
 
     pub fn moved(&self) -> Moved {
-        Moved {
-            series: self.series.len(),
-            ..Moved::default()
-        }
+        Moved { series: self.series.len(), ..Moved::default() }
     }
 
     /// What one of so many slots begins with.
@@ -127,9 +113,7 @@ impl Content {
         let own = self.from.iter().find(|from| from.number == number);
         Beginning {
             next: own.map_or(1, |from| from.outbox.first_number()),
-            series: series
-                .map(|(key, series)| (key.clone(), series.clone()))
-                .collect(),
+            series: series.map(|(key, series)| (key.clone(), series.clone())).collect(),
             quarantined: self.quarantined.clone(),
             since: self.since,
         }
@@ -146,18 +130,9 @@ mod tests {
         let folder = Folder::open(place.path(), Durability::Process).unwrap();
         let outbox = folder.outbox(number).unwrap();
         let (next, series, quarantined) = (1, Vec::new(), BTreeSet::new());
-        let beginning = Beginning {
-            next,
-            series,
-            quarantined,
-            since,
-        };
+        let beginning = Beginning { next, series, quarantined, since };
         outbox.begin_with(beginning).unwrap();
-        From {
-            number,
-            outbox: Arc::new(outbox),
-            journal: None,
-        }
+        From { number, outbox: Arc::new(outbox), journal: None }
     }
 
     /// Else what began since then, and posts for the first time behind the move, would count from its first point on alone.
@@ -165,12 +140,7 @@ mod tests {
     fn runs_count_from_their_start_that_began_since_the_first_slot_was_taken() {
         let since = |made, forgotten| Since { made, forgotten };
         let mut content = Content::default();
-        for (number, since) in [
-            (3, since(70, 5)),
-            (1, since(40, 9)),
-            (2, since(900, 0)),
-            (0, since(0, 2)),
-        ] {
+        for (number, since) in [(3, since(70, 5)), (1, since(40, 9)), (2, since(900, 0)), (0, since(0, 2))] {
             content.with(from(number, since));
         }
         assert_eq!(content.beginning(0, 1).since, since(40, 9));

@@ -9,18 +9,13 @@ use std::path::Path;
 pub fn give_up(folder: Option<&Path>, servers: &[Server], copies: Copies) -> Result<(), MoveFault> {
     let place = Place::open(servers, copies)?;
     let seen = place.store.standing()?;
-    let none = Standing {
-        state: State::Counts,
-        id: String::new(),
-        folder: String::new(),
-    };
+    let none = Standing { state: State::Counts, id: String::new(), folder: String::new() };
     let Some(folder) = folder else {
         return match seen.state {
             State::Leaving => place.go(&seen, none).map(drop),
-            State::Filling => refused(format!(
-                "a folder is on its way into this store: name it, by --from {}",
-                seen.folder
-            )),
+            State::Filling => {
+                refused(format!("a folder is on its way into this store: name it, by --from {}", seen.folder))
+            }
             State::Counts | State::Gone => refused("no move of this store is under way"),
         };
     };
@@ -31,10 +26,7 @@ pub fn give_up(folder: Option<&Path>, servers: &[Server], copies: Copies) -> Res
     };
     place.check_is_its(&path, &mark)?;
     if seen.id == mark.id && seen.state == State::Counts {
-        return refused(format!(
-            "the store has all of {} already, and counts",
-            path.display()
-        ));
+        return refused(format!("the store has all of {} already, and counts", path.display()));
     }
     if seen.id == mark.id && seen.state == State::Filling {
         place.check_idle()?;

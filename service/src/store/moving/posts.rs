@@ -30,10 +30,7 @@ impl Names for Named {
     }
 
     fn text(&self, number: u64) -> Bytes {
-        self.texts
-            .get(&number)
-            .map(|(text, _)| text.clone())
-            .unwrap_or_default()
+        self.texts.get(&number).map(|(text, _)| text.clone()).unwrap_or_default()
     }
 }
 
@@ -44,9 +41,7 @@ impl Named {
     }
 
     fn note(&mut self, number: u64, text: Bytes, slots: u16) {
-        let slot = only(&text)
-            .and_then(|key| slot_of_series(&key, slots))
-            .unwrap_or(0);
+        let slot = only(&text).and_then(|key| slot_of_series(&key, slots)).unwrap_or(0);
         let before = self.texts.insert(number, (text.clone(), slot));
         self.generation += u64::from(before.is_some_and(|(before, _)| before != text));
     }
@@ -62,10 +57,7 @@ impl Posts {
         Posts {
             // What a resource is by the settings of the service is written in the journal's posts already.
             resources: Resources::new(slots, Arc::new(Reading::default())),
-            named: Named {
-                generation: 1,
-                ..Named::default()
-            },
+            named: Named { generation: 1, ..Named::default() },
             count: 0,
         }
     }
@@ -84,9 +76,7 @@ impl Posts {
         journal.posts(from.outbox.journal(), u64::MAX, |read| {
             self.count += 1;
             let parts = self.parts(read);
-            ended = parts
-                .iter()
-                .try_for_each(|(slot, post)| each(*slot, post, &self.named));
+            ended = parts.iter().try_for_each(|(slot, post)| each(*slot, post, &self.named));
             ended.is_ok()
         })?;
         Ok(ended?)

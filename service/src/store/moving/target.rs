@@ -25,25 +25,13 @@ impl To {
         let drive = store.drive(number, term).map_err(Fault::from)?;
         wipe(&drive)?;
         let (journal, outbox, dead) = drive::open(drive as Arc<dyn Drive>, &store.cluster.epoch)?;
-        Ok(To {
-            number,
-            journal,
-            outbox,
-            dead,
-            written: 0,
-        })
+        Ok(To { number, journal, outbox, dead, written: 0 })
     }
 
     /// A folder that has nothing.
     pub fn folder(folder: &Folder) -> Result<To, MoveFault> {
         let (journal, outbox) = folder.slot(0)?;
-        Ok(To {
-            number: 0,
-            journal,
-            outbox,
-            dead: folder.dead()?,
-            written: 0,
-        })
+        Ok(To { number: 0, journal, outbox, dead: folder.dead()?, written: 0 })
     }
 
     pub fn begin(&mut self, beginning: Beginning) -> Result<(), Fault> {

@@ -30,9 +30,7 @@ impl Settings {
     /// Where standbys are named a commit waits for one, so it need not be looked for: without it no commit ends.
     fn lose(&self) -> Option<String> {
         let is = |setting: &Option<String>, good: &[&str]| {
-            setting
-                .as_ref()
-                .is_some_and(|found| good.contains(&found.as_str()))
+            setting.as_ref().is_some_and(|found| good.contains(&found.as_str()))
         };
         if self.fsync.is_none() || self.standbys.is_none() {
             return Some("it does not say whether it has fsync and synchronous_standby_names".into());
@@ -43,10 +41,7 @@ impl Settings {
         if !is(&self.synchronous_commit, &["on", "remote_apply"]) {
             return Some("synchronous_commit is neither `on` nor `remote_apply`, although it was set".into());
         }
-        let is_alone = self
-            .standbys
-            .as_deref()
-            .is_none_or(|names| names.trim().is_empty());
+        let is_alone = self.standbys.as_deref().is_none_or(|names| names.trim().is_empty());
         is_alone.then(|| "it has no synchronous standby (synchronous_standby_names is empty)".into())
     }
 }
@@ -55,21 +50,14 @@ impl Settings {
 pub(super) async fn check(client: &Client, server: &Server, copies: Copies) -> Result<(), StoreFault> {
     let row = client.query_one(SETTINGS, &[]).await;
     let row = row.map_err(|error| StoreFault::of(server, error))?;
-    let settings = Settings {
-        fsync: row.get(0),
-        synchronous_commit: row.get(1),
-        standbys: row.get(2),
-    };
+    let settings = Settings { fsync: row.get(0), synchronous_commit: row.get(1), standbys: row.get(2) };
     match (settings.lose(), copies) {
         (None, _) => Ok(()),
         (Some(why), Copies::One) => {
             tracing::warn!("{server} can lose what it said is durable: {why}");
             Ok(())
         }
-        (Some(why), Copies::Two) => Err(StoreFault::Copies {
-            server: server.to_string(),
-            why,
-        }),
+        (Some(why), Copies::Two) => Err(StoreFault::Copies { server: server.to_string(), why }),
     }
 }
 
@@ -89,42 +77,18 @@ mod tests {
         let on = || Some("on".to_string());
         for (fsync, commit, standbys, part) in [
             (on(), on(), Some("*".into()), None),
-            (
-                on(),
-                Some("remote_apply".into()),
-                Some("ANY 1 (a, b)".into()),
-                None,
-            ),
+            (on(), Some("remote_apply".into()), Some("ANY 1 (a, b)".into()), None),
             (Some("off".into()), on(), Some("*".into()), Some("fsync is off")),
-            (
-                on(),
-                Some("local".into()),
-                Some("*".into()),
-                Some("synchronous_commit"),
-            ),
-            (
-                on(),
-                Some("remote_write".into()),
-                Some("*".into()),
-                Some("synchronous_commit"),
-            ),
+            (on(), Some("local".into()), Some("*".into()), Some("synchronous_commit")),
+            (on(), Some("remote_write".into()), Some("*".into()), Some("synchronous_commit")),
             (on(), on(), Some(" ".into()), Some("synchronous_standby_names")),
             (on(), on(), None, Some("does not say")),
             (None, on(), Some("*".into()), Some("does not say")),
         ] {
-            let settings = Settings {
-                fsync,
-                synchronous_commit: commit,
-                standbys,
-            };
+            let settings = Settings { fsync, synchronous_commit: commit, standbys };
             let why = settings.lose();
-            let is_named = why
-                .as_ref()
-                .is_some_and(|why| part.is_some_and(|part| why.contains(part)));
-            assert!(
-                is_named || why.is_none() && part.is_none(),
-                "{why:?} for {part:?}"
-            );
+            let is_named = why.as_ref().is_some_and(|why| part.is_some_and(|part| why.contains(part)));
+            assert!(is_named || why.is_none() && part.is_none(), "{why:?} for {part:?}");
         }
     }
 }

@@ -35,38 +35,14 @@ use Next::{Another, Same};
 /// What a server says (a SQLSTATE, or how it begins), and why it is repeated so. The first line that fits counts.
 const SAID: [(&str, Next, &str); 9] = [
     ("40003", Another, "the server does not know whether it is done"),
-    (
-        "40",
-        Same,
-        "another transaction was in the way, so nothing was done",
-    ),
-    (
-        "55P03",
-        Same,
-        "the slot's row is locked, as by a write that waits for its standby",
-    ),
-    (
-        "57014",
-        Same,
-        "it was cancelled or took too long, so nothing was done",
-    ),
-    (
-        "53",
-        Same,
-        "disk, memory or connections are short, which may pass",
-    ),
+    ("40", Same, "another transaction was in the way, so nothing was done"),
+    ("55P03", Same, "the slot's row is locked, as by a write that waits for its standby"),
+    ("57014", Same, "it was cancelled or took too long, so nothing was done"),
+    ("53", Same, "disk, memory or connections are short, which may pass"),
     ("57", Another, "the server is ending or starting"),
-    (
-        "25",
-        Another,
-        "the server reads alone: another is the primary now",
-    ),
+    ("25", Another, "the server reads alone: another is the primary now"),
     ("08", Another, "the connection is broken"),
-    (
-        "",
-        Another,
-        "what else may be wrong is of this session or of this server",
-    ),
+    ("", Another, "what else may be wrong is of this session or of this server"),
 ];
 
 impl Doubt {

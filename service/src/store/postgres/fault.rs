@@ -21,11 +21,7 @@ pub enum StoreFault {
     #[error(
         "{server} is database {found} of its store, not {expected}: name them in the order of `store init`"
     )]
-    Place {
-        server: String,
-        found: i32,
-        expected: usize,
-    },
+    Place { server: String, found: i32, expected: usize },
     #[error("{server} is of another store than {first}: correct the address")]
     Another { server: String, first: String },
     #[error("a store has 1 to {most} slots, and at least one for each database: not {given}")]
@@ -58,10 +54,7 @@ impl StoreFault {
     }
 
     pub(super) fn of(server: impl ToString, doubt: impl Into<Doubt>) -> StoreFault {
-        StoreFault::Server {
-            server: server.to_string(),
-            doubt: doubt.into(),
-        }
+        StoreFault::Server { server: server.to_string(), doubt: doubt.into() }
     }
 }
 
@@ -75,10 +68,7 @@ mod tests {
         let refused = || Doubt::NotConnected("u@h:1/d: refused".into());
         for (fault, said) in [
             (StoreFault::Doubt(refused()), "u@h:1/d: refused"),
-            (
-                StoreFault::of("u@h:1/d", Doubt::Refused("no".into())),
-                "u@h:1/d: no",
-            ),
+            (StoreFault::of("u@h:1/d", Doubt::Refused("no".into())), "u@h:1/d: no"),
             (
                 StoreFault::from(Error::other("none")),
                 "the system has no thread or no random bytes for the store: none",

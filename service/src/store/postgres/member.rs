@@ -16,12 +16,7 @@ pub struct Member {
 
 impl Member {
     pub fn new(store: &Arc<PostgresStore>, database: usize, name: &str, address: &str) -> Member {
-        Member {
-            store: store.clone(),
-            database,
-            name: name.into(),
-            address: address.into(),
-        }
+        Member { store: store.clone(), database, name: name.into(), address: address.into() }
     }
 
     async fn beat_and_see(&self, stay: Stay, refused: Refused) -> Result<Seen, Silence> {
@@ -29,9 +24,7 @@ impl Member {
             Stay::Here => self.address.as_str(),
             Stay::Leaves => "",
         };
-        self.store
-            .beat(self.database, &self.name, address, refused)
-            .await?;
+        self.store.beat(self.database, &self.name, address, refused).await?;
         Ok(Seen {
             instances: self.store.instances(self.database).await?,
             slots: self.store.slots(self.database).await?,

@@ -74,11 +74,7 @@ struct Threads(Option<Runtime>);
 impl Threads {
     fn start() -> Result<Threads, StoreFault> {
         let mut builder = Builder::new_multi_thread();
-        let runtime = builder
-            .worker_threads(THREADS)
-            .thread_name("store")
-            .enable_all()
-            .build()?;
+        let runtime = builder.worker_threads(THREADS).thread_name("store").enable_all().build()?;
         Ok(Threads(Some(runtime)))
     }
 
@@ -133,9 +129,7 @@ impl PostgresStore {
     pub fn make(servers: &[Server], slots: u16) -> Result<Cluster, StoreFault> {
         let servers = servers.to_vec();
         let runtime = Threads::start()?;
-        runtime
-            .wait(async move { schema::make(&servers, slots).await })
-            .unwrap_or_else(|| Err(ended()))
+        runtime.wait(async move { schema::make(&servers, slots).await }).unwrap_or_else(|| Err(ended()))
     }
 
     /// `reading` is what the meaning of posts hangs on: all instances have to say the same.
@@ -180,9 +174,7 @@ impl PostgresStore {
             reader: shared(server),
             taker: shared(server),
             beater: shared(server),
-            together: (0..TOGETHER)
-                .map(|_| Arc::new(Together::start(server, runtime.handle())))
-                .collect(),
+            together: (0..TOGETHER).map(|_| Arc::new(Together::start(server, runtime.handle()))).collect(),
         };
         Ok(PostgresStore {
             cluster,
@@ -305,17 +297,13 @@ impl PostgresStore {
     /// Writes the term behind the one that was seen: the new one, or none where another was first.
     pub async fn take(&self, slot: u16, seen: u64, owner: &str) -> Result<Option<u64>, Doubt> {
         let (taker, owner) = (self.database(slot).taker.clone(), owner.to_string());
-        self.runtime
-            .run(async move { taker.take(slot, seen, &owner).await })
-            .await
+        self.runtime.run(async move { taker.take(slot, seen, &owner).await }).await
     }
 
     /// Says that nobody has the slot, where it has this term. The one who had it writes no more.
     pub async fn release(&self, slot: u16, term: u64) -> Result<(), Doubt> {
         let taker = self.database(slot).taker.clone();
-        self.runtime
-            .run(async move { taker.release(slot, term).await })
-            .await
+        self.runtime.run(async move { taker.release(slot, term).await }).await
     }
 
     /// Where the database is silent its row stays, and is that of one that is gone.

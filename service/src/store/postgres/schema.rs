@@ -85,10 +85,7 @@ pub(super) async fn make(servers: &[Server], slots: u16) -> Result<Cluster, Stor
         return Err(StoreFault::Nowhere);
     }
     if slots == 0 || slots > MOST_SLOTS || usize::from(slots) < servers.len() {
-        return Err(StoreFault::Slots {
-            given: slots,
-            most: MOST_SLOTS,
-        });
+        return Err(StoreFault::Slots { given: slots, most: MOST_SLOTS });
     }
     let mut cluster = Cluster::draw(slots, servers.len())?;
     let mut made = 0;
@@ -97,9 +94,7 @@ pub(super) async fn make(servers: &[Server], slots: u16) -> Result<Cluster, Stor
         match find(&client).await? {
             None => {
                 let making = make_in(&mut client, &cluster, place);
-                within(SILENT, making)
-                    .await
-                    .map_err(|doubt| StoreFault::of(server, doubt))?;
+                within(SILENT, making).await.map_err(|doubt| StoreFault::of(server, doubt))?;
                 made += 1;
             }
             Some(found) if place == 0 && found.cluster.databases == cluster.databases => {
@@ -130,20 +125,10 @@ async fn make_in(client: &mut Client, cluster: &Cluster, place: usize) -> Result
     transaction
         .execute(
             row,
-            &[
-                &cluster.id,
-                &KNOWN,
-                &slots,
-                &cluster.databases,
-                &place,
-                &cluster.epoch,
-                &cluster.secret,
-            ],
+            &[&cluster.id, &KNOWN, &slots, &cluster.databases, &place, &cluster.epoch, &cluster.secret],
         )
         .await?;
-    let here: Vec<i32> = (0..slots)
-        .filter(|slot| slot % cluster.databases == place)
-        .collect();
+    let here: Vec<i32> = (0..slots).filter(|slot| slot % cluster.databases == place).collect();
     let rows = "insert into totxegun_store.slot (slot, term, link, owner)
         select new.slot, 0, 0, '' from unnest($1::int[]) as new (slot)";
     transaction.execute(rows, &[&here]).await?;
@@ -155,9 +140,7 @@ pub(super) async fn check(servers: &[Server]) -> Result<Cluster, StoreFault> {
     let mut all: Option<Cluster> = None;
     for (place, server) in servers.iter().enumerate() {
         let (client, _driver) = connect(server).await?;
-        let found = find(&client)
-            .await
-            .map_err(|doubt| StoreFault::of(server, doubt))?;
+        let found = find(&client).await.map_err(|doubt| StoreFault::of(server, doubt))?;
         let found = found.ok_or_else(|| StoreFault::None(server.to_string()))?;
         check_one(&found, server, servers, place)?;
         let first = all.get_or_insert_with(|| found.cluster.clone());
@@ -178,24 +161,13 @@ fn check_one(
     place: usize,
 ) -> Result<(), StoreFault> {
     if found.version != KNOWN {
-        return Err(StoreFault::Version {
-            server: server.to_string(),
-            found: found.version,
-            known: KNOWN,
-        });
+        return Err(StoreFault::Version { server: server.to_string(), found: found.version, known: KNOWN });
     }
     if found.cluster.databases as usize != servers.len() {
-        return Err(StoreFault::Databases {
-            has: found.cluster.databases,
-            given: servers.len(),
-        });
+        return Err(StoreFault::Databases { has: found.cluster.databases, given: servers.len() });
     }
     if found.place as usize != place {
-        return Err(StoreFault::Place {
-            server: server.to_string(),
-            found: found.place,
-            expected: place,
-        });
+        return Err(StoreFault::Place { server: server.to_string(), found: found.place, expected: place });
     }
     Ok(())
 }
@@ -227,9 +199,6 @@ pub(super) async fn agree(server: &Server, reading: &str) -> Result<(), StoreFau
     let there: String = within(SILENT, agreeing).await?.get(6);
     match there == reading {
         true => Ok(()),
-        false => Err(StoreFault::Reading {
-            here: reading.into(),
-            there,
-        }),
+        false => Err(StoreFault::Reading { here: reading.into(), there }),
     }
 }

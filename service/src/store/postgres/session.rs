@@ -110,15 +110,7 @@ impl Session {
             Ok::<_, Error>((put, append, append_new, pieces))
         };
         let (put, append, append_new, pieces) = within(CONNECT, preparing).await?;
-        Ok(Session {
-            client,
-            put,
-            append,
-            append_new,
-            pieces,
-            driver,
-            writing: Mutex::new(()),
-        })
+        Ok(Session { client, put, append, append_new, pieces, driver, writing: Mutex::new(()) })
     }
 
     /// Those of these pieces that are there.

@@ -26,10 +26,7 @@ pub(super) struct Stored {
 
 impl Shared {
     pub fn new(server: Server) -> Shared {
-        Shared {
-            server,
-            session: Mutex::new(None),
-        }
+        Shared { server, session: Mutex::new(None) }
     }
 
     pub async fn session(&self) -> Result<Arc<Session>, Doubt> {

@@ -61,9 +61,7 @@ impl Shared {
         refused: &Refused,
     ) -> Result<(), Doubt> {
         let refused = serde_json::to_string(refused).unwrap_or_default(); // numbers and texts are always written
-        self.write(BEAT, &[&name, &address, &version, &refused])
-            .await
-            .map(drop)
+        self.write(BEAT, &[&name, &address, &version, &refused]).await.map(drop)
     }
 
     pub(super) async fn leave(&self, name: &str) -> Result<(), Doubt> {
@@ -93,16 +91,12 @@ impl Shared {
     /// The term that was written; none where another was first. After a doubt nothing was taken: the next try sees which
     /// term there is, and what comes late finds another.
     pub(super) async fn take(&self, slot: u16, seen: u64, owner: &str) -> Result<Option<u64>, Doubt> {
-        let taken = self
-            .write(TAKE, &[&i32::from(slot), &(seen as i64), &owner])
-            .await?;
+        let taken = self.write(TAKE, &[&i32::from(slot), &(seen as i64), &owner]).await?;
         Ok((taken == 1).then_some(seen + 1))
     }
 
     pub(super) async fn release(&self, slot: u16, term: u64) -> Result<(), Doubt> {
-        self.write(RELEASE, &[&i32::from(slot), &(term as i64)])
-            .await
-            .map(drop)
+        self.write(RELEASE, &[&i32::from(slot), &(term as i64)]).await.map(drop)
     }
 
     /// How many servers have what is committed; none where this role may not look.

@@ -29,19 +29,12 @@ impl InTwo {
             let beats = Beats::new(cluster.clone(), number, Arc::new(terms), told.clone());
             tokio::spawn(beats.each(FAST).run(stopped.clone()))
         };
-        InTwo {
-            runs: [0, 1].map(run),
-            cluster,
-            told,
-            stop,
-        }
+        InTwo { runs: [0, 1].map(run), cluster, told, stop }
     }
 
     fn served(&self) -> Vec<u16> {
         let places = self.cluster.places().borrow().clone();
-        let here = places
-            .iter()
-            .filter(|(_, whose)| matches!(whose, Whose::Here { .. }));
+        let here = places.iter().filter(|(_, whose)| matches!(whose, Whose::Here { .. }));
         here.map(|(slot, _)| *slot).collect()
     }
 }
@@ -77,10 +70,7 @@ async fn a_database_that_is_silent_moves_no_slot_and_keeps_none_of_another_from_
         assert!(one.is_stalled_for(1) && !one.is_stalled_for(0) && !one.is_stalled());
         let status = one.status();
         assert_eq!((status.instances(), status.slots.len()), (2, usize::from(SLOTS)));
-        assert!(
-            status.silent[0].is_none() && status.silent[1].is_some(),
-            "{status:?}"
-        );
+        assert!(status.silent[0].is_none() && status.silent[1].is_some(), "{status:?}");
     }
     // An instance is lost meanwhile: what it has in the other one is taken, and what is here waits.
     b.runs.iter().for_each(JoinHandle::abort);

@@ -38,11 +38,7 @@ impl Here for Slots {
             self.most_at_once.fetch_max(now, SeqCst);
             sleep(self.takes).await;
             self.at_once.fetch_sub(1, SeqCst);
-            self.says
-                .lock()
-                .unwrap()
-                .pop_front()
-                .unwrap_or(Some(Outcome::taken(0)))
+            self.says.lock().unwrap().pop_front().unwrap_or(Some(Outcome::taken(0)))
         })
     }
 }
@@ -50,10 +46,7 @@ impl Here for Slots {
 impl Slots {
     /// Which take so long for each post.
     pub fn slow(takes: Duration) -> Slots {
-        Slots {
-            takes,
-            ..Slots::default()
-        }
+        Slots { takes, ..Slots::default() }
     }
 
     pub fn count(&self) -> usize {
@@ -100,13 +93,7 @@ impl Peer {
                 tokio::spawn(Http::new().serve_connection(stream, service));
             }
         });
-        Peer {
-            cluster,
-            slots,
-            internal,
-            address,
-            connections,
-        }
+        Peer { cluster, slots, internal, address, connections }
     }
 
     pub async fn here() -> Peer {
@@ -119,11 +106,7 @@ impl Peer {
 }
 
 pub fn there(address: &str) -> Whose {
-    Whose::There {
-        name: "peer".into(),
-        address: address.into(),
-        term: 5,
-    }
+    Whose::There { name: "peer".into(), address: address.into(), term: 5 }
 }
 
 /// Who gets posts of senders, in a store of two databases, of which that of odd slots does not answer.

@@ -11,11 +11,7 @@ async fn over_tls(tls: Arc<Tls>) -> (u16, Arc<Slots>, tokio::sync::watch::Sender
     let listener = TcpListener::bind("127.0.0.1:0").await.unwrap();
     let port = listener.local_addr().unwrap().port();
     let (_, slots, internal) = internal(Slots::default(), Whose::Here { term: 5 });
-    let limits = Limits {
-        connections: 10,
-        head: Duration::from_secs(5),
-        idle: Duration::from_secs(60),
-    };
+    let limits = Limits { connections: 10, head: Duration::from_secs(5), idle: Duration::from_secs(60) };
     let (stop, stopped) = tokio::sync::watch::channel(false);
     tokio::spawn(serve_over(listener, Some(tls), limits, internal, stopped));
     (port, slots, stop)
@@ -32,12 +28,7 @@ fn peers_folder() -> tempfile::TempDir {
     let at = crate::tls::tests::folder();
     crate::tls::tests::server(at.path());
     let made = |name, names, by| {
-        let made = crate::tls::tests::Made {
-            name,
-            names,
-            by,
-            ..Default::default()
-        };
+        let made = crate::tls::tests::Made { name, names, by, ..Default::default() };
         crate::tls::tests::certificate(at.path(), made);
     };
     made("root", None, None);
@@ -58,23 +49,15 @@ async fn over_tls_both_sides_look_at_what_the_other_shows() {
     let forward = asks_over(Wire::Tls(ours.clone()), port, "of all");
     assert_eq!(posted(&forward, "{}").await, Outcome::taken(0));
     // Who believes the owner, and is not believed by it; and the other way.
-    for (wire, why) in [
-        (
-            Wire::Tls(peer("other", "both")),
-            "another root has signed what it shows",
-        ),
-        (Wire::Plain, "no TLS"),
-    ] {
+    for (wire, why) in
+        [(Wire::Tls(peer("other", "both")), "another root has signed what it shows"), (Wire::Plain, "no TLS")]
+    {
         let forward = asks_over(wire, port, "of all");
         assert_eq!(posted(&forward, "{}").await, unavailable(BROKEN), "{why}");
     }
     let (elsewhere, strange, _stop) = over_tls(peer("other", "both")).await;
     let forward = asks_over(Wire::Tls(ours.clone()), elsewhere, "of all");
-    assert_eq!(
-        posted(&forward, "{}").await,
-        unavailable(BROKEN),
-        "it is not believed"
-    );
+    assert_eq!(posted(&forward, "{}").await, unavailable(BROKEN), "it is not believed");
     // The secret is asked for all the same.
     let forward = asks_over(Wire::Tls(ours), port, "another");
     assert_eq!(posted(&forward, "{}").await, unavailable(BROKEN));

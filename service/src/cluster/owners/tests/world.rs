@@ -10,10 +10,7 @@ pub struct Random(u64);
 
 impl Random {
     pub fn below(&mut self, most: u64) -> u64 {
-        self.0 = self
-            .0
-            .wrapping_mul(6364136223846793005)
-            .wrapping_add(1442695040888963407);
+        self.0 = self.0.wrapping_mul(6364136223846793005).wrapping_add(1442695040888963407);
         (self.0 >> 33) % most
     }
 
@@ -34,24 +31,14 @@ impl Store {
     pub fn beat(&mut self, name: &str, (stay, refused): (Stay, Refused)) -> Seen {
         let row = self.instances.entry(name.into()).or_default();
         *row = (row.0 + 1, Some(stay), refused);
-        let instances = self
-            .instances
-            .iter()
-            .map(|(name, (beat, stay, refused))| Instance {
-                name: name.clone(),
-                address: if *stay == Some(Stay::Here) {
-                    format!("{name}:1")
-                } else {
-                    String::new()
-                },
-                version: "1".into(),
-                beat: *beat,
-                refused: refused.clone(),
-            });
-        Seen {
-            instances: instances.collect(),
-            slots: self.rows.clone(),
-        }
+        let instances = self.instances.iter().map(|(name, (beat, stay, refused))| Instance {
+            name: name.clone(),
+            address: if *stay == Some(Stay::Here) { format!("{name}:1") } else { String::new() },
+            version: "1".into(),
+            beat: *beat,
+            refused: refused.clone(),
+        });
+        Seen { instances: instances.collect(), slots: self.rows.clone() }
     }
 
     fn take(&mut self, node: usize, name: &str, slot: u16, seen: u64) -> Option<u64> {
@@ -97,15 +84,8 @@ pub struct World {
 
 impl World {
     pub fn of(seed: u64, names: &[&str]) -> World {
-        let row = |slot| Row {
-            slot,
-            term: 0,
-            owner: String::new(),
-        };
-        let store = Store {
-            rows: (0..SLOTS).map(row).collect(),
-            ..Store::default()
-        };
+        let row = |slot| Row { slot, term: 0, owner: String::new() };
+        let store = Store { rows: (0..SLOTS).map(row).collect(), ..Store::default() };
         let mut world = World {
             random: Random(seed.wrapping_mul(0x9e37_79b9_7f4a_7c15)),
             store,
@@ -194,10 +174,7 @@ impl World {
             }
             Step::HandOver { slot, term } => {
                 self.hand_overs += 1;
-                let others = one
-                    .under_way
-                    .iter()
-                    .filter(|step| matches!(step, Step::HandOver { .. }));
+                let others = one.under_way.iter().filter(|step| matches!(step, Step::HandOver { .. }));
                 assert_eq!(others.count(), 0, "two slots are handed over at once");
                 if !is_lost {
                     self.store.release(slot, term);
@@ -215,11 +192,7 @@ impl World {
         for (place, node) in self.nodes.iter().enumerate() {
             for (slot, whose) in node.owners.whose() {
                 if let Whose::Here { term } = whose {
-                    assert_eq!(
-                        self.store.terms.get(&(slot, term)),
-                        Some(&place),
-                        "slot {slot}, term {term}"
-                    );
+                    assert_eq!(self.store.terms.get(&(slot, term)), Some(&place), "slot {slot}, term {term}");
                 }
             }
         }
@@ -235,10 +208,7 @@ impl World {
         let names: Vec<&str> = self.nodes.iter().map(|node| node.name.as_str()).collect();
         let refuses = |node: &Node, slot| node.owners.told().1.contains_key(&slot);
         let places = places(&slots, &names, |slot, name| {
-            !self
-                .nodes
-                .iter()
-                .any(|node| node.name == name && refuses(node, slot))
+            !self.nodes.iter().any(|node| node.name == name && refuses(node, slot))
         });
         self.store.rows.iter().all(|row| {
             let served = |node: &Node| match &node.owners.whose()[&row.slot] {

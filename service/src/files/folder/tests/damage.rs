@@ -12,17 +12,11 @@ fn a_slot_that_was_made_and_is_gone_is_refused_by_name_until_it_is_back() {
     }
     folder.set_slots(1).unwrap();
     for number in [0, 2] {
-        let (slot, moved) = (
-            place.path().join(format!("slot-{number}")),
-            place.path().join("moved"),
-        );
+        let (slot, moved) = (place.path().join(format!("slot-{number}")), place.path().join("moved"));
         for name in ["", "outbox"] {
             std::fs::rename(slot.join(name), &moved).unwrap();
             let fault = folder.outbox(number).err().unwrap().to_string();
-            assert!(
-                fault.contains(&format!("slot-{number}/outbox")) && fault.contains("back"),
-                "{fault}"
-            );
+            assert!(fault.contains(&format!("slot-{number}/outbox")) && fault.contains("back"), "{fault}");
             std::fs::rename(&moved, slot.join(name)).unwrap();
         }
         assert!(folder.slots_with_files().unwrap().contains(&number));
@@ -32,28 +26,18 @@ fn a_slot_that_was_made_and_is_gone_is_refused_by_name_until_it_is_back() {
     let moved = place.path().join("moved");
     std::fs::rename(&journal, &moved).unwrap();
     let fault = folder.slot(0).err().unwrap().to_string();
-    assert!(
-        fault.contains("slot-0/journal/000000000001.seg") && fault.contains("missing"),
-        "{fault}"
-    );
+    assert!(fault.contains("slot-0/journal/000000000001.seg") && fault.contains("missing"), "{fault}");
     std::fs::remove_dir_all(&journal).unwrap();
     std::fs::rename(&moved, &journal).unwrap();
     folder.slot(0).unwrap();
 }
 
 fn post(text: &str) -> Post {
-    Post {
-        sender: "s".into(),
-        foreign: 0,
-        body: Body::Text(text.to_string().into()),
-    }
+    Post { sender: "s".into(), foreign: 0, body: Body::Text(text.to_string().into()) }
 }
 
 fn copied(from: &Path, to: &Path) {
-    let done = std::process::Command::new("cp")
-        .arg("-a")
-        .args([from, to])
-        .status();
+    let done = std::process::Command::new("cp").arg("-a").args([from, to]).status();
     assert!(done.unwrap().success());
 }
 
@@ -78,17 +62,12 @@ fn an_older_journal_or_outbox_is_refused_by_the_name_of_what_is_older() {
     with_three_commits(place.path());
     let at = |name: &str| place.path().join(name);
     for number in 1..4 {
-        for (part, named) in [
-            ("journal", "journal/000000000004.seg"),
-            ("outbox", "slot-0/outbox/0000000000"),
-        ] {
+        for (part, named) in [("journal", "journal/000000000004.seg"), ("outbox", "slot-0/outbox/0000000000")]
+        {
             std::fs::rename(at("slot-0"), at("kept")).unwrap();
             copied(&at("kept"), &at("slot-0"));
             std::fs::remove_dir_all(at("slot-0").join(part)).unwrap();
-            copied(
-                &at(&format!("copy-{number}")).join(part),
-                &at("slot-0").join(part),
-            );
+            copied(&at(&format!("copy-{number}")).join(part), &at("slot-0").join(part));
             let fault = open(place.path()).unwrap().slot(0).err().unwrap().to_string();
             assert!(fault.contains(named), "{number} {part}: {fault}");
             std::fs::remove_dir_all(at("slot-0")).unwrap();

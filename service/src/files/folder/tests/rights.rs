@@ -15,10 +15,7 @@ fn what_is_no_folder_is_refused_by_name_and_stays() {
     let file = place.path().join("file");
     std::fs::write(&file, "a").unwrap();
     let text = unusable(&file);
-    assert!(
-        text.contains("file is a file, and --data has to name a folder"),
-        "{text}"
-    );
+    assert!(text.contains("file is a file, and --data has to name a folder"), "{text}");
     let text = unusable(&file.join("below"));
     assert!(text.contains("has a part that is a file"), "{text}");
     assert_eq!(std::fs::read(&file).unwrap(), b"a");
@@ -27,10 +24,7 @@ fn what_is_no_folder_is_refused_by_name_and_stays() {
     std::fs::remove_file(folder.join("lock")).unwrap();
     std::fs::create_dir(folder.join("lock")).unwrap();
     let text = unusable(&folder);
-    assert!(
-        text.contains("lock is a folder, and has to be a file: remove it"),
-        "{text}"
-    );
+    assert!(text.contains("lock is a folder, and has to be a file: remove it"), "{text}");
 }
 
 /// Run by the next test in a process of its own, by a user who is not root.
@@ -56,12 +50,7 @@ fn a_folder_without_rights_is_refused_by_name() {
     let is_root = std::fs::metadata("/proc/self").unwrap().uid() == 0;
     let refused = |path: &Path| {
         let mut this = std::process::Command::new("/proc/self/exe");
-        this.args([
-            "--exact",
-            "--ignored",
-            "--nocapture",
-            "files::folder::tests::rights::has_no_rights",
-        ]);
+        this.args(["--exact", "--ignored", "--nocapture", "files::folder::tests::rights::has_no_rights"]);
         if is_root {
             this.uid(NOBODY);
         }
@@ -71,12 +60,8 @@ fn a_folder_without_rights_is_refused_by_name() {
     let journal = folder.join("slot-0/journal");
     for (closed, named) in [(&folder, "folder can't"), (&journal, "slot-0/journal can't")] {
         all_may(&folder, 0o777);
-        for (path, mode) in [
-            ("lock", 0o666),
-            ("version", 0o666),
-            ("slot-0", 0o777),
-            ("slot-0/outbox", 0o777),
-        ] {
+        for (path, mode) in [("lock", 0o666), ("version", 0o666), ("slot-0", 0o777), ("slot-0/outbox", 0o777)]
+        {
             all_may(&folder.join(path), mode);
         }
         for file in std::fs::read_dir(folder.join("slot-0/outbox")).unwrap() {
@@ -89,8 +74,5 @@ fn a_folder_without_rights_is_refused_by_name() {
     all_may(&folder, 0o700);
     all_may(place.path(), 0o555);
     let text = refused(&place.path().join("new"));
-    assert!(
-        text.contains("new can't be read and written") && text.contains("chown -R"),
-        "{text}"
-    );
+    assert!(text.contains("new can't be read and written") && text.contains("chown -R"), "{text}");
 }

@@ -38,17 +38,7 @@ fn the_bytes_are_those_of_the_table() {
     let bytes = [
         &[32 + 6, 128 + 72, 32 + 1, 32 + 60, 32 + 1, 32 + 0b1, 32 + 10][..],
         &[32, 32, 32, 32 + 1, 32 + 0b1, 32 + 1],
-        &[
-            32 + 5,
-            32 + 60,
-            32,
-            32 + 10,
-            32 + 0b1,
-            32 + 0b1000,
-            128 + 88,
-            32 + 4,
-            32 + 2,
-        ],
+        &[32 + 5, 32 + 60, 32, 32 + 10, 32 + 0b1, 32 + 0b1000, 128 + 88, 32 + 4, 32 + 2],
     ];
     assert_eq!(of(&points), bytes.concat());
 }
@@ -84,18 +74,7 @@ fn the_bytes_of_runs_are_those_of_the_table() {
     points.put_run(2, OfRun::Began(60));
     let (start, words) = (70, vec![300, 0]);
     points.put_run(3, OfRun::Noted { start, words });
-    let bytes = [
-        32 + 3,
-        32,
-        32 + 3 + 1,
-        32 + 20,
-        32 + 2,
-        32,
-        32 + 2,
-        128 + 88,
-        32 + 4,
-        32,
-    ];
+    let bytes = [32 + 3, 32, 32 + 3 + 1, 32 + 20, 32 + 2, 32, 32 + 2, 128 + 88, 32 + 4, 32];
     assert_eq!(of(&points), [&bytes[..], &plain].concat());
 }
 
@@ -176,15 +155,7 @@ fn a_number_that_is_read_is_no_length_of_anything() {
 
 #[test]
 fn a_number_has_one_form() {
-    let faulty: [&[u8]; 7] = [
-        &[128, 32],
-        &[255, 128, 32],
-        &[223, 32],
-        &[128],
-        &[255; 10],
-        &[31],
-        &[],
-    ];
+    let faulty: [&[u8]; 7] = [&[128, 32], &[255, 128, 32], &[223, 32], &[128], &[255; 10], &[31], &[]];
     for bytes in faulty {
         assert_eq!(take_number(&mut &bytes[..]), None, "{bytes:?}");
     }
@@ -204,21 +175,11 @@ fn histogram(points: &mut Points, number: u64, end: u64, chance: &mut TestRandom
     let counts = [0, 1, 2, 3, 4].map(|_| chance.below(40));
     buckets[near..near + 5].copy_from_slice(&counts);
     let count = buckets.iter().sum();
-    points.push(
-        number,
-        end - MINUTE,
-        end,
-        [count, 1, count * 37].into_iter().chain(buckets),
-    );
+    points.push(number, end - MINUTE, end, [count, 1, count * 37].into_iter().chain(buckets));
 }
 
 fn sum(points: &mut Points, number: u64, end: u64, chance: &mut TestRandom) {
-    points.push(
-        number,
-        end - MINUTE - chance.below(2000),
-        end,
-        [chance.below(5000)],
-    );
+    points.push(number, end - MINUTE - chance.below(2000), end, [chance.below(5000)]);
 }
 
 /// As the SDKs send them: each instrument has been read a little later, and its series have the same times.

@@ -75,10 +75,7 @@ fn a_segment_that_is_shorter_than_it_was_made_is_named() {
         std::fs::write(&path, &sound[..length]).unwrap();
         let fault = refused(folder.path(), Durability::Disk);
         assert!(fault.is_some(), "{length}");
-        assert!(
-            bytes(&path) == sound[..length] && names(folder.path()).len() == 1,
-            "{length}"
-        );
+        assert!(bytes(&path) == sound[..length] && names(folder.path()).len() == 1, "{length}");
     }
 }
 
@@ -91,12 +88,9 @@ fn a_segment_that_is_missing_or_another_file_is_named() {
         let mut numbers = TestRandom(3);
         let noise: Vec<u8> = (0..70_000).map(|_| numbers.below(256) as u8).collect();
         let other = [&sound[..1], &sound[..]].concat();
-        for (what, found) in [
-            ("emptied", &[][..]),
-            ("zeros", &vec![0; sound.len()]),
-            ("noise", &noise),
-            ("moved", &other),
-        ] {
+        for (what, found) in
+            [("emptied", &[][..]), ("zeros", &vec![0; sound.len()]), ("noise", &noise), ("moved", &other)]
+        {
             std::fs::write(&path, found).unwrap();
             let fault = refused(folder.path(), durability);
             assert!(fault.is_some_and(|it| it.contains("000000000001.seg")), "{what}");
@@ -104,10 +98,7 @@ fn a_segment_that_is_missing_or_another_file_is_named() {
         }
         std::fs::rename(&path, folder.path().join("000000000001.seg.old")).unwrap();
         let fault = refused(folder.path(), durability).unwrap();
-        assert!(
-            fault.contains("000000000001.seg") && fault.contains("missing"),
-            "{fault}"
-        );
+        assert!(fault.contains("000000000001.seg") && fault.contains("missing"), "{fault}");
         assert_eq!(names(folder.path()).len(), 1);
     }
 }
@@ -121,10 +112,7 @@ fn a_segment_that_a_start_has_begun_is_missed_too() {
     std::fs::remove_file(segment::path(folder.path(), 2)).unwrap();
     let opened = open_begun(&Disk::default(), folder.path(), Durability::Disk, 1, Some(2));
     let fault = opened.err().unwrap().to_string();
-    assert!(
-        fault.contains("000000000002.seg") && fault.contains("missing"),
-        "{fault}"
-    );
+    assert!(fault.contains("000000000002.seg") && fault.contains("missing"), "{fault}");
 }
 
 #[test]
@@ -159,12 +147,8 @@ fn what_is_dropped_is_kept_aside() {
         let journal = open_begun(&Disk::default(), folder.path(), Durability::Process, 1, Some(1)).unwrap();
         assert_eq!(texts(&journal, 1), ["first"]);
         let kept = folder.path().join(format!("000000000001-{end}.torn"));
-        let dropped = Dropped {
-            file: path.clone(),
-            at: end,
-            bytes: torn.len() as u64 - end,
-            kept: kept.clone(),
-        };
+        let dropped =
+            Dropped { file: path.clone(), at: end, bytes: torn.len() as u64 - end, kept: kept.clone() };
         assert_eq!(journal.dropped(), [dropped]);
         assert_eq!(bytes(&kept), torn[end as usize..]);
         kill(journal);

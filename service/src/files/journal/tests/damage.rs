@@ -23,11 +23,7 @@ fn a_torn_record_is_cut_wherever_it_was_torn() {
             assert_eq!(texts(&journal, 1), ["first", "second"], "{cut} {zeros}");
             append(&journal, "another");
             kill(journal);
-            assert_eq!(
-                texts(&open(torn.path()), 1),
-                ["first", "second", "another"],
-                "{cut} {zeros}"
-            );
+            assert_eq!(texts(&open(torn.path()), 1), ["first", "second", "another"], "{cut} {zeros}");
         }
     }
 }
@@ -49,14 +45,7 @@ fn a_changed_byte_in_the_middle_is_named_and_nothing_is_deleted() {
         std::fs::write(&path, &changed).unwrap();
         let found = damaged_at(open_on(&Disk::default(), folder.path(), Durability::Process));
         let begin = found.unwrap_or_else(|| panic!("byte {at} was not missed")) as usize;
-        assert!(
-            if at < header {
-                begin <= at
-            } else {
-                (header..=at).contains(&begin)
-            },
-            "{at} {begin}"
-        );
+        assert!(if at < header { begin <= at } else { (header..=at).contains(&begin) }, "{at} {begin}");
         assert_eq!(std::fs::read(&path).unwrap(), changed);
     }
     std::fs::write(&path, &sound).unwrap();
@@ -77,10 +66,7 @@ fn in_a_segment_that_was_ended_each_changed_or_missing_byte_is_named() {
         let mut changed = sound.clone();
         changed[at] ^= 1;
         std::fs::write(&path, &changed).unwrap();
-        assert!(
-            damaged_at(open_on(&Disk::default(), folder.path(), Durability::Process)).is_some(),
-            "{at}"
-        );
+        assert!(damaged_at(open_on(&Disk::default(), folder.path(), Durability::Process)).is_some(), "{at}");
     }
 }
 
@@ -94,29 +80,13 @@ fn a_later_version_and_a_missing_segment_are_refused_by_name() {
     let path = segment::path(folder.path(), 2);
     let sound = std::fs::read(&path).unwrap();
     std::fs::remove_file(&path).unwrap();
-    let fault = open_on(&Disk::default(), folder.path(), Durability::Process)
-        .err()
-        .unwrap()
-        .to_string();
-    assert!(
-        fault.contains("000000000002.seg") && fault.contains("missing"),
-        "{fault}"
-    );
+    let fault = open_on(&Disk::default(), folder.path(), Durability::Process).err().unwrap().to_string();
+    assert!(fault.contains("000000000002.seg") && fault.contains("missing"), "{fault}");
     let mut later = Vec::new();
-    records::put(
-        &mut later,
-        records::HEADER,
-        &[b"totxegun", &5u16.to_le_bytes(), b"what comes"],
-    );
+    records::put(&mut later, records::HEADER, &[b"totxegun", &5u16.to_le_bytes(), b"what comes"]);
     std::fs::write(&path, &later).unwrap();
-    let fault = open_on(&Disk::default(), folder.path(), Durability::Process)
-        .err()
-        .unwrap()
-        .to_string();
-    assert!(
-        fault.contains("format version 5, and this totxegun reads up to 4"),
-        "{fault}"
-    );
+    let fault = open_on(&Disk::default(), folder.path(), Durability::Process).err().unwrap().to_string();
+    assert!(fault.contains("format version 5, and this totxegun reads up to 4"), "{fault}");
     std::fs::write(&path, &sound).unwrap();
     open(folder.path());
 }
@@ -139,8 +109,7 @@ fn torn_before_its_last(folder: &Path, durable: bool) {
     let path = segment::path(folder, 1);
     let length = bytes(&path).len() as u64;
     let file = std::fs::File::options().write(true).open(&path).unwrap();
-    file.set_len(length - records::MARK_LENGTHS[1] as u64 - 3)
-        .unwrap();
+    file.set_len(length - records::MARK_LENGTHS[1] as u64 - 3).unwrap();
 }
 
 #[test]

@@ -5,11 +5,7 @@ use crate::files::power::{copy, place, seeds, Shadow};
 use std::sync::atomic::AtomicU64;
 
 fn of(sender: &str, text: &str) -> Post {
-    Post {
-        sender: sender.into(),
-        foreign: text.len() as u64,
-        body: body(text),
-    }
+    Post { sender: sender.into(), foreign: text.len() as u64, body: body(text) }
 }
 
 pub fn append_of(journal: &Journal, sender: &str, text: &str) {
@@ -74,10 +70,7 @@ fn posts_of_quarantined_senders_are_moved_once_and_are_there_until_they_are_flus
     let expected = [&held[0], &held[2], &held[1]].map(Clone::clone);
     for round in 0..4 {
         let next = checkpoint(&journal, &quarantined, first);
-        let before: Vec<_> = all(&journal, first)
-            .into_iter()
-            .filter(|it| it.sender != "b")
-            .collect();
+        let before: Vec<_> = all(&journal, first).into_iter().filter(|it| it.sender != "b").collect();
         assert_eq!(before.len(), 3, "also before the commit, and once");
         append_of(&journal, "b", "5");
         journal.forget(next).unwrap();
@@ -86,11 +79,7 @@ fn posts_of_quarantined_senders_are_moved_once_and_are_there_until_they_are_flus
         assert_eq!((journal.held().senders, journal.held().posts), (2, 3));
         match round {
             0 => written.store(counted.load(SeqCst), SeqCst),
-            _ => assert_eq!(
-                counted.load(SeqCst),
-                written.load(SeqCst),
-                "a flush costs nothing for them"
-            ),
+            _ => assert_eq!(counted.load(SeqCst), written.load(SeqCst), "a flush costs nothing for them"),
         }
     }
     kill(journal);
@@ -99,20 +88,14 @@ fn posts_of_quarantined_senders_are_moved_once_and_are_there_until_they_are_flus
     // Released, and posts again; then quarantined anew.
     append_of(&journal, "a.held", "66");
     let next = checkpoint(&journal, &names(&["a"]), first);
-    assert!(
-        all(&journal, first).contains(&held[1]),
-        "its owners are looked for after the commit"
-    );
+    assert!(all(&journal, first).contains(&held[1]), "its owners are looked for after the commit");
     journal.forget(next).unwrap();
     assert_eq!(all(&journal, next), [held[0].clone(), held[2].clone()]);
     assert!(!file(folder.path(), "a.held").exists() && file(folder.path(), "a").exists());
     append_of(&journal, "a", "7777777");
     first = checkpoint(&journal, &quarantined, next);
     journal.forget(first).unwrap();
-    assert_eq!(
-        all(&journal, first),
-        [held[0].clone(), held[2].clone(), of("a", "7777777")]
-    );
+    assert_eq!(all(&journal, first), [held[0].clone(), held[2].clone(), of("a", "7777777")]);
     let next = checkpoint(&journal, &names(&[]), first);
     journal.forget(next).unwrap();
     assert_eq!((all(&journal, next), journal.held()), (vec![], Held::default()));
@@ -160,11 +143,7 @@ fn more_senders_than_files_are_open_at_a_time_and_long_posts_are_moved() {
     let found = all(&journal, next);
     assert_eq!(found.len(), 451);
     for sender in &senders {
-        let of_it: Vec<u64> = found
-            .iter()
-            .filter(|it| it.sender == *sender)
-            .map(|it| it.foreign)
-            .collect();
+        let of_it: Vec<u64> = found.iter().filter(|it| it.sender == *sender).map(|it| it.foreign).collect();
         assert_eq!(of_it[..3], [0, 3001, 6002], "{sender}");
     }
     assert!(found.contains(&of("s7", &long)) && journal.held().posts == 451);
@@ -186,10 +165,7 @@ fn copies_in_a_folder_of_an_earlier_version_are_moved() {
     let journal = open(first);
     let next = checkpoint(&journal, &names(&[&post("a").sender]), first);
     journal.forget(next).unwrap();
-    assert_eq!(
-        (texts(&journal, next), journal.held().posts),
-        (vec!["a".into(), "b".into()], 2)
-    );
+    assert_eq!((texts(&journal, next), journal.held().posts), (vec!["a".into(), "b".into()], 2));
     kill(journal);
     assert_eq!(texts(&open(next), next), ["a", "b"]);
 }
@@ -235,8 +211,7 @@ fn a_file_of_a_sender_that_is_gone_cut_or_changed_is_named() {
             kill(journal);
             read
         });
-        read.err()
-            .is_some_and(|fault| fault.to_string().contains("a.held"))
+        read.err().is_some_and(|fault| fault.to_string().contains("a.held"))
     };
     for at in 0..sound.len() {
         let mut changed = sound.clone();
@@ -281,11 +256,7 @@ fn run(folder: &Path, left: &Path, chance: &mut TestRandom) -> (u64, Queues) {
         for step in 0..chance.below(8) {
             let sender = ["a", "b", "c"][chance.below(3) as usize].to_string();
             if !held.contains(&sender) {
-                let text = format!(
-                    "{round}-{step}{:a>width$}",
-                    "",
-                    width = chance.below(1500) as usize
-                );
+                let text = format!("{round}-{step}{:a>width$}", "", width = chance.below(1500) as usize);
                 append_of(&journal, &sender, &text);
                 queues.entry(sender).or_default().push(text);
             }

@@ -23,11 +23,7 @@ fn of_letters(letters: &[u8]) -> Post {
     for letter in letters {
         points.push(u64::from(*letter), 5, 10, [7]);
     }
-    Post {
-        sender: "s".into(),
-        foreign: 2,
-        body: Body::Points(points),
-    }
+    Post { sender: "s".into(), foreign: 2, body: Body::Points(points) }
 }
 
 /// What is read of each post: its letters, and which of them were named with it.
@@ -65,30 +61,16 @@ fn a_segment_says_a_name_once_ahead_of_its_first_points_and_by_the_same_write() 
         let ticket = journal.append(&of_letters(letters), &Letters::of(""));
         journal.write(ticket).unwrap();
     }
-    let expected: [(&[u8], &[u8]); 5] = [
-        (b"abca", b"abc"),
-        (b"cb", b""),
-        (b"da", b"d"),
-        (b"ab", b"ab"),
-        (b"ab", b""),
-    ];
+    let expected: [(&[u8], &[u8]); 5] =
+        [(b"abca", b"abc"), (b"cb", b""), (b"da", b"d"), (b"ab", b"ab"), (b"ab", b"")];
     let expected = expected.map(|(letters, named)| (of_letters(letters), names(named, 0)));
     assert_eq!(read(&journal, 1), expected);
     assert_eq!(read(&journal, 2), expected[3..]);
     kill(journal);
     assert!(!is_alone.load(SeqCst));
-    assert_eq!(
-        kinds(&segment::path(folder.path(), 1)),
-        [NAME, NAME, NAME, POINTS, POINTS, NAME, POINTS]
-    );
-    assert_eq!(
-        kinds(&segment::path(folder.path(), 2)),
-        [NAME, NAME, POINTS, POINTS]
-    );
-    assert_eq!(
-        records_of(&segment::path(folder.path(), 1))[0].1,
-        [128 + 97, 32, b'a']
-    );
+    assert_eq!(kinds(&segment::path(folder.path(), 1)), [NAME, NAME, NAME, POINTS, POINTS, NAME, POINTS]);
+    assert_eq!(kinds(&segment::path(folder.path(), 2)), [NAME, NAME, POINTS, POINTS]);
+    assert_eq!(records_of(&segment::path(folder.path(), 1))[0].1, [128 + 97, 32, b'a']);
 }
 
 #[test]
@@ -126,10 +108,7 @@ fn a_journal_that_may_have_names_after_another_is_of_version_4() {
     kill(open(folder.path()));
     let found = bytes(&segment::path(folder.path(), 1));
     let header = &found[records::MARK_LENGTHS[1]..];
-    assert_eq!(
-        header[8..19],
-        [1, b't', b'o', b't', b'x', b'e', b'g', b'u', b'n', 4, 0]
-    );
+    assert_eq!(header[8..19], [1, b't', b'o', b't', b'x', b'e', b'g', b'u', b'n', 4, 0]);
 }
 
 /// Byte by byte as 0.5.0 writes them.
@@ -145,38 +124,19 @@ fn a_segment_and_a_file_of_a_sender_of_version_1_go_on() {
     let record = |kind: u8, sender: &str, text: &[u8]| {
         let mut record = Vec::new();
         let numbers = [7, text.len() as u64, sender.len() as u64].map(u64::to_le_bytes);
-        records::put(
-            &mut record,
-            kind,
-            &[numbers.as_flattened(), sender.as_bytes(), text],
-        );
+        records::put(&mut record, kind, &[numbers.as_flattened(), sender.as_bytes(), text]);
         record
     };
     let held = [header(3, 0), record(16, "a", b"1234")].concat();
     let mut list = Vec::new();
-    records::put(
-        &mut list,
-        18,
-        &[format!(r#"[["a",1,{}]]"#, held.len()).as_bytes()],
-    );
-    let segment = [
-        header(1, 1),
-        list,
-        record(16, "b", b"12"),
-        record(17, "a", b"123456"),
-    ];
+    records::put(&mut list, 18, &[format!(r#"[["a",1,{}]]"#, held.len()).as_bytes()]);
+    let segment = [header(1, 1), list, record(16, "b", b"12"), record(17, "a", b"123456")];
     std::fs::write(segment::path(folder.path(), 1), segment.concat()).unwrap();
     std::fs::write(folder.path().join("a.held"), held).unwrap();
     let journal = open(folder.path());
     held::append_of(&journal, "a", "points");
     held::append_of(&journal, "a", "point");
-    let expected = [
-        ("a", "1234"),
-        ("b", "12"),
-        ("a", "123456"),
-        ("a", "points"),
-        ("a", "point"),
-    ];
+    let expected = [("a", "1234"), ("b", "12"), ("a", "123456"), ("a", "points"), ("a", "point")];
     let expected = expected.map(|(sender, text)| (sender.to_string(), text.to_string()));
     assert_eq!(held::all_texts(&journal, 1), expected);
     // Its file has points from now on.

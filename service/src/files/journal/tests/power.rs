@@ -17,10 +17,7 @@ fn run(folder: &Path, left: &Path, durability: Durability, chance: &mut TestRand
     std::fs::create_dir(folder).unwrap();
     let shadow = Arc::new(Mutex::new(Shadow::of(folder)));
     let journal = open_on(&disk(&shadow, u64::MAX), folder, durability).unwrap();
-    let mut posted = Posted {
-        reach: 1,
-        ..Posted::default()
-    };
+    let mut posted = Posted { reach: 1, ..Posted::default() };
     for step in 0..2 + chance.below(12) {
         match chance.below(16) {
             0..=9 => {
@@ -36,10 +33,7 @@ fn run(folder: &Path, left: &Path, durability: Durability, chance: &mut TestRand
             11..=14 => drop(journal.turn()),
             _ => {
                 // A group has all of them.
-                posted = Posted {
-                    reach: journal.turn().0,
-                    ..Posted::default()
-                };
+                posted = Posted { reach: journal.turn().0, ..Posted::default() };
                 journal.shared.sync();
                 journal.forget(posted.reach).unwrap();
             }

@@ -83,17 +83,11 @@ fn what_an_earlier_run_wrote_is_written_anew_before_it_is_believed() {
         Ok(())
     });
     let journal = open_from(&disk, folder.path(), Durability::Disk, 2).unwrap();
-    for (number, wanted) in [
-        (1, &[Call::Sync][..]),
-        (2, &[Call::Write, Call::Sync]),
-        (3, &[Call::Write, Call::Sync]),
-    ] {
+    for (number, wanted) in
+        [(1, &[Call::Sync][..]), (2, &[Call::Write, Call::Sync]), (3, &[Call::Write, Call::Sync])]
+    {
         let path = segment::path(folder.path(), number);
-        let of_it: Vec<Call> = lock(&calls)
-            .iter()
-            .filter(|one| one.1 == path)
-            .map(|one| one.0)
-            .collect();
+        let of_it: Vec<Call> = lock(&calls).iter().filter(|one| one.1 == path).map(|one| one.0).collect();
         assert_eq!(of_it, wanted, "{number}");
     }
     assert_eq!([before(1), before(2), before(3)], written);
@@ -120,10 +114,7 @@ fn a_process_only_journal_waits_for_nothing() {
     let journal = open(folder.path());
     let _held = lock(&journal.shared.syncing);
     let ticket = append(&journal, "a");
-    let runtime = tokio::runtime::Builder::new_current_thread()
-        .enable_time()
-        .build()
-        .unwrap();
+    let runtime = tokio::runtime::Builder::new_current_thread().enable_time().build().unwrap();
     let durable = async { tokio::time::timeout(Duration::from_secs(5), journal.durable(ticket)).await };
     runtime.block_on(durable).unwrap().unwrap();
 }
@@ -142,11 +133,7 @@ async fn after_a_failed_sync_nobody_is_told_and_nothing_is_tried_again() {
     let journal = open_on(&disk, folder.path(), Durability::Disk).unwrap();
     fails.store(true, SeqCst);
     let ticket = append(&journal, "a");
-    assert!(
-        tokio::time::timeout(Duration::from_millis(1500), journal.durable(ticket))
-            .await
-            .is_err()
-    );
+    assert!(tokio::time::timeout(Duration::from_millis(1500), journal.durable(ticket)).await.is_err());
     assert!(told.recv().unwrap().contains("no disk"));
     assert_eq!(calls.load(SeqCst), 1);
     std::mem::forget(journal);
@@ -159,12 +146,10 @@ async fn after_a_failed_sync_of_what_is_held_nobody_is_told_either() {
     let fails = Arc::new(AtomicBool::new(false));
     let failing = fails.clone();
     let (tell, told) = mpsc::channel();
-    let disk = Disk::failing(
-        move |call, _| match call == Call::Sync && failing.swap(false, SeqCst) {
-            true => Err(std::io::Error::other("no disk")),
-            false => Ok(()),
-        },
-    );
+    let disk = Disk::failing(move |call, _| match call == Call::Sync && failing.swap(false, SeqCst) {
+        true => Err(std::io::Error::other("no disk")),
+        false => Ok(()),
+    });
     let disk = disk.ending(move |fault| tell.send(fault.to_string()).unwrap());
     let journal = Arc::new(open_on(&disk, folder.path(), Durability::Disk).unwrap());
     journal.turn();
@@ -177,10 +162,7 @@ async fn after_a_failed_sync_of_what_is_held_nobody_is_told_either() {
     let ticket = append(&journal, "b");
     let durable = tokio::time::timeout(Duration::from_millis(1500), journal.durable(ticket));
     assert!(durable.await.is_err(), "who waits is told of what may be lost");
-    assert!(told
-        .recv_timeout(Duration::from_secs(5))
-        .unwrap()
-        .contains("no disk"));
+    assert!(told.recv_timeout(Duration::from_secs(5)).unwrap().contains("no disk"));
     std::mem::forget(journal);
 }
 
@@ -192,12 +174,10 @@ fn ends_by_its_disk() {
         return;
     };
     let calls = AtomicUsize::new(0);
-    let disk = Disk::failing(
-        move |call, _| match call == Call::Write && calls.fetch_add(1, SeqCst) > 4 {
-            true => Err(std::io::ErrorKind::StorageFull.into()),
-            false => Ok(()),
-        },
-    );
+    let disk = Disk::failing(move |call, _| match call == Call::Write && calls.fetch_add(1, SeqCst) > 4 {
+        true => Err(std::io::ErrorKind::StorageFull.into()),
+        false => Ok(()),
+    });
     let journal = open_on(&disk, Path::new(&folder), Durability::Process).unwrap();
     for _ in 0..100 {
         append(&journal, "a");
@@ -208,19 +188,11 @@ fn ends_by_its_disk() {
 fn a_failed_write_ends_the_process_with_a_named_line() {
     let folder = tempfile::tempdir().unwrap();
     let mut this = std::process::Command::new(std::env::current_exe().unwrap());
-    this.args([
-        "--exact",
-        "--ignored",
-        "--nocapture",
-        "files::journal::tests::syncs::ends_by_its_disk",
-    ]);
+    this.args(["--exact", "--ignored", "--nocapture", "files::journal::tests::syncs::ends_by_its_disk"]);
     let ended = this.env("TOTXEGUN_TEST_FOLDER", folder.path()).output().unwrap();
     let line = String::from_utf8_lossy(&ended.stderr);
     assert_eq!(ended.status.code(), Some(FAILED), "{line}");
-    assert!(
-        line.contains("the disk failed") && line.contains("000000000001.seg"),
-        "{line}"
-    );
+    assert!(line.contains("the disk failed") && line.contains("000000000001.seg"), "{line}");
     assert!(!texts(&open(folder.path()), 1).is_empty());
 }
 
@@ -239,14 +211,9 @@ fn what_is_held_is_durable_before_its_first_place_is_deleted() {
     journal.hold(&[post("a").sender].into(), 1, 2).unwrap();
     journal.forget(2).unwrap();
     let calls = calls.lock().unwrap();
-    let position = |call, number| {
-        calls
-            .iter()
-            .rposition(|one| *one == (call, segment::path(folder.path(), number)))
-    };
-    let noted = calls
-        .iter()
-        .position(|one| *one == (Call::Write, segment::path(folder.path(), 2)));
+    let position =
+        |call, number| calls.iter().rposition(|one| *one == (call, segment::path(folder.path(), number)));
+    let noted = calls.iter().position(|one| *one == (Call::Write, segment::path(folder.path(), 2)));
     assert!(position(Call::Sync, 2).unwrap() < position(Call::Remove, 1).unwrap());
     assert!(noted.unwrap() < position(Call::Sync, 2).unwrap());
 }
@@ -302,10 +269,7 @@ fn sizes_are_told_while_a_write_stalls_and_how_long_it_does() {
     let size = told.recv_timeout(Duration::from_secs(5));
     stalls.store(false, SeqCst);
     writing.join().unwrap();
-    assert!(
-        size.is_ok_and(|size| size.0 > before.0),
-        "nobody waits for the write"
-    );
+    assert!(size.is_ok_and(|size| size.0 > before.0), "nobody waits for the write");
     while journal.under_way() > Duration::ZERO {
         std::thread::sleep(Duration::from_millis(1));
     }

@@ -30,15 +30,13 @@ async fn an_outbox_that_goes_on_from_another_has_its_requests_and_what_it_knows(
         let place = tempfile::tempdir().unwrap();
         let (one, other) = (place.path().join("one"), place.path().join("other"));
         let from = open_on(&Disk::default(), &one, "e", longest).unwrap();
-        from.commit(&[body(&[("a", 3)], "1"), body(&[("b", 4)], "2")], 2)
-            .unwrap();
+        from.commit(&[body(&[("a", 3)], "1"), body(&[("b", 4)], "2")], 2).unwrap();
         from.own([(key_of("a"), "s".to_string())].into()).unwrap();
         from.quarantine("q").unwrap();
         take(&from).await;
         kill(from);
         let from = open_on(&Disk::default(), &one, "f", longest).unwrap();
-        from.commit(&[body(&[("a", 7)], "3"), body(&[("c", 9)], "4")], 3)
-            .unwrap();
+        from.commit(&[body(&[("a", 7)], "3"), body(&[("c", 9)], "4")], 3).unwrap();
         from.commit(&[], 4).unwrap();
         let to = open_on(&Disk::default(), &other, "g", longest).unwrap();
         bring(&from, &to);
@@ -65,8 +63,7 @@ async fn of_one_in_which_nothing_waits_the_numbers_go_on() {
     let place = tempfile::tempdir().unwrap();
     let (one, other) = (place.path().join("one"), place.path().join("other"));
     let from = open(&one);
-    from.commit(&[body(&[("a", 3)], "1"), body(&[("b", 4)], "2")], 2)
-        .unwrap();
+    from.commit(&[body(&[("a", 3)], "1"), body(&[("b", 4)], "2")], 2).unwrap();
     waiting(&from).await;
     let to = open_on(&Disk::default(), &other, "g", SEGMENT).unwrap();
     bring(&from, &to);

@@ -8,16 +8,9 @@ async fn a_group_that_is_cut_anywhere_is_not_there() {
     let folder = tempfile::tempdir().unwrap();
     let outbox = open(folder.path());
     outbox.commit(&[body(&[("a", 1)], "first")], 2).unwrap();
-    let (before, begin) = (
-        view(&outbox),
-        std::fs::metadata(last_segment(folder.path())).unwrap().len() as usize,
-    );
-    outbox
-        .commit(
-            &[body(&[("a", 2), ("b", 2)], "second"), body(&[("c", 2)], "third")],
-            3,
-        )
-        .unwrap();
+    let (before, begin) =
+        (view(&outbox), std::fs::metadata(last_segment(folder.path())).unwrap().len() as usize);
+    outbox.commit(&[body(&[("a", 2), ("b", 2)], "second"), body(&[("c", 2)], "third")], 3).unwrap();
     let after = view(&outbox);
     kill(outbox);
     let all = std::fs::read(last_segment(folder.path())).unwrap();
@@ -45,9 +38,7 @@ fn a_group_whose_middle_was_lost_is_not_there_though_its_commit_is() {
     let outbox = open(folder.path());
     let before = view(&outbox);
     let mut numbers = TestRandom(1);
-    let noise: String = (0..9000)
-        .map(|_| char::from(b'a' + numbers.below(26) as u8))
-        .collect();
+    let noise: String = (0..9000).map(|_| char::from(b'a' + numbers.below(26) as u8)).collect();
     outbox.commit(&[body(&[("a", 1)], &noise)], 2).unwrap();
     kill(outbox);
     let mut all = std::fs::read(last_segment(folder.path())).unwrap();
@@ -79,10 +70,7 @@ async fn is_named(path: &Path, first: &[u8]) -> bool {
     kill(outbox);
     match read {
         Ok(read) => assert_eq!(read.unwrap().1, first),
-        Err(_) => assert!(
-            stuck.as_ref().is_some_and(|it| it.contains("request 1")),
-            "{stuck:?}"
-        ),
+        Err(_) => assert!(stuck.as_ref().is_some_and(|it| it.contains("request 1")), "{stuck:?}"),
     }
     stuck.is_some()
 }
@@ -125,10 +113,8 @@ async fn a_changed_request_stops_its_delivery_alone_until_its_file_is_back() {
     let bodies = ["one", "two", "three"].map(|text| body(&[(text, 1)], text));
     outbox.commit(&bodies, 2).unwrap();
     let places = ["one", "two", "three"].map(|text| {
-        let (all, packed) = (
-            std::fs::read(last_segment(folder.path())).unwrap(),
-            rows::deflated(&body(&[(text, 1)], text)),
-        );
+        let (all, packed) =
+            (std::fs::read(last_segment(folder.path())).unwrap(), rows::deflated(&body(&[(text, 1)], text)));
         all.windows(packed.len()).position(|part| part == packed).unwrap()
     });
     assert_eq!(take(&outbox).await.0, 1);
@@ -146,19 +132,13 @@ async fn a_changed_request_stops_its_delivery_alone_until_its_file_is_back() {
     };
     let (copy, outbox) = with_change_at(places[1] + 3);
     let named = outbox.find_changed().unwrap();
-    assert!(
-        matches!(&named[..], [one] if one.to_string().contains("request 2")),
-        "{named:?}"
-    );
+    assert!(matches!(&named[..], [one] if one.to_string().contains("request 2")), "{named:?}");
     let waits = outbox.clone();
     let second = tokio::spawn(async move { take(&waits).await });
     while outbox.stuck().is_none() {
         tokio::time::sleep(Duration::from_millis(1)).await;
     }
-    let file = File::options()
-        .write(true)
-        .open(segment::path(copy.path(), 1))
-        .unwrap();
+    let file = File::options().write(true).open(segment::path(copy.path(), 1)).unwrap();
     let part = places[1]..places[1] + 10;
     std::os::unix::fs::FileExt::write_all_at(&file, &sound[part.clone()], part.start as u64).unwrap();
     assert_eq!(second.await.unwrap(), (2, bodies[1].clone()));
@@ -184,16 +164,8 @@ fn after_a_failed_sync_nothing_is_tried_again() {
     let outbox = open_on(&disk, folder.path(), "e", SEGMENT).unwrap();
     let before = view(&outbox);
     fails.store(true, SeqCst);
-    assert!(outbox
-        .commit(&[body(&[("a", 1)], "")], 2)
-        .unwrap_err()
-        .to_string()
-        .contains("no disk"));
-    assert_eq!(
-        view(&outbox),
-        before,
-        "nobody sees a group that may not be durable"
-    );
+    assert!(outbox.commit(&[body(&[("a", 1)], "")], 2).unwrap_err().to_string().contains("no disk"));
+    assert_eq!(view(&outbox), before, "nobody sees a group that may not be durable");
     let done = calls.load(SeqCst);
     assert!(outbox.quarantine("me").is_err());
     assert!(outbox.commit(&[], 3).is_err());
@@ -210,12 +182,10 @@ fn after_a_failed_sync_no_segment_is_deleted_and_none_goes_on() {
         let folder = tempfile::tempdir().unwrap();
         let fails = Arc::new(AtomicBool::new(false));
         let failing = fails.clone();
-        let disk = Disk::failing(
-            move |call, _| match call == Call::Sync && failing.swap(false, SeqCst) {
-                true => Err(io::Error::other("no disk")),
-                false => Ok(()),
-            },
-        );
+        let disk = Disk::failing(move |call, _| match call == Call::Sync && failing.swap(false, SeqCst) {
+            true => Err(io::Error::other("no disk")),
+            false => Ok(()),
+        });
         let outbox = open_on(&disk, folder.path(), "e", SEGMENT).unwrap();
         fails.store(true, SeqCst);
         assert!(!first(&outbox));
@@ -238,10 +208,7 @@ fn whichever_call_fails_a_start_finds_the_state_before_or_behind() {
         if let Ok(outbox) = open_on(&disk, folder.path(), "e", 300) {
             seen.push(view(&outbox));
             for number in 1..4 {
-                if outbox
-                    .commit(&[body(&[("a", number)], "filling")], number + 1)
-                    .is_err()
-                {
+                if outbox.commit(&[body(&[("a", number)], "filling")], number + 1).is_err() {
                     break;
                 }
                 seen.push(view(&outbox));
@@ -250,10 +217,7 @@ fn whichever_call_fails_a_start_finds_the_state_before_or_behind() {
         }
         let found = open_on(&Disk::default(), folder.path(), "e", 300).unwrap();
         let behind = outbox_view_behind(&found, seen.len() as u64);
-        assert!(
-            seen.last().is_none_or(|last| *last == view(&found)) || behind,
-            "call {fail}"
-        );
+        assert!(seen.last().is_none_or(|last| *last == view(&found)) || behind, "call {fail}");
         if calls.load(SeqCst) <= fail {
             assert_eq!(seen.len(), 4);
             return;
@@ -264,10 +228,7 @@ fn whichever_call_fails_a_start_finds_the_state_before_or_behind() {
 /// Whether one group more is there, whole.
 fn outbox_view_behind(outbox: &Outbox, commits: u64) -> bool {
     (outbox.waiting().0, outbox.journal()) == (commits, commits + 1)
-        && outbox
-            .series()
-            .get(&key_of("a"))
-            .is_some_and(|known| known.frontier == commits)
+        && outbox.series().get(&key_of("a")).is_some_and(|known| known.frontier == commits)
 }
 
 #[test]

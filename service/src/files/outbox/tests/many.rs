@@ -39,15 +39,10 @@ fn many_series_come_back_with_their_keys() {
             let owner = format!("s{}", key.0.len());
             (key, owner)
         };
-        outbox
-            .own(outbox.without_owner().into_iter().map(owner).collect())
-            .unwrap();
+        outbox.own(outbox.without_owner().into_iter().map(owner).collect()).unwrap();
         assert_eq!(outbox.without_owner(), HashSet::new());
         assert_eq!(outbox.series_by_owner()["s6"], 10);
-        assert_eq!(
-            outbox.ahead_of(MANY - 1),
-            (1, Some(key_of(&format!("[\"s{}\"]", MANY - 1))))
-        );
+        assert_eq!(outbox.ahead_of(MANY - 1), (1, Some(key_of(&format!("[\"s{}\"]", MANY - 1)))));
         kill(outbox);
     }
     for start in 0..4 {
@@ -63,9 +58,7 @@ fn many_series_come_back_with_their_keys() {
         commit(&outbox, &all, 3 + start);
         assert_eq!(found(&outbox), wanted(&all), "start {start}");
         let to = start % 2 * 1500;
-        outbox
-            .put_back(&wanted(&all[..50]).into_keys().collect::<Vec<_>>(), to)
-            .unwrap();
+        outbox.put_back(&wanted(&all[..50]).into_keys().collect::<Vec<_>>(), to).unwrap();
         all[..50].iter_mut().for_each(|one| one.1 = one.1.min(to));
         assert_eq!(found(&outbox), wanted(&all), "start {start}");
         kill(outbox);

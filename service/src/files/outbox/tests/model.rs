@@ -24,9 +24,7 @@ impl Model {
                 }
             }
             5 => {
-                outbox
-                    .own(HashMap::from([(key_of(&key), sender.clone())]))
-                    .unwrap();
+                outbox.own(HashMap::from([(key_of(&key), sender.clone())])).unwrap();
                 if let Some(known) = self.series.get_mut(&key) {
                     known.1 = Some(sender);
                 }
@@ -63,8 +61,7 @@ impl Model {
             let (key, end) = (format!("key {}", numbers.below(30)), self.journal);
             bodies.push(body(&[(&key, end)], &"x".repeat(numbers.below(3000) as usize)));
             self.next += 1;
-            self.waiting
-                .push_back((self.next, bodies[bodies.len() - 1].clone()));
+            self.waiting.push_back((self.next, bodies[bodies.len() - 1].clone()));
             self.series.entry(key).or_default().0 = end;
         }
         outbox.commit(&bodies, self.journal).unwrap();
@@ -110,10 +107,7 @@ async fn it_is_as_its_model_over_any_calls_and_starts() {
                 }
                 2 => {
                     kill(outbox);
-                    let mut file = File::options()
-                        .append(true)
-                        .open(last_segment(folder.path()))
-                        .unwrap();
+                    let mut file = File::options().append(true).open(last_segment(folder.path())).unwrap();
                     let mut torn = Vec::new();
                     crate::files::records::put(&mut torn, rows::GROUP, &[&[9; 60]]);
                     torn.truncate(numbers.below(torn.len() as u64) as usize);

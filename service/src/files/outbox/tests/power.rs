@@ -35,13 +35,7 @@ fn steps(chance: &mut TestRandom) -> Vec<Step> {
 fn make(outbox: &Outbox, step: &Step) -> Result<bool, Fault> {
     match step {
         Step::Commit(bodies) => outbox.commit(bodies, outbox.journal() + 1)?,
-        Step::Own => outbox.own(
-            outbox
-                .series()
-                .into_keys()
-                .map(|key| (key, "me".into()))
-                .collect(),
-        )?,
+        Step::Own => outbox.own(outbox.series().into_keys().map(|key| (key, "me".into())).collect())?,
         Step::Hold(true) => outbox.quarantine("me")?,
         Step::Hold(false) => outbox.lift("me")?,
         Step::PutBack(to) => {
@@ -61,17 +55,10 @@ fn make(outbox: &Outbox, step: &Step) -> Result<bool, Fault> {
 /// What it says, but times.
 fn said(outbox: &Outbox) -> String {
     let series: BTreeMap<_, _> = outbox.series().into_iter().collect();
-    let series: Vec<_> = series
-        .iter()
-        .map(|(key, it)| (&key.0, it.frontier, &it.owner))
-        .collect();
+    let series: Vec<_> = series.iter().map(|(key, it)| (&key.0, it.frontier, &it.owner)).collect();
     let (count, bytes, first) = outbox.waiting();
     let first = first.map(|first| first.number);
-    format!(
-        "{} {:?} {count} {bytes} {first:?} {series:?}",
-        outbox.journal(),
-        outbox.quarantined()
-    )
+    format!("{} {:?} {count} {bytes} {first:?} {series:?}", outbox.journal(), outbox.quarantined())
 }
 
 /// Of a run up to a loss of power: what may be said after it.
@@ -111,17 +98,12 @@ async fn what_was_durable_is_there_and_of_the_rest_what_was_made_first() {
             let (again, left) = (at(&format!("again-{calls}")), at(&format!("left-{calls}")));
             copy(&at("left"), &again);
             let shadow = Arc::new(Mutex::new(Shadow::of(&again)));
-            let is_whole = open_on(&disk(&shadow, calls), &again, "e", 3000)
-                .map(kill)
-                .is_ok();
+            let is_whole = open_on(&disk(&shadow, calls), &again, "e", 3000).map(kill).is_ok();
             lock(&shadow).lose_power(&left, &mut chance);
             let outbox = open_on(&Disk::default(), &left, "e", 3000);
             let outbox = outbox.unwrap_or_else(|fault| panic!("seed {seed} call {calls}: {fault}"));
             let found = said(&outbox);
-            assert!(
-                may_be.contains(&found),
-                "seed {seed} call {calls}: {found}\n{may_be:#?}"
-            );
+            assert!(may_be.contains(&found), "seed {seed} call {calls}: {found}\n{may_be:#?}");
             while outbox.waiting().0 > 0 {
                 take(&outbox).await;
             }
@@ -153,10 +135,7 @@ async fn any_of_the_segments_that_were_deleted_may_be_back() {
     let found = view(&outbox);
     kill(outbox);
     let numbers = |name: &str| segment::numbers(&Disk::default(), &at(name)).unwrap();
-    let deleted: Vec<u64> = numbers("before")
-        .into_iter()
-        .filter(|it| !numbers("run").contains(it))
-        .collect();
+    let deleted: Vec<u64> = numbers("before").into_iter().filter(|it| !numbers("run").contains(it)).collect();
     assert!(deleted.len() > 1);
     for number in deleted {
         let left = at(&format!("left-{number}"));
@@ -164,9 +143,6 @@ async fn any_of_the_segments_that_were_deleted_may_be_back() {
         std::fs::copy(segment::path(&at("before"), number), segment::path(&left, number)).unwrap();
         let outbox = open_on(&Disk::default(), &left, "e", 300).unwrap();
         assert_eq!(view(&outbox), found, "{number}");
-        assert_eq!(
-            segment::numbers(&Disk::default(), &left).unwrap()[0],
-            numbers("run")[0]
-        );
+        assert_eq!(segment::numbers(&Disk::default(), &left).unwrap()[0], numbers("run")[0]);
     }
 }

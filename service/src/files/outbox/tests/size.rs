@@ -15,23 +15,14 @@ fn request(series: usize, end: u64) -> Vec<u8> {
             n.wrapping_mul(7919) % 1000,
         )
     };
-    format!(
-        "{{\"resourceMetrics\":[{}]}}",
-        (0..series).map(point).collect::<Vec<_>>().join(",")
-    )
-    .into_bytes()
+    format!("{{\"resourceMetrics\":[{}]}}", (0..series).map(point).collect::<Vec<_>>().join(",")).into_bytes()
 }
 
 fn request_ends(body: &[u8]) -> Result<Vec<(SeriesKey, u64)>, NotForwarded> {
     let text = String::from_utf8_lossy(body);
     let parts = text.split("\"resource\":").skip(1);
     Ok(parts
-        .map(|part| {
-            (
-                key_of(part.split("\"startTime").next().unwrap_or("")),
-                1_700_000_000_000_000_000,
-            )
-        })
+        .map(|part| (key_of(part.split("\"startTime").next().unwrap_or("")), 1_700_000_000_000_000_000))
         .collect())
 }
 
@@ -39,15 +30,8 @@ fn request_ends(body: &[u8]) -> Result<Vec<(SeriesKey, u64)>, NotForwarded> {
 fn it_is_at_most_a_fifth_of_what_is_forwarded() {
     let folder = tempfile::tempdir().unwrap();
     let free_space = Arc::new(FreeSpace::new(folder.path()).unwrap());
-    let outbox = Outbox::open_with(
-        &Disk::default(),
-        folder.path(),
-        "e",
-        free_space,
-        request_ends,
-        SEGMENT,
-    )
-    .unwrap();
+    let outbox =
+        Outbox::open_with(&Disk::default(), folder.path(), "e", free_space, request_ends, SEGMENT).unwrap();
     let mut forwarded = 0;
     for round in 0..5 {
         let body = request(1000, 1_700_000_000_000_000_000 + round * 10_000_000_000);
@@ -55,10 +39,7 @@ fn it_is_at_most_a_fifth_of_what_is_forwarded() {
         outbox.commit(&[body], round + 2).unwrap();
     }
     let written = std::fs::metadata(last_segment(folder.path())).unwrap().len();
-    println!(
-        "{written} bytes of {forwarded} forwarded, 1 to {}",
-        forwarded / written
-    );
+    println!("{written} bytes of {forwarded} forwarded, 1 to {}", forwarded / written);
     assert!(written * 5 <= forwarded);
 }
 
@@ -88,9 +69,8 @@ fn a_long_snapshot_is_not_written_with_each_change() {
         Ok(())
     });
     let outbox = open_on(&disk, folder.path(), "e", LONGEST).unwrap();
-    let keys: Vec<String> = (1..1000u64)
-        .map(|n| format!("{:x}", n.wrapping_mul(0x9e37_79b9_7f4a_7c15)))
-        .collect();
+    let keys: Vec<String> =
+        (1..1000u64).map(|n| format!("{:x}", n.wrapping_mul(0x9e37_79b9_7f4a_7c15))).collect();
     let ends: Vec<(&str, u64)> = keys.iter().map(|key| (&**key, 1)).collect();
     outbox.commit(&[body(&ends, "")], 2).unwrap();
     let snapshot = std::fs::metadata(last_segment(folder.path())).unwrap().len();
@@ -103,10 +83,7 @@ fn a_long_snapshot_is_not_written_with_each_change() {
         outbox.acknowledge(journal - 2).unwrap();
     }
     let made = made.load(SeqCst);
-    assert!(
-        made < 10,
-        "{made} segments for {written} bytes behind a snapshot of {snapshot}"
-    );
+    assert!(made < 10, "{made} segments for {written} bytes behind a snapshot of {snapshot}");
     drop(outbox);
     let outbox = open_on(&Disk::default(), folder.path(), "e", LONGEST).unwrap();
     assert_eq!((outbox.series_count(), outbox.waiting().0), (999, 1));
@@ -119,9 +96,8 @@ fn backlog() {
     for in_group in [1000, 1] {
         let folder = tempfile::tempdir().unwrap();
         let outbox = open(folder.path());
-        let bodies: Vec<_> = (0..in_group)
-            .map(|n| body(&[(&format!("key {n}"), 5)], &format!("{n}").repeat(100)))
-            .collect();
+        let bodies: Vec<_> =
+            (0..in_group).map(|n| body(&[(&format!("key {n}"), 5)], &format!("{n}").repeat(100))).collect();
         // Nothing is synced here: the time is that of a start.
         for round in 0..1_000_000 / in_group as u64 {
             commit_without_sync(&outbox, &bodies, round + 2);
@@ -158,12 +134,7 @@ fn commit_without_sync(outbox: &Outbox, bodies: &[Vec<u8>], journal: u64) {
     let bytes = rows::group(&group, &items);
     let change = |begin: u64| {
         let items = begin + bytes.items.start as u64..begin + bytes.items.end as u64;
-        Change::Group {
-            group,
-            count: bodies.len() as u64,
-            segment: 0,
-            items,
-        }
+        Change::Group { group, count: bodies.len() as u64, segment: 0, items }
     };
     outbox.write(&mut writer, &bytes.records, false, change).unwrap();
 }

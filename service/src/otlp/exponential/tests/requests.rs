@@ -7,10 +7,7 @@ use crate::otlp::{
 };
 
 fn reading(bounds: &str) -> Reading {
-    Reading {
-        exponential: Some(bounds.parse().unwrap()),
-        ..Reading::default()
-    }
+    Reading { exponential: Some(bounds.parse().unwrap()), ..Reading::default() }
 }
 
 /// A point of scale 1: (0.5, 0.7], (0.7, 1], (1, 1.4] and (2, 2.8], two zeros, and [-1.4, -1).
@@ -73,10 +70,7 @@ fn prepared(encoding: Encoding, body: impl Into<bytes::Bytes>, reading: &Reading
 /// The words of the only point of the profile, and how many points are foreign.
 fn words(body: &[u8], profile: Profile) -> (Option<String>, u64) {
     let posted = posted_with(body, profile).unwrap();
-    (
-        posted.series.into_keys().next().map(|key| key.0.to_string()),
-        posted.foreign,
-    )
+    (posted.series.into_keys().next().map(|key| key.0.to_string()), posted.foreign)
 }
 
 #[test]
@@ -90,24 +84,15 @@ fn both_encodings_come_to_the_view() {
             let metric = &read["resourceMetrics"][0]["scopeMetrics"][0]["metrics"][0];
             let point = &metric["histogram"]["dataPoints"][0];
             // [-1.4, -1) and the zeros are in (-2, 0.5].
-            assert_eq!(
-                point["bucketCounts"],
-                serde_json::json!([0, 5, 3, 3, 5]),
-                "{point}"
-            );
+            assert_eq!(point["bucketCounts"], serde_json::json!([0, 5, 3, 3, 5]), "{point}");
             assert_eq!(point["explicitBounds"], serde_json::json!([-2, "0.5", 1, 2]));
             assert_eq!(metric["histogram"]["aggregationTemporality"], temporality);
-            assert_eq!(
-                (&point["sum"], of.is_cumulative),
-                (&serde_json::json!(12), temporality == 2)
-            );
+            assert_eq!((&point["sum"], of.is_cumulative), (&serde_json::json!(12), temporality == 2));
             assert_eq!(words(&of.body, profile), (None, 1), "a bound is no whole number");
         }
         let whole = Reading {
             exponential: Some(bounds("-2,0.5,1,2")),
-            finer_units: FinerUnits::new(["By=10:dBy".parse().unwrap()])
-                .unwrap()
-                .with_profile(profile),
+            finer_units: FinerUnits::new(["By=10:dBy".parse().unwrap()]).unwrap().with_profile(profile),
             ..Reading::default()
         };
         let [json, binary] = [
@@ -125,9 +110,7 @@ fn both_encodings_come_to_the_view() {
 fn what_does_not_fall_into_one_bucket_is_foreign_by_name() {
     let reading = reading("1,2,3");
     // (2.8, 4]
-    let within = POINT
-        .replace(r#""0","5"]"#, r#""0","5","2"]"#)
-        .replace("16", "18");
+    let within = POINT.replace(r#""0","5"]"#, r#""0","5","2"]"#).replace("16", "18");
     let fine = POINT.replace(r#""scale":1"#, r#""scale":21"#);
     let wrong = POINT.replace(r#""zeroCount":"2""#, r#""zeroCount":[]"#);
     let not_adding = POINT.replace("16", "17");
@@ -135,20 +118,11 @@ fn what_does_not_fall_into_one_bucket_is_foreign_by_name() {
     let body = in_json(&all.join(","), 2);
     let of = prepared(Encoding::Json, body.clone(), &reading);
     let why = "the bucket 3 of scale 1 has the bound 3 within";
-    assert_eq!(
-        of.rounded.unfit,
-        Some(format!("of the exponential histogram `m` {why}"))
-    );
+    assert_eq!(of.rounded.unfit, Some(format!("of the exponential histogram `m` {why}")));
     let points = explained(&of.body, Profile::AlsoCumulative, Clock::default().window()).unwrap();
     let found: Vec<_> = points
         .iter()
-        .map(|point| {
-            (
-                point.foreign.as_deref().unwrap_or(""),
-                point.cause,
-                point.is_passed(),
-            )
-        })
+        .map(|point| (point.foreign.as_deref().unwrap_or(""), point.cause, point.is_passed()))
         .collect();
     let cause = Some(Cause::ExponentialHistogram);
     let named = |why: &str| format!("it is an exponential histogram: {why}");
@@ -157,23 +131,13 @@ fn what_does_not_fall_into_one_bucket_is_foreign_by_name() {
         (String::new(), None, false),
         (named("the scale is none from -10 to 20"), cause, true),
         (named("zeroCount can't be read"), cause, true),
-        (
-            "bucketCounts do not add up to the count".into(),
-            Some(Cause::Other),
-            false,
-        ),
+        ("bucketCounts do not add up to the count".into(), Some(Cause::Other), false),
     ];
-    let wanted: Vec<_> = wanted
-        .iter()
-        .map(|(why, cause, passed)| (&**why, *cause, *passed))
-        .collect();
+    let wanted: Vec<_> = wanted.iter().map(|(why, cause, passed)| (&**why, *cause, *passed)).collect();
     assert_eq!(found, wanted);
     assert!(points.iter().all(|point| point.attributes == "k=v"), "{points:?}");
     // What is foreign is handed on as it came.
-    let original = Original {
-        encoding: Encoding::Json,
-        body: body.into(),
-    };
+    let original = Original { encoding: Encoding::Json, body: body.into() };
     let (outside, causes) = original.outside(4, Profile::AlsoCumulative, || Some(of.body));
     let left: serde_json::Value = serde_json::from_slice(&outside.unwrap().body).unwrap();
     let wanted: serde_json::Value =
@@ -192,10 +156,7 @@ fn what_is_taken_is_not_handed_on() {
         let of = prepared(Encoding::Protobuf, body.clone(), &reading);
         let foreign = words(&of.body, Profile::Deltas).1;
         assert_eq!(foreign, 1);
-        let original = Original {
-            encoding: Encoding::Protobuf,
-            body: body.into(),
-        };
+        let original = Original { encoding: Encoding::Protobuf, body: body.into() };
         let (outside, _) = original.outside(foreign, Profile::Deltas, || Some(of.body));
         assert_eq!(outside.map(|outside| outside.points), passed);
     }
@@ -207,10 +168,7 @@ fn without_bounds_they_are_foreign_whatever_they_say() {
     let wrong = POINT.replace(r#""positive":{"#, r#""positive":5,"else":{"#);
     for body in [POINT, &wrong] {
         let of = prepared(Encoding::Json, in_json(body, 1), &plain);
-        assert_eq!(
-            Causes::of(&of.body, Profile::Deltas, 1).to_string(),
-            "1 exponential histogram"
-        );
+        assert_eq!(Causes::of(&of.body, Profile::Deltas, 1).to_string(), "1 exponential histogram");
     }
     let body = in_json(&wrong, 1);
     let refused = prepare(Encoding::Json, body.into(), &reading("1,2")).unwrap_err();
@@ -223,9 +181,7 @@ fn nothing_else_is_changed() {
     let reading = reading("1,2");
     let several = in_json(POINT, 1).replace(r#""unit":"By","#, r#""unit":"By","gauge":{"dataPoints":[{}]},"#);
     let of = prepared(Encoding::Json, several, &reading);
-    assert!(std::str::from_utf8(&of.body)
-        .unwrap()
-        .contains("exponentialHistogram"));
+    assert!(std::str::from_utf8(&of.body).unwrap().contains("exponentialHistogram"));
     assert_eq!(words(&of.body, Profile::Deltas), (None, 2));
     let sum = r#"{"resourceMetrics":[{"scopeMetrics":[{"metrics":[{"name":"exponentialHistogram","sum":{"dataPoints":[]}}]}]}]}"#;
     assert_eq!(prepared(Encoding::Json, sum, &reading).body, sum);

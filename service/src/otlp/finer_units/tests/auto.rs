@@ -10,10 +10,7 @@ fn auto(choices: &[&str]) -> Reading {
 }
 
 fn request(metrics: &[String]) -> String {
-    format!(
-        r#"{{"resourceMetrics":[{{"scopeMetrics":[{{"metrics":[{}]}}]}}]}}"#,
-        metrics.join(",")
-    )
+    format!(r#"{{"resourceMetrics":[{{"scopeMetrics":[{{"metrics":[{}]}}]}}]}}"#, metrics.join(","))
 }
 
 fn sum(name: &str, unit: &str, points: &[&str]) -> String {
@@ -73,26 +70,17 @@ fn the_first_points_of_a_sum_decide() {
         ("1", "[ppm]", ["250000", "7000000"]),
     ] {
         // Any double of the first request, also behind a whole number.
-        assert_eq!(
-            doubles(unit, finest.into(), &[WHOLE, DOUBLE])[..],
-            [two[1], two[0]]
-        );
+        assert_eq!(doubles(unit, finest.into(), &[WHOLE, DOUBLE])[..], [two[1], two[0]]);
         assert_eq!(doubles(unit, finest.into(), &[WHOLE])[..], [two[1]]);
     }
-    assert_eq!(
-        taken(&reading, &[sum("w", "s", &[WHOLE])]),
-        ("s".into(), values(&["7"]), 0, None)
-    );
+    assert_eq!(taken(&reading, &[sum("w", "s", &[WHOLE])]), ("s".into(), values(&["7"]), 0, None));
     let named = "the value 0.25 s of `w` is a double, and it was first taken in whole s";
     assert_eq!(
         taken(&reading, &[sum("w", "s", &[WHOLE, DOUBLE])]),
         ("s".into(), values(&["7", "foreign"]), 1, Some(named.into()))
     );
     // One unit a name: also where it comes in another.
-    assert_eq!(
-        taken(&reading, &[sum("d s", "ms", &[WHOLE])]),
-        ("us".into(), values(&["7000"]), 0, None)
-    );
+    assert_eq!(taken(&reading, &[sum("d s", "ms", &[WHOLE])]), ("us".into(), values(&["7000"]), 0, None));
     for unit in ["", "{request}", "EUR"] {
         assert_eq!(
             taken(&reading, &[sum("x", unit, &[DOUBLE])]),
@@ -111,30 +99,18 @@ fn histograms_of_times_are_taken_in_the_finer_unit_since_some_are_whole_by_chanc
     assert_eq!((&*fraction.0, fraction.2), ("us", 0));
     let too_fine = of(r#""count":1,"sum":0.3,"bucketCounts":[1,0],"explicitBounds":[1e-10]"#);
     assert_eq!(too_fine.2, 1);
-    assert_eq!(
-        too_fine.3.as_deref(),
-        Some("the bound 1e-10 s of `h` can't be had in whole us")
-    );
+    assert_eq!(too_fine.3.as_deref(), Some("the bound 1e-10 s of `h` can't be had in whole us"));
 }
 
 #[test]
 fn rules_win_and_off_is_off() {
     let taken_by = |choices: &[&str], unit| taken(&auto(choices), &[sum("a", unit, &[DOUBLE])]).0;
     assert_eq!(
-        [
-            taken_by(&["s=ns"], "s"),
-            taken_by(&["s=ns"], "ms"),
-            taken_by(&["auto", "s=ns"], "ms")
-        ],
+        [taken_by(&["s=ns"], "s"), taken_by(&["s=ns"], "ms"), taken_by(&["auto", "s=ns"], "ms")],
         ["ns", "us", "us"]
     );
-    assert_eq!(
-        [taken_by(&["off"], "s"), taken_by(&["off", "s=us"], "s")],
-        ["s", "us"]
-    );
-    assert!(FinerUnits::of([Choice::Auto, Choice::Off])
-        .unwrap_err()
-        .contains("both auto and off"));
+    assert_eq!([taken_by(&["off"], "s"), taken_by(&["off", "s=us"], "s")], ["s", "us"]);
+    assert!(FinerUnits::of([Choice::Auto, Choice::Off]).unwrap_err().contains("both auto and off"));
     // A rule's unit is one that the metric is in from then on.
     let reading = auto(&["s=ns"]);
     assert_eq!(taken(&reading, &[sum("a", "s", &[DOUBLE])]).0, "ns");
@@ -151,16 +127,10 @@ fn other_histograms_are_taken_so_where_they_have_a_fraction() {
     let whole = r#""count":1,"sum":3,"bucketCounts":[1,0],"explicitBounds":[5]"#;
     let fraction = r#""count":1,"sum":0.25,"bucketCounts":[1,0],"explicitBounds":[5]"#;
     let finer = r#""count":1,"sum":3,"bucketCounts":[1,0],"explicitBounds":[0.5]"#;
-    assert_eq!(
-        [of("a", whole), of("a", fraction)],
-        [("1".into(), 0), ("1".into(), 1)]
-    );
+    assert_eq!([of("a", whole), of("a", fraction)], [("1".into(), 0), ("1".into(), 1)]);
     for says in [fraction, finer] {
         let name = format!("b {says}").replace('"', "");
-        assert_eq!(
-            [of(&name, says), of(&name, whole)],
-            [("[ppm]".into(), 0), ("[ppm]".into(), 0)]
-        );
+        assert_eq!([of(&name, says), of(&name, whole)], [("[ppm]".into(), 0), ("[ppm]".into(), 0)]);
     }
 }
 
@@ -200,17 +170,10 @@ fn what_a_folder_knows_decides() {
     let posted = prepare(Encoding::Json, request.into(), &before).unwrap();
     let after = auto(&[]);
     after.finer_units.know_request(&posted.body);
-    after
-        .finer_units
-        .know_series(r#"[[],"","",[],"c","ms","monotonic",[]]"#);
+    after.finer_units.know_series(r#"[[],"","",[],"c","ms","monotonic",[]]"#);
     let unit = |name, unit, point| taken(&after, &[sum(name, unit, &[point])]).0;
     assert_eq!(
-        [
-            unit("a", "s", WHOLE),
-            unit("b", "s", DOUBLE),
-            unit("c", "s", DOUBLE),
-            unit("d", "s", WHOLE)
-        ],
+        [unit("a", "s", WHOLE), unit("b", "s", DOUBLE), unit("c", "s", DOUBLE), unit("d", "s", WHOLE)],
         ["us", "s", "ms", "s"]
     );
 }

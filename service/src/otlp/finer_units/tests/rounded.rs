@@ -12,68 +12,40 @@ fn request(metrics: &[String]) -> String {
 }
 
 fn rounded(body: String, rules: &[&str]) -> Rounded {
-    prepare(Encoding::Json, body.into(), &reading(rules))
-        .unwrap()
-        .rounded
+    prepare(Encoding::Json, body.into(), &reading(rules)).unwrap().rounded
 }
 
 #[test]
 fn a_rounded_point_has_its_series() {
     let attributes = |list: &[(&str, &str)]| {
         let one = |(key, value): &(&str, &str)| format!(r#"{{"key":"{key}","value":{value}}}"#);
-        format!(
-            r#""attributes":[{}]"#,
-            list.iter().map(one).collect::<Vec<_>>().join(",")
-        )
+        format!(r#""attributes":[{}]"#, list.iter().map(one).collect::<Vec<_>>().join(","))
     };
-    let (route, code) = (
-        ("route", r#"{"stringValue":"/"}"#),
-        ("code", r#"{"intValue":"200"}"#),
-    );
+    let (route, code) = (("route", r#"{"stringValue":"/"}"#), ("code", r#"{"intValue":"200"}"#));
     let found = rounded(
         request(&[
-            histogram(&format!(
-                r#""count":1,"sum":0.0000015,{}"#,
-                attributes(&[route, code])
-            )),
+            histogram(&format!(r#""count":1,"sum":0.0000015,{}"#, attributes(&[route, code]))),
             sum(r#""asDouble":0.5"#),
-            histogram(&format!(
-                r#""sum":0.00000125,"count":1,{}"#,
-                attributes(&[code, route])
-            )),
+            histogram(&format!(r#""sum":0.00000125,"count":1,{}"#, attributes(&[code, route]))),
             histogram(r#""count":1,"sum":0.0000025"#),
             sum(r#""asDouble":0.00000125"#),
         ]),
         &["s=us"],
     );
-    let about: Vec<_> = found
-        .points
-        .iter()
-        .map(|one| (one.of.metric.as_str(), one.of.attributes.as_str(), one.by))
-        .collect();
+    let about: Vec<_> =
+        found.points.iter().map(|one| (one.of.metric.as_str(), one.of.attributes.as_str(), one.by)).collect();
     assert_eq!(
         about,
-        [
-            ("d", "route=/, code=200", 0.5),
-            ("d", "code=200, route=/", 0.25),
-            ("d", "", 0.5),
-            ("", "", 0.25),
-        ]
+        [("d", "route=/, code=200", 0.5), ("d", "code=200, route=/", 0.25), ("d", "", 0.5), ("", "", 0.25),]
     );
     let series: Vec<u64> = found.points.iter().map(|one| one.of.series).collect();
-    assert_eq!(
-        series[0], series[1],
-        "the order of attributes makes no other series"
-    );
+    assert_eq!(series[0], series[1], "the order of attributes makes no other series");
     assert!(series[1] != series[2] && series[2] != series[3] && series[3] != series[1]);
     assert!(found
         .points
         .iter()
         .all(|one| &*one.of.resource == "service.name=shop" && &*one.of.rule == "s=1000000:us"));
-    let together = Rounding {
-        values: 4,
-        together: 1.5,
-    };
+    let together = Rounding { values: 4, together: 1.5 };
     assert_eq!(found.by_rule, [("s=1000000:us".to_string(), together)].into());
 }
 
@@ -85,12 +57,7 @@ fn what_can_not_be_taken_makes_no_total_less_exact() {
     let series: Vec<f64> = found.points.iter().map(|one| one.by).collect();
     assert_eq!((series, found.by_rule["s=1000000:us"].values), (vec![0.25], 3));
     // Nothing is taken of a request that the book refuses whole.
-    let mark = Mark {
-        at: 1,
-        by: 0.5,
-        rule: &"s=us".parse().unwrap(),
-        resource: "".into(),
-    };
+    let mark = Mark { at: 1, by: 0.5, rule: &"s=us".parse().unwrap(), resource: "".into() };
     let found = noted(r#"{"resourceMetrics":{}}"#, vec![mark], Default::default()).unwrap();
     assert!(found.points.is_empty());
 }
@@ -146,10 +113,7 @@ fn values_of_attributes_are_shown() {
         (r#"{"stringValue":"a\u0000b"}"#, "a\0b"),
         (r#"{"intValue":"-5"}"#, "-5"),
         (r#"{"boolValue":true}"#, "true"),
-        (
-            r#"{"arrayValue":{"values":[{"stringValue":"a"},{},{"intValue":5}]}}"#,
-            "[a, , 5]",
-        ),
+        (r#"{"arrayValue":{"values":[{"stringValue":"a"},{},{"intValue":5}]}}"#, "[a, , 5]"),
         (r#"{"arrayValue":{}}"#, "[]"),
         ("{}", ""),
     ] {

@@ -6,11 +6,7 @@ use super::*;
 fn zeros_say_once_what_a_series_shares_with_the_one_before() {
     let key = |resource: &str, scope: &str, name: &str, kind: &str, point: &str| {
         let pair = |key: &str| format!(r#"[{{"key":"{key}","value":{{}}}}]"#);
-        let text = format!(
-            r#"[{},"{scope}","",[],"{name}","s",{kind},{}]"#,
-            pair(resource),
-            pair(point)
-        );
+        let text = format!(r#"[{},"{scope}","",[],"{name}","s",{kind},{}]"#, pair(resource), pair(point));
         (SeriesKey(text.into()), 7)
     };
     let series = [
@@ -25,19 +21,10 @@ fn zeros_say_once_what_a_series_shares_with_the_one_before() {
     ];
     let body = zeros(&series).unwrap().pop().unwrap();
     let found = posted(&body).unwrap();
-    assert_eq!(
-        (found.foreign, &found.series),
-        (0, &series.iter().cloned().collect())
-    );
+    assert_eq!((found.foreign, &found.series), (0, &series.iter().cloned().collect()));
     let text = String::from_utf8(body).unwrap();
     let count = |word: &str| text.matches(word).count();
-    let words = [
-        "resource\":",
-        "scope\":",
-        "\"name\":\"m\"",
-        "dataPoints",
-        "timeUnixNano",
-    ];
+    let words = ["resource\":", "scope\":", "\"name\":\"m\"", "dataPoints", "timeUnixNano"];
     assert_eq!(words.map(count), [2, 3, 5, 6, 8]);
 }
 
@@ -46,10 +33,7 @@ fn zeros_are_points_of_each_series_at_its_frontier() {
     let mut series: Vec<(SeriesKey, u64)> =
         posted(FORWARDED.as_bytes()).unwrap().series.into_iter().collect();
     let many = (0..10_000).map(|place| {
-        format!(
-            r#"[[],"","",[],"m","","monotonic",[{{"key":"{}","value":{{}}}}]]"#,
-            place + 10_000_000
-        )
+        format!(r#"[[],"","",[],"m","","monotonic",[{{"key":"{}","value":{{}}}}]]"#, place + 10_000_000)
     });
     series.extend(many.map(|key| (SeriesKey(key.into()), u64::MAX)));
     let bodies = zeros(&series).unwrap();

@@ -19,10 +19,7 @@ fn instance(place: &Path) -> Service {
     Service::of(
         Settings {
             store: Some(store),
-            reading: Reading {
-                finer_units: FinerUnits::of([Choice::Auto]).unwrap(),
-                ..Reading::default()
-            },
+            reading: Reading { finer_units: FinerUnits::of([Choice::Auto]).unwrap(), ..Reading::default() },
             ..settings(place)
         },
         None,
@@ -35,11 +32,7 @@ async fn post(service: &Service, slot: u16, value: &str) -> Outcome {
     let body = format!(
         r#"{{"resourceMetrics":[{{"resource":{{"attributes":{attributes}}},"scopeMetrics":[{{"metrics":[{{"name":"m","unit":"s","sum":{{"aggregationTemporality":1,"dataPoints":[{{{value},"startTimeUnixNano":"1","timeUnixNano":"2"}}]}}}}]}}]}}]}}"#
     );
-    let head = Head {
-        sender: "A".into(),
-        encoding: Encoding::Json,
-        packing: Packing::Plain,
-    };
+    let head = Head { sender: "A".into(), encoding: Encoding::Json, packing: Packing::Plain };
     service.intake.put(head, body.into(), service.budget.hold()).await
 }
 
@@ -75,10 +68,7 @@ async fn what_one_instance_has_decided_is_so_at_the_next() {
         let points = of_second.flat_map(|request| forwarded(&request.body).unwrap());
         points.collect::<Vec<_>>()
     };
-    assert!(
-        matches!(points[..], [ref point] if point.value == Value::Sum(7_000_000)),
-        "{points:?}"
-    );
+    assert!(matches!(points[..], [ref point] if point.value == Value::Sum(7_000_000)), "{points:?}");
     // Nothing is written any more when the folder goes.
     for (service, slot) in [(&one, 1), (&one, 2), (&other, 0)] {
         assert!(service.units.hand_over(slot).await.unwrap(), "in time");

@@ -44,11 +44,9 @@ impl Asks for Through {
         Box::pin(async move {
             let (desk, mood) = found.ok_or("no such address")?;
             match mood {
-                Mood::Well => Ok(desk
-                    .answer_question(question.into())
-                    .await
-                    .ok_or("it can't be read")?
-                    .into()),
+                Mood::Well => {
+                    Ok(desk.answer_question(question.into()).await.ok_or("it can't be read")?.into())
+                }
                 Mood::Refuses => Err("connection refused".into()),
                 Mood::StandsStill => {
                     tokio::time::sleep(within).await;
@@ -72,11 +70,7 @@ struct Both {
 }
 
 fn there(name: &str) -> Whose {
-    Whose::There {
-        name: name.into(),
-        address: name.into(),
-        term: 1,
-    }
+    Whose::There { name: name.into(), address: name.into(), term: 1 }
 }
 
 fn instance(name: &str, place: &Path, net: &Arc<Net>) -> (Service, Arc<Cluster>) {
@@ -104,11 +98,7 @@ fn seen() -> Seen {
         beat: 1,
         refused: Refused::new(),
     };
-    let row = |(slot, owner): (u16, &str)| Row {
-        slot,
-        term: 1,
-        owner: owner.into(),
-    };
+    let row = |(slot, owner): (u16, &str)| Row { slot, term: 1, owner: owner.into() };
     Seen {
         instances: vec![instance("a"), instance("b")],
         slots: [(0, "a"), (1, "b"), (2, "a")].map(row).into(),
@@ -130,20 +120,12 @@ impl Both {
         a.open(0).await;
         a.open(2).await;
         b.open(1).await;
-        Both {
-            net,
-            a,
-            b,
-            clusters: [of_a, of_b],
-        }
+        Both { net, a, b, clusters: [of_a, of_b] }
     }
 
     /// A point of each slot, at the instance that has it.
     async fn post(&self, end: u64) -> [u16; 2] {
-        [
-            self.a.post(&[0, 2], end).await.status(),
-            self.b.post(&[1], end).await.status(),
-        ]
+        [self.a.post(&[0, 2], end).await.status(), self.b.post(&[1], end).await.status()]
     }
 }
 
@@ -154,9 +136,7 @@ async fn json(service: &Service, method: &str, path: &str) -> (u16, Json) {
 
 fn acts(service: &Service) -> Vec<(String, String, Option<String>)> {
     let text = std::fs::read_to_string(service.place.join("acts.jsonl")).unwrap_or_default();
-    let lines = text
-        .lines()
-        .map(|line| serde_json::from_str::<Json>(line).unwrap());
+    let lines = text.lines().map(|line| serde_json::from_str::<Json>(line).unwrap());
     let word = |line: &Json, name: &str| line[name].as_str().map(String::from);
     lines
         .map(|line| {
@@ -184,11 +164,7 @@ async fn an_order_is_carried_out_in_all_slots_and_each_instance_writes_down_who_
     let at_b = acts(&both.b);
     assert_eq!(at_b[0], ("operator (at a)".into(), "quarantine".into(), None));
     assert_eq!(at_b[1].2.as_deref(), Some("done in slot 1"));
-    assert!(
-        at_a.iter()
-            .any(|(who, act, _)| who == "operator (at b)" && act == "lift"),
-        "{at_a:?}"
-    );
+    assert!(at_a.iter().any(|(who, act, _)| who == "operator (at b)" && act == "lift"), "{at_a:?}");
 }
 
 /// Else a sender would be taken by one slot that another refuses, and nobody would know.
@@ -225,10 +201,7 @@ async fn a_slot_that_moves_is_found_where_it_has_come_to() {
     let desk = both.a.desk.clone();
     let flushing = tokio::spawn(async move {
         let request = Request::post("/flush").body(Body::empty()).unwrap();
-        crate::intake::connections::Handler::answer(desk, request)
-            .await
-            .status()
-            .as_u16()
+        crate::intake::connections::Handler::answer(desk, request).await.status().as_u16()
     });
     tokio::time::sleep(Duration::from_millis(100)).await;
     assert!(!flushing.is_finished());
@@ -241,19 +214,13 @@ async fn a_slot_that_moves_is_found_where_it_has_come_to() {
     both.a.units.hand_over(1).await.unwrap();
     both.clusters[0].knows(&[(0, there("b")), (1, Whose::Nobody), (2, there("b"))]);
     let (status, text) = both.a.ask("POST", "/flush").await;
-    assert!(
-        status == 503 && text.contains("not slot 1: no instance has it"),
-        "{status} {text}"
-    );
+    assert!(status == 503 && text.contains("not slot 1: no instance has it"), "{status} {text}");
     // Who is asked for what it has not says so.
     both.clusters[0].knows(&[(1, there("b"))]);
     both.net.mood("b", Mood::Well);
     both.b.units.hand_over(1).await.unwrap();
     let (status, text) = both.a.ask("POST", "/flush").await;
-    assert!(
-        status == 503 && text.contains("not slot 1: it is being moved"),
-        "{status} {text}"
-    );
+    assert!(status == 503 && text.contains("not slot 1: it is being moved"), "{status} {text}");
 }
 
 #[tokio::test]
@@ -265,14 +232,9 @@ async fn dead_requests_are_shown_and_settled_from_anywhere() {
     for service in [&both.a, &both.b] {
         let (status, letters) = json(service, "GET", "/dead").await;
         let keys = letters.as_array().unwrap().iter();
-        let keys: Vec<_> = keys
-            .map(|letter| letter["key"].as_str().unwrap().to_string())
-            .collect();
+        let keys: Vec<_> = keys.map(|letter| letter["key"].as_str().unwrap().to_string()).collect();
         assert_eq!((status, keys.len()), (200, 2), "{keys:?}");
-        assert_eq!(
-            service.ask("GET", "/dead/1-abc-7").await,
-            (200, "{\"of\":1}".into())
-        );
+        assert_eq!(service.ask("GET", "/dead/1-abc-7").await, (200, "{\"of\":1}".into()));
         assert_eq!(json(service, "GET", "/status").await.1["dead"], 2);
     }
     for path in ["/dead/0-abc-7", "/dead/9-abc-7", "/dead/x", "/dead/1-abc-8"] {
@@ -281,20 +243,13 @@ async fn dead_requests_are_shown_and_settled_from_anywhere() {
     let (status, resent) = json(&both.a, "POST", "/dead/1-abc-7/resend").await;
     assert_eq!((status, &resent["taken"]), (200, &Json::Bool(true)), "{resent}");
     assert_eq!(dead(&both.b, 1).count(), 0);
-    assert_eq!(
-        both.b.sink.came.lock().unwrap()[0].key(),
-        "1-abc-7",
-        "by the instance that has its slot"
-    );
+    assert_eq!(both.b.sink.came.lock().unwrap()[0].key(), "1-abc-7", "by the instance that has its slot");
     assert_eq!(both.b.ask("POST", "/dead/2-abc-8/drop").await.0, 200);
     assert_eq!(dead(&both.a, 2).count(), 0);
     assert_eq!(acts(&both.b)[0].0, "operator (at a)");
     both.net.mood("b", Mood::Refuses);
     let (status, text) = both.a.ask("GET", "/dead/1-abc-7").await;
-    assert!(
-        status == 503 && text.contains("slot 1: instance b"),
-        "{status} {text}"
-    );
+    assert!(status == 503 && text.contains("slot 1: instance b"), "{status} {text}");
 }
 
 #[tokio::test]
@@ -309,10 +264,7 @@ async fn the_status_is_of_all_and_a_period_is_closed_once_all_is_known_to_be_in_
     both.b.taken().await;
     assert_eq!(both.b.post(&[1], 20).await.status(), 200);
     let (status, text) = json(&both.a, "POST", "/close/2026-10").await;
-    assert!(
-        status == 409 && why(&text).contains("not flushed"),
-        "of another instance's slot: {text}"
-    );
+    assert!(status == 409 && why(&text).contains("not flushed"), "of another instance's slot: {text}");
     let (_, seen) = json(&both.a, "GET", "/status").await;
     let of = |name: &str| -> Vec<Json> {
         let slots = seen["slots"].as_array().unwrap().iter();
@@ -321,22 +273,14 @@ async fn the_status_is_of_all_and_a_period_is_closed_once_all_is_known_to_be_in_
     assert_eq!(of("slot"), [0, 1, 2].map(Json::from));
     assert_eq!(of("owner"), ["a", "b", "a"].map(Json::from));
     let instances = seen["cluster"]["instances"].as_array().unwrap();
-    let shown: Vec<_> = instances
-        .iter()
-        .map(|one| (one["name"].as_str().unwrap(), one["slots"].as_u64().unwrap()))
-        .collect();
+    let shown: Vec<_> =
+        instances.iter().map(|one| (one["name"].as_str().unwrap(), one["slots"].as_u64().unwrap())).collect();
     assert_eq!(shown, [("a", 2), ("b", 1)]);
     assert_eq!(seen["cluster"]["instance"], "a");
     let database = &seen["cluster"]["databases"][0];
-    assert_eq!(
-        (&database["database"], &database["copies_asked"]),
-        (&"db/x".into(), &2.into())
-    );
+    assert_eq!((&database["database"], &database["copies_asked"]), (&"db/x".into(), &2.into()));
     let (_, page) = both.a.ask("GET", "/").await;
-    assert!(
-        page.contains("<h2>Instances</h2>") && page.contains("takes posts"),
-        "{page}"
-    );
+    assert!(page.contains("<h2>Instances</h2>") && page.contains("takes posts"), "{page}");
     let (_, metrics) = both.a.ask("GET", "/metrics").await;
     assert!(metrics.contains("totxegun_ready 1"), "{metrics}");
     both.net.mood("b", Mood::Refuses);
@@ -345,10 +289,7 @@ async fn the_status_is_of_all_and_a_period_is_closed_once_all_is_known_to_be_in_
         "slot 1 can't be asked, and may have some (instance b: it does not answer: connection refused)";
     assert!(status == 409 && why(&text).contains(wanted), "{text}");
     let (_, seen) = json(&both.a, "GET", "/status").await;
-    assert_eq!(
-        seen["slots"][1]["unknown"],
-        "instance b: it does not answer: connection refused"
-    );
+    assert_eq!(seen["slots"][1]["unknown"], "instance b: it does not answer: connection refused");
 }
 
 #[tokio::test]
@@ -358,25 +299,15 @@ async fn series_are_found_in_all_slots_and_forgotten_where_they_are() {
     let (status, why) = both.b.ask("POST", "/forget?series=m").await;
     assert!(status == 409 && why.contains("give --anyway"), "{why}");
     let (status, why) = both.b.ask("POST", "/forget?series=m&anyway").await;
-    assert!(
-        status == 409 && why.contains("3 series are named so"),
-        "{status} {why}"
-    );
+    assert!(status == 409 && why.contains("3 series are named so"), "{status} {why}");
     let (status, why) = both.b.ask("POST", "/forget?series=x&anyway").await;
-    assert!(
-        status == 409 && why.contains("no series is named x"),
-        "{status} {why}"
-    );
+    assert!(status == 409 && why.contains("no series is named x"), "{status} {why}");
     let process: Json = serde_json::from_str(&attributes(2)).unwrap();
     let process = process[0]["value"]["stringValue"].as_str().unwrap();
     let one = format!("/forget?series=m%7Bservice.instance.id%3D{process}%7D&anyway");
     let (status, told) = json(&both.b, "POST", &one).await;
     assert!(
-        status == 200
-            && told["message"]
-                .as_str()
-                .unwrap()
-                .starts_with("1 series is forgotten"),
+        status == 200 && told["message"].as_str().unwrap().starts_with("1 series is forgotten"),
         "{told}"
     );
     assert_eq!(both.a.post(&[2], 10).await.status(), 200, "as a new one");
@@ -384,11 +315,7 @@ async fn series_are_found_in_all_slots_and_forgotten_where_they_are() {
     assert_eq!(acts(&both.a)[0].0, "operator (at b)");
     let (status, told) = json(&both.a, "POST", "/forget?series=m&all&anyway").await;
     assert!(
-        status == 200
-            && told["message"]
-                .as_str()
-                .unwrap()
-                .starts_with("3 series are forgotten"),
+        status == 200 && told["message"].as_str().unwrap().starts_with("3 series are forgotten"),
         "{told}"
     );
     assert_eq!(both.post(10).await, [200, 200]);

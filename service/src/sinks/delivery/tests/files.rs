@@ -5,18 +5,8 @@ use super::*;
 /// What is in no file must not leave the outbox.
 #[tokio::test]
 async fn a_letter_that_can_not_be_kept_ends_the_delivery() {
-    for fate in [
-        Fate::refused("400"),
-        Fate::TakenPartly {
-            rejected: 1,
-            reason: String::new(),
-            left: None,
-        },
-    ] {
-        let memory = Memory {
-            dead_fails: true,
-            ..waiting([1, 2])
-        };
+    for fate in [Fate::refused("400"), Fate::TakenPartly { rejected: 1, reason: String::new(), left: None }] {
+        let memory = Memory { dead_fails: true, ..waiting([1, 2]) };
         run(&memory, vec![fate]).await;
         assert!(memory.acknowledged.lock().expect("acknowledged").is_empty());
         assert_eq!(memory.waiting.lock().expect("waiting").len(), 2);
@@ -25,10 +15,7 @@ async fn a_letter_that_can_not_be_kept_ends_the_delivery() {
 
 #[tokio::test]
 async fn an_acknowledgement_that_fails_ends_the_delivery() {
-    let memory = Memory {
-        acknowledge_fails: true,
-        ..waiting([1, 2])
-    };
+    let memory = Memory { acknowledge_fails: true, ..waiting([1, 2]) };
     let tried = run(&memory, vec![]).await;
     assert_eq!(tried.keys(), ["2-e-1"]);
 }
@@ -36,10 +23,7 @@ async fn an_acknowledgement_that_fails_ends_the_delivery() {
 #[tokio::test]
 async fn what_changes_a_file_is_done_before_a_delivery_stops() {
     let (stop, told) = watch::channel(false);
-    let memory = Memory {
-        stop: Some(stop),
-        ..waiting([1, 2])
-    };
+    let memory = Memory { stop: Some(stop), ..waiting([1, 2]) };
     let (tried, end) = run_until(&memory, vec![], told).await;
     assert!(end.is_ok());
     assert_eq!(tried.keys(), ["2-e-1"]);
@@ -50,12 +34,7 @@ async fn what_changes_a_file_is_done_before_a_delivery_stops() {
 async fn a_fault_of_a_file_is_told_by_a_delivery_that_is_told_to_stop() {
     for fate in [Fate::Taken, Fate::Refused { reason: "no".into() }] {
         let (stop, told) = watch::channel(false);
-        let memory = Memory {
-            stop: Some(stop),
-            acknowledge_fails: true,
-            dead_fails: true,
-            ..waiting([1])
-        };
+        let memory = Memory { stop: Some(stop), acknowledge_fails: true, dead_fails: true, ..waiting([1]) };
         let (_, end) = run_until(&memory, vec![fate], told).await;
         assert!(end.is_err());
     }
@@ -65,27 +44,15 @@ async fn a_fault_of_a_file_is_told_by_a_delivery_that_is_told_to_stop() {
 /// knows no keys.
 #[tokio::test]
 async fn what_the_sink_takes_is_put_aside_no_more() {
-    let letter = |number: u64| {
-        (
-            format!("2-e-{number}"),
-            "400".to_string(),
-            format!("body {number}").into_bytes(),
-        )
-    };
-    let partly = Fate::TakenPartly {
-        rejected: 1,
-        reason: "no".into(),
-        left: None,
-    };
+    let letter =
+        |number: u64| (format!("2-e-{number}"), "400".to_string(), format!("body {number}").into_bytes());
+    let partly = Fate::TakenPartly { rejected: 1, reason: "no".into(), left: None };
     for (fate, kept) in [
         (Fate::Taken, &["2-e-9"][..]),
         (partly, &["2-e-9", "2-e-1-partial"]),
         (Fate::refused("400"), &["2-e-1", "2-e-9", "2-e-1"]),
     ] {
-        let memory = Memory {
-            dead: Mutex::new(vec![letter(1), letter(9)]),
-            ..waiting([1])
-        };
+        let memory = Memory { dead: Mutex::new(vec![letter(1), letter(9)]), ..waiting([1]) };
         run(&memory, vec![fate]).await;
         let dead = memory.dead.lock().expect("dead");
         let keys: Vec<&str> = dead.iter().map(|(key, ..)| key.as_str()).collect();

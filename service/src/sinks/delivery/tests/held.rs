@@ -5,10 +5,7 @@ use super::*;
 /// Else a token that expired would put aside each request of the time until somebody sees it.
 #[tokio::test]
 async fn who_is_not_let_in_comes_again_and_is_counted() {
-    let denied = || Fate::Denied {
-        reason: "401".into(),
-        after: None,
-    };
+    let denied = || Fate::Denied { reason: "401".into(), after: None };
     let memory = waiting([1, 2]);
     let tried = run(&memory, vec![denied(), denied(), again(None)]).await;
     assert!(memory.dead.lock().expect("dead").is_empty());
@@ -27,10 +24,7 @@ async fn a_key_that_somebody_else_sends_is_waited_for() {
     let delivering = run_at(sink.clone(), &memory, stop);
     let looking = async {
         tokio::time::sleep(Duration::from_millis(100)).await;
-        assert!(
-            sink.came.lock().expect("came").is_empty(),
-            "it was sent meanwhile"
-        );
+        assert!(sink.came.lock().expect("came").is_empty(), "it was sent meanwhile");
         drop(held);
     };
     let ((_, end), ()) = tokio::join!(delivering, looking);

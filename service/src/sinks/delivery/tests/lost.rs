@@ -6,10 +6,7 @@ use super::*;
 async fn a_delivery_ends_once_its_slot_is_lost() {
     let (lose, lost) = watch::channel(false);
     let (_never, stop) = watch::channel(false);
-    let memory = Memory {
-        lost: Some(lost),
-        ..waiting([1])
-    };
+    let memory = Memory { lost: Some(lost), ..waiting([1]) };
     let delivering = run_until(&memory, vec![again(Some(Duration::from_secs(60)))], stop);
     let losing = async {
         tokio::time::sleep(Duration::from_millis(50)).await;
@@ -25,10 +22,7 @@ async fn a_delivery_ends_once_its_slot_is_lost() {
 #[tokio::test]
 async fn each_try_is_made_while_the_slot_is_this_instances() {
     let (_never, stop) = watch::channel(false);
-    let memory = Memory {
-        ours: Some(Mutex::new(2)),
-        ..waiting([1])
-    };
+    let memory = Memory { ours: Some(Mutex::new(2)), ..waiting([1]) };
     let (tried, end) = run_until(&memory, vec![again(None), again(None)], stop).await;
     assert!(matches!(end, Err(Fault::Lost(_))), "{end:?}");
     assert_eq!(tried.keys(), ["2-e-1", "2-e-1"]);
@@ -38,10 +32,7 @@ async fn each_try_is_made_while_the_slot_is_this_instances() {
 #[tokio::test]
 async fn the_next_owner_sends_what_waits_under_the_same_key() {
     for term in [4, 5] {
-        let memory = Memory {
-            term: Some(term),
-            ..waiting([1])
-        };
+        let memory = Memory { term: Some(term), ..waiting([1]) };
         assert_eq!(run(&memory, vec![]).await.keys(), ["2-e-1"]);
     }
 }

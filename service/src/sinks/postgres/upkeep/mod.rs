@@ -51,9 +51,7 @@ impl Upkeep {
         memory: Arc<dyn Memory>,
         was_there: Arc<AtomicBool>,
     ) -> std::io::Result<Upkeep> {
-        let runtime = tokio::runtime::Builder::new_current_thread()
-            .enable_all()
-            .build()?;
+        let runtime = tokio::runtime::Builder::new_current_thread().enable_all().build()?;
         let (stop, stopped) = oneshot::channel();
         let rounds = async move {
             tokio::select! {
@@ -62,10 +60,7 @@ impl Upkeep {
             }
         };
         let thread = std::thread::Builder::new().name("postgres keeper".into());
-        Ok(Upkeep {
-            stop: Some(stop),
-            thread: Some(thread.spawn(move || runtime.block_on(rounds))?),
-        })
+        Ok(Upkeep { stop: Some(stop), thread: Some(thread.spawn(move || runtime.block_on(rounds))?) })
     }
 }
 
@@ -131,9 +126,7 @@ async fn is_ours(client: &Client, memory: &dyn Memory) -> Result<bool, Error> {
     if memory.admit(Some(id.get(0)), false).is_err() {
         return Ok(false);
     }
-    let row = client
-        .query_one("select pg_try_advisory_lock($1)", &[&LOCK])
-        .await?;
+    let row = client.query_one("select pg_try_advisory_lock($1)", &[&LOCK]).await?;
     Ok(row.get(0))
 }
 

@@ -45,13 +45,8 @@ pub(super) async fn delete(client: &mut Client, kept: Option<Duration>) -> Resul
     client.execute(HORIZON, &[&from]).await?;
     for row in client.query(OLD_DAYS, &[&from]).await? {
         let day: &str = row.get(0);
-        client
-            .batch_execute(&format!("drop table totxegun.{day}"))
-            .await?;
-        tracing::info!(
-            "the spans of the day {} were deleted",
-            day.trim_start_matches("span_")
-        );
+        client.batch_execute(&format!("drop table totxegun.{day}")).await?;
+        tracing::info!("the spans of the day {} were deleted", day.trim_start_matches("span_"));
     }
     while client.execute(OTHERS, &[&from, &STEP]).await? == STEP as u64 {}
     if client.query_one(BEFORE, &[&from]).await?.get(0) {

@@ -72,13 +72,7 @@ macro_rules! table {
                 ", without_sum = old.without_sum + excluded.without_sum, buckets = excluded.buckets"
             ),
             correct: correct!($time, $time, ", series, without_sum", ", series.id, 0"),
-            name: concat!(
-                "insert or ignore into utc_",
-                $time,
-                " values (?1, ",
-                $written,
-                ")"
-            ),
+            name: concat!("insert or ignore into utc_", $time, " values (?1, ", $written, ")"),
         }
     };
 }
@@ -122,10 +116,7 @@ impl Hours {
         if hour != of_hour {
             merge(&mut self.late, (of.series, of_hour, hour), one.clone());
         }
-        let bare = Sums {
-            buckets: None,
-            ..one.clone()
-        };
+        let bare = Sums { buckets: None, ..one.clone() };
         merge(&mut self.series, (hour, of.metric, of.series), one);
         merge(&mut self.metrics, (hour, of.metric), bare);
     }
@@ -148,15 +139,7 @@ impl Hours {
         let mut add = transaction.prepare_cached(METRIC_HOUR)?;
         for ((hour, metric), sums) in &self.metrics {
             let [total, count] = parts(sums);
-            add.execute(params![
-                hour,
-                metric,
-                sums.points,
-                total.0,
-                total.1,
-                count.0,
-                count.1
-            ])?;
+            add.execute(params![hour, metric, sums.points, total.0, total.1, count.0, count.1])?;
         }
         Ok(())
     }
@@ -224,11 +207,8 @@ fn add_found(
     let Some(all) = &mut sums.buckets else {
         return Ok(());
     };
-    let before: Option<Vec<u128>> = transaction
-        .prepare_cached(found)?
-        .query_row(key, |row| sums::buckets(row, 0))
-        .optional()?
-        .flatten();
+    let before: Option<Vec<u128>> =
+        transaction.prepare_cached(found)?.query_row(key, |row| sums::buckets(row, 0)).optional()?.flatten();
     sums::add(all, before.into_iter().flatten());
     Ok(())
 }
@@ -245,9 +225,7 @@ pub(in super::super) fn correct(
         transaction.execute(table.correct, [time, series, value])?;
         transaction.execute(table.name, [time])?;
     }
-    transaction
-        .execute(CORRECT_METRIC, [hour, series, value])
-        .map(drop)
+    transaction.execute(CORRECT_METRIC, [hour, series, value]).map(drop)
 }
 
 /// A request has too few points for more than two integers.

@@ -22,16 +22,13 @@ pub(super) fn find(transaction: &Transaction, request: &Forwarded) -> rusqlite::
             "select id, points, first_start_ns, last_end_ns from request
              where slot = ?1 and epoch = ?2 and number = ?3",
         )?
-        .query_row(
-            params![request.slot, request.epoch, Unsigned(request.number)],
-            |row| {
-                Ok(Taken {
-                    row: row.get(0)?,
-                    points: row.get::<_, i64>(1)? as usize,
-                    time: (row.get::<_, Unsigned>(2)?.0, row.get::<_, Unsigned>(3)?.0),
-                })
-            },
-        )
+        .query_row(params![request.slot, request.epoch, Unsigned(request.number)], |row| {
+            Ok(Taken {
+                row: row.get(0)?,
+                points: row.get::<_, i64>(1)? as usize,
+                time: (row.get::<_, Unsigned>(2)?.0, row.get::<_, Unsigned>(3)?.0),
+            })
+        })
         .optional()
 }
 
@@ -83,10 +80,7 @@ impl Writing<'_> {
     }
 
     fn has_span(&self, taken: &Taken, series: i64, point: &ForwardedPoint) -> Result<bool, NotTaken> {
-        let request = spans::Request {
-            row: taken.row,
-            first_start: taken.time.0,
-        };
+        let request = spans::Request { row: taken.row, first_start: taken.time.0 };
         self.of(|transaction| spans::has(transaction, request, series, point))
     }
 }

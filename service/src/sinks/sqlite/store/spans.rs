@@ -29,12 +29,9 @@ pub(super) fn insert(
 ) -> rusqlite::Result<()> {
     let (value, count, sum, buckets) = match &point.value {
         Value::Sum(value) => (Some(*value), None, None, None),
-        Value::Histogram { count, sum, buckets } => (
-            None,
-            Some(Unsigned(*count)),
-            sum.map(Unsigned),
-            Some(list(buckets)),
-        ),
+        Value::Histogram { count, sum, buckets } => {
+            (None, Some(Unsigned(*count)), sum.map(Unsigned), Some(list(buckets)))
+        }
     };
     transaction
         .prepare_cached(
@@ -95,10 +92,7 @@ pub(super) fn overlapping(
     let mut rows = requests.query(params![Unsigned(point.start), Unsigned(point.end)])?;
     while let Some(row) = rows.next()? {
         let (request, first_start): (i64, Unsigned) = (row.get(0)?, row.get(1)?);
-        let request = Request {
-            row: request,
-            first_start: first_start.0,
-        };
+        let request = Request { row: request, first_start: first_start.0 };
         if let Some(found) = within(transaction, request, series, point)? {
             return Ok(Some(found));
         }
@@ -144,16 +138,13 @@ fn before(
              where request.has_spans and request.last_end_ns > ?2 and request.first_start_ns < ?3
              and span.series = ?1 and span.start_ns < ?3 and span.end_ns > ?2 limit 1",
         )?
-        .query_row(
-            params![series, Unsigned(point.start), Unsigned(point.end)],
-            |row| {
-                Ok(StoredSpan {
-                    request: row.get(0)?,
-                    start: row.get::<_, Unsigned>(1)?.0,
-                    end: row.get::<_, Unsigned>(2)?.0,
-                })
-            },
-        )
+        .query_row(params![series, Unsigned(point.start), Unsigned(point.end)], |row| {
+            Ok(StoredSpan {
+                request: row.get(0)?,
+                start: row.get::<_, Unsigned>(1)?.0,
+                end: row.get::<_, Unsigned>(2)?.0,
+            })
+        })
         .optional()
 }
 

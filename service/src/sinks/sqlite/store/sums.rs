@@ -61,9 +61,7 @@ impl Sums {
 }
 
 pub(super) fn add(all: &mut [u128], buckets: impl Iterator<Item = u128>) {
-    all.iter_mut()
-        .zip(buckets)
-        .for_each(|(all, bucket)| *all += bucket);
+    all.iter_mut().zip(buckets).for_each(|(all, bucket)| *all += bucket);
 }
 
 /// Numbers as a JSON array.
@@ -78,9 +76,7 @@ pub(in super::super) fn buckets<T: serde::de::DeserializeOwned>(
     column: usize,
 ) -> rusqlite::Result<Option<Vec<T>>> {
     let text: Option<String> = row.get(column)?;
-    text.map(|text| serde_json::from_str(&text))
-        .transpose()
-        .map_err(|error| {
-            rusqlite::Error::FromSqlConversionFailure(column, rusqlite::types::Type::Text, Box::new(error))
-        })
+    text.map(|text| serde_json::from_str(&text)).transpose().map_err(|error| {
+        rusqlite::Error::FromSqlConversionFailure(column, rusqlite::types::Type::Text, Box::new(error))
+    })
 }

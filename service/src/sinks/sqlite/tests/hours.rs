@@ -8,11 +8,7 @@ use std::collections::BTreeMap;
 /// Of a time and series: points, total, count, buckets; the last two of a histogram.
 pub(super) type Rows = BTreeMap<(String, i64), (i64, String, Option<String>, Option<String>)>;
 
-const FORMATS: [(&str, &str); 3] = [
-    ("hour", "%Y-%m-%d %H:00"),
-    ("day", "%Y-%m-%d"),
-    ("month", "%Y-%m-01"),
-];
+const FORMATS: [(&str, &str); 3] = [("hour", "%Y-%m-%d %H:00"), ("day", "%Y-%m-%d"), ("month", "%Y-%m-01")];
 
 /// xorshift64: the same draws in each run.
 struct Random(u64);
@@ -47,10 +43,8 @@ fn spans(trial: &Trial) -> Vec<Span> {
     let at = |end: u64| {
         let seconds = (end - 1) / 1_000_000_000;
         FORMATS.map(|(_, format)| {
-            file.query_row("select strftime(?1, ?2, 'unixepoch')", (format, seconds), |row| {
-                row.get(0)
-            })
-            .expect("a time")
+            file.query_row("select strftime(?1, ?2, 'unixepoch')", (format, seconds), |row| row.get(0))
+                .expect("a time")
         })
     };
     let number = |text: Option<String>| text.map(|text| text.parse().expect("a number"));
@@ -121,12 +115,8 @@ fn names(trial: &Trial, view: &str) -> BTreeMap<(String, String), (i64, i128, i1
     let mut rows = query.query([]).expect("rows");
     let mut all = BTreeMap::new();
     while let Some(row) = rows.next().expect("a row") {
-        let number = |column| {
-            row.get::<_, String>(column)
-                .expect("a text")
-                .parse::<i128>()
-                .expect("a number")
-        };
+        let number =
+            |column| row.get::<_, String>(column).expect("a text").parse::<i128>().expect("a number");
         let key = (row.get(0).expect("an hour"), row.get(1).expect("a name"));
         let sums: &mut (i64, i128, i128) = all.entry(key).or_default();
         sums.0 += row.get::<_, i64>(2).expect("points");
@@ -152,13 +142,7 @@ pub(super) fn agree(trial: &Trial) {
 fn random_points(random: &mut Random) -> Vec<String> {
     const MIDNIGHTS: [u64; 4] = [1_793_491_200, 1_709_164_800, 1_709_251_200, 1_798_761_600];
     let mut points = Vec::new();
-    for (name, code) in [
-        ("orders", 1),
-        ("orders", 2),
-        ("visits", 1),
-        ("visits", 2),
-        ("wait", 0),
-    ] {
+    for (name, code) in [("orders", 1), ("orders", 2), ("visits", 1), ("visits", 2), ("wait", 0)] {
         if random.below(2) == 0 {
             continue;
         }
@@ -168,11 +152,7 @@ fn random_points(random: &mut Random) -> Vec<String> {
         let (start, end) = (at - random.below(5) * 7, at + hour / 4 - random.below(2) * 7);
         points.push(match name {
             "wait" => {
-                let buckets = [
-                    random.below(9),
-                    random.below(9),
-                    u64::MAX >> (random.below(60) + 2),
-                ];
+                let buckets = [random.below(9), random.below(9), u64::MAX >> (random.below(60) + 2)];
                 let sum = (random.below(3) > 0).then(|| random.below(u64::MAX));
                 let whole = histogram(name, start, end, sum, buckets);
                 let begin = whole.find(r#""metrics":["#).expect("metrics") + 11;
@@ -219,24 +199,15 @@ fn a_span_counts_where_it_ends() {
     let mut trial = Trial::new();
     // 2017-01-01 00:00, before which a second was inserted that times since 1970 don't count; 2024-02-29 00:00, 2026-11-01 00:00,
     // 2027-01-01 00:00, 2100-03-01 00:00.
-    let midnights = [
-        1_483_228_800,
-        1_709_164_800,
-        1_793_491_200,
-        1_798_761_600,
-        4_107_542_400,
-    ]
-    .map(|at: u64| at * 1_000_000_000);
+    let midnights = [1_483_228_800, 1_709_164_800, 1_793_491_200, 1_798_761_600, 4_107_542_400]
+        .map(|at: u64| at * 1_000_000_000);
     for (number, midnight) in (1..).zip(midnights) {
         let name = format!("n{number}");
         trial.taken(number * 2, sum(&name, midnight - 10, midnight, 1));
         trial.taken(number * 2 + 1, sum(&name, midnight, midnight + 1, 2));
     }
-    let rows = |unit: &str| {
-        trial.ask(&format!(
-            "select group_concat({unit} || ' ' || total, ', ') from by_{unit}"
-        ))
-    };
+    let rows =
+        |unit: &str| trial.ask(&format!("select group_concat({unit} || ' ' || total, ', ') from by_{unit}"));
     assert_eq!(
         rows("hour"),
         "2016-12-31 23:00 1, 2017-01-01 00:00 2, 2024-02-28 23:00 1, 2024-02-29 00:00 2, 2026-10-31 23:00 1, 2026-11-01 00:00 2, \
@@ -260,13 +231,7 @@ fn views_of_hours_are_exact_past_64_bits() {
         trial.taken(number + 10, sum("down", number * 10, number * 10 + 10, -i64::MAX));
         trial.taken(
             number + 20,
-            histogram(
-                "wait",
-                number * 10,
-                number * 10 + 10,
-                Some(u64::MAX),
-                [u64::MAX, 0, 0],
-            ),
+            histogram("wait", number * 10, number * 10 + 10, Some(u64::MAX), [u64::MAX, 0, 0]),
         );
     }
     let total = 5 * i128::from(i64::MAX);

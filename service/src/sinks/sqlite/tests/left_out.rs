@@ -15,11 +15,7 @@ fn of_a_request_the_spans_that_overlap_alone_are_left() {
     let left = metrics(&one("a", &[sum_point(200, 150, 160, 9)]));
     for _ in 0..2 {
         match trial.take(2, metrics(&both.join(","))) {
-            Fate::TakenPartly {
-                rejected: 1,
-                reason,
-                left: Some(found),
-            } => {
+            Fate::TakenPartly { rejected: 1, reason, left: Some(found) } => {
                 assert!(reason.contains("(150, 160]"), "{reason}");
                 let of = |body: &[u8]| serde_json::from_slice::<serde_json::Value>(body).expect("JSON");
                 assert_eq!(of(&found), of(left.as_bytes()));
@@ -49,8 +45,5 @@ fn a_request_is_told_from_another_of_its_key_by_each_of_its_spans() {
         trial.refused(1, sums(other), "key is that of another request");
     }
     trial.taken(1, sums(&[a, b]));
-    assert_eq!(
-        trial.totals(),
-        ["a", "b", "c"].map(|name| (name.to_string(), 1, 1)).to_vec()
-    );
+    assert_eq!(trial.totals(), ["a", "b", "c"].map(|name| (name.to_string(), 1, 1)).to_vec());
 }

@@ -14,11 +14,8 @@ pub(super) fn older(path: &Path) {
     }
     file.execute_batch("delete from sink; pragma application_id = 1953461368; pragma user_version = 2")
         .expect("its head");
-    file.execute_batch(include_str!("version2_data.sql"))
-        .expect("its rows");
-    let mode: String = file
-        .query_row("pragma journal_mode = wal", [], |row| row.get(0))
-        .expect("a log");
+    file.execute_batch(include_str!("version2_data.sql")).expect("its rows");
+    let mode: String = file.query_row("pragma journal_mode = wal", [], |row| row.get(0)).expect("a log");
     assert_eq!(mode, "wal");
 }
 
@@ -43,18 +40,12 @@ fn repeat(trial: &mut Trial, turn: u64) {
     let late = sum_of("shop.late", &[sum_point(200, LEAP + 1, LEAP + 6, 3)]);
     trial.taken(1 + 2 * turn, older_request(turn));
     match trial.take(64, metrics(&[revenue(LEAP + 1), late].join(","))) {
-        Fate::TakenPartly {
-            rejected: 1,
-            left: Some(_),
-            ..
-        } => {}
+        Fate::TakenPartly { rejected: 1, left: Some(_), .. } => {}
         other => panic!("{other:?}"),
     }
     trial.refused(5000 + turn, metrics(&revenue(LEAP + turn * HOUR + 9)), "overlaps");
-    let other = older_request(turn).replace(
-        &format!("{}", LEAP + turn * HOUR),
-        &format!("{}", LEAP + turn * HOUR + 1),
-    );
+    let other = older_request(turn)
+        .replace(&format!("{}", LEAP + turn * HOUR), &format!("{}", LEAP + turn * HOUR + 1));
     trial.refused(1 + 2 * turn, other, "key is that of another request");
 }
 
@@ -120,10 +111,7 @@ fn a_kill_at_any_point_of_an_update_changes_nothing_of_what_comes_out() {
         let copy = tempfile::tempdir().expect("a folder");
         std::fs::write(copy.path().join("totals.db"), &file).expect("a copy");
         std::fs::write(copy.path().join("totals.db-wal"), &log[..end]).expect("a torn log");
-        let mut killed = Trial {
-            writer: writer(&copy.path().join("totals.db")),
-            folder: copy,
-        };
+        let mut killed = Trial { writer: writer(&copy.path().join("totals.db")), folder: copy };
         killed.keep(KEEP);
         killed.keep_up(NOON);
         assert_eq!(found(&killed), whole, "{end}");

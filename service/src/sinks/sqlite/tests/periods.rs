@@ -47,16 +47,8 @@ fn steps(trial: &mut Trial) {
 
 /// All but when it was done.
 fn found(trial: &Trial) -> String {
-    let tables = [
-        "hour",
-        "day",
-        "month",
-        "metric_hour",
-        "late_hour",
-        "series_total",
-        "by_day",
-        "totals_by_hour",
-    ];
+    let tables =
+        ["hour", "day", "month", "metric_hour", "late_hour", "series_total", "by_day", "totals_by_hour"];
     let rows = tables.map(|table| format!("select * from {table};")).join(" ");
     let closed = "select from_hour, to_hour, period, who from closed;";
     let corrections = "select series, of_hour, hour, value, reason, who from corrections;";
@@ -82,10 +74,7 @@ fn tried() -> bool {
         let copy = tempfile::tempdir().expect("a folder");
         std::fs::write(copy.path().join("totals.db"), &file).expect("a copy");
         std::fs::write(copy.path().join("totals.db-wal"), &log[..end]).expect("a torn log");
-        let mut killed = Trial {
-            writer: writer(&copy.path().join("totals.db")),
-            folder: copy,
-        };
+        let mut killed = Trial { writer: writer(&copy.path().join("totals.db")), folder: copy };
         steps(&mut killed);
         if now() != hour {
             return false;
@@ -139,20 +128,9 @@ fn what_is_billed_is_exact() {
         2 * i128::from(i64::MAX) - (1 << 60),
         2 * i128::from(i64::MIN) - 7_000_000_000_001,
     ];
-    for view in [
-        "by_hour",
-        "by_day",
-        "by_month",
-        "totals",
-        "totals_by_name",
-        "totals_by_hour",
-    ] {
+    for view in ["by_hour", "by_day", "by_month", "totals", "totals_by_name", "totals_by_hour"] {
         let found = trial.ask(&format!("select billed from {view} order by name"));
-        assert_eq!(
-            found,
-            wanted.map(|billed| billed.to_string()).join("\n"),
-            "{view}"
-        );
+        assert_eq!(found, wanted.map(|billed| billed.to_string()).join("\n"), "{view}");
     }
 }
 
@@ -163,10 +141,7 @@ fn nothing_is_closed_while_an_older_file_is_filled_in() {
     older(&trial.path());
     let close = Deed::Close("2024-02".parse().expect("a month"));
     let told = trial.writer.settle("alice", &close);
-    assert!(
-        matches!(&told, Told::Refused(why) if why.contains("filled in")),
-        "{told:?}"
-    );
+    assert!(matches!(&told, Told::Refused(why) if why.contains("filled in")), "{told:?}");
     while trial.step(OLD) {}
     trial.done(close);
 }

@@ -22,13 +22,8 @@ fn series_a_second() {
             .collect();
         let count = requests.len() as f64 * 1000.0;
         let (began, worked) = (Instant::now(), processor_time());
-        requests
-            .into_iter()
-            .for_each(|(number, body)| trial.taken(number, body));
-        let (took, worked) = (
-            began.elapsed().as_secs_f64(),
-            (processor_time() - worked).as_secs_f64(),
-        );
+        requests.into_iter().for_each(|(number, body)| trial.taken(number, body));
+        let (took, worked) = (began.elapsed().as_secs_f64(), (processor_time() - worked).as_secs_f64());
         let (clock, processor) = (count / took, count / worked);
         println!("{part}: {count} series, {clock:.0} a second, {processor:.0} a second of processor time");
     }

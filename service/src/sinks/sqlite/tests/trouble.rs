@@ -20,16 +20,10 @@ fn a_transaction_that_was_cut_is_not_there() {
     for name in ["totals.db", "totals.db-wal"] {
         std::fs::copy(trial.folder.path().join(name), copy.path().join(name)).expect("a copy");
     }
-    let log = std::fs::OpenOptions::new()
-        .write(true)
-        .open(copy.path().join("totals.db-wal"))
-        .expect("the log");
-    log.set_len(log.metadata().expect("its length").len() - 100)
-        .expect("a torn end");
-    let mut torn = Trial {
-        writer: writer(&copy.path().join("totals.db")),
-        folder: copy,
-    };
+    let log =
+        std::fs::OpenOptions::new().write(true).open(copy.path().join("totals.db-wal")).expect("the log");
+    log.set_len(log.metadata().expect("its length").len() - 100).expect("a torn end");
+    let mut torn = Trial { writer: writer(&copy.path().join("totals.db")), folder: copy };
     torn.taken(1, sum("a", 10, 20, 1));
     torn.taken(2, sum("a", 20, 30, 2));
     assert_eq!(torn.totals(), only("a", 3, 2));
@@ -52,10 +46,8 @@ fn a_lock_is_waited_for() {
 fn a_lock_holds_up_the_upkeep_alone() {
     let mut trial = Trial::new();
     trial.taken(1, sum("a", 10, 20, 1));
-    trial.writer.upkeep = Upkeep::new(Retention {
-        spans: Some(Duration::from_secs(1)),
-        ..Retention::default()
-    });
+    trial.writer.upkeep =
+        Upkeep::new(Retention { spans: Some(Duration::from_secs(1)), ..Retention::default() });
     let other = Connection::open(trial.path()).expect("open");
     other.execute_batch("begin immediate").expect("a lock");
     assert!(!trial.writer.keep_up());
@@ -93,12 +85,9 @@ fn a_file_that_is_moved_is_not_written_on() {
 /// Else it would go into a log without a name, and be lost with the process.
 #[test]
 fn a_log_that_is_deleted_loses_nothing() {
-    for (gone, is_written) in [
-        (&["-wal"][..], true),
-        (&["-shm"], true),
-        (&["-wal", "-shm"], true),
-        (&["-wal"], false),
-    ] {
+    for (gone, is_written) in
+        [(&["-wal"][..], true), (&["-shm"], true), (&["-wal", "-shm"], true), (&["-wal"], false)]
+    {
         let mut trial = Trial::new();
         trial.taken(1, sum("a", 10, 20, 1));
         for end in gone {
@@ -113,15 +102,8 @@ fn a_log_that_is_deleted_loses_nothing() {
         for name in ["totals.db", "totals.db-wal"] {
             std::fs::copy(trial.folder.path().join(name), copy.path().join(name)).expect("a copy");
         }
-        let copied = Trial {
-            writer: writer(&copy.path().join("totals.db")),
-            folder: copy,
-        };
-        let expected = if is_written {
-            only("a", 3, 2)
-        } else {
-            only("a", 1, 1)
-        };
+        let copied = Trial { writer: writer(&copy.path().join("totals.db")), folder: copy };
+        let expected = if is_written { only("a", 3, 2) } else { only("a", 1, 1) };
         assert_eq!(copied.totals(), expected, "{gone:?}");
     }
 }
@@ -172,10 +154,7 @@ fn a_full_disk_is_told_and_waited_for() {
     trial.taken(1, sum("a", 10, 20, 1));
     let limit = |pages: &str, trial: &mut Trial| {
         let store = trial.writer.store().expect("it is open");
-        store
-            .connection
-            .execute_batch(&format!("pragma max_page_count = {pages}"))
-            .expect("a limit");
+        store.connection.execute_batch(&format!("pragma max_page_count = {pages}")).expect("a limit");
     };
     limit("1", &mut trial);
     let many: Vec<String> = (0..2000).map(|code| sum_point(code, 20, 30, 1)).collect();
@@ -188,11 +167,8 @@ fn a_full_disk_is_told_and_waited_for() {
 #[test]
 fn a_damaged_file_is_told_and_waited_for() {
     let mut trial = Trial::new();
-    std::fs::write(
-        trial.path(),
-        "this is no database, and it is longer than a head of one".repeat(100),
-    )
-    .expect("a file");
+    std::fs::write(trial.path(), "this is no database, and it is longer than a head of one".repeat(100))
+        .expect("a file");
     trial.again(1, sum("a", 10, 20, 1), "no SQLite database");
     assert!(
         SqliteSink::open(&trial.path(), Retention::default(), Arc::new(())).is_ok(),
@@ -221,10 +197,7 @@ fn a_later_schema_is_refused_by_name_and_left_alone() {
         .err()
         .expect("it is later")
         .to_string();
-    assert!(
-        error.contains("later version") && error.contains("schema 5"),
-        "{error}"
-    );
+    assert!(error.contains("later version") && error.contains("schema 5"), "{error}");
     trial.again(2, sum("a", 20, 30, 2), "later version");
     assert!(read(&trial.path(), &Filter::default()).is_err());
     trial.ask("pragma user_version = 4");
@@ -237,9 +210,7 @@ fn a_long_reader_is_told_and_waited_for() {
     let mut trial = Trial::new();
     trial.taken(1, sum("a", 10, 20, 1));
     let reader = Connection::open(trial.path()).expect("open");
-    reader
-        .execute_batch("begin; select * from span")
-        .expect("a reader");
+    reader.execute_batch("begin; select * from span").expect("a reader");
     trial.taken(2, sum("a", 20, 30, 2));
     trial.writer.store = None;
     trial.again(3, sum("a", 30, 40, 4), "read it for long");
@@ -265,10 +236,7 @@ fn a_file_that_is_made_is_its_owners_alone() {
     std::fs::set_permissions(trial.path(), std::fs::Permissions::from_mode(0o640)).expect("its rights");
     trial.reopen();
     trial.taken(2, sum("a", 20, 30, 2));
-    let mode = std::fs::metadata(trial.path())
-        .expect("it is there")
-        .permissions()
-        .mode();
+    let mode = std::fs::metadata(trial.path()).expect("it is there").permissions().mode();
     assert_eq!(mode & 0o777, 0o640);
 }
 

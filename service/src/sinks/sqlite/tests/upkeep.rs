@@ -31,11 +31,7 @@ impl Trial {
 
     fn left_unnamed(&mut self, number: u64, body: String) {
         match self.take(number, body) {
-            Fate::TakenPartly {
-                rejected: 1,
-                left: None,
-                ..
-            } => {}
+            Fate::TakenPartly { rejected: 1, left: None, .. } => {}
             other => panic!("{other:?}"),
         }
     }
@@ -53,27 +49,16 @@ fn two_days(trial: &mut Trial) {
 fn spans_that_are_too_old_are_deleted_and_counted_once() {
     let mut trial = Trial::new();
     two_days(&mut trial);
-    trial.keep(Retention {
-        spans: days(1),
-        ..Retention::default()
-    });
+    trial.keep(Retention { spans: days(1), ..Retention::default() });
     let (before, total) = (view(&trial, "hour"), trial.totals());
     // The first 24 ended by then, the last of them at this very moment.
     assert!(trial.keep_up(NOVEMBER + 2 * DAY) >= 3);
-    assert_eq!(
-        trial.ask("select count(*), min(start_ns) from span"),
-        format!("24|{}", NOVEMBER + DAY)
-    );
+    assert_eq!(trial.ask("select count(*), min(start_ns) from span"), format!("24|{}", NOVEMBER + DAY));
     assert_eq!((view(&trial, "hour"), trial.totals()), (before, total.clone()));
     trial.reopen();
     // Under its key it is taken; under another it is refused, also in part.
     let again = |hour: u64, by: u64| {
-        sum(
-            "a",
-            NOVEMBER + hour * HOUR + by,
-            NOVEMBER + (hour + 1) * HOUR,
-            1 + hour as i64,
-        )
+        sum("a", NOVEMBER + hour * HOUR + by, NOVEMBER + (hour + 1) * HOUR, 1 + hour as i64)
     };
     for hour in 0..48 {
         trial.taken(hour + 1, again(hour, 0));
@@ -97,14 +82,8 @@ fn of_a_part_that_was_left_its_number_is_known_for_ever() {
     trial.taken(1, sum("a", 100, 200, 1));
     let one = |name: &str, start: u64| sum_of(name, &[sum_point(200, start, start + 10, 8)]);
     let both = metrics(&[one("a", 150), one("b", 150)].join(","));
-    assert!(matches!(
-        trial.take(2, both.clone()),
-        Fate::TakenPartly { left: Some(_), .. }
-    ));
-    trial.keep(Retention {
-        spans: days(1),
-        ..Retention::default()
-    });
+    assert!(matches!(trial.take(2, both.clone()), Fate::TakenPartly { left: Some(_), .. }));
+    trial.keep(Retention { spans: days(1), ..Retention::default() });
     trial.keep_up(DAY + 1000);
     assert_eq!(trial.ask("select count(*) from span"), "0");
     trial.left_unnamed(2, both);
@@ -117,25 +96,16 @@ fn hours_that_are_too_old_are_deleted_and_stay_away() {
     let mut trial = Trial::new();
     let october = NOVEMBER - 40 * DAY;
     for hour in [0, 1, 24 * 39 + 23, 24 * 40, 24 * 40 + 5, 24 * 41] {
-        trial.taken(
-            hour + 1,
-            sum("a", october + hour * HOUR, october + (hour + 1) * HOUR, 1),
-        );
+        trial.taken(hour + 1, sum("a", october + hour * HOUR, october + (hour + 1) * HOUR, 1));
     }
-    trial.keep(Retention {
-        hours: days(10),
-        ..Retention::default()
-    });
+    trial.keep(Retention { hours: days(10), ..Retention::default() });
     let rows =
         |trial: &Trial, unit: &str| trial.ask(&format!("select {unit}, total from by_{unit} order by 1"));
     // Until 2026-11-01 05:30.
     let now = NOVEMBER + 10 * DAY + 5 * HOUR + HOUR / 2;
     assert!(trial.keep_up(now) > 1);
-    let (hours, day, month) = (
-        "2026-11-01 05:00|1\n2026-11-02 00:00|1",
-        "2026-11-01|2\n2026-11-02|1",
-        "2026-11-01|3",
-    );
+    let (hours, day, month) =
+        ("2026-11-01 05:00|1\n2026-11-02 00:00|1", "2026-11-01|2\n2026-11-02|1", "2026-11-01|3");
     let all = |trial: &Trial| [rows(trial, "hour"), rows(trial, "day"), rows(trial, "month")];
     assert_eq!(all(&trial), [hours, day, month]);
     assert_eq!(trial.ask("select hour, total from totals_by_hour"), hours);
@@ -165,10 +135,7 @@ fn a_series_out_of_use_loses_its_spans() {
     }
     trial.taken(200, sum("c", NOVEMBER + 47 * HOUR, NOVEMBER + 48 * HOUR, 7));
     let before = (view(&trial, "hour"), trial.totals());
-    let keep = Retention {
-        series: days(1),
-        ..Retention::default()
-    };
+    let keep = Retention { series: days(1), ..Retention::default() };
     trial.keep(keep);
     assert!(trial.keep_up(NOVEMBER + 2 * DAY) > 3);
     assert_eq!((view(&trial, "hour"), trial.totals()), before);
@@ -198,10 +165,7 @@ fn a_file_put_in_the_place_of_another_loses_nothing() {
         }
     };
     twenty(&mut trial, "former");
-    trial.keep(Retention {
-        series: days(1),
-        ..Retention::default()
-    });
+    trial.keep(Retention { series: days(1), ..Retention::default() });
     let now = NOVEMBER + 2 * DAY;
     assert!(trial.step(now) && trial.step(now));
     assert_eq!(trial.ask("select count(*) from span"), "13");
@@ -217,10 +181,7 @@ fn a_file_put_in_the_place_of_another_loses_nothing() {
 fn a_clock_that_was_ahead_leaves_out_nothing_that_comes() {
     let mut trial = Trial::new();
     two_days(&mut trial);
-    trial.keep(Retention {
-        hours: days(10),
-        ..Retention::default()
-    });
+    trial.keep(Retention { hours: days(10), ..Retention::default() });
     trial.keep_up(NOVEMBER + 4000 * DAY);
     let hours = "select hour, total from by_hour order by 1";
     assert_eq!(trial.ask(hours), "2026-11-02 23:00|48");
@@ -234,10 +195,7 @@ fn a_clock_that_was_ahead_leaves_out_nothing_that_comes() {
 #[tokio::test]
 async fn deliveries_go_on_while_much_is_deleted() {
     let trial = much();
-    let keep = Retention {
-        spans: days(35),
-        ..Retention::default()
-    };
+    let keep = Retention { spans: days(35), ..Retention::default() };
     let sink = SqliteSink::open(&trial.path(), keep, Arc::new(())).expect("a sink");
     let left = || {
         let count = trial.ask("select count(*) from span where end_ns < 1000");
@@ -265,9 +223,8 @@ async fn deliveries_go_on_while_much_is_deleted() {
 fn much() -> Trial {
     let mut trial = Trial::new();
     for number in 1..=40 {
-        let points: Vec<String> = (0..2000)
-            .map(|code| sum_point(code, number * 10, number * 10 + 1, 1))
-            .collect();
+        let points: Vec<String> =
+            (0..2000).map(|code| sum_point(code, number * 10, number * 10 + 1, 1)).collect();
         trial.taken(number, metrics(&sum_of("a", &points)));
     }
     trial.writer.store = None;

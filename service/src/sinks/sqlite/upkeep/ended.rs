@@ -104,11 +104,7 @@ impl Walk {
         )?;
         let series: Vec<Series> = query
             .query_map([], |row| {
-                Ok(Series {
-                    id: row.get(0)?,
-                    first_start: row.get(1)?,
-                    until: row.get(2)?,
-                })
+                Ok(Series { id: row.get(0)?, first_start: row.get(1)?, until: row.get(2)? })
             })?
             .collect::<rusqlite::Result<_>>()?;
         let at = (Unsigned(0), 0);
@@ -147,11 +143,7 @@ impl Walk {
                  where has_spans and (last_end_ns, id) > (?1, ?2) order by last_end_ns, id limit ?3",
             )?
             .query_map(params![self.at.0, self.at.1, REQUESTS], |row| {
-                Ok(Request {
-                    id: row.get(0)?,
-                    first_start: row.get(1)?,
-                    last_end: row.get(2)?,
-                })
+                Ok(Request { id: row.get(0)?, first_start: row.get(1)?, last_end: row.get(2)? })
             })?
             .collect()
     }

@@ -16,9 +16,8 @@ pub(super) fn step(transaction: &Transaction, mut horizon: Horizon, step: usize)
     let mut done = 0;
     while done < step {
         let ids = [horizon.filled, horizon.fill_to];
-        let found: Option<(i64, Unsigned)> = next
-            .query_row(ids, |row| Ok((row.get(0)?, row.get(1)?)))
-            .optional()?;
+        let found: Option<(i64, Unsigned)> =
+            next.query_row(ids, |row| Ok((row.get(0)?, row.get(1)?))).optional()?;
         let Some((request, first_start)) = found else {
             horizon.filled = horizon.fill_to;
             break;
@@ -45,10 +44,7 @@ fn add(transaction: &Transaction, request: i64, hours: &mut Hours) -> rusqlite::
     let mut rows = query.query([request])?;
     let mut count = 0;
     while let Some(row) = rows.next()? {
-        let known = SeriesIds {
-            series: row.get(0)?,
-            metric: row.get(1)?,
-        };
+        let known = SeriesIds { series: row.get(0)?, metric: row.get(1)? };
         let end: Unsigned = row.get(2)?;
         hours.add(known, end.0, &value(row)?, &Closed::default());
         count += 1;

@@ -17,11 +17,7 @@ fn resource(name: &str, points: &[&str]) -> String {
 
 /// One whose name has a `?` is outside the profile.
 fn metric(name: &str) -> String {
-    let value = if name.contains('?') {
-        "\"asDouble\":0.5"
-    } else {
-        "\"asInt\":\"5\""
-    };
+    let value = if name.contains('?') { "\"asDouble\":0.5" } else { "\"asInt\":\"5\"" };
     format!(
         r#"{{"name":"{name}","sum":{{"aggregationTemporality":1,"dataPoints":[{{{value},"startTimeUnixNano":"1","timeUnixNano":"2"}}]}}}}"#
     )
@@ -37,42 +33,27 @@ fn key(name: &str, point: &str) -> SeriesKey {
 
 fn read(body: Body, foreign: u64, named: Vec<(u64, Bytes)>) -> Replayed {
     let sender = "s".into();
-    Replayed {
-        post: Post {
-            sender,
-            foreign,
-            body,
-        },
-        named,
-    }
+    Replayed { post: Post { sender, foreign, body }, named }
 }
 
 #[test]
 fn a_text_is_parted_by_its_resources_with_what_is_foreign_in_each() {
     let names = ["a", "b", "c", "d", "e"];
-    let resources: Vec<String> = names
-        .iter()
-        .map(|name| resource(name, &["x", "y?", "z"]))
-        .collect();
+    let resources: Vec<String> = names.iter().map(|name| resource(name, &["x", "y?", "z"])).collect();
     let mut posts = Posts::new(SLOTS);
     let parts = posts.parts(read(Body::Text(request(&resources)), 5, Vec::new()));
     assert!(parts.len() > 1, "they have several slots");
     let (mut found, mut foreign) = (BTreeMap::new(), 0);
     for (slot, post) in &parts {
-        let Body::Text(body) = &post.body else {
-            panic!("{post:?}")
-        };
+        let Body::Text(body) = &post.body else { panic!("{post:?}") };
         let has = posted(body).unwrap();
         assert_eq!(has.foreign, post.foreign);
         foreign += post.foreign;
         found.extend(has.series.into_keys().map(|key| (key, *slot)));
     }
-    let wanted = names
-        .iter()
-        .flat_map(|name| ["x", "z"].map(|point| key(name, point)));
-    let wanted: BTreeMap<_, _> = wanted
-        .map(|key| (key.clone(), slot_of_series(&key, SLOTS).unwrap()))
-        .collect();
+    let wanted = names.iter().flat_map(|name| ["x", "z"].map(|point| key(name, point)));
+    let wanted: BTreeMap<_, _> =
+        wanted.map(|key| (key.clone(), slot_of_series(&key, SLOTS).unwrap())).collect();
     assert_eq!((found, foreign), (wanted, 5));
 }
 
@@ -94,9 +75,7 @@ fn points_by_number_go_with_their_runs_and_are_named_anew_where_a_number_means_a
         let parts = posts.parts(read(Body::Points(points.clone()), 3, said(shift)));
         let mut seen = 0;
         for (slot, post) in &parts {
-            let Body::Points(part) = &post.body else {
-                panic!("{post:?}")
-            };
+            let Body::Points(part) = &post.body else { panic!("{post:?}") };
             for (place, point) in (0..).zip(part.each()) {
                 let name = names[(point[0] as usize + shift) % 4];
                 assert_eq!(slot_of_series(&key(name, "x"), SLOTS), Some(*slot));
@@ -109,15 +88,9 @@ fn points_by_number_go_with_their_runs_and_are_named_anew_where_a_number_means_a
         assert_eq!((seen, foreign), (4, 3), "each is told once");
         generations.push(posts.named.generation());
     }
-    assert!(
-        generations[0] == generations[1] && generations[1] < generations[2],
-        "{generations:?}"
-    );
+    assert!(generations[0] == generations[1] && generations[1] < generations[2], "{generations:?}");
     posts.named.forget();
-    assert!(
-        posts.named.generation() > generations[2],
-        "another file says them anew"
-    );
+    assert!(posts.named.generation() > generations[2], "another file says them anew");
 }
 
 #[test]

@@ -79,11 +79,7 @@ impl Extents {
             };
             let length = until.min(end) - next;
             next += length;
-            Some(Part {
-                piece,
-                from: from as usize,
-                length: length as usize,
-            })
+            Some(Part { piece, from: from as usize, length: length as usize })
         })
     }
 }

@@ -86,11 +86,7 @@ impl Files {
         names: Vec<(u64, String)>,
         pieces: impl IntoIterator<Item = StoredPiece>,
     ) -> Files {
-        let mut files = Files {
-            next: term << NUMBERS,
-            queued: term << NUMBERS,
-            ..Files::default()
-        };
+        let mut files = Files { next: term << NUMBERS, queued: term << NUMBERS, ..Files::default() };
         for (number, name) in names {
             files.put(number, PathBuf::from(name), true);
         }
@@ -104,12 +100,7 @@ impl Files {
 
     fn put(&mut self, number: u64, name: PathBuf, is_sent: bool) {
         self.names.insert(name.clone(), number);
-        let file = File {
-            name,
-            extents: Extents::default(),
-            last: 0,
-            is_sent,
-        };
+        let file = File { name, extents: Extents::default(), last: 0, is_sent };
         self.files.insert(number, file);
     }
 
@@ -187,11 +178,7 @@ impl Files {
                 None => (self.number(), 0, PIECE.min(bytes.len())),
             };
             let (now, rest) = bytes.split_at(length);
-            let new = || Piece {
-                file: number,
-                at,
-                bytes: Bytes::default(),
-            };
+            let new = || Piece { file: number, at, bytes: Bytes::default() };
             let held = self.held.entry(piece).or_insert_with(new);
             Arc::make_mut(&mut held.bytes).extend_from_slice(now);
             if let Some(file) = self.files.get_mut(&number) {
@@ -267,11 +254,7 @@ impl Files {
                 named.push((number, file.name.to_string_lossy().into_owned()));
             }
         }
-        Batch {
-            gone: std::mem::take(&mut self.gone),
-            named,
-            pieces,
-        }
+        Batch { gone: std::mem::take(&mut self.gone), named, pieces }
     }
 
     /// The store has it: its bytes need not be held any more.

@@ -178,12 +178,7 @@ impl PostgresDrive {
             }
         });
         let mut found = HashMap::new();
-        for Stored {
-            number,
-            length,
-            bytes,
-        } in rows.map_err(|Lost| lost())?
-        {
+        for Stored { number, length, bytes } in rows.map_err(|Lost| lost())? {
             let bytes: Bytes = packed::unpacked(&bytes, length)?.into();
             lock(&self.cache).put(number, bytes.clone());
             found.insert(number, bytes);
@@ -228,12 +223,7 @@ impl Drive for PostgresDrive {
         let mut asked = Vec::new();
         loop {
             self.check()?;
-            let known = |number| {
-                fetched
-                    .get(&number)
-                    .cloned()
-                    .or_else(|| lock(&self.cache).find(number))
-            };
+            let known = |number| fetched.get(&number).cloned().or_else(|| lock(&self.cache).find(number));
             let read = lock(&self.files).read(file, bytes, at, known)?;
             match read {
                 Read::Done(length) => return Ok(length),

@@ -115,9 +115,7 @@ pub fn unpacked(bytes: &[u8], length: usize) -> io::Result<Vec<u8>> {
         return Ok(bytes.into());
     }
     let mut whole = Vec::with_capacity(length);
-    DeflateDecoder::new(bytes)
-        .take(length as u64 + 1)
-        .read_to_end(&mut whole)?;
+    DeflateDecoder::new(bytes).take(length as u64 + 1).read_to_end(&mut whole)?;
     match whole.len() == length {
         true => Ok(whole),
         false => Err(io::ErrorKind::InvalidData.into()),
@@ -142,11 +140,7 @@ mod tests {
                 let bytes = of(length, different, &mut chance);
                 let packed = pack(&bytes);
                 let is_packed = packed.len() < length;
-                assert_eq!(
-                    is_packed,
-                    length >= LEAST && different < 256,
-                    "{length} {different}"
-                );
+                assert_eq!(is_packed, length >= LEAST && different < 256, "{length} {different}");
                 assert!(is_packed || Arc::ptr_eq(&packed, &bytes));
                 assert_eq!(unpacked(&packed, length).unwrap(), *bytes);
             }

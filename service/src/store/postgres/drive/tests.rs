@@ -22,11 +22,7 @@ impl Rows {
         for columns in packed.pieces {
             for row in 0..columns.numbers.len() {
                 let key = (columns.files[row], columns.numbers[row]);
-                let piece = (
-                    columns.places[row],
-                    columns.lengths[row],
-                    columns.bytes[row].clone(),
-                );
+                let piece = (columns.places[row], columns.lengths[row], columns.bytes[row].clone());
                 self.pieces.entry(key).or_insert(piece);
             }
         }
@@ -42,10 +38,7 @@ impl Rows {
         let names = self.files.iter().map(|(file, name)| (*file as u64, name.clone()));
         let mut pieces: Vec<StoredPiece> = Vec::new();
         for ((file, number), (at, length, _)) in &self.pieces {
-            assert!(
-                self.files.contains_key(file),
-                "file {file} has pieces and no name"
-            );
+            assert!(self.files.contains_key(file), "file {file} has pieces and no name");
             pieces.push(StoredPiece {
                 number: *number as u64,
                 file: *file as u64,
@@ -90,13 +83,7 @@ impl Trial {
         };
         let (first, repeated) = (self.chance.below(256) as u8, self.chance.below(2) == 0);
         let bytes: Vec<u8> = (0..length)
-            .map(|place| {
-                if repeated {
-                    first
-                } else {
-                    ((place * 7919) >> 3) as u8 ^ first
-                }
-            })
+            .map(|place| if repeated { first } else { ((place * 7919) >> 3) as u8 ^ first })
             .collect();
         if !bytes.is_empty() {
             there.resize(there.len().max(at + length), 0);
@@ -184,9 +171,7 @@ impl Trial {
             _ => {
                 let folder = name.parent().unwrap();
                 let there = self.now.keys().filter(|name| name.parent() == Some(folder));
-                let there: Vec<_> = there
-                    .map(|name| name.file_name().unwrap().to_os_string())
-                    .collect();
+                let there: Vec<_> = there.map(|name| name.file_name().unwrap().to_os_string()).collect();
                 assert_eq!(self.files.list(folder), there);
             }
         }
@@ -226,13 +211,7 @@ fn what_goes_on_is_one_piece_until_it_is_sent_or_full() {
     let mut files = Files::found(1, Vec::new(), []);
     let file = files.create(Path::new("a")).unwrap();
     (0..100).for_each(|number| files.write(file, &[1; 10], number * 10).unwrap());
-    let lengths = |batch: Batch| {
-        batch
-            .pieces
-            .iter()
-            .map(|piece| piece.bytes.len())
-            .collect::<Vec<_>>()
-    };
+    let lengths = |batch: Batch| batch.pieces.iter().map(|piece| piece.bytes.len()).collect::<Vec<_>>();
     assert_eq!(lengths(files.batch()), [1000]);
     files.write(file, &[2; (1 << 20) + 5], 1000).unwrap();
     files.write(file, &[3; 7], 0).unwrap();

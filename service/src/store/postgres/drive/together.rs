@@ -82,11 +82,7 @@ impl Together {
             is_suspect: is_suspect.clone(),
         };
         runtime.spawn(line.run(asked));
-        Together {
-            ask,
-            comers,
-            is_suspect,
-        }
+        Together { ask, comers, is_suspect }
     }
 
     /// Another connection was of no use any more: this one may be to the same server, and is made anew ahead of the next write.
@@ -169,9 +165,7 @@ impl Line {
         self.keep_whole(&session, all).await?;
         let writes: Vec<_> = all.iter().map(|one| one.write.row()).collect();
         // No write comes here twice.
-        let done = session
-            .written(append(&session, &session.append_new, &writes))
-            .await;
+        let done = session.written(append(&session, &session.append_new, &writes)).await;
         if done.as_ref().err().is_none_or(|doubt| doubt.next() == Next::Same) {
             self.session = Some(session);
         }

@@ -149,10 +149,7 @@ mod tests {
         assert!(turns.longest() > Duration::ZERO);
         go.send(()).unwrap();
         first.join().unwrap().unwrap();
-        assert!(
-            others.iter().all(|other| !other.is_finished()),
-            "they wait for a turn of their own"
-        );
+        assert!(others.iter().all(|other| !other.is_finished()), "they wait for a turn of their own");
         go.send(()).unwrap();
         for other in others {
             other.join().unwrap().unwrap();

@@ -316,24 +316,12 @@ pub(super) async fn append(
     let all = |column: fn(&Columns) -> &Vec<i64>| -> Vec<i64> {
         writes.iter().flat_map(|write| column(write.3)).copied().collect()
     };
-    let (files, numbers, places) = (
-        all(|pieces| &pieces.files),
-        all(|pieces| &pieces.numbers),
-        all(|pieces| &pieces.places),
-    );
-    let lengths: Vec<i32> = writes
-        .iter()
-        .flat_map(|write| &write.3.lengths)
-        .copied()
-        .collect();
-    let bytes: Vec<&[u8]> = writes
-        .iter()
-        .flat_map(|write| &write.3.bytes)
-        .map(|bytes| &bytes[..])
-        .collect();
-    let values: [&(dyn ToSql + Sync); 9] = [
-        &slots, &terms, &links, &owners, &files, &numbers, &places, &lengths, &bytes,
-    ];
+    let (files, numbers, places) =
+        (all(|pieces| &pieces.files), all(|pieces| &pieces.numbers), all(|pieces| &pieces.places));
+    let lengths: Vec<i32> = writes.iter().flat_map(|write| &write.3.lengths).copied().collect();
+    let bytes: Vec<&[u8]> = writes.iter().flat_map(|write| &write.3.bytes).map(|bytes| &bytes[..]).collect();
+    let values: [&(dyn ToSql + Sync); 9] =
+        [&slots, &terms, &links, &owners, &files, &numbers, &places, &lengths, &bytes];
     let done = session.client.query(statement, &values).await?;
     Ok(done.iter().map(|row| row.get::<_, i64>(0) as usize - 1).collect())
 }

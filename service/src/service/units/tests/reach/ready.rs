@@ -12,11 +12,7 @@ async fn an_instance_is_ready_while_it_takes_posts_of_any_slot() {
     for slot in [0, 2] {
         both.a.desk.units.get(slot).unwrap().slot.stop();
     }
-    assert_eq!(
-        ready().await.0,
-        200,
-        "it brings those of slot 1 to their instance"
-    );
+    assert_eq!(ready().await.0, 200, "it brings those of slot 1 to their instance");
     let (here, of_a) = (Whose::Here { term: 1 }, &both.clusters[0]);
     of_a.knows(&[(0, here.clone()), (1, Whose::Nobody), (2, here.clone())]);
     let (status, why) = ready().await;
@@ -30,16 +26,10 @@ async fn an_instance_is_ready_while_it_takes_posts_of_any_slot() {
     assert!(status == 503 && why.contains("stopping"), "{status} {why}");
     let (new, of_new) = instance("c", &folder(), &both.net);
     let (status, why) = new.ask("GET", "/ready").await;
-    assert!(
-        status == 503 && why.contains(NO_STORE),
-        "before its first beat: {status} {why}"
-    );
+    assert!(status == 503 && why.contains(NO_STORE), "before its first beat: {status} {why}");
     of_new.knows(&[(0, Whose::Nobody), (1, Whose::Nobody)]);
     let (status, why) = new.ask("GET", "/ready").await;
-    assert!(
-        status == 503 && why.contains(NO_OWNER),
-        "before its first slot: {status} {why}"
-    );
+    assert!(status == 503 && why.contains(NO_OWNER), "before its first slot: {status} {why}");
     new.open(0).await;
     of_new.knows(&[(0, Whose::Here { term: 1 }), (1, Whose::Nobody)]);
     assert_eq!(new.ask("GET", "/ready").await.0, 200);

@@ -54,22 +54,13 @@ impl Comers {
         self.awaited.store(awaited, SeqCst);
         let left = late.saturating_duration_since(Instant::now());
         let lacks_some = |_: &mut ()| self.came() < awaited;
-        drop(
-            self.all_are_there
-                .wait_timeout_while(self.waiting(), left, lacks_some),
-        );
+        drop(self.all_are_there.wait_timeout_while(self.waiting(), left, lacks_some));
     }
 }
 
 impl Departures {
     pub fn of(comers: &Arc<Comers>) -> Departures {
-        Departures {
-            comers: comers.clone(),
-            began_with: 0,
-            began: Instant::now(),
-            next: None,
-            answers: 0,
-        }
+        Departures { comers: comers.clone(), began_with: 0, began: Instant::now(), next: None, answers: 0 }
     }
 
     pub async fn wait(&mut self) {
