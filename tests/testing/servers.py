@@ -95,9 +95,15 @@ class Server:
 
     def start(self) -> None:
         self.begin()
-        if not wait_until(lambda: self.ask("select 1") == "1", LIMIT):
+        if not wait_until(self.has_started, LIMIT):
             with open(f"{self.folder}/log", encoding="utf-8", errors="replace") as file:
                 raise RuntimeError(f"PostgreSQL does not start: {file.read()[-1000:]}")
+
+    def has_started(self) -> bool:
+        """It begins again where it has ended: a process that one before it had begun just before a kill may still have its memory."""
+        if self.process.poll() is not None:
+            self.begin()
+        return self.ask("select 1") == "1"
 
     def ask(self, query: str) -> str | None:
         """The only value of an answer, or None where it can't be asked now."""
