@@ -1,7 +1,7 @@
 //! Series by their numbers: the library's names, each with a request that names it.
 
-use super::book::{self, Answer, Reader};
-use super::readers::with_reader;
+use super::book::{self, Answer};
+use super::readers::{with_reader, Reader};
 use super::refusal::{check, Refused};
 use super::texts::Texts;
 use crate::files::{self, Points};
@@ -30,7 +30,7 @@ pub struct Names {
     is_closed: AtomicBool,
     /// How many words the last post had beyond those of sums: so the next one's have room at once.
     more: AtomicUsize,
-    generation: u64,
+    pub(super) generation: u64,
 }
 
 /// Of each number a request of one point, and how many words say a point, with its number: known once it is asked for, and 0
@@ -168,11 +168,16 @@ impl Names {
         named.push(text);
     }
 
+    /// Has a reader have the points of these words.
     pub(super) fn put(&self, reader: &mut Reader, sender: &[u8], words: &[u64], books: usize) -> Answer {
-        reader.put(&mut self.handle(), sender, words, books)
+        let mut view = std::mem::take(&mut reader.view);
+        let put = |seen: &mut book::Names| reader.put(seen, sender, words, books);
+        let answer = view.with(self, put);
+        reader.view = view;
+        answer
     }
 
-    fn handle(&self) -> MutexGuard<'_, book::Names> {
+    pub(super) fn handle(&self) -> MutexGuard<'_, book::Names> {
         self.handle.lock().unwrap_or_else(PoisonError::into_inner) // a call of the library is whole
     }
 

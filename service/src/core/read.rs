@@ -1,7 +1,6 @@
 //! A post that was read.
 
-use super::book::Reader;
-use super::readers::{keep, reader};
+use super::readers::{keep, reader, Reader};
 use super::refusal::{check, Refused};
 use super::{Across, Core, Names};
 use crate::files::{self, Body, NoNames, Points, Post};

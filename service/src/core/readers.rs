@@ -1,8 +1,10 @@
 //! Readers of the library that no post has now. Each keeps the identities that it has read, up to some megabytes of them, so
 //! that it knows them at once: so few are kept, and none that nobody has used for a while.
 
-use super::book::Reader;
+use super::book;
+use super::view::View;
 use super::Refused;
+use std::ops::{Deref, DerefMut};
 use std::sync::atomic::{AtomicU64, Ordering::Relaxed};
 use std::sync::{Arc, Mutex, MutexGuard, PoisonError, Weak};
 use std::time::{Duration, Instant};
@@ -14,6 +16,12 @@ const MOST_SPARE: usize = 160;
 
 /// Nobody waits long for one: it is locked over the taking or putting of a reader alone.
 type Pool = Mutex<Vec<Kept>>;
+
+/// One of the library, with the names that it has seen.
+pub(super) struct Reader {
+    library: book::Reader,
+    pub view: View,
+}
 
 struct Kept {
     reader: Reader,
@@ -38,6 +46,28 @@ fn own() -> Arc<Pool> {
     let own = Arc::new(Pool::default());
     locked(&POOLS).push(Arc::downgrade(&own));
     own
+}
+
+impl Reader {
+    /// None where there is no memory for one.
+    pub fn new() -> Option<Reader> {
+        let (library, view) = (book::Reader::new()?, View::default());
+        Some(Reader { library, view })
+    }
+}
+
+impl Deref for Reader {
+    type Target = book::Reader;
+
+    fn deref(&self) -> &book::Reader {
+        &self.library
+    }
+}
+
+impl DerefMut for Reader {
+    fn deref_mut(&mut self) -> &mut book::Reader {
+        &mut self.library
+    }
 }
 
 /// None where there is no memory for one.
