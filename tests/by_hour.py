@@ -26,7 +26,7 @@ from typing import Any
 
 from testing.checks import Checks
 from testing.database import Database, initdb
-from testing.service import BOUNDS, Bursts, Point, Post, Sender, Service, added, wait_until
+from testing.service import BOUNDS, Bursts, Point, Post, Sender, Service, added
 
 MINUTE, HOUR, DAY = (60 * 10**9, 3600 * 10**9, 86_400 * 10**9)
 SENDERS = 4
@@ -177,8 +177,7 @@ def run(checks: Checks, program: str, folder: str, sink: File | Server, seconds:
         thread.start()
     for thread in threads:
         thread.join()
-    service.order("/flush")
-    checks.true(f"{kind}: all is delivered", wait_until(service.is_drained, PATIENCE), service.last_lines())
+    checks.true(f"{kind}: all is delivered", service.has_delivered_all(PATIENCE), service.last_lines())
     look(checks, kind, sink, senders)
     checks.same(f"{kind}: nothing that must not be", [], service.faults())
     checks.same(f"{kind}: it ends", 0, service.end()[0])

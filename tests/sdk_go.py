@@ -33,7 +33,7 @@ from testing import ROOT, TESTS
 from testing.checks import Checks
 from testing.database import Database, initdb
 from testing.loopback import free_port
-from testing.service import Service, wait_until
+from testing.service import Service
 from handed_on import Receiver
 from protobuf_bodies import HAS_LIBRARY, file_of_definitions
 
@@ -250,8 +250,7 @@ def run(checks: Checks, totxegun: str, seconds: float, folder: str, program: str
         service.start()
         checks.true("the service is ready", service.wait_ready(), service.last_lines())
         kills = rounds(checks, program, folder, service, grpc, sink, seconds)
-        service.order("/flush")
-        checks.true(f"{sink.name}: all is delivered after {kills} kills", wait_until(service.is_drained), service.last_lines())
+        checks.true(f"{sink.name}: all is delivered after {kills} kills", service.has_delivered_all(), service.last_lines())
         for number, (encoding, packed, in_seconds, temporality) in enumerate(PROGRAMS):
             what = f"{sink.name}, {encoding}{', gzip' if packed else ''}, {'seconds' if in_seconds else 'whole numbers'}"
             what += f", {'delta' if temporality == DELTA else 'cumulative'}"

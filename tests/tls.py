@@ -359,8 +359,7 @@ def under_load(checks: Checks, folder: str, at: str, service: Service, callers: 
         poster.join(60)
     for one in stalled:
         one.close()
-    service.order("/flush")
-    checks.true(f"all is delivered after {renewed} certificates", wait_until(service.is_drained), service.last_lines())
+    checks.true(f"all is delivered after {renewed} certificates", service.has_delivered_all(), service.last_lines())
     found = totals(f"{folder}/sink.db")
     for poster in posters:
         checks.same(f"{poster.name}: each post was taken", [], poster.surprises)

@@ -162,6 +162,10 @@ class Service:
         status = self.status()
         return status is not None and status["ready"] and all(slot["waiting"] == 0 for slot in status["slots"])
 
+    def has_delivered_all(self, seconds: float = SECONDS) -> bool:
+        """Whether the sink has all that was taken: who was just started takes no order yet, and has nothing flushed that could wait."""
+        return wait_until(lambda: self.order("/flush") == 200, seconds) and wait_until(self.is_drained, seconds)
+
     def faults(self) -> list[str]:
         """What must never be, as the service counts it: the lines of its metrics that are not 0."""
         status, page = self.asked("GET", "/metrics")
