@@ -33,6 +33,9 @@ static TOLD: RateLimit = RateLimit::new();
 /// How often it is looked whether an operator's connection is overdue.
 const LOOK: Duration = Duration::from_secs(1);
 
+/// How long operators who are being answered are waited for at the end.
+const LAST_ANSWERS: Duration = Duration::from_secs(2);
+
 /// The answer to a head that did not come whole. How it would be answered is not known yet, so it is JSON.
 const LATE: &[u8] =
     b"HTTP/1.1 408 Request Timeout\r\ncontent-type: application/json\r\ncontent-length: 44\r\n\
@@ -116,13 +119,13 @@ impl ConnectionPermits {
     }
 }
 
-/// Accepts until `stop` is true or its sender is gone, and returns after the end of the last connection.
+/// Accepts until `stop` is true or its sender is gone: the connections that are open then.
 async fn accept<L: Listener>(
     listener: L,
     permits: Arc<ConnectionPermits>,
     mut stop: watch::Receiver<bool>,
     begin: impl Fn(&mut JoinSet<()>, L::Stream, Held),
-) {
+) -> JoinSet<()> {
     let mut open = JoinSet::new();
     loop {
         tokio::select! {
@@ -131,8 +134,19 @@ async fn accept<L: Listener>(
             (stream, held) = permits.accepted(&listener) => begin(&mut open, stream, held),
         }
     }
-    drop(listener);
+    open
+}
+
+/// Waits for the end of each.
+async fn ended(open: &mut JoinSet<()>) {
     while open.join_next().await.is_some() {}
+}
+
+/// The same, but not for longer than an answer may take at the end: nothing is left of them then.
+async fn ended_in_time(mut open: JoinSet<()>) {
+    if tokio::time::timeout(LAST_ANSWERS, ended(&mut open)).await.is_err() {
+        open.shutdown().await;
+    }
 }
 
 /// What carries a connection of senders: TCP itself, or TLS over it. Nothing is asked of which it is for each byte.
@@ -203,7 +217,7 @@ pub async fn spread<P: Protocol, T: Taker>(
             }
         }
     };
-    accept(listener, permits, stop, begin).await;
+    ended(&mut accept(listener, permits, stop, begin).await).await;
 }
 
 /// A connection that begins with a handshake: this has its place too, and none of the threads that serve posts.
@@ -232,7 +246,7 @@ async fn over_tls<P: Protocol, T: Taker>(
     let _ = serving.await; // it fails only where it panics
 }
 
-/// Serves operators, on the runtime that it is called on, with the same end.
+/// Serves operators, on the runtime that it is called on, with the same end; but who is not answered soon then is not waited for.
 pub async fn serve<L: Listener, H: Handler>(
     listener: L,
     limits: Limits,
@@ -250,7 +264,7 @@ pub async fn serve<L: Listener, H: Handler>(
             drop(held);
         });
     };
-    accept(listener, permits, stop, begin).await;
+    ended_in_time(accept(listener, permits, stop, begin).await).await;
 }
 
 /// The same over TLS, where there is some: each connection begins with a handshake, which has its place too.
@@ -301,7 +315,7 @@ pub async fn serve_over<H: Handler>(
             drop(held);
         });
     };
-    accept(listener, permits, stop.clone(), begin).await;
+    ended_in_time(accept(listener, permits, stop.clone(), begin).await).await;
 }
 
 /// Waits until certificates are believed by other files: then who was let in by the former ones comes anew.

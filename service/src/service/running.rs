@@ -65,7 +65,9 @@ impl Running {
         self.stop_intake.send_replace(true);
         let _ = tokio::time::timeout(LAST_POSTS, &mut self.intake).await; // who is slower was not answered
         self.stop_operate.send_replace(true);
-        let ended = self.at_work.stop_all().await?;
+        // With an order that is under way a file would be open, and so not be closed.
+        let (_, ended) = tokio::join!(&mut self.operate, self.at_work.stop_all());
+        let ended = ended?;
         // A slot that failed before it was told to end has said so here alone.
         while let Ok((slot, end)) = self.ends.try_recv() {
             if let Some(why) = self.ended_with(slot, end) {
@@ -102,8 +104,10 @@ mod tests {
     use super::super::unit::tests::{no_disk, unit};
     use super::super::unit::Unit;
     use super::*;
+    use crate::latch::Latch;
     use crate::operate;
     use std::future::Future;
+    use std::sync::atomic::{AtomicBool, Ordering::Relaxed};
 
     /// With one unit, and an intake whose last posts are under way so long.
     fn running(
@@ -139,6 +143,24 @@ mod tests {
         let unit = unit(place.path(), 0, async { post.await.map_err(|_| no_disk()) });
         let ended = running(unit, threads, async move { drop(of_intake) }).stop().await;
         assert!(ended.is_ok(), "the post was dropped: {ended:?}");
+    }
+
+    /// Else what they are answered from would be open at the end, and so no file of it closed.
+    #[tokio::test]
+    async fn operators_who_are_being_answered_are_waited_for() {
+        let place = tempfile::tempdir().unwrap();
+        let unit = unit(place.path(), 0, async { Ok(()) });
+        let mut running = running(unit, Arc::new(Threads::new(1).unwrap()), async {});
+        let (stop, mut stopped) = watch::channel(false);
+        let answered = Arc::new(AtomicBool::new(false));
+        let has_answered = answered.clone();
+        running.stop_operate = stop;
+        running.operate = tokio::spawn(async move {
+            stopped.wait_true().await;
+            tokio::time::sleep(Duration::from_millis(200)).await;
+            has_answered.store(true, Relaxed);
+        });
+        assert!(running.stop().await.is_ok() && answered.load(Relaxed));
     }
 
     /// While posts that are under way are waited for, or just before the signal came.

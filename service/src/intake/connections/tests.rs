@@ -15,7 +15,8 @@ impl Handler for Long {
 
 struct Served {
     address: std::net::SocketAddr,
-    _stop: watch::Sender<bool>,
+    stop: watch::Sender<bool>,
+    serving: tokio::task::JoinHandle<()>,
 }
 
 /// One that keeps idle connections for long, with so many places.
@@ -23,9 +24,9 @@ async fn served(connections: usize, length: usize) -> Served {
     let listener = TcpListener::bind("127.0.0.1:0").await.unwrap();
     let address = listener.local_addr().unwrap();
     let limits = Limits { connections, head: Duration::from_secs(4), idle: Duration::from_secs(600) };
-    let (_stop, stopped) = watch::channel(false);
-    tokio::spawn(serve(listener, limits, Arc::new(Long(length)), stopped));
-    Served { address, _stop }
+    let (stop, stopped) = watch::channel(false);
+    let serving = tokio::spawn(serve(listener, limits, Arc::new(Long(length)), stopped));
+    Served { address, stop, serving }
 }
 
 const REQUEST: &[u8] = b"GET /health HTTP/1.1\r\nHost: a\r\nConnection: close\r\n\r\n";
@@ -89,4 +90,17 @@ async fn who_reads_slowly_is_not_closed() {
     };
     let (all, other) = tokio::join!(reading, served.ask());
     assert!(all > 32 << 20 && other > 32 << 20, "{all}");
+}
+
+/// What it is answered from is nobody's then: the files can be closed.
+#[tokio::test]
+async fn half_a_head_is_not_waited_for_at_the_end() {
+    let served = served(1, 1).await;
+    let mut half = served.connected().await;
+    half.write_all(&REQUEST[..9]).await.unwrap();
+    tokio::time::sleep(Duration::from_millis(100)).await; // until it was accepted
+    let begun = Instant::now();
+    served.stop.send_replace(true);
+    served.serving.await.unwrap();
+    assert!(begun.elapsed() < Duration::from_millis(3500), "a head may take four seconds");
 }
