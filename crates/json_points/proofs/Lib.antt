@@ -9,3 +9,5 @@ pub mod MemberLemmas
 pub mod PartLemmas
 pub mod FollowLemmas
 pub mod TimeLemmas
+pub mod DigitLemmas
+pub mod SetLemmas

@@ -66,10 +66,6 @@ int_alone x d k z whole named read =
 
 -- ---- a key and a value
 
-turned : (b : Bool) → false ≡ not b → b ≡ true
-turned true e = refl
-turned false e = absurd cc
-
 both_there : (d e : Data) (key : List ℕ) (g : AttrValue) → text_in (present (Some d)) ≡ Some key → value_in (present (Some e)) ≡ Some g
     → pair_of (object (put (codes "value") e (put (codes "key") d no_members))) ≡ Some (key, g)
 unfolding pair_of field
@@ -78,9 +74,9 @@ both_there d e key g read there =
     ∙ ap (λ o. option_and_then (λ v. Some (key, v)) o) there
 
 pub pair_there : (x d e : Data) (k l key : List ℕ) (found : Option Data) (g : AttrValue) → x ≡ object (put l e (put k d no_members))
-    → false ≡ not (bytes_eq k (codes "key")) → false ≡ not (bytes_eq l (codes "value"))
+    → bytes_eq k (codes "key") ≡ true → bytes_eq l (codes "value") ≡ true
     → found ≡ present (Some d) → Some key ≡ text_in found → value_in (present (Some e)) ≡ Some g → pair_of x ≡ Some (key, g)
 pair_there x d e k l key found g whole first second is read there =
-    let k_is : k ≡ codes "key" = (bytes_eq-Decides k (codes "key")).0 (turned _ first) in
-    let l_is : l ≡ codes "value" = (bytes_eq-Decides l (codes "value")).0 (turned _ second) in
+    let k_is : k ≡ codes "key" = (bytes_eq-Decides k (codes "key")).0 first in
+    let l_is : l ≡ codes "value" = (bytes_eq-Decides l (codes "value")).0 second in
     rw (whole, k_is, l_is) (both_there d e key g (ap text_in (sym is) ∙ sym read) there)

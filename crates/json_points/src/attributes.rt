@@ -10,6 +10,7 @@ ghost use Rattle.json_points.specs.inner.RefViews.{pair_data};
 use crate::fields::{field, text_in};
 use crate::lists::{Element, list_in};
 use crate::members::{Pair, two_members};
+use crate::names::is_named;
 use crate::node::Node;
 use crate::scalar_ref::PairRef;
 use crate::values::{only_scalar, value_in};
@@ -58,13 +59,17 @@ fn pair_of(alloc: Global, node: &Node<'_, '_>) -> Result<Option<(Text, AttrValue
 }
 
 /// An attribute that is a key and a single value, in this order and with nothing else.
+#[inline(always)]
 pub fn pair_ref<'a>(node: &Node<'_, 'a>) -> Option<PairRef<'a>>
     ensures { IfSome result (λ p. pair_of (data_at node.now) ≡ Some (pair_data p)) }
 {
     let Some(Pair { first, second }) = two_members(node) else {
         return None;
     };
-    if first.name != "key" || second.name != "value" {
+    if !is_named(first.name, "key") {
+        return None;
+    }
+    if !is_named(second.name, "value") {
         return None;
     }
     let key = text_in(&first.value.present())?;

@@ -20,7 +20,8 @@ use crate::identity_cache::IdentityCache;
 use crate::integers::unsigned_64;
 use crate::lists::list_in;
 use crate::node::Node;
-use crate::streams::{PointStream, Stream, series_of};
+use crate::stream::Stream;
+use crate::streams::{PointStream, series_of};
 use crate::times::Times;
 use metric_events::point::{Point, PointFault};
 use series_id::Kind;
@@ -104,7 +105,7 @@ fn kind_of(alloc: Global, bounds: &Option<Node<'_, '_>>) -> Result<Option<Kind>,
 }
 
 /// In no stream, every point is foreign.
-impl PointStream for Option<Stream<'_>> {
+impl PointStream for Option<Stream<'_, '_>> {
     ghost reads = { λ stream. histogram_point_in (option_map stream_data stream) };
 
     fn read<'a>(
@@ -127,7 +128,7 @@ fn histogram_point<'a>(
     alloc: Global,
     cache: &mut IdentityCache,
     times: &mut Times<'a>,
-    stream: Stream<'_>,
+    stream: Stream<'_, '_>,
     node: &Node<'_, 'a>,
 ) -> Result<Option<Point>, AllocError>
     ensures { IfOk result (λ o. o ≡ histogram_point (stream_data stream.entry) (data_at node.now)) }
@@ -141,7 +142,8 @@ fn histogram_point<'a>(
     let Some(buckets) = list_in(alloc, &field(node, "bucketCounts"))? else {
         return Ok(None);
     };
-    let Some(series) = series_of(alloc, cache, stream, kind, &field(node, "attributes"))? else {
+    let found = field(node, "attributes");
+    let Some(series) = series_of(alloc, cache, &mut times.hash, stream, kind, &found)? else {
         return Ok(None);
     };
     let HistogramFields {

@@ -5,6 +5,7 @@ ghost use Rattle.json_points.specs.declared.identity_hash.TheConstants.{SLOTS};
 
 use crate::followed::Followed;
 use crate::identity_hash::{IdentityHash, SLOTS};
+use crate::slot::Slot;
 use series_id::{SeriesId, SharedId};
 use std::alloc::{AllocError, Global};
 use std::marker::Model;
@@ -15,21 +16,22 @@ use std::marker::Model;
 /// identity is kept.
 ///
 /// What a body says does not depend on its reader's cache: an identity in a slot is compared in
-/// full. It is replaced by a later one that needs its slot, so there are never more than `SLOTS` of
-/// them. One of more than 4,096 bytes is not kept. If the memory for the slots can't be allocated,
-/// nothing is kept.
+/// full, or its stream by the identity that stands for it. It is replaced by a later one that needs
+/// its slot, so there are never more than `SLOTS` of them, and as many that stand for a stream. One
+/// of more than 4,096 bytes is not kept. If the memory for the slots can't be allocated, nothing is
+/// kept.
 #[derive(Drop)]
 pub struct IdentityCache {
-    slots: Vec<Option<SharedId>>,
+    slots: Vec<Option<Slot>>,
     followed: Followed,
 }
 
 impl Model for IdentityCache {
     ghost use Rattle.std.specs.Prelude.{◌≤◌, length, List, Option};
     ghost use Rattle.json_points.specs.declared.identity_hash.TheConstants.{SLOTS};
-    ghost use Rattle.series_id.specs.Identity.{Identity};
+    ghost use Rattle.json_points.specs.declared.slot.Slot.{Slot};
 
-    ghost Value = { List (Option Identity) };
+    ghost Value = { List (Option Slot) };
 
     ghost view = { λ m. m.slots.items };
 
@@ -53,13 +55,25 @@ impl IdentityCache {
     }
 
     /// The identity in a slot, if there is one.
-    pub(crate) fn at(&self, slot: usize) -> Option<&SharedId> {
+    pub(crate) fn at(&self, slot: usize) -> Option<&Slot> {
         identity_at(self.slots.as_slice(), slot)
     }
 
     /// The slot of the identity that comes next, if it is known.
     pub(crate) fn next(&self) -> Option<usize> {
         self.followed.next()
+    }
+
+    /// The identity that stands for the stream of what comes next, if it is known.
+    pub(crate) fn next_stream(&self) -> Option<SharedId> {
+        self.at(self.next()?)?.stream().share().ok()
+    }
+
+    /// Replaces what is in a slot.
+    pub(crate) fn replace(&mut self, slot: usize, kept: Slot) {
+        if slot < self.slots.len() {
+            self.slots[slot] = Some(kept);
+        }
     }
 
     /// Notes the slot of the identity that came next.
@@ -96,8 +110,8 @@ impl IdentityCache {
         ensures { IfSome result (λ shared. shared ≡ series.now) }
     {
         let kept = self.at(slot)?;
-        if kept.as_series().is_same(series) {
-            kept.share().ok()
+        if kept.series.as_series().is_same(series) {
+            kept.series.share().ok()
         } else {
             None
         }
@@ -113,7 +127,7 @@ impl IdentityCache {
 }
 
 /// The identity in one of these slots, if there is one.
-fn identity_at(slots: &[Option<SharedId>], slot: usize) -> Option<&SharedId> {
+fn identity_at(slots: &[Option<Slot>], slot: usize) -> Option<&Slot> {
     if slot < slots.len() {
         slots[slot].as_ref()
     } else {
@@ -122,7 +136,7 @@ fn identity_at(slots: &[Option<SharedId>], slot: usize) -> Option<&SharedId> {
 }
 
 /// Allocates the slots, unless they are there.
-fn take_slots(alloc: Global, slots: &mut Vec<Option<SharedId>>) -> Result<(), AllocError>
+fn take_slots(alloc: Global, slots: &mut Vec<Option<Slot>>) -> Result<(), AllocError>
     requires { length slots.old.items ≤ SLOTS }
     ensures { length slots.new.items ≤ SLOTS }
 {
@@ -133,7 +147,7 @@ fn take_slots(alloc: Global, slots: &mut Vec<Option<SharedId>>) -> Result<(), Al
 }
 
 /// Puts an identity into the first of its slots if that is free, else into the other one: which.
-fn put(slots: &mut Vec<Option<SharedId>>, hash: IdentityHash, series: &SharedId) -> usize
+fn put(slots: &mut Vec<Option<Slot>>, hash: IdentityHash, series: &SharedId) -> usize
     ensures { length slots.new.items ≡ length slots.old.items }
 {
     let slot = if identity_at(slots.as_slice(), hash.slot()).is_none() {
@@ -142,15 +156,15 @@ fn put(slots: &mut Vec<Option<SharedId>>, hash: IdentityHash, series: &SharedId)
         hash.other_slot()
     };
     if slot < slots.len()
-        && let Ok(shared) = series.share()
+        && let Ok(kept) = Slot::new(series)
     {
-        slots[slot] = Some(shared);
+        slots[slot] = Some(kept);
     }
     slot
 }
 
 /// As many slots as a cache has, all free.
-fn free_slots(alloc: Global) -> Result<Vec<Option<SharedId>>, AllocError>
+fn free_slots(alloc: Global) -> Result<Vec<Option<Slot>>, AllocError>
     ensures { IfOk result (λ slots. length slots.items ≡ SLOTS) }
 {
     let mut slots = Vec::with_capacity(alloc, SLOTS)?;

@@ -1,13 +1,15 @@
 //! Reads whole numbers: JSON numbers, or decimal texts (proto3 JSON mapping).
 
-ghost use Rattle.std.specs.Prelude.{◌≡◌, ◌-◌, ◌<◌, ◌≤◌, ◌^◌};
+ghost use Rattle.std.specs.Prelude.{◌≡◌, ◌==◌, ◌||◌, ◌-◌, ◌<◌, ◌≤◌, ◌^◌, IfSome, Some};
+ghost use Rattle.std.specs.Prelude.{slice_index};
 ghost use Rattle.otlp_read.specs.Integers.{magnitude, text_whole, whole, unsigned_in, unsigned_64};
 ghost use Rattle.otlp_read.specs.Integers.{signed_in, signed_64, up_to};
 ghost use Rattle.json_points.specs.inner.Nodes.{data_at};
 
 use crate::node::Node;
 use crate::numbers::number;
-use decimals::number_up_to;
+use decimals::{number_up_to, numerals_are_read};
+use fast_float::parse_u64;
 
 /// The number of the digits, if it is below 2^64.
 #[tactic(auto, unfolding(otlp_read::specs::Integers::magnitude))]
@@ -74,11 +76,36 @@ pub fn signed(node: &Node<'_, '_>, below: u64, above: u64) -> Option<i64>
 pub fn unsigned_text(text: &str) -> Option<u64>
     ensures { result ≡ up_to (2 ^ 64 - 1) (text_whole text.now) }
 {
+    if let Some(found) = many_digits(text.as_bytes()) {
+        return Some(found);
+    }
     let found = whole_text(text)?;
     if found < 0 || found > i128::from(u64::MAX) {
         return None;
     }
     Some(found as u64)
+}
+
+/// The number of digits that have no sign, read several at a time. `None` says nothing.
+#[tactic(auto, unfolding(otlp_read::specs::Integers::magnitude))]
+fn many_digits(digits: &[u8]) -> Option<u64>
+    ensures { IfSome result (λ n. up_to (2 ^ 64 - 1) (text_whole digits.now) ≡ Some n) }
+{
+    numerals_are_read();
+    if has_sign(digits) {
+        return None;
+    }
+    match parse_u64(digits) {
+        Ok(found) => Some(found),
+        Err(_) => None,
+    }
+}
+
+/// Whether a sign stands first.
+fn has_sign(bytes: &[u8]) -> bool
+    ensures { result ≡ (slice_index bytes.now 0 == 43 || slice_index bytes.now 0 == 45) }
+{
+    !bytes.is_empty() && (bytes[0] == b'+' || bytes[0] == b'-')
 }
 
 /// The number of a value, if it is a whole number of 64 bits without a sign.

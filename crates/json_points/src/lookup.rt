@@ -7,18 +7,21 @@ ghost use Rattle.series_id.specs.Identity.{IsIdentity};
 ghost use Rattle.series_id.specs.Sorting.{pair_of as pair_in};
 ghost use Rattle.otlp_read.specs.Lists.{all_of, list_in};
 ghost use Rattle.otlp_read.specs.Attributes.{pair_of, set_of};
-ghost use Rattle.otlp_read.specs.Streams.{identity_in, series_in, series_of};
+ghost use Rattle.otlp_read.specs.Streams.{series_in, series_of};
 ghost use Rattle.json_points.specs.inner.Nodes.{AreItems};
 ghost use Rattle.json_points.specs.inner.Slots.{slot_data};
 ghost use Rattle.json_points.specs.inner.RefViews.{pair_data};
-ghost use Rattle.json_points.specs.inner.StreamViews.{scope_data, stream_data};
+ghost use Rattle.json_points.specs.inner.MetricViews.{metric_data, scope_data, stream_of};
+ghost use Rattle.json_points.specs.inner.StreamViews.{stream_data};
 
 use crate::attributes::pair_ref;
 use crate::identity_cache::IdentityCache;
 use crate::node::{Node, Nodes};
 use crate::scalar_ref::{NO_PAIR, PairRef, ScalarRef};
-use crate::streams::{Scope, Stream};
-use series_id::{AttrValue, Attribute, Kind, SeriesId, SharedId};
+use crate::stream::Stream;
+use crate::stream_hash::StreamHash;
+use crate::streams::{Metric, Scope};
+use series_id::{AttrSet, AttrValue, Attribute, Kind, SeriesId, SharedId};
 
 /// The most attributes of a point that is looked up.
 pub const MOST_PAIRS: usize = 16;
@@ -28,7 +31,8 @@ pub const MOST_PAIRS: usize = 16;
 /// memory.
 pub fn look_up(
     cache: &mut IdentityCache,
-    stream: Stream<'_>,
+    stream_hash: &mut StreamHash,
+    stream: Stream<'_, '_>,
     kind: &Kind,
     found: &Option<Node<'_, '_>>,
 ) -> Option<SharedId>
@@ -42,7 +46,7 @@ pub fn look_up(
     let count = pairs_in(&mut room, found)?;
     let pairs = &mut room[..count];
     sort_pairs(pairs);
-    look_up_pairs(cache, stream, kind, pairs)
+    look_up_pairs(cache, stream_hash, stream, kind, pairs)
 }
 
 /// Puts the attributes of a field at the front of `room`: how many they are. `None` if there are
@@ -88,7 +92,8 @@ pub fn sort_pairs(pairs: &mut [PairRef<'_>])
 /// The series of a stream with this kind and these attributes, which are in key order.
 fn look_up_pairs(
     cache: &mut IdentityCache,
-    stream: Stream<'_>,
+    stream_hash: &mut StreamHash,
+    stream: Stream<'_, '_>,
     kind: &Kind,
     pairs: &[PairRef<'_>],
 ) -> Option<SharedId>
@@ -96,7 +101,7 @@ fn look_up_pairs(
         option_and_then (series_in (stream_data stream.entry) kind.now)
         (set_of (map pair_data pairs.now)) ≡ Some s) }
 {
-    let mut hash = stream.hash;
+    let mut hash = stream_hash.of(stream);
     hash.add_kind(kind);
     hash.add_pairs(pairs);
     let mut slot = hash.slot();
@@ -115,7 +120,7 @@ fn look_up_pairs(
 fn share_at(
     cache: &IdentityCache,
     slot: usize,
-    stream: Stream<'_>,
+    stream: Stream<'_, '_>,
     kind: &Kind,
     pairs: &[PairRef<'_>],
 ) -> Option<SharedId>
@@ -124,8 +129,8 @@ fn share_at(
         (set_of (map pair_data pairs.now)) ≡ Some s) }
 {
     let kept = cache.at(slot)?;
-    if is_series(kept.as_series(), stream, kind, pairs) {
-        kept.share().ok()
+    if is_series(kept.series.as_series(), stream, kind, pairs) {
+        kept.series.share().ok()
     } else {
         None
     }
@@ -133,12 +138,12 @@ fn share_at(
 
 /// Whether a series is that of the stream, the kind and the attributes. The clause is of a series
 /// within its limits, as every `SharedId` is.
-fn is_series(series: &SeriesId, stream: Stream<'_>, kind: &Kind, pairs: &[PairRef<'_>]) -> bool
+fn is_series(series: &SeriesId, stream: Stream<'_, '_>, kind: &Kind, pairs: &[PairRef<'_>]) -> bool
     ensures only { IsIdentity series.now → IsTrue result →
         option_and_then (series_in (stream_data stream.entry) kind.now)
         (set_of (map pair_data pairs.now)) ≡ Some series.now }
 {
-    if !is_in_stream(series, stream) {
+    if !is_in_metric(series, stream.metric) {
         return false;
     }
     if !series.kind().is_same(kind) {
@@ -147,14 +152,13 @@ fn is_series(series: &SeriesId, stream: Stream<'_>, kind: &Kind, pairs: &[PairRe
     are_pairs(pairs, series.attrs().pairs())
 }
 
-/// Whether a series is one of the stream.
-pub fn is_in_stream(series: &SeriesId, stream: Stream<'_>) -> bool
-    ensures only { IsTrue result →
-        identity_in (stream_data stream.entry) series.now.kind series.now.attrs ≡ series.now }
+/// Whether a series is one of the metric.
+pub fn is_in_metric(series: &SeriesId, metric: Metric<'_>) -> bool
+    ensures only { IsTrue result → stream_of series.now ≡ metric_data metric.entry }
 {
-    series.name().as_str() == stream.name
-        && series.unit().as_str() == stream.unit
-        && is_in_scope(series, stream.scope)
+    series.name().as_str() == metric.name
+        && series.unit().as_str() == metric.unit
+        && is_in_scope(series, metric.scope)
 }
 
 /// Whether a series is one of the scope.
@@ -168,8 +172,46 @@ fn is_in_scope(series: &SeriesId, scope: Scope<'_>) -> bool
 {
     series.scope_name().as_str() == scope.name
         && series.scope_version().as_str() == scope.version
-        && series.scope_attrs().is_same(scope.attributes)
-        && series.resource().is_same(scope.resource)
+        && is_same_set(series.scope_attrs(), scope.attributes)
+        && is_same_set(series.resource(), scope.resource)
+}
+
+/// Whether two sets are equal. It takes less than their order where all values are single ones.
+fn is_same_set(mine: &AttrSet, its: &AttrSet) -> bool
+    ensures only { IsTrue result → mine.now ≡ its.now }
+{
+    are_same(mine.pairs(), its.pairs()) || mine.is_same(its)
+}
+
+/// Whether two lists have the same attributes, each with a single value.
+fn are_same(mine: &[Attribute], its: &[Attribute]) -> bool
+    ensures only { IsTrue result → mine.now ≡ its.now }
+{
+    if mine.len() != its.len() {
+        return false;
+    }
+    for i in 0..mine.len() {
+        if !is_same_attribute(&mine[i], &its[i]) {
+            return false;
+        }
+    }
+    true
+}
+
+/// Whether two attributes are equal, and have a single value.
+fn is_same_attribute(mine: &Attribute, its: &Attribute) -> bool
+    ensures only { IsTrue result → mine.now ≡ its.now }
+{
+    match &mine.value {
+        AttrValue::One(value) => {
+            let pair = PairRef {
+                key: mine.key.as_str(),
+                value: ScalarRef::of(value),
+            };
+            is_pair(&pair, its)
+        }
+        AttrValue::Many(_) => false,
+    }
 }
 
 /// Whether the attributes are those of a set, in its order.
@@ -188,6 +230,7 @@ pub fn are_pairs(pairs: &[PairRef<'_>], its: &[Attribute]) -> bool
 }
 
 /// Whether an attribute is one of a set.
+#[inline(always)]
 pub fn is_pair(pair: &PairRef<'_>, its: &Attribute) -> bool
     ensures only { IsTrue result → pair_data pair.now ≡ pair_in its.now }
 {

@@ -15,7 +15,7 @@ ghost use Rattle.otlp_read.specs.Sums.{sum_point_in};
 ghost use Rattle.otlp_read.specs.Tallies.{tally, add_foreign, add_metric, add_point, each_point};
 ghost use Rattle.json_points.specs.inner.Nodes.{AreItems, data_at};
 ghost use Rattle.json_points.specs.inner.Slots.{IsList};
-ghost use Rattle.json_points.specs.inner.StreamViews.{scope_data};
+ghost use Rattle.json_points.specs.inner.MetricViews.{scope_data};
 
 use crate::containers::{object_in, objects};
 use crate::fields::field;
@@ -179,7 +179,8 @@ fn add_sum(
         (tally reader.old.out))) }
 {
     let list = objects(&field(sum, "dataPoints"))?;
-    let stream = sum_stream_in(scope, metric, sum);
+    let next = reader.cache.next_stream();
+    let stream = sum_stream_in(scope, metric, sum, next.as_ref());
     points(reader, stream, list)?;
     Ok(())
 }
@@ -218,7 +219,8 @@ fn add_histogram(
         (tally reader.old.out))) }
 {
     let list = objects(&field(histogram, "dataPoints"))?;
-    let stream = stream_in(scope, metric, histogram);
+    let next = reader.cache.next_stream();
+    let stream = stream_in(scope, metric, histogram, next.as_ref());
     points(reader, stream, list)?;
     Ok(())
 }

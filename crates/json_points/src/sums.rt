@@ -14,6 +14,7 @@ ghost use Rattle.json_points.specs.inner.StreamViews.{sum_stream_data};
 use crate::fields::flags_fit;
 use crate::identity_cache::IdentityCache;
 use crate::integers::signed_64;
+use crate::names::is_named;
 use crate::node::Node;
 use crate::streams::{PointStream, SumStream, series_of};
 use crate::times::Times;
@@ -71,17 +72,17 @@ fn put_part<'t, 'a>(parts: &mut SumParts<'t, 'a>, name: &str, value: Node<'t, 'a
         → HasParts parts.new (object (put name.now (data_at value.entry) before)) }
 {
     let found = value.present();
-    if name == "attributes" {
+    if is_named(name, "attributes") {
         parts.attributes = found;
-    } else if name == "startTimeUnixNano" {
+    } else if is_named(name, "startTimeUnixNano") {
         parts.start = found;
-    } else if name == "timeUnixNano" {
+    } else if is_named(name, "timeUnixNano") {
         parts.end = found;
-    } else if name == "asInt" {
+    } else if is_named(name, "asInt") {
         parts.value = found;
-    } else if name == "asDouble" {
+    } else if is_named(name, "asDouble") {
         parts.double = found;
-    } else if name == "flags" {
+    } else if is_named(name, "flags") {
         parts.flags = found;
     }
 }
@@ -123,7 +124,7 @@ fn sum_fields<'a>(times: &mut Times<'a>, parts: &SumParts<'_, 'a>) -> Option<Sum
 }
 
 /// In no stream, every point is foreign.
-impl PointStream for Option<SumStream<'_>> {
+impl PointStream for Option<SumStream<'_, '_>> {
     ghost reads = { λ sum. sum_point_in (option_map sum_stream_data sum) };
 
     fn read<'a>(
@@ -146,7 +147,7 @@ fn sum_point<'a>(
     alloc: Global,
     cache: &mut IdentityCache,
     times: &mut Times<'a>,
-    sum: SumStream<'_>,
+    sum: SumStream<'_, '_>,
     node: &Node<'_, 'a>,
 ) -> Result<Option<Point>, AllocError>
     ensures { IfOk result (λ o. o ≡ sum_point (sum_stream_data sum.entry) (data_at node.now)) }
@@ -158,7 +159,8 @@ fn sum_point<'a>(
     let kind = Kind::Sum {
         monotonic: sum.monotonic,
     };
-    let Some(series) = series_of(alloc, cache, sum.stream, kind, &parts.attributes)? else {
+    let found = &parts.attributes;
+    let Some(series) = series_of(alloc, cache, &mut times.hash, sum.stream, kind, found)? else {
         return Ok(None);
     };
     let point = Point::shared_sum(series, fields.start, fields.end, fields.value);

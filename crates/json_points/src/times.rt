@@ -9,6 +9,7 @@ ghost use Rattle.json_points.specs.inner.Slots.{slot_data};
 use crate::fields::field;
 use crate::integers::{unsigned_64, unsigned_text};
 use crate::node::Node;
+use crate::stream_hash::StreamHash;
 
 /// A text, and the time that it writes, if it writes one.
 #[derive(Clone, Copy)]
@@ -18,11 +19,12 @@ pub struct Time<'a> {
     ghost is_written: { nanos ≡ up_to (2 ^ 64 - 1) (text_whole text.now) },
 }
 
-/// Start and end of the point before.
+/// Start and end of the point before, and the hash of the stream.
 #[derive(Clone, Copy)]
 pub struct Times<'a> {
     pub start: Time<'a>,
     pub end: Time<'a>,
+    pub hash: StreamHash,
 }
 
 impl<'a> Times<'a> {
@@ -31,6 +33,7 @@ impl<'a> Times<'a> {
         Times {
             start: Time::none(),
             end: Time::none(),
+            hash: StreamHash::none(),
         }
     }
 }

@@ -14,6 +14,7 @@ use crate::fields::field;
 use crate::integers::signed_64;
 use crate::lists::{Element, list_in};
 use crate::members::{Member, only_member};
+use crate::names::is_named;
 use crate::node::Node;
 use crate::scalar_ref::ScalarRef;
 use series_id::{AttrValue, Scalar, Scalars};
@@ -182,6 +183,7 @@ fn scalar_ref_of<'a>(node: &Node<'_, 'a>) -> Option<ScalarRef<'a>>
 }
 
 /// The value of an attribute, if it is a single one and nothing else stands in its object.
+#[inline(always)]
 pub fn only_scalar<'a>(node: &Node<'_, 'a>) -> Option<ScalarRef<'a>>
     ensures { IfSome result (λ g.
         value_in (present (Some (data_at node.now))) ≡ Some (One (scalar_data g))) }
@@ -189,11 +191,11 @@ pub fn only_scalar<'a>(node: &Node<'_, 'a>) -> Option<ScalarRef<'a>>
     let Some(Member { name, value }) = only_member(node) else {
         return None;
     };
-    if name == "stringValue" {
+    if is_named(name, "stringValue") {
         Some(ScalarRef::Text(value.as_str()?))
-    } else if name == "intValue" {
+    } else if is_named(name, "intValue") {
         Some(ScalarRef::Int(signed_64(&value)?))
-    } else if name == "boolValue" {
+    } else if is_named(name, "boolValue") {
         Some(ScalarRef::Truth(value.as_bool()?))
     } else {
         None

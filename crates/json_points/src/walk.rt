@@ -5,7 +5,7 @@ ghost use Rattle.otlp_read.specs.Reading.{scope_metrics, resource_metrics, readi
 ghost use Rattle.otlp_read.specs.Reading.{Answers, body};
 ghost use Rattle.otlp_read.specs.Tallies.{tally};
 ghost use Rattle.json_points.specs.inner.Nodes.{data_at};
-ghost use Rattle.json_points.specs.inner.StreamViews.{resource_data};
+ghost use Rattle.json_points.specs.inner.MetricViews.{resource_data};
 
 use crate::attributes::attributes_in;
 use crate::containers::{object_in, objects};

@@ -1,25 +1,11 @@
--- Resource, scope and metric, without the references.
-use Rattle.std.specs.Prelude.{List}
-use Rattle.series_id.specs.declared.attributes.Attribute.{Attribute}
-use Rattle.json_points.specs.declared.streams.Resource.{Resource as BorrowedResource}
-use Rattle.json_points.specs.declared.streams.Scope.{Scope as BorrowedScope}
-use Rattle.json_points.specs.declared.streams.Stream.{Stream as BorrowedStream}
+-- Streams, without the references.
+use Rattle.json_points.specs.declared.stream.Stream.{Stream as BorrowedStream}
 use Rattle.json_points.specs.declared.streams.SumStream.{SumStream as BorrowedSumStream}
-use Rattle.otlp_read.specs.Streams.{Scope, Stream, SumStream}
-
-abbrev pub resource_data : BorrowedResource → List Attribute
-resource_data r = r.attributes.now
-
-abbrev pub scope_data : BorrowedScope → Scope
-scope_data s = record {
-  resource = s.resource.now;
-  name = s.name.now;
-  version = s.version.now;
-  attributes = s.attributes.now;
-}
+use Rattle.json_points.specs.inner.MetricViews.{metric_data}
+use Rattle.otlp_read.specs.Streams.{Stream, SumStream}
 
 abbrev pub stream_data : BorrowedStream → Stream
-stream_data s = record { scope = scope_data s.scope; name = s.name.now; unit = s.unit.now }
+stream_data s = metric_data s.metric
 
 abbrev pub sum_stream_data : BorrowedSumStream → SumStream
 sum_stream_data s = record { stream = stream_data s.stream; monotonic = s.monotonic }

@@ -22,10 +22,10 @@ returns-in_default-3 c =
 pub returns-in_default-4 : goal.returns-in_default-4
 unfolding histogram_point kind_in
 returns-in_default-4 c =
-    rw (← c.in-Some.ensures, ← c.field.ensures, ← c.in_ok-kind.ensures, c.in-Some-2.is, ← c.field-2.ensures, ← c.in_ok-buckets.ensures, c.in-Some-3.is, ← c.field-3.ensures, ← c.in_ok-series.ensures, c.in_default-4.is) refl
+    rw (← c.in-Some.ensures, ← c.field.ensures, ← c.in_ok-kind.ensures, c.in-Some-2.is, ← c.field-2.ensures, ← c.in_ok-buckets.ensures, c.in-Some-3.is, ← c.field-found.ensures, ← c.in_ok-series.ensures, c.in_default-4.is) refl
 
 pub returns : goal.returns
 unfolding histogram_point kind_in
 returns c =
     let e = allowed c.shared_histogram.result _ _ _ c.shared_histogram.ensures.value c.shared_histogram.ensures.none c.shared_histogram.ensures.fault c.in_ok-point.ensures.ok in
-    rw (← c.in-Some.ensures, ← c.field.ensures, ← c.in_ok-kind.ensures, c.in-Some-2.is, ← c.field-2.ensures, ← c.in_ok-buckets.ensures, c.in-Some-3.is, ← c.field-3.ensures, ← c.in_ok-series.ensures, c.in-Some-4.is) (c.in_ok-point.ensures.point ∙ e)
+    rw (← c.in-Some.ensures, ← c.field.ensures, ← c.in_ok-kind.ensures, c.in-Some-2.is, ← c.field-2.ensures, ← c.in_ok-buckets.ensures, c.in-Some-3.is, ← c.field-found.ensures, ← c.in_ok-series.ensures, c.in-Some-4.is) (c.in_ok-point.ensures.point ∙ e)

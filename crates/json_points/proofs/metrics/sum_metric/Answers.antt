@@ -7,7 +7,7 @@ use Rattle.otlp_read.specs.Sums.{sum_point_in}
 use Rattle.otlp_read.specs.Tallies.{Tally, tally, each_point}
 use Rattle.json_points.specs.inner.Nodes.{data_at}
 use Rattle.json_points.specs.inner.Slots.{slot_data}
-use Rattle.json_points.specs.inner.StreamViews.{scope_data}
+use Rattle.json_points.specs.inner.MetricViews.{scope_data}
 use Rattle.json_points.proofs.MetricLemmas.{sum_alone}
 use Rattle.json_points.proofs.metrics.sum_metric.Goals as goal
 
