@@ -38,7 +38,7 @@ TIERS = (
     )),
     ("play, and the service's library", (
         ("play_script", ["play"]),
-        ("book_c", ["desk_new", "names_text", "reader_read", "reader_put", "reader_words", "reader_ends",
+        ("book_c", ["desk_new", "names_text", "names_follow", "reader_read", "reader_put", "reader_words", "reader_ends",
                     "desk_admit", "desk_try", "desk_crosses", "desk_take", "desk_take_book", "flushes_text",
                     "flushes_copy", "desk_settle", "desk_drop", "desk_give_back", "desk_quarantine", "desk_lift",
                     "desk_close_round", "desk_report"]),

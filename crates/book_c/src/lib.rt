@@ -249,6 +249,35 @@ pub extern "C" fn reader_words(
     put_back(reader, kept);
 }
 
+/// Has names follow others: where they are at the front of these, all of these are there then, by
+/// the same numbers. True where there was memory; else some have come. By what came so no number is
+/// found for a series.
+#[unsafe(no_mangle)]
+pub extern "C" fn names_follow(alloc: Global, names: &mut Handle, others: &mut Handle) -> bool
+    requires names { HasNames names.old }
+    requires others { HasNames others.old }
+    ensures names { HasNames names.new }
+    ensures others { HasNames others.new }
+    ensures all { Extends (names_of names.old.kept) (names_of others.old.kept) → result ≡ true
+        → names_of names.new.kept ≡ names_of others.old.kept }
+    ensures front { Extends (names_of names.old.kept) (names_of others.old.kept)
+        → Extends (names_of names.new.kept) (names_of others.old.kept) }
+    ensures same { others.new.kept ≡ others.old.kept }
+{
+    let mut kept = out_of(alloc, names);
+    let known = out_of(alloc, others);
+    let Kept::Names(it) = &mut *kept else {
+        unreachable!()
+    };
+    let Kept::Names(them) = &*known else {
+        unreachable!()
+    };
+    let done = it.follow(them).is_ok();
+    put_back(others, known);
+    put_back(names, kept);
+    done
+}
+
 /// Writes a request of one point, of the series with this number.
 #[unsafe(no_mangle)]
 pub extern "C" fn names_text(

@@ -15,3 +15,4 @@ pub mod SumSaid
 pub mod HistogramSaid
 pub mod WordsSaid
 pub mod SaidAgain
+pub mod Followed

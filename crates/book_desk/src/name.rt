@@ -37,6 +37,17 @@ impl Name {
         Ok(Name { series, hash })
     }
 
+    /// The same, which shares the identity.
+    pub fn share(&self) -> Result<Name, AllocError>
+        ensures { IfOk result (λ name. name ≡ self.now) }
+    {
+        let series = self.series.share()?;
+        Ok(Name {
+            series,
+            hash: self.hash,
+        })
+    }
+
     /// The series.
     pub fn series(&self) -> &SharedId
         ensures { result.now ≡ self.now }

@@ -27,7 +27,7 @@ impl Model for Names {
 impl Names {
     ghost use Rattle.std.specs.Prelude.{◌≡◌, ◌++◌, ◌∷◌, [], Some, length, option_map, slice_get};
     ghost use Rattle.std.specs.Prelude.{IfOk, IfErr, IfSome, OnOk, OnErr};
-    ghost use Rattle.book_desk.specs.Naming.{IsNumbered, IsNamed, IsNotNamed};
+    ghost use Rattle.book_desk.specs.Naming.{Extends, IsNumbered, IsNamed, IsNotNamed};
 
     /// No names. Takes no memory.
     pub fn new(alloc: Global) -> Names
@@ -89,6 +89,20 @@ impl Names {
             return Ok(number);
         }
         self.push(Name::of(series)?)
+    }
+
+    /// Has the names that another list has behind these, with the same numbers. By these no number
+    /// is found for a series: that is the other list's. If memory runs out, some have come.
+    #[tactic(auto, using(crate::proofs::Followed::is_front, crate::proofs::Followed::front_extends))]
+    pub fn follow(&mut self, other: &Names) -> Result<(), AllocError>
+        ensures all { Extends self.old other.now → OnOk result (self.new ≡ other.now) }
+        ensures front { Extends self.old other.now → Extends self.new other.now }
+    {
+        let all = other.names.as_slice();
+        for i in self.names.len()..all.len() {
+            self.names.push(all[i].share()?)?;
+        }
+        Ok(())
     }
 
     /// The name with this number.

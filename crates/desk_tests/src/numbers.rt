@@ -111,6 +111,25 @@ fn put_same(
     compare(rt, alloc, &desk_of(alloc, &mut again)?, expected)
 }
 
+/// The same by other names that follow these, to which they were new before.
+fn put_followed(
+    rt: &impl Abort,
+    alloc: Global,
+    names: &Names,
+    said: &[u64],
+    points: u64,
+    expected: &Desk,
+) -> Result<(), Fail> {
+    let mut seen = Names::new(alloc);
+    let mut again = Reader::new(alloc);
+    assert!(rt; put(&mut again, &seen, said).is_none());
+    seen.follow(names)?;
+    seen.follow(names)?;
+    assert!(rt; seen.len() == names.len());
+    assert!(rt; put(&mut again, &seen, said) == Some((points, 0)));
+    compare(rt, alloc, &desk_of(alloc, &mut again)?, expected)
+}
+
 /// A post of so many points, read as JSON and put by number.
 fn put_again(rt: &impl Abort, alloc: Global, body: &[u8], points: u64) -> Result<(), Fail> {
     let mut names = Names::new(alloc);
@@ -119,6 +138,7 @@ fn put_again(rt: &impl Abort, alloc: Global, body: &[u8], points: u64) -> Result
     let said = words(&reader, &mut names)?;
     say_same(rt, &reader, &mut names, &said, points)?;
     let expected = desk_of(alloc, &mut reader)?;
+    put_followed(rt, alloc, &names, &said, points, &expected)?;
     put_same(rt, alloc, &mut names, &said, points, &expected)
 }
 

@@ -11,7 +11,7 @@ use super::memory::{self, Tried};
 use answer::{asked, written};
 use std::ptr::null_mut;
 
-pub(super) use answer::{Answer, NO_MEMORY};
+pub(super) use answer::{Answer, NO_MEMORY, NO_SUCH};
 
 /// The most series of each book that one flush takes.
 pub(super) const MOST_TAKEN: usize = 1000;
@@ -52,6 +52,7 @@ extern "C" {
     fn reader_words(reader: *mut Handle, names: *mut Handle, words: *mut u64, count: usize, out: *mut Answer);
     fn names_new(out: *mut Handle) -> bool;
     fn names_free(names: *mut Handle);
+    fn names_follow(names: *mut Handle, others: *mut Handle) -> bool;
     fn names_text(names: *mut Handle, number: u64, text: *mut u8, length: usize, out: *mut Answer);
     fn desk_new(books: usize, out: *mut Handle) -> bool;
     fn desk_free(desk: *mut Handle);
@@ -173,6 +174,14 @@ impl Names {
     pub fn new() -> Option<Names> {
         // SAFETY: as of a reader.
         made(|handle| unsafe { names_new(handle) }).map(Names)
+    }
+
+    /// Has all that others have, by the same numbers, where it has nothing but what came so from these: whether there was memory.
+    /// They are for who reads points alone.
+    pub fn follow(&mut self, others: &mut Names) -> Answer {
+        // SAFETY: both handles are live and lent for this call alone.
+        let mut followed = || unsafe { names_follow(&mut self.0, &mut others.0) };
+        asked(|answer| answer.status = if followed() { 0 } else { NO_MEMORY })
     }
 
     /// A request of one point of the series that has this number, into a list that is about as long as that is.

@@ -1,7 +1,8 @@
 //! The book: proved, linked in, and asked by calls. `book` is the wrapper over its library, the only file that calls what
 //! is not Rust, `refusal` what it says no by, `memory` what it may have, `names` has numbers for series, `rounds` when rounds are
-//! closed, `read` a post that was read, `readers` what reads them, `stretch` which points are of one hour, `earlier` what is taken
-//! where a later one begins, `flushed` what was taken, `out_of_order` where the series of a refused post end.
+//! closed, `read` a post that was read, `readers` what reads them, `view` the names that a thread has seen, `stretch` which points
+//! are of one hour, `earlier` what is taken where a later one begins, `flushed` what was taken, `out_of_order` where the series of
+//! a refused post end.
 //!
 //! A post is read by a reader, which needs no lock. All else is asked of the one `Book` under the lock of `Core`: so
 //! there is one order of all that changes it, and what is put into the journal under that lock has the same.
@@ -19,6 +20,7 @@ mod refusal;
 mod rounds;
 mod stretch;
 mod texts;
+mod view;
 
 pub use flushed::Flushed;
 pub use memory::used as memory_used;

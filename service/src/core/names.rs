@@ -4,6 +4,7 @@ use super::book::{self, Answer, Reader};
 use super::readers::with_reader;
 use super::refusal::{check, Refused};
 use super::texts::Texts;
+use super::view::with_names;
 use crate::files::{self, Points};
 use crate::otlp::series::words_of;
 use bytes::Bytes;
@@ -165,11 +166,16 @@ impl Names {
         named.push(text);
     }
 
+    /// Has a reader have the points of these words.
     pub(super) fn put(&self, reader: &mut Reader, sender: &[u8], words: &[u64], books: usize) -> Answer {
-        reader.put(&mut self.handle(), sender, words, books)
+        with_names(self, |names| reader.put(names, sender, words, books))
     }
 
-    fn handle(&self) -> MutexGuard<'_, book::Names> {
+    pub(super) fn generation(&self) -> u64 {
+        self.generation
+    }
+
+    pub(super) fn handle(&self) -> MutexGuard<'_, book::Names> {
         self.handle.lock().unwrap_or_else(PoisonError::into_inner) // a call of the library is whole
     }
 
@@ -194,7 +200,7 @@ fn said(reader: &mut Reader, names: &mut book::Names, room: usize) -> Result<(Ve
 
 impl files::Names for Names {
     fn generation(&self) -> u64 {
-        self.generation
+        self.generation()
     }
 
     fn text(&self, number: u64) -> Bytes {

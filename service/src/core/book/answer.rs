@@ -4,6 +4,8 @@ use crate::core::memory;
 
 /// What a call says that was out of memory.
 pub(in crate::core) const NO_MEMORY: u32 = 7;
+/// What a call says of a number that nothing has.
+pub(in crate::core) const NO_SUCH: u32 = 12;
 /// What a call says that was given too short a slice: `number` is the length that it needs.
 const TOO_SHORT: u32 = 18;
 

@@ -58,6 +58,24 @@ fn points_by_number_are_those_of_their_requests() {
     }
 }
 
+/// A thread reads by what it has seen of them.
+#[test]
+fn a_number_is_that_of_its_names_also_where_it_is_younger_than_what_was_read_last() {
+    let core = Core::new(1).unwrap();
+    let by = named(&names("s", 2));
+    assert_eq!(put(&core, &by, "A", of([0, 1], 10, 5)), Ok(0));
+    let one = Bytes::from(points(&names("t", 1), 1, 0));
+    let learnt = std::thread::scope(|scope| scope.spawn(|| by.learn(one)).join().unwrap());
+    assert_eq!(learnt, Ok(2));
+    assert_eq!(put(&core, &by, "A", of([2, 0], 20, 6)), Ok(0));
+    let others = named(&names("u", 1));
+    assert_eq!(put(&core, &others, "A", of([0], 30, 7)), Ok(0));
+    assert_eq!(put(&core, &others, "A", of([1], 30, 7)), Err(Refused::NoSuch));
+    assert_eq!(put(&core, &by, "A", of([1], 40, 8)), Ok(0));
+    let expected = [("s0", (11, 30)), ("s1", (13, 50)), ("t0", (6, 30)), ("u0", (7, 40))];
+    assert_eq!(taken(&core), expected.map(|(name, sum)| (name.to_string(), sum)).into());
+}
+
 /// Of the refused post the book itself says it of the first point alone.
 #[test]
 fn where_series_end_is_said_of_all_points_that_are_out_of_order() {
