@@ -33,7 +33,7 @@ static TOLD: RateLimit = RateLimit::new();
 /// How often it is looked whether an operator's connection is overdue.
 const LOOK: Duration = Duration::from_secs(1);
 
-/// How long operators who are being answered are waited for at the end.
+/// How long who is being answered is waited for at the end, an operator or another instance.
 const LAST_ANSWERS: Duration = Duration::from_secs(2);
 
 /// The answer to a head that did not come whole. How it would be answered is not known yet, so it is JSON.
