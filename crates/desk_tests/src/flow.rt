@@ -8,10 +8,10 @@ use book_desk::flushes::{Flushes, TextFault, Written};
 use book_desk::reader::{PostFault, Reader};
 use book_desk::window::Window;
 use delta_book::faults::{AdmitFault, QuarantineFault};
+use ensure::{ensure, ensure_eq};
 use metric_events::sender_name::SenderName;
 use otlp_read::read_request;
 use std::alloc::Global;
-use std::process::Abort;
 use std::test::Fail;
 
 /// How many books the tests have.
@@ -72,29 +72,19 @@ fn points_of(alloc: Global, text: &[u8]) -> Result<usize, Fail> {
 }
 
 /// How many points the text of a flush has, read again.
-fn points_in_text(
-    rt: &impl Abort,
-    alloc: Global,
-    flushes: &mut Flushes,
-    i: usize,
-) -> Result<usize, Fail> {
+fn points_in_text(alloc: Global, flushes: &mut Flushes, i: usize) -> Result<usize, Fail> {
     let written = write(flushes, i)?;
     let mut text = Vec::from_elem(alloc, 0u8, written.bytes)?;
-    assert!(rt; flushes.copy_text(&mut text));
-    assert!(rt; points_of(alloc, &text)? == written.series);
+    ensure!(flushes.copy_text(&mut text));
+    ensure_eq!(points_of(alloc, &text)?, written.series);
     Ok(written.series)
 }
 
 /// The same of so many flushes.
-fn points_in_texts(
-    rt: &impl Abort,
-    alloc: Global,
-    flushes: &mut Flushes,
-    count: usize,
-) -> Result<usize, Fail> {
+fn points_in_texts(alloc: Global, flushes: &mut Flushes, count: usize) -> Result<usize, Fail> {
     let mut found: usize = 0;
     for i in 0..count {
-        found = found.saturating_add(points_in_text(rt, alloc, flushes, i)?);
+        found = found.saturating_add(points_in_text(alloc, flushes, i)?);
     }
     Ok(found)
 }
@@ -112,48 +102,39 @@ fn post_range(
 }
 
 /// A flush of each book is taken, written and given back.
-fn take_and_give_back(
-    rt: &impl Abort,
-    alloc: Global,
-    desk: &mut Desk,
-    flushes: &mut Flushes,
-) -> Result<(), Fail> {
+fn take_and_give_back(alloc: Global, desk: &mut Desk, flushes: &mut Flushes) -> Result<(), Fail> {
     let count = take(desk, flushes)?;
-    assert!(rt; count == BOOKS);
-    assert!(rt; take(desk, flushes) == Err(TakeAllFault::NotEnded));
-    assert!(rt; points_in_texts(rt, alloc, flushes, count)? == 100);
-    assert!(rt; !close_round(desk, 0, 1));
+    ensure_eq!(count, BOOKS);
+    ensure_eq!(take(desk, flushes), Err(TakeAllFault::NotEnded));
+    ensure_eq!(points_in_texts(alloc, flushes, count)?, 100);
+    ensure!(!close_round(desk, 0, 1));
     end(desk, flushes, End::GiveBack)?;
     Ok(())
 }
 
 /// Flushes of at most five series are taken, and settled once.
-fn take_and_settle(rt: &impl Abort, desk: &mut Desk, flushes: &mut Flushes) -> Result<(), Fail> {
-    assert!(rt; desk.take(flushes, 5)? == BOOKS);
+fn take_and_settle(desk: &mut Desk, flushes: &mut Flushes) -> Result<(), Fail> {
+    ensure_eq!(desk.take(flushes, 5)?, BOOKS);
     end(desk, flushes, End::Settle)?;
-    assert!(rt; end(desk, flushes, End::Settle) == Err(EndFault::Nothing));
+    ensure_eq!(end(desk, flushes, End::Settle), Err(EndFault::Nothing));
     Ok(())
 }
 
 /// The rounds of books that have so many entries, each once.
-fn close_rounds(rt: &impl Abort, desk: &mut Desk) {
-    assert!(rt; !close_round(desk, 0, 7));
-    assert!(rt; close_round(desk, 0, 1));
-    assert!(rt; !close_round(desk, 0, 1));
-    assert!(rt; close_round(desk, BOOKS - 1, 1));
-    assert!(rt; !close_round(desk, BOOKS, 0));
+fn close_rounds(desk: &mut Desk) -> Result<(), Fail> {
+    ensure!(!close_round(desk, 0, 7));
+    ensure!(close_round(desk, 0, 1));
+    ensure!(!close_round(desk, 0, 1));
+    ensure!(close_round(desk, BOOKS - 1, 1));
+    ensure!(!close_round(desk, BOOKS, 0));
+    Ok(())
 }
 
 /// A post of a hundred series.
-fn post_hundred(
-    rt: &impl Abort,
-    alloc: Global,
-    reader: &mut Reader,
-    desk: &mut Desk,
-) -> Result<(), Fail> {
-    assert!(rt; read_range(alloc, reader, (0, 100), 10)? == 100);
+fn post_hundred(alloc: Global, reader: &mut Reader, desk: &mut Desk) -> Result<(), Fail> {
+    ensure_eq!(read_range(alloc, reader, (0, 100), 10)?, 100);
     admit(desk, reader)?;
-    assert!(rt; desk.series() == 100);
+    ensure_eq!(desk.series(), 100);
     Ok(())
 }
 
@@ -162,27 +143,22 @@ fn post_hundred(
 fn a_post_is_spread_and_comes_out_whole(rt: HostRuntime) -> Result<(), Fail> {
     let alloc = rt.alloc();
     let mut desk = Desk::new(alloc, BOOKS)?;
-    post_hundred(&rt, alloc, &mut Reader::new(alloc), &mut desk)?;
+    post_hundred(alloc, &mut Reader::new(alloc), &mut desk)?;
     let mut flushes = Flushes::new(alloc);
-    take_and_give_back(&rt, alloc, &mut desk, &mut flushes)?;
-    take_and_settle(&rt, &mut desk, &mut flushes)?;
-    close_rounds(&rt, &mut desk);
+    take_and_give_back(alloc, &mut desk, &mut flushes)?;
+    take_and_settle(&mut desk, &mut flushes)?;
+    close_rounds(&mut desk)?;
     Ok(())
 }
 
 /// A post of which a point is too early is refused.
-fn refuse_late(
-    rt: &impl Abort,
-    alloc: Global,
-    reader: &mut Reader,
-    desk: &mut Desk,
-) -> Result<(), Fail> {
-    assert!(rt; admit(desk, reader) == Err(DeskFault::Nothing));
+fn refuse_late(alloc: Global, reader: &mut Reader, desk: &mut Desk) -> Result<(), Fail> {
+    ensure_eq!(admit(desk, reader), Err(DeskFault::Nothing));
     post_range(alloc, reader, desk, (50, 60), 20)?;
     let _ = read_range(alloc, reader, (43, 80), 15)?;
     let late = AdmitFault::OutOfOrder(7, 30);
-    assert!(rt; admit(desk, reader) == Err(DeskFault::Refused(late)));
-    assert!(rt; desk.series() == 10);
+    ensure_eq!(admit(desk, reader), Err(DeskFault::Refused(late)));
+    ensure_eq!(desk.series(), 10);
     Ok(())
 }
 
@@ -191,12 +167,11 @@ fn refuse_late(
 fn a_refused_post_leaves_nothing(rt: HostRuntime) -> Result<(), Fail> {
     let alloc = rt.alloc();
     let mut desk = Desk::new(alloc, BOOKS)?;
-    refuse_late(&rt, alloc, &mut Reader::new(alloc), &mut desk)
+    refuse_late(alloc, &mut Reader::new(alloc), &mut desk)
 }
 
 /// Nothing of the sender is taken, and it can't post, until it is released.
 fn hold_and_release(
-    rt: &impl Abort,
     alloc: Global,
     reader: &mut Reader,
     desk: &mut Desk,
@@ -205,12 +180,12 @@ fn hold_and_release(
     post_range(alloc, reader, desk, (0, 20), 10)?;
     hold(desk, sender)?;
     let taken = take(desk, &mut Flushes::new(alloc));
-    assert!(rt; taken == Err(TakeAllFault::Nothing));
+    ensure_eq!(taken, Err(TakeAllFault::Nothing));
     let _ = read_range(alloc, reader, (0, 20), 20)?;
     let held = DeskFault::Refused(AdmitFault::Quarantined);
-    assert!(rt; admit(desk, reader) == Err(held));
-    assert!(rt; release(desk, sender));
-    assert!(rt; !release(desk, sender));
+    ensure_eq!(admit(desk, reader), Err(held));
+    ensure!(release(desk, sender));
+    ensure!(!release(desk, sender));
     post_range(alloc, reader, desk, (0, 20), 20)
 }
 
@@ -220,7 +195,7 @@ fn a_sender_is_quarantined_in_all_books(rt: HostRuntime) -> Result<(), Fail> {
     let alloc = rt.alloc();
     let sender = SenderName::new(alloc, b"A")?;
     let mut desk = Desk::new(alloc, BOOKS)?;
-    hold_and_release(&rt, alloc, &mut Reader::new(alloc), &mut desk, &sender)
+    hold_and_release(alloc, &mut Reader::new(alloc), &mut desk, &sender)
 }
 
 /// The fault of a post that can't be read.
@@ -228,58 +203,44 @@ fn fault_of(reader: &mut Reader, sender: &[u8], body: &[u8]) -> Option<PostFault
     reader.read(sender, body, 1, Window::ALL).err()
 }
 
-fn refuse_to_read(rt: &impl Abort, reader: &mut Reader) {
-    assert!(rt; fault_of(reader, b"a b", b"{}") == Some(PostFault::BadSender));
-    assert!(rt; fault_of(reader, b"A", b"{") == Some(PostFault::NotJson));
-    assert!(rt; fault_of(reader, b"A", b"[]") == Some(PostFault::WrongShape));
+fn refuse_to_read(reader: &mut Reader) -> Result<(), Fail> {
+    ensure_eq!(fault_of(reader, b"a b", b"{}"), Some(PostFault::BadSender));
+    ensure_eq!(fault_of(reader, b"A", b"{"), Some(PostFault::NotJson));
+    ensure_eq!(fault_of(reader, b"A", b"[]"), Some(PostFault::WrongShape));
+    Ok(())
 }
 
 /// A post that is read, and gone once another one can't be; then it is read again, and admitted.
-fn read_again(
-    rt: &impl Abort,
-    reader: &mut Reader,
-    desk: &mut Desk,
-    body: &[u8],
-) -> Result<(), Fail> {
-    assert!(rt; fault_of(reader, b"A", body).is_none());
-    assert!(rt; fault_of(reader, b"A", b"{").is_some());
-    assert!(rt; admit(desk, reader) == Err(DeskFault::Nothing));
-    assert!(rt; fault_of(reader, b"A", body).is_none());
+fn read_again(reader: &mut Reader, desk: &mut Desk, body: &[u8]) -> Result<(), Fail> {
+    ensure!(fault_of(reader, b"A", body).is_none());
+    ensure!(fault_of(reader, b"A", b"{").is_some());
+    ensure_eq!(admit(desk, reader), Err(DeskFault::Nothing));
+    ensure!(fault_of(reader, b"A", body).is_none());
     Ok(admit(desk, reader)?)
 }
 
 /// How many lines the text has that was written last, of so many bytes.
-fn lines(rt: &impl Abort, alloc: Global, flushes: &Flushes, bytes: usize) -> Result<usize, Fail> {
+fn lines(alloc: Global, flushes: &Flushes, bytes: usize) -> Result<usize, Fail> {
     let mut text = Vec::from_elem(alloc, 0u8, bytes)?;
-    assert!(rt; flushes.copy_text(&mut text));
+    ensure!(flushes.copy_text(&mut text));
     Ok(text.iter().filter(|byte| **byte == b'\n').count())
 }
 
 /// The report of the one book, which has two series, and texts that there are none of.
-fn report_two(
-    rt: &impl Abort,
-    alloc: Global,
-    desk: &Desk,
-    flushes: &mut Flushes,
-) -> Result<(), Fail> {
+fn report_two(alloc: Global, desk: &Desk, flushes: &mut Flushes) -> Result<(), Fail> {
     let bytes = report(desk, flushes, 0)?;
-    assert!(rt; lines(rt, alloc, flushes, bytes)? == 3);
-    assert!(rt; report(desk, flushes, 1) == Err(TextFault::NoSuch));
-    assert!(rt; write(flushes, 0).err() == Some(TextFault::NoSuch));
+    ensure_eq!(lines(alloc, flushes, bytes)?, 3);
+    ensure_eq!(report(desk, flushes, 1), Err(TextFault::NoSuch));
+    ensure_eq!(write(flushes, 0).err(), Some(TextFault::NoSuch));
     Ok(())
 }
 
 /// Reads what can't be read, and what can, and reports it.
-fn read_and_report(
-    rt: &impl Abort,
-    alloc: Global,
-    desk: &mut Desk,
-    body: &[u8],
-) -> Result<(), Fail> {
+fn read_and_report(alloc: Global, desk: &mut Desk, body: &[u8]) -> Result<(), Fail> {
     let mut reader = Reader::new(alloc);
-    refuse_to_read(rt, &mut reader);
-    read_again(rt, &mut reader, desk, body)?;
-    report_two(rt, alloc, desk, &mut Flushes::new(alloc))
+    refuse_to_read(&mut reader)?;
+    read_again(&mut reader, desk, body)?;
+    report_two(alloc, desk, &mut Flushes::new(alloc))
 }
 
 // What can't be read says why, and the reader has nothing then. A report has a line for each
@@ -288,5 +249,5 @@ fn read_and_report(
 fn what_can_not_be_read_or_written(rt: HostRuntime) -> Result<(), Fail> {
     let alloc = rt.alloc();
     let body = body_of(alloc, &[(1, 10), (2, 10)])?;
-    read_and_report(&rt, alloc, &mut Desk::new(alloc, 1)?, body.as_bytes())
+    read_and_report(alloc, &mut Desk::new(alloc, 1)?, body.as_bytes())
 }

@@ -6,8 +6,8 @@ use book_desk::flushes::{Flushes, TextFault};
 use book_desk::names::Names;
 use book_desk::reader::{PostFault, Reader};
 use book_desk::window::Window;
+use ensure::{ensure, ensure_eq};
 use std::alloc::{AllocError, Global};
-use std::process::Abort;
 use std::test::Fail;
 
 /// How many books the tests have.
@@ -58,21 +58,21 @@ fn request(names: &Names, number: u64) -> Result<Vec<u8>, TextFault> {
 }
 
 /// The report of a book.
-fn report_of(rt: &impl Abort, alloc: Global, desk: &Desk, i: usize) -> Result<Vec<u8>, Fail> {
+fn report_of(alloc: Global, desk: &Desk, i: usize) -> Result<Vec<u8>, Fail> {
     let mut flushes = Flushes::new(alloc);
     let bytes = report(desk, &mut flushes, i)?;
     let mut text = Vec::from_elem(alloc, 0u8, bytes)?;
-    assert!(rt; flushes.copy_text(&mut text));
+    ensure!(flushes.copy_text(&mut text));
     Ok(text)
 }
 
 /// Both desks have the same sums of the same series.
-fn compare(rt: &impl Abort, alloc: Global, one: &Desk, other: &Desk) -> Result<(), Fail> {
+fn compare(alloc: Global, one: &Desk, other: &Desk) -> Result<(), Fail> {
     for i in 0..BOOKS {
-        let expected = report_of(rt, alloc, one, i)?;
-        assert!(rt; report_of(rt, alloc, other, i)?.as_slice() == expected.as_slice());
+        let expected = report_of(alloc, one, i)?;
+        ensure_eq!(report_of(alloc, other, i)?.as_slice(), expected.as_slice());
     }
-    assert!(rt; one.series() == other.series());
+    ensure_eq!(one.series(), other.series());
     Ok(())
 }
 
@@ -84,21 +84,14 @@ fn desk_of(alloc: Global, reader: &mut Reader) -> Result<Desk, Fail> {
 }
 
 /// What the reader has is said in these words, by these names.
-fn say_same(
-    rt: &impl Abort,
-    reader: &Reader,
-    names: &mut Names,
-    said: &[u64],
-    points: u64,
-) -> Result<(), Fail> {
-    assert!(rt; words(reader, names)?.as_slice() == said);
-    assert!(rt; names.len() as u64 == points);
+fn say_same(reader: &Reader, names: &mut Names, said: &[u64], points: u64) -> Result<(), Fail> {
+    ensure_eq!(words(reader, names)?.as_slice(), said);
+    ensure_eq!(names.len() as u64, points);
     Ok(())
 }
 
 /// The words are put, and say the same; what is admitted then is the same.
 fn put_same(
-    rt: &impl Abort,
     alloc: Global,
     names: &mut Names,
     said: &[u64],
@@ -106,55 +99,58 @@ fn put_same(
     expected: &Desk,
 ) -> Result<(), Fail> {
     let mut again = Reader::new(alloc);
-    assert!(rt; put(&mut again, names, said) == Some((points, 0)));
-    say_same(rt, &again, names, said, points)?;
-    compare(rt, alloc, &desk_of(alloc, &mut again)?, expected)
+    ensure_eq!(put(&mut again, names, said), Some((points, 0)));
+    say_same(&again, names, said, points)?;
+    compare(alloc, &desk_of(alloc, &mut again)?, expected)
 }
 
 /// A post of so many points, read as JSON and put by number.
-fn put_again(rt: &impl Abort, alloc: Global, body: &[u8], points: u64) -> Result<(), Fail> {
+fn put_again(alloc: Global, body: &[u8], points: u64) -> Result<(), Fail> {
     let mut names = Names::new(alloc);
     let mut reader = Reader::new(alloc);
-    assert!(rt; read(&mut reader, body)? == points);
+    ensure_eq!(read(&mut reader, body)?, points);
     let said = words(&reader, &mut names)?;
-    say_same(rt, &reader, &mut names, &said, points)?;
+    say_same(&reader, &mut names, &said, points)?;
     let expected = desk_of(alloc, &mut reader)?;
-    put_same(rt, alloc, &mut names, &said, points, &expected)
+    put_same(alloc, &mut names, &said, points, &expected)
 }
 
 // Each form of point comes back by number; 1,500 series get 1,500 numbers, and keep them.
 #[test]
 fn words_that_are_put_again_make_the_same_sums(rt: HostRuntime) -> Result<(), Fail> {
     let alloc = rt.alloc();
-    put_again(&rt, alloc, FORMS.as_bytes(), 5)?;
-    put_again(&rt, alloc, range_of(alloc, (0, 1500), 10)?.as_bytes(), 1500)
+    put_again(alloc, FORMS.as_bytes(), 5)?;
+    put_again(alloc, range_of(alloc, (0, 1500), 10)?.as_bytes(), 1500)
 }
 
 /// Names of all that these have, in order, from their requests.
-fn name_again(rt: &impl Abort, alloc: Global, names: &Names) -> Result<Names, Fail> {
+fn name_again(alloc: Global, names: &Names) -> Result<Names, Fail> {
     let (mut others, mut reader) = (Names::new(alloc), Reader::new(alloc));
     for number in 0..names.len() as u64 {
         let text = request(names, number)?;
-        assert!(rt; read(&mut reader, &text)? == 1);
-        assert!(rt; words(&reader, &mut others)?.as_slice().first() == Some(&number));
+        ensure_eq!(read(&mut reader, &text)?, 1);
+        ensure_eq!(
+            words(&reader, &mut others)?.as_slice().first(),
+            Some(&number)
+        );
     }
     Ok(others)
 }
 
 /// By names that were made of their requests the post is in the same words, and no name is new.
-fn says_the_same(rt: &impl Abort, alloc: Global, body: &[u8]) -> Result<(), Fail> {
+fn says_the_same(alloc: Global, body: &[u8]) -> Result<(), Fail> {
     let mut names = Names::new(alloc);
     let mut reader = Reader::new(alloc);
     let points = read(&mut reader, body)?;
     let said = words(&reader, &mut names)?;
-    let mut others = name_again(rt, alloc, &names)?;
-    assert!(rt; request(&names, points).err() == Some(TextFault::NoSuch));
-    say_same(rt, &reader, &mut others, &said, points)
+    let mut others = name_again(alloc, &names)?;
+    ensure_eq!(request(&names, points).err(), Some(TextFault::NoSuch));
+    say_same(&reader, &mut others, &said, points)
 }
 
 #[test]
 fn names_from_requests_are_of_the_same_series(rt: HostRuntime) -> Result<(), Fail> {
     let alloc = rt.alloc();
-    says_the_same(&rt, alloc, FORMS.as_bytes())?;
-    says_the_same(&rt, alloc, range_of(alloc, (0, 100), 10)?.as_bytes())
+    says_the_same(alloc, FORMS.as_bytes())?;
+    says_the_same(alloc, range_of(alloc, (0, 100), 10)?.as_bytes())
 }

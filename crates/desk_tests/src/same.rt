@@ -5,8 +5,8 @@ use crate::bodies::body_of;
 use book_desk::desk::{Desk, DeskFault};
 use book_desk::reader::Reader;
 use book_desk::window::Window;
+use ensure::{ensure, ensure_eq};
 use std::alloc::Global;
-use std::process::Abort;
 use std::test::Fail;
 
 /// How many posts are tried.
@@ -88,7 +88,6 @@ impl Side {
 
 /// One of the posts, to both. Whether it was taken.
 fn post_to_both(
-    rt: &impl Abort,
     alloc: Global,
     chance: &mut Chance,
     one: &mut Side,
@@ -98,16 +97,16 @@ fn post_to_both(
     let body = chance.body(alloc, post)?;
     let sender = chance.sender();
     let answer = one.post(1, sender, body.as_str())?;
-    assert_eq!(rt; many.post(8, sender, body.as_str())?, answer);
+    ensure_eq!(many.post(8, sender, body.as_str())?, answer);
     Ok(answer.is_ok())
 }
 
 /// All posts, to both. How many were taken.
-fn post_all(rt: &impl Abort, alloc: Global, one: &mut Side, many: &mut Side) -> Result<u64, Fail> {
+fn post_all(alloc: Global, one: &mut Side, many: &mut Side) -> Result<u64, Fail> {
     let mut chance = Chance { state: 7 };
     let mut taken: u64 = 0;
     for post in 0..POSTS {
-        if post_to_both(rt, alloc, &mut chance, one, many, post)? {
+        if post_to_both(alloc, &mut chance, one, many, post)? {
             taken = taken.saturating_add(1);
         }
     }
@@ -121,8 +120,8 @@ fn posts_over_many_books_are_answered_as_by_one(rt: HostRuntime) -> Result<(), F
     let alloc = rt.alloc();
     let mut one = Side::new(alloc, 1)?;
     let mut many = Side::new(alloc, 8)?;
-    let taken = post_all(&rt, alloc, &mut one, &mut many)?;
-    assert!(rt; 20 < taken && taken < POSTS - 20);
-    assert!(rt; one.desk.series() == many.desk.series());
+    let taken = post_all(alloc, &mut one, &mut many)?;
+    ensure!(20 < taken && taken < POSTS - 20);
+    ensure_eq!(one.desk.series(), many.desk.series());
     Ok(())
 }

@@ -1,4 +1,5 @@
 use back_answers::{Act, Answer, act, classify};
+use ensure::ensure_eq;
 use std::test::Fail;
 
 #[test]
@@ -25,7 +26,7 @@ fn classes_of_statuses(rt: HostRuntime) -> Result<(), Fail> {
         (600, Answer::Unknown),
         (65535, Answer::Unknown),
     ] {
-        assert_eq!(rt; classify(status, None), want, "at {status}");
+        ensure_eq!(classify(status, None), want, status);
     }
     Ok(())
 }
@@ -50,7 +51,7 @@ fn seconds_to_wait(rt: HostRuntime) -> Result<(), Fail> {
     ];
     for (status, value, after) in cases {
         let answer = classify(status, Some(value));
-        assert_eq!(rt; answer, Answer::Retryable { after }, "at {status}");
+        ensure_eq!(answer, Answer::Retryable { after }, status);
     }
     Ok(())
 }
@@ -63,7 +64,7 @@ fn acts_of_answers(rt: HostRuntime) -> Result<(), Fail> {
         (400, Act::DropFlush),
         (302, Act::GiveBack),
     ] {
-        assert_eq!(rt; act(classify(status, Some(b"2"))), want, "at {status}");
+        ensure_eq!(act(classify(status, Some(b"2"))), want, status);
     }
     Ok(())
 }

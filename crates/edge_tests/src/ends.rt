@@ -1,6 +1,7 @@
 ghost use Rattle.std.specs.Prelude.{◌≡◌, ◌≤◌, IfOk};
 
 use byte_ends::{Failed, FromReader, Script, Sink, Source, Step, Tape, ToWriter, drain};
+use ensure::{ensure, ensure_eq};
 use std::io;
 use std::io::{ErrorKind, Read, Write};
 use std::test::Fail;
@@ -12,14 +13,14 @@ fn script_cuts_and_fails(rt: HostRuntime) -> Result<(), Fail> {
     let steps = [Step::AtMost(2), Step::Fail, Step::AtMost(0)];
     let mut source = Script::new(TEXT, &steps);
     let mut buf = [0; 3];
-    assert_eq!(rt; source.read(&mut buf), Ok(2));
-    assert!(rt; &buf[..2] == b"ab".as_slice());
-    assert_eq!(rt; source.read(&mut buf), Err(Failed));
-    assert!(rt; source.left() == b"cdef".as_slice());
-    assert_eq!(rt; source.read(&mut buf), Ok(1));
-    assert_eq!(rt; source.read(&mut buf), Ok(3));
-    assert!(rt; buf.as_slice() == b"def".as_slice());
-    assert_eq!(rt; source.read(&mut buf), Ok(0));
+    ensure_eq!(source.read(&mut buf), Ok(2));
+    ensure_eq!(&buf[..2], b"ab".as_slice());
+    ensure_eq!(source.read(&mut buf), Err(Failed));
+    ensure_eq!(source.left(), b"cdef".as_slice());
+    ensure_eq!(source.read(&mut buf), Ok(1));
+    ensure_eq!(source.read(&mut buf), Ok(3));
+    ensure_eq!(buf.as_slice(), b"def".as_slice());
+    ensure_eq!(source.read(&mut buf), Ok(0));
     Ok(())
 }
 
@@ -32,12 +33,12 @@ fn tape_cuts_and_fails(rt: HostRuntime) -> Result<(), Fail> {
         Step::AtMost(9),
     ];
     let mut sink = Tape::new(rt.alloc(), &steps);
-    assert_eq!(rt; sink.write(TEXT), Ok(2));
-    assert_eq!(rt; sink.write(b"cd"), Err(Failed));
-    assert_eq!(rt; sink.write(b"cd"), Err(Failed));
-    assert_eq!(rt; sink.write(b"cd"), Ok(2));
-    assert_eq!(rt; sink.write(b"ef"), Ok(2));
-    assert!(rt; sink.taken() == TEXT);
+    ensure_eq!(sink.write(TEXT), Ok(2));
+    ensure_eq!(sink.write(b"cd"), Err(Failed));
+    ensure_eq!(sink.write(b"cd"), Err(Failed));
+    ensure_eq!(sink.write(b"cd"), Ok(2));
+    ensure_eq!(sink.write(b"ef"), Ok(2));
+    ensure_eq!(sink.taken(), TEXT);
     Ok(())
 }
 
@@ -47,10 +48,10 @@ fn over_a_reader_and_a_writer(rt: HostRuntime) -> Result<(), Fail> {
     let mut sink = ToWriter::new(Vec::new(rt.alloc()));
     let mut buf = [0; 4];
     for n in [4, 2, 0] {
-        assert_eq!(rt; source.read(&mut buf), Ok(n));
-        assert_eq!(rt; sink.write(&buf[..n]), Ok(n));
+        ensure_eq!(source.read(&mut buf), Ok(n));
+        ensure_eq!(sink.write(&buf[..n]), Ok(n));
     }
-    assert!(rt; sink.into_inner().as_slice() == TEXT);
+    ensure_eq!(sink.into_inner().as_slice(), TEXT);
     Ok(())
 }
 
@@ -104,17 +105,17 @@ fn a_failed_call_is_not_tried_again(rt: HostRuntime) -> Result<(), Fail> {
     ] {
         let first = Some(kind);
         let mut source = FromReader::new(FailsOnce { first, calls: 0 });
-        assert_eq!(rt; source.read(&mut buf), Err(Failed));
-        assert_eq!(rt; source.read(&mut buf), Ok(4));
+        ensure_eq!(source.read(&mut buf), Err(Failed));
+        ensure_eq!(source.read(&mut buf), Ok(4));
         let mut sink = ToWriter::new(FailsOnce { first, calls: 0 });
-        assert_eq!(rt; sink.write(TEXT), Err(Failed));
-        assert_eq!(rt; sink.write(TEXT), Ok(6));
-        assert_eq!(rt; sink.into_inner().calls, 2);
+        ensure_eq!(sink.write(TEXT), Err(Failed));
+        ensure_eq!(sink.write(TEXT), Ok(6));
+        ensure_eq!(sink.into_inner().calls, 2);
     }
     let (first, calls) = (None, 0);
     let mut sink = ToWriter::new(FailsOnce { first, calls });
-    assert_eq!(rt; sink.write(TEXT), Err(Failed));
-    assert_eq!(rt; sink.into_inner().calls, 1);
+    ensure_eq!(sink.write(TEXT), Err(Failed));
+    ensure_eq!(sink.into_inner().calls, 1);
     Ok(())
 }
 
@@ -122,14 +123,14 @@ fn a_failed_call_is_not_tried_again(rt: HostRuntime) -> Result<(), Fail> {
 fn drain_throws_away_what_is_left(rt: HostRuntime) -> Result<(), Fail> {
     let cuts = [Step::AtMost(3), Step::AtMost(9)];
     let mut source = Script::new(TEXT, &cuts);
-    assert_eq!(rt; drain(&mut source, 4), Ok(()));
-    assert!(rt; source.left() == b"ef".as_slice());
-    assert_eq!(rt; drain(&mut source, 9), Ok(()));
-    assert!(rt; source.left().is_empty());
+    ensure_eq!(drain(&mut source, 4), Ok(()));
+    ensure_eq!(source.left(), b"ef".as_slice());
+    ensure_eq!(drain(&mut source, 9), Ok(()));
+    ensure!(source.left().is_empty());
     let fails = [Step::AtMost(2), Step::Fail];
     let mut source = Script::new(TEXT, &fails);
-    assert_eq!(rt; drain(&mut source, 9), Err(Failed));
-    assert!(rt; source.left() == b"cdef".as_slice());
+    ensure_eq!(drain(&mut source, 9), Err(Failed));
+    ensure_eq!(source.left(), b"cdef".as_slice());
     Ok(())
 }
 
@@ -153,12 +154,12 @@ fn sends<K: Sink>(sink: &mut K, bytes: &[u8]) -> bool
 #[test]
 fn new_ends_have_not_failed(rt: HostRuntime) -> Result<(), Fail> {
     let mut taken = Vec::new(rt.alloc());
-    assert_eq!(rt; first_byte(&mut FromReader::new(TEXT)), Some(b'a'));
-    assert_eq!(rt; first_byte(&mut Script::new(TEXT, &[])), Some(b'a'));
-    assert_eq!(rt; first_byte(&mut Script::new(TEXT, &[Step::Fail])), None);
-    assert!(rt; sends(&mut ToWriter::new(&mut taken), TEXT));
-    assert!(rt; taken.as_slice() == TEXT);
-    assert!(rt; sends(&mut Tape::new(rt.alloc(), &[]), TEXT));
-    assert!(rt; !sends(&mut Tape::new(rt.alloc(), &[Step::Fail]), TEXT));
+    ensure_eq!(first_byte(&mut FromReader::new(TEXT)), Some(b'a'));
+    ensure_eq!(first_byte(&mut Script::new(TEXT, &[])), Some(b'a'));
+    ensure_eq!(first_byte(&mut Script::new(TEXT, &[Step::Fail])), None);
+    ensure!(sends(&mut ToWriter::new(&mut taken), TEXT));
+    ensure_eq!(taken.as_slice(), TEXT);
+    ensure!(sends(&mut Tape::new(rt.alloc(), &[]), TEXT));
+    ensure!(!sends(&mut Tape::new(rt.alloc(), &[Step::Fail]), TEXT));
     Ok(())
 }

@@ -1,4 +1,5 @@
 use byte_ends::{Script, Step, Tape};
+use ensure::{ensure, ensure_eq};
 use http::{Method, StatusCode};
 use http_edge::{
     Decoder, HttpFault, MAX_BODY, MAX_HEAD, Reply, Request, Written, find_in, read_message,
@@ -46,7 +47,7 @@ fn cut_in_two_at_every_place(rt: HostRuntime) -> Result<(), Fail> {
         let Ok(request) = read(rt.alloc(), &mut source) else {
             panic!(rt; "cut {cut}");
         };
-        assert!(rt; is_posted(&request), "cut {cut}");
+        ensure!(is_posted(&request), cut);
     }
     Ok(())
 }
@@ -55,28 +56,28 @@ fn cut_in_two_at_every_place(rt: HostRuntime) -> Result<(), Fail> {
 fn byte_by_byte(rt: HostRuntime) -> Result<(), Fail> {
     let mut decoder = Decoder::new(rt.alloc());
     for (at, byte) in CHUNKED.iter().enumerate() {
-        assert_eq!(rt; feed(&mut decoder, &[*byte]), Ok(at + 1 == CHUNKED.len()));
+        ensure_eq!(feed(&mut decoder, &[*byte]), Ok(at + 1 == CHUNKED.len()));
     }
     // The head has 89 bytes, and the body 2.
-    assert_eq!(rt; decoder.held(), 91);
-    assert_eq!(rt; feed(&mut decoder, b"GET"), Ok(true));
+    ensure_eq!(decoder.held(), 91);
+    ensure_eq!(feed(&mut decoder, b"GET"), Ok(true));
     let Ok(request) = decoder.finish() else {
         panic!(rt; "no request");
     };
-    assert!(rt; is_posted(&request));
+    ensure!(is_posted(&request));
     Ok(())
 }
 
 #[test]
 fn a_fault_is_answered_again(rt: HostRuntime) -> Result<(), Fail> {
     let mut decoder = Decoder::new(rt.alloc());
-    assert_eq!(rt;
+    ensure_eq!(
         feed(&mut decoder, b"GET / HTTP/2.0\r\n"),
         Err(HttpFault::BadHead)
     );
-    assert_eq!(rt; feed(&mut decoder, CHUNKED), Err(HttpFault::BadHead));
-    assert_eq!(rt; decoder.held(), 0);
-    assert!(rt; matches!(decoder.finish(), Err(HttpFault::BadHead)));
+    ensure_eq!(feed(&mut decoder, CHUNKED), Err(HttpFault::BadHead));
+    ensure_eq!(decoder.held(), 0);
+    ensure!(matches!(decoder.finish(), Err(HttpFault::BadHead)));
     Ok(())
 }
 
@@ -134,7 +135,7 @@ const FAULTS: [(&[u8], HttpFault); 14] = [
 #[test]
 fn faults(rt: HostRuntime) -> Result<(), Fail> {
     for (bytes, fault) in FAULTS {
-        assert_eq!(rt; fault_of(rt.alloc(), bytes), Some(fault));
+        ensure_eq!(fault_of(rt.alloc(), bytes), Some(fault));
     }
     Ok(())
 }
@@ -149,7 +150,7 @@ fn what_is_read(rt: HostRuntime) -> Result<(), Fail> {
         b"GET / HTTP/1.1\r\nContent-Length: 0\r\n\r\n",
     ];
     for bytes in &cases {
-        assert_eq!(rt; fault_of(rt.alloc(), bytes), None);
+        ensure_eq!(fault_of(rt.alloc(), bytes), None);
     }
     Ok(())
 }
@@ -158,10 +159,10 @@ fn what_is_read(rt: HostRuntime) -> Result<(), Fail> {
 fn a_failing_reader(rt: HostRuntime) -> Result<(), Fail> {
     let steps = [Step::AtMost(5), Step::Fail];
     let mut source = Script::new(CHUNKED, &steps);
-    assert!(rt; matches!(read(rt.alloc(), &mut source), Err(HttpFault::Io)));
+    ensure!(matches!(read(rt.alloc(), &mut source), Err(HttpFault::Io)));
     let mut source = Script::new(b"HTTP/1.1 200 OK\r\n\r\n", &steps);
     let mut head = [0u8; MAX_HEAD];
-    assert!(rt; matches!(reply_of(&mut source, &mut head), Err(HttpFault::Io)));
+    ensure!(matches!(reply_of(&mut source, &mut head), Err(HttpFault::Io)));
     Ok(())
 }
 
@@ -188,12 +189,9 @@ fn a_reader_is_not_asked_again(rt: HostRuntime) -> Result<(), Fail> {
         let Ok(request) = read(rt.alloc(), &mut source) else {
             panic!(rt; "{each} at a time");
         };
-        assert!(rt; is_posted(&request));
+        ensure!(is_posted(&request));
         let mut source = gives_and_fails(reply, each, &mut steps);
-        assert!(rt;
-            reply_of(&mut source, &mut head).is_ok(),
-            "{each} at a time"
-        );
+        ensure!(reply_of(&mut source, &mut head).is_ok(), each);
     }
     Ok(())
 }
@@ -209,12 +207,12 @@ fn methods(rt: HostRuntime) -> Result<(), Fail> {
         "!#$%&'*+-.^_`|~09",
     ] {
         let mut decoder = Decoder::new(rt.alloc());
-        assert_eq!(rt; feed(&mut decoder, method.as_bytes()), Ok(false));
-        assert_eq!(rt; feed(&mut decoder, b" / HTTP/1.1\r\n\r\n"), Ok(true));
+        ensure_eq!(feed(&mut decoder, method.as_bytes()), Ok(false));
+        ensure_eq!(feed(&mut decoder, b" / HTTP/1.1\r\n\r\n"), Ok(true));
         let Ok(request) = decoder.finish() else {
             panic!(rt; "{method}");
         };
-        assert_eq!(rt; request.method.as_str(), method);
+        ensure_eq!(request.method.as_str(), method);
     }
     Ok(())
 }
@@ -226,66 +224,69 @@ fn fields_by_name(rt: HostRuntime) -> Result<(), Fail> {
     let Ok(request) = read(rt.alloc(), &mut source) else {
         panic!(rt; "no request");
     };
-    assert!(rt; request.find(b"Accept-Encoding").is_none());
+    ensure!(request.find(b"Accept-Encoding").is_none());
     let Some((host, after)) = request.find(b"hOST") else {
         panic!(rt; "no host");
     };
-    assert!(rt; host == b"h".as_slice());
-    assert_eq!(rt; after.len(), 2);
+    ensure_eq!(host, b"h".as_slice());
+    ensure_eq!(after.len(), 2);
     let mut left = request.headers.as_slice();
     for value in ["a", "", "c"] {
         let Some((found, after)) = find_in(left, b"accept") else {
             panic!(rt; "no {value}");
         };
-        assert!(rt; found == value.as_bytes());
+        ensure_eq!(found, value.as_bytes());
         left = after;
     }
-    assert!(rt; find_in(left, b"accept").is_none());
+    ensure!(find_in(left, b"accept").is_none());
     Ok(())
 }
 
 const RUN: &[u8] = &[b'a'; 8_192];
 
 #[test]
-fn a_head_has_a_limit(rt: HostRuntime) {
+fn a_head_has_a_limit(rt: HostRuntime) -> Result<(), Fail> {
     let mut endless = Decoder::new(rt.alloc());
-    assert_eq!(rt; feed(&mut endless, RUN), Ok(false));
-    assert_eq!(rt; feed(&mut endless, RUN), Err(HttpFault::HeadTooLong));
+    ensure_eq!(feed(&mut endless, RUN), Ok(false));
+    ensure_eq!(feed(&mut endless, RUN), Err(HttpFault::HeadTooLong));
+    Ok(())
 }
 
 #[test]
-fn fields_have_a_limit(rt: HostRuntime) {
+fn fields_have_a_limit(rt: HostRuntime) -> Result<(), Fail> {
     let mut fields = Decoder::new(rt.alloc());
-    assert_eq!(rt; feed(&mut fields, b"GET / HTTP/1.1\r\n"), Ok(false));
+    ensure_eq!(feed(&mut fields, b"GET / HTTP/1.1\r\n"), Ok(false));
     for _ in 0..64 {
-        assert_eq!(rt; feed(&mut fields, b"a: b\r\n"), Ok(false));
+        ensure_eq!(feed(&mut fields, b"a: b\r\n"), Ok(false));
     }
-    assert_eq!(rt;
+    ensure_eq!(
         feed(&mut fields, b"a: b\r\n"),
         Err(HttpFault::TooManyHeaders)
     );
+    Ok(())
 }
 
 #[test]
-fn a_line_of_a_chunk_has_a_limit(rt: HostRuntime) {
+fn a_line_of_a_chunk_has_a_limit(rt: HostRuntime) -> Result<(), Fail> {
     let mut line = Decoder::new(rt.alloc());
     let head = b"GET / HTTP/1.1\r\nTransfer-Encoding: chunked\r\n\r\n";
-    assert_eq!(rt; feed(&mut line, head), Ok(false));
-    assert_eq!(rt; feed(&mut line, b"1;"), Ok(false));
-    assert_eq!(rt; feed(&mut line, RUN), Err(HttpFault::BadChunk));
+    ensure_eq!(feed(&mut line, head), Ok(false));
+    ensure_eq!(feed(&mut line, b"1;"), Ok(false));
+    ensure_eq!(feed(&mut line, RUN), Err(HttpFault::BadChunk));
+    Ok(())
 }
 
 #[test]
 fn a_body_at_the_limit(rt: HostRuntime) -> Result<(), Fail> {
     let mut decoder = Decoder::new(rt.alloc());
     let head = b"GET / HTTP/1.1\r\nTransfer-Encoding: chunked\r\n\r\n400000\r\n";
-    assert_eq!(rt; feed(&mut decoder, head), Ok(false));
+    ensure_eq!(feed(&mut decoder, head), Ok(false));
     let piece = [b'x'; 16_384];
     for _ in 0..256 {
-        assert_eq!(rt; feed(&mut decoder, &piece), Ok(false));
+        ensure_eq!(feed(&mut decoder, &piece), Ok(false));
     }
-    assert_eq!(rt; decoder.held(), 46 + MAX_BODY);
-    assert_eq!(rt;
+    ensure_eq!(decoder.held(), 46 + MAX_BODY);
+    ensure_eq!(
         feed(&mut decoder, b"\r\n1\r\n"),
         Err(HttpFault::BodyTooLong)
     );
@@ -293,7 +294,7 @@ fn a_body_at_the_limit(rt: HostRuntime) -> Result<(), Fail> {
 }
 
 #[test]
-fn a_reply_cut_in_two_at_every_place(rt: HostRuntime) {
+fn a_reply_cut_in_two_at_every_place(rt: HostRuntime) -> Result<(), Fail> {
     let text =
         b"HTTP/1.1 503 Service Unavailable\r\nRetry-After:  2 \r\nretry-after: 3\r\n\r\nbody";
     let mut head = [0u8; MAX_HEAD];
@@ -303,27 +304,29 @@ fn a_reply_cut_in_two_at_every_place(rt: HostRuntime) {
         let Ok(reply) = reply_of(&mut source, &mut head) else {
             panic!(rt; "cut {cut}");
         };
-        assert_eq!(rt; reply.status, 503);
+        ensure_eq!(reply.status, 503);
         let Some(seconds) = reply.retry_after else {
             panic!(rt; "cut {cut}");
         };
-        assert!(rt; seconds == b"2".as_slice());
+        ensure_eq!(seconds, b"2".as_slice());
     }
+    Ok(())
 }
 
 #[test]
-fn a_reply_without_a_wait(rt: HostRuntime) {
+fn a_reply_without_a_wait(rt: HostRuntime) -> Result<(), Fail> {
     let mut head = [0u8; MAX_HEAD];
     let mut source = Script::new(b"HTTP/1.0 200\r\n\r\n", &[]);
     let Ok(reply) = reply_of(&mut source, &mut head) else {
         panic!(rt; "no reply");
     };
-    assert_eq!(rt; reply.status, 200);
-    assert!(rt; reply.retry_after.is_none());
+    ensure_eq!(reply.status, 200);
+    ensure!(reply.retry_after.is_none());
+    Ok(())
 }
 
 #[test]
-fn faults_of_replies(rt: HostRuntime) {
+fn faults_of_replies(rt: HostRuntime) -> Result<(), Fail> {
     let cases: [(&[u8], HttpFault); 3] = [
         (b"", HttpFault::Closed),
         (b"HTTP/1.1 200 OK\r\n", HttpFault::Truncated),
@@ -332,8 +335,9 @@ fn faults_of_replies(rt: HostRuntime) {
     let mut head = [0u8; MAX_HEAD];
     for (bytes, fault) in &cases {
         let mut source = Script::new(bytes, &[]);
-        assert_eq!(rt; reply_of(&mut source, &mut head).err(), Some(*fault));
+        ensure_eq!(reply_of(&mut source, &mut head).err(), Some(*fault));
     }
+    Ok(())
 }
 
 const RESPONSE: &[u8] =
@@ -344,16 +348,16 @@ fn written_responses(rt: HostRuntime) -> Result<(), Fail> {
     let mut tape = Tape::new(rt.alloc(), &[]);
     let kind = "application/json";
     let done = write_response(&mut tape, StatusCode::OK, kind, None, b"{}");
-    assert_eq!(rt; done, Written::All);
-    assert!(rt; tape.taken() == RESPONSE);
+    ensure_eq!(done, Written::All);
+    ensure_eq!(tape.taken(), RESPONSE);
 
     let mut tape = Tape::new(rt.alloc(), &[]);
     let wrong = StatusCode::METHOD_NOT_ALLOWED;
     let done = write_response(&mut tape, wrong, "text/plain", Some("POST"), b"");
-    assert_eq!(rt; done, Written::All);
+    ensure_eq!(done, Written::All);
     let text =
         b"HTTP/1.1 405 Method Not Allowed\r\nContent-Type: text/plain\r\nContent-Length: 0\r\nAllow: POST\r\nConnection: close\r\n\r\n";
-    assert!(rt; tape.taken() == text.as_slice());
+    ensure_eq!(tape.taken(), text.as_slice());
     Ok(())
 }
 
@@ -368,11 +372,11 @@ fn a_failing_writer(rt: HostRuntime) -> Result<(), Fail> {
         }
         let mut tape = Tape::new(rt.alloc(), &steps);
         let done = write_response(&mut tape, StatusCode::OK, kind, None, b"{}");
-        assert_eq!(rt; done, Written::Part(n));
-        assert!(rt; tape.taken() == &RESPONSE[..n]);
+        ensure_eq!(done, Written::Part(n));
+        ensure_eq!(tape.taken(), &RESPONSE[..n]);
     }
     let mut tape = Tape::new(rt.alloc(), &[Step::Fail]);
-    assert_eq!(rt; write_post(&mut tape, "h", b"{}"), Written::None_);
+    ensure_eq!(write_post(&mut tape, "h", b"{}"), Written::None_);
     Ok(())
 }
 
@@ -389,13 +393,13 @@ fn calls_of_a_writer(rt: HostRuntime) -> Result<(), Fail> {
     ] {
         let mut tape = Tape::new(rt.alloc(), &once);
         let done = write_response(&mut tape, StatusCode::OK, kind, None, &spaces[..size]);
-        assert_eq!(rt; done, written, "{size} bytes");
+        ensure_eq!(done, written, size);
     }
     let twice = [Step::AtMost(4_096), Step::AtMost(4_096), Step::Fail];
     for size in [940, 1_024, 1_025, 2_000] {
         let mut tape = Tape::new(rt.alloc(), &twice);
         let done = write_response(&mut tape, StatusCode::OK, kind, None, &spaces[..size]);
-        assert_eq!(rt; done, Written::All, "{size} bytes");
+        ensure_eq!(done, Written::All, size);
     }
     Ok(())
 }
@@ -403,12 +407,9 @@ fn calls_of_a_writer(rt: HostRuntime) -> Result<(), Fail> {
 #[test]
 fn a_written_post(rt: HostRuntime) -> Result<(), Fail> {
     let mut tape = Tape::new(rt.alloc(), &[]);
-    assert_eq!(rt;
-        write_post(&mut tape, "127.0.0.1:4318", b"{}"),
-        Written::All
-    );
+    ensure_eq!(write_post(&mut tape, "127.0.0.1:4318", b"{}"), Written::All);
     let text =
         b"POST /v1/metrics HTTP/1.1\r\nHost: 127.0.0.1:4318\r\nContent-Type: application/json\r\nContent-Length: 2\r\nConnection: close\r\n\r\n{}";
-    assert!(rt; tape.taken() == text.as_slice());
+    ensure_eq!(tape.taken(), text.as_slice());
     Ok(())
 }

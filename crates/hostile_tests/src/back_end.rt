@@ -4,9 +4,9 @@ use crate::gate::bytewise;
 use back_answers::Answer;
 use byte_ends::{Script, Step, Tape};
 use delta_book::book::Book;
+use ensure::{ensure, ensure_eq};
 use gate_workers::{BookKeeper, NoPace, Uplink, exchange, serve_book};
 use std::alloc::Global;
-use std::process::Abort;
 use std::test::Fail;
 use test_support::{ACCEPTED, POSTED};
 
@@ -53,17 +53,14 @@ fn request_length(alloc: Global) -> usize {
 fn a_writer_that_fails_after_any_byte(rt: HostRuntime) -> Result<(), Fail> {
     let alloc = rt.alloc();
     let length = request_length(alloc);
-    assert!(rt; length > 100);
+    ensure!(length > 100);
     for count in 0..length {
         let writes = bytewise(alloc, count)?;
         let answer = answer_of(alloc, OK, &[], writes.as_slice());
-        assert_eq!(rt; answer, Answer::Unknown, "{count} bytes");
+        ensure_eq!(answer, Answer::Unknown, count);
     }
     let whole = bytewise(alloc, length)?;
-    assert_eq!(rt;
-        answer_of(alloc, OK, &[], whole.as_slice()),
-        Answer::Success
-    );
+    ensure_eq!(answer_of(alloc, OK, &[], whole.as_slice()), Answer::Success);
     Ok(())
 }
 
@@ -73,11 +70,11 @@ fn a_reader_that_fails_or_ends_after_any_byte(rt: HostRuntime) -> Result<(), Fai
     for count in 0..OK.len() {
         let reads = bytewise(alloc, count)?;
         let answer = answer_of(alloc, OK, reads.as_slice(), &[]);
-        assert_eq!(rt; answer, Answer::Unknown, "{count} bytes");
-        assert_eq!(rt;
+        ensure_eq!(answer, Answer::Unknown, count);
+        ensure_eq!(
             answer_of(alloc, &OK[..count], &[], &[]),
             Answer::Unknown,
-            "{count} bytes"
+            count
         );
     }
     Ok(())
@@ -90,29 +87,31 @@ fn serve(alloc: Global, keeper: &mut BookKeeper<Scripted>, request: &[u8], tape:
     let _ = serve_book(alloc, keeper, &mut reader, tape, &mut NoPace);
 }
 
-fn post_one(rt: &impl Abort, alloc: Global, keeper: &mut BookKeeper<Scripted>) {
+fn post_one(alloc: Global, keeper: &mut BookKeeper<Scripted>) -> Result<(), Fail> {
     let mut tape = Tape::new(alloc, &[]);
     serve(alloc, keeper, POSTED, &mut tape);
-    assert_eq!(rt; tape.taken(), ACCEPTED);
+    ensure_eq!(tape.taken(), ACCEPTED);
+    Ok(())
 }
 
 /// Orders a flush, whose answer ends by this text.
-fn order_flush(rt: &impl Abort, alloc: Global, keeper: &mut BookKeeper<Scripted>, text: &[u8]) {
+fn order_flush(alloc: Global, keeper: &mut BookKeeper<Scripted>, text: &[u8]) -> Result<(), Fail> {
     let mut tape = Tape::new(alloc, &[]);
     serve(alloc, keeper, b"POST /flush HTTP/1.1\r\n\r\n", &mut tape);
-    assert!(rt; tape.taken().starts_with(b"HTTP/1.1 200 OK\r\n"));
-    assert!(rt; tape.taken().ends_with(text));
+    ensure!(tape.taken().starts_with(b"HTTP/1.1 200 OK\r\n"));
+    ensure!(tape.taken().ends_with(text));
+    Ok(())
 }
 
 /// Posts a point and orders a flush to this back end, whose answer to the order ends by this text;
 /// the book has then so many entries.
-fn flushed<R: Abort>(rt: &R, backend: Scripted, text: &[u8]) -> Result<(), Fail> {
+fn flushed(backend: Scripted, text: &[u8]) -> Result<(), Fail> {
     let alloc = backend.alloc;
     let mut keeper = BookKeeper::new(alloc, Book::new(alloc)?, 0, backend, 1000);
-    post_one(rt, alloc, &mut keeper);
-    order_flush(rt, alloc, &mut keeper, text);
+    post_one(alloc, &mut keeper)?;
+    order_flush(alloc, &mut keeper, text)?;
     // The admission and its end, the flush and its end.
-    assert_eq!(rt; keeper.into_book().journal().len(), 4);
+    ensure_eq!(keeper.into_book().journal().len(), 4);
     Ok(())
 }
 
@@ -137,7 +136,7 @@ fn an_unknown_answer_gives_the_flush_back(rt: HostRuntime) -> Result<(), Fail> {
             reads,
             writes,
         };
-        flushed(&rt, backend, RETURNED)?;
+        flushed(backend, RETURNED)?;
     }
     Ok(())
 }
@@ -161,7 +160,7 @@ fn a_wait_is_told_where_it_is_a_number(rt: HostRuntime) -> Result<(), Fail> {
             reads: &[],
             writes: &[],
         };
-        flushed(&rt, backend, text)?;
+        flushed(backend, text)?;
     }
     Ok(())
 }

@@ -1,10 +1,10 @@
 //! Input that is no request, and bodies that are no metrics, each with its whole answer.
 use crate::gate::{MALFORMED, joined, outcome_of, repeated};
 use byte_ends::{Script, Step};
+use ensure::{ensure, ensure_eq};
 use gate_workers::{End, Served};
 use http_edge::{HttpFault, Written, read_message};
 use std::alloc::Global;
-use std::process::Abort;
 use std::test::Fail;
 use test_support::{POSTED, post};
 
@@ -43,30 +43,24 @@ const NUMBER_POINT: &[u8] =
 
 /// The request is answered by this text, of this status, and nothing is entered. Gives how many of
 /// its bytes were not read.
-fn answered<R: Abort>(
-    rt: &R,
-    alloc: Global,
-    request: &[u8],
-    status: u16,
-    text: &[u8],
-) -> Result<usize, Fail> {
+fn answered(alloc: Global, request: &[u8], status: u16, text: &[u8]) -> Result<usize, Fail> {
     let got = outcome_of(alloc, request, &[], &[])?;
     let served = Served::Replied {
         status,
         written: Written::All,
         end: End::NoBatch,
     };
-    assert_eq!(rt; got.served, served);
-    assert_eq!(rt; got.tape.taken(), text);
-    assert_eq!(rt; got.book.journal().len(), 0);
+    ensure_eq!(got.served, served);
+    ensure_eq!(got.tape.taken(), text);
+    ensure_eq!(got.book.journal().len(), 0);
     Ok(got.unread)
 }
 
 #[test]
 fn a_head_without_end(rt: HostRuntime) -> Result<(), Fail> {
     let endless = repeated(rt.alloc(), b"a", 100_000)?;
-    let unread = answered(&rt, rt.alloc(), endless.as_slice(), 400, MALFORMED)?;
-    assert!(rt; unread > 0);
+    let unread = answered(rt.alloc(), endless.as_slice(), 400, MALFORMED)?;
+    ensure!(unread > 0);
     Ok(())
 }
 
@@ -94,7 +88,7 @@ fn heads_that_frame_no_body(rt: HostRuntime) -> Result<(), Fail> {
             0\r\n\r\n",
     ];
     for request in requests {
-        let _ = answered(&rt, rt.alloc(), request, 400, MALFORMED)?;
+        let _ = answered(rt.alloc(), request, 400, MALFORMED)?;
     }
     Ok(())
 }
@@ -110,7 +104,7 @@ fn another_version_and_a_chunk_without_end(rt: HostRuntime) -> Result<(), Fail> 
             {}xx",
     ];
     for request in requests {
-        let _ = answered(&rt, rt.alloc(), request, 400, MALFORMED)?;
+        let _ = answered(rt.alloc(), request, 400, MALFORMED)?;
     }
     Ok(())
 }
@@ -124,7 +118,7 @@ fn chunks_that_add_up_to_too_much(rt: HostRuntime) -> Result<(), Fail> {
             Transfer-Encoding: chunked\r\n\r\n\
             400000\r\n";
     let request = joined(alloc, &[head, chunk.as_slice(), b"\r\n1\r\n"])?;
-    let _ = answered(&rt, alloc, request.as_slice(), 413, TOO_LONG)?;
+    let _ = answered(alloc, request.as_slice(), 413, TOO_LONG)?;
     Ok(())
 }
 
@@ -135,7 +129,7 @@ fn as_many_headers_as_may_be_and_one_more(rt: HostRuntime) -> Result<(), Fail> {
         let fields = repeated(alloc, b"a: b\r\n", count)?;
         let line = b"GET /report HTTP/1.1\r\n";
         let request = joined(alloc, &[line, fields.as_slice(), b"\r\n"])?;
-        let _ = answered(&rt, alloc, request.as_slice(), status, text)?;
+        let _ = answered(alloc, request.as_slice(), status, text)?;
     }
     Ok(())
 }
@@ -148,7 +142,7 @@ fn nested_arrays(rt: HostRuntime) -> Result<(), Fail> {
         let closed = repeated(alloc, b"]", depth)?;
         let body = joined(alloc, &[opened.as_slice(), closed.as_slice()])?;
         let request = post(alloc, body.as_slice())?;
-        let _ = answered(&rt, alloc, request.as_slice(), 400, text)?;
+        let _ = answered(alloc, request.as_slice(), 400, text)?;
     }
     Ok(())
 }
@@ -164,7 +158,7 @@ fn bodies_that_are_no_metrics(rt: HostRuntime) -> Result<(), Fail> {
     ];
     for (body, text) in bodies {
         let request = post(alloc, body)?;
-        let _ = answered(&rt, alloc, request.as_slice(), 400, text)?;
+        let _ = answered(alloc, request.as_slice(), 400, text)?;
     }
     Ok(())
 }
@@ -177,10 +171,10 @@ fn a_reader_that_fails_within_the_message(rt: HostRuntime) -> Result<(), Fail> {
         let later = [Step::AtMost(read), Step::Fail];
         let steps: &[Step] = if read == 0 { &first } else { &later };
         let got = outcome_of(rt.alloc(), POSTED, steps, &[])?;
-        assert_eq!(rt; got.served, Served::Broken, "{read} bytes");
-        assert_eq!(rt; got.tape.taken().len(), 0, "{read} bytes");
-        assert_eq!(rt; got.unread, POSTED.len() - read, "{read} bytes");
-        assert_eq!(rt; got.book.journal().len(), 0, "{read} bytes");
+        ensure_eq!(got.served, Served::Broken, read);
+        ensure_eq!(got.tape.taken().len(), 0, read);
+        ensure_eq!(got.unread, POSTED.len() - read, read);
+        ensure_eq!(got.book.journal().len(), 0, read);
     }
     Ok(())
 }
@@ -190,8 +184,8 @@ fn a_reader_that_fails_within_the_message(rt: HostRuntime) -> Result<(), Fail> {
 fn an_end_within_the_message(rt: HostRuntime) -> Result<(), Fail> {
     for end in 1..POSTED.len() {
         let fault = read_message(rt.alloc(), &mut Script::new(&POSTED[..end], &[])).err();
-        assert_eq!(rt; fault, Some(HttpFault::Truncated), "{end} bytes");
+        ensure_eq!(fault, Some(HttpFault::Truncated), end);
     }
-    assert!(rt; read_message(rt.alloc(), &mut Script::new(POSTED, &[])).is_ok());
+    ensure!(read_message(rt.alloc(), &mut Script::new(POSTED, &[])).is_ok());
     Ok(())
 }

@@ -1,43 +1,38 @@
 //! A writer that takes so many bytes of the answer and then fails.
 use crate::gate::{Outcome, bytewise, outcome_of};
 use byte_ends::Step;
+use ensure::ensure_eq;
 use gate_workers::{End, Served};
 use http_edge::Written;
-use std::process::Abort;
 use std::test::Fail;
 use test_support::{ACCEPTED, POSTED};
 
 /// The batch ended so, after so much of the answer was written: its admission and its end are the
 /// two entries, and as many series are there.
-fn expect<R: Abort>(
-    rt: &R,
-    got: &Outcome,
-    written: Written,
-    end: End,
-    series: usize,
-) -> Result<(), Fail> {
+fn expect(got: &Outcome, written: Written, end: End, series: usize) -> Result<(), Fail> {
     let served = Served::Replied {
         status: 200,
         written,
         end,
     };
-    assert_eq!(rt; got.served, served);
-    assert_eq!(rt; got.book.journal().len(), 2);
-    assert_eq!(rt; got.book.totals()?.len(), series);
+    ensure_eq!(got.served, served);
+    ensure_eq!(got.book.journal().len(), 2);
+    ensure_eq!(got.book.totals()?.len(), series);
     Ok(())
 }
 
 #[test]
-fn the_answer_has_91_bytes(rt: HostRuntime) {
-    assert_eq!(rt; ACCEPTED.len(), 91);
+fn the_answer_has_91_bytes(rt: HostRuntime) -> Result<(), Fail> {
+    ensure_eq!(ACCEPTED.len(), 91);
+    Ok(())
 }
 
 #[test]
 fn none_of_the_answer_was_written(rt: HostRuntime) -> Result<(), Fail> {
     for steps in [[Step::Fail], [Step::AtMost(0)]] {
         let got = outcome_of(rt.alloc(), POSTED, &[], &steps)?;
-        expect(&rt, &got, Written::None_, End::Undone, 0)?;
-        assert_eq!(rt; got.tape.taken().len(), 0);
+        expect(&got, Written::None_, End::Undone, 0)?;
+        ensure_eq!(got.tape.taken().len(), 0);
     }
     Ok(())
 }
@@ -47,8 +42,8 @@ fn part_of_the_answer_was_written(rt: HostRuntime) -> Result<(), Fail> {
     for count in 1..ACCEPTED.len() {
         let steps = bytewise(rt.alloc(), count)?;
         let got = outcome_of(rt.alloc(), POSTED, &[], steps.as_slice())?;
-        expect(&rt, &got, Written::Part(count), End::Confirmed, 1)?;
-        assert_eq!(rt; got.tape.taken(), &ACCEPTED[..count]);
+        expect(&got, Written::Part(count), End::Confirmed, 1)?;
+        ensure_eq!(got.tape.taken(), &ACCEPTED[..count]);
     }
     Ok(())
 }
@@ -59,8 +54,8 @@ fn all_of_the_answer_was_written(rt: HostRuntime) -> Result<(), Fail> {
     let all: [&[Step]; 2] = [&[], steps.as_slice()];
     for steps in all {
         let got = outcome_of(rt.alloc(), POSTED, &[], steps)?;
-        expect(&rt, &got, Written::All, End::Confirmed, 1)?;
-        assert_eq!(rt; got.tape.taken(), ACCEPTED);
+        expect(&got, Written::All, End::Confirmed, 1)?;
+        ensure_eq!(got.tape.taken(), ACCEPTED);
     }
     Ok(())
 }

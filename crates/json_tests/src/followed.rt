@@ -1,9 +1,9 @@
 //! Identities that are looked for where they came before: none is taken for another.
 
 use crate::usual::{Chance, is_read_alike};
+use ensure::ensure;
 use json_points::{Kept, read_usual};
 use std::alloc::Global;
-use std::process::Abort;
 use std::test::Fail;
 
 /// How many requests are made by chance.
@@ -95,8 +95,8 @@ fn the_same_attributes_at_another_place_are_another_series(rt: HostRuntime) -> R
     for one in PLACES {
         for other in PLACES {
             let body = of_two(alloc, *one, *other)?;
-            assert!(rt; read_usual(alloc, body.as_bytes(), &mut kept).is_some());
-            assert!(rt; is_read_alike(alloc, body.as_bytes(), &mut kept));
+            ensure!(read_usual(alloc, body.as_bytes(), &mut kept).is_some());
+            ensure!(is_read_alike(alloc, body.as_bytes(), &mut kept));
         }
     }
     Ok(())
@@ -111,11 +111,11 @@ fn a_body_is_read_after_one_that_was_refused(rt: HostRuntime) -> Result<(), Fail
     for other in PLACES {
         let body = of_two(alloc, first, *other)?;
         let bytes = body.as_bytes();
-        assert!(rt; is_read_alike(alloc, bytes, &mut kept));
+        ensure!(is_read_alike(alloc, bytes, &mut kept));
         let refused = whole(alloc, "null")?;
-        assert!(rt; is_read_alike(alloc, refused.as_bytes(), &mut kept));
-        assert!(rt; is_read_alike(alloc, &bytes[..bytes.len().saturating_sub(1)], &mut kept));
-        assert!(rt; is_read_alike(alloc, bytes, &mut kept));
+        ensure!(is_read_alike(alloc, refused.as_bytes(), &mut kept));
+        ensure!(is_read_alike(alloc, &bytes[..bytes.len().saturating_sub(1)], &mut kept));
+        ensure!(is_read_alike(alloc, bytes, &mut kept));
     }
     Ok(())
 }
@@ -194,9 +194,9 @@ fn requests_by_chance_are_read_as_by_the_tree(rt: HostRuntime) -> Result<(), Fai
         resources.push_str(",")?;
         put_resource(&mut resources, &mut chance)?;
         let body = whole(alloc, &resources)?;
-        assert!(rt; read_usual(alloc, body.as_bytes(), &mut kept).is_some());
-        assert!(rt; is_read_alike(alloc, body.as_bytes(), &mut kept));
-        assert!(rt; is_read_alike(alloc, body.as_bytes(), &mut kept));
+        ensure!(read_usual(alloc, body.as_bytes(), &mut kept).is_some());
+        ensure!(is_read_alike(alloc, body.as_bytes(), &mut kept));
+        ensure!(is_read_alike(alloc, body.as_bytes(), &mut kept));
     }
     Ok(())
 }

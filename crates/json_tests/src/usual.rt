@@ -1,10 +1,10 @@
 //! Both readers of JSON give the same: that without a tree, and `otlp_read`'s.
 ghost use Rattle.std.specs.Prelude.{◌<◌};
 
+use ensure::{ensure, ensure_eq};
 use json_points::{Kept, read_usual};
 use otlp_read::{ReadFault, Reading};
 use std::alloc::Global;
-use std::process::Abort;
 use std::test::Fail;
 
 /// How often each text is changed.
@@ -103,12 +103,12 @@ fn a_usual_text_is_read_without_a_tree(rt: HostRuntime) -> Result<(), Fail> {
     let alloc = rt.alloc();
     let mut kept = Kept::new(alloc);
     for text in USUAL {
-        assert!(rt; read_usual(alloc, text.as_bytes(), &mut kept).is_some());
-        assert!(rt; is_read_alike(alloc, text.as_bytes(), &mut kept));
+        ensure!(read_usual(alloc, text.as_bytes(), &mut kept).is_some());
+        ensure!(is_read_alike(alloc, text.as_bytes(), &mut kept));
     }
     for text in OTHERS {
-        assert!(rt; read_usual(alloc, text.as_bytes(), &mut kept).is_none());
-        assert!(rt; is_read_alike(alloc, text.as_bytes(), &mut kept));
+        ensure!(read_usual(alloc, text.as_bytes(), &mut kept).is_none());
+        ensure!(is_read_alike(alloc, text.as_bytes(), &mut kept));
     }
     Ok(())
 }
@@ -121,7 +121,7 @@ fn changed_texts_are_read_as_by_the_tree(rt: HostRuntime) -> Result<(), Fail> {
     for text in USUAL {
         for _ in 0..CHANGES {
             let bytes = chance.changed(alloc, text.as_bytes())?;
-            assert!(rt; is_read_alike(alloc, bytes.as_slice(), &mut kept));
+            ensure!(is_read_alike(alloc, bytes.as_slice(), &mut kept));
         }
     }
     Ok(())
@@ -145,16 +145,10 @@ fn body_of(alloc: Global, part: u32, series: u32) -> Result<String, Fail> {
 }
 
 /// Reads so many series of which none came before: how many share the first.
-fn owners_of_first(
-    rt: &impl Abort,
-    alloc: Global,
-    kept: &mut Kept,
-    part: u32,
-    series: u32,
-) -> Result<usize, Fail> {
+fn owners_of_first(alloc: Global, kept: &mut Kept, part: u32, series: u32) -> Result<usize, Fail> {
     let body = body_of(alloc, part, series)?;
     let reading = read_usual(alloc, body.as_bytes(), kept).ok_or("a usual text")?;
-    assert!(rt; reading.points.as_slice().len() == series as usize);
+    ensure_eq!(reading.points.as_slice().len(), series as usize);
     let first = reading.points.as_slice().first().ok_or("a point")?;
     Ok(first.shared_series().owners())
 }
@@ -165,10 +159,10 @@ fn what_is_new_is_kept(rt: HostRuntime) -> Result<(), Fail> {
     let alloc = rt.alloc();
     let mut kept = Kept::new(alloc);
     for part in 0..100u32 {
-        owners_of_first(&rt, alloc, &mut kept, part, 1000)?;
+        owners_of_first(alloc, &mut kept, part, 1000)?;
     }
     for part in 100..108u32 {
-        assert!(rt; owners_of_first(&rt, alloc, &mut kept, part, 1)? == 2);
+        ensure_eq!(owners_of_first(alloc, &mut kept, part, 1)?, 2);
     }
     Ok(())
 }

@@ -1,6 +1,7 @@
 //! A post in protobuf goes through a book, and comes out as JSON.
 
 use crate::forward::forward_alone;
+use ensure::ensure;
 use metric_events::sender_name::SenderName;
 use otlp_read::read_request;
 use std::alloc::Global;
@@ -31,11 +32,11 @@ fn a_post_comes_out_as_its_sum(rt: HostRuntime) -> Result<(), Fail> {
         return Err(Fail::from("a post is not forwarded"));
     };
     let found = read_request(alloc, text.as_slice())?;
-    assert!(rt;
+    ensure!(
         found
             .points
             .is_same(&read_request(alloc, SUM.as_bytes())?.points)
     );
-    assert!(rt; forwarded(alloc, &[])?.is_none());
+    ensure!(forwarded(alloc, &[])?.is_none());
     Ok(())
 }

@@ -1,6 +1,7 @@
 //! What is kept of a point is taken for no other one.
 
 use crate::bodies::{Body, are_alike};
+use ensure::ensure;
 use otlp_protobuf::{Kept, read_request_with};
 use std::alloc::Global;
 use std::test::Fail;
@@ -154,8 +155,8 @@ fn the_same_bytes_under_another_metric_are_another_series(rt: HostRuntime) -> Re
     for name in ["a", "b", "a"] {
         let of_histogram = metric(alloc, name, 9, "histogram", &point)?;
         let of_sum = metric(alloc, name, 7, "sum", &number)?;
-        assert!(rt; reads(alloc, &mut kept, &of_histogram)?);
-        assert!(rt; reads(alloc, &mut kept, &of_sum)?);
+        ensure!(reads(alloc, &mut kept, &of_histogram)?);
+        ensure!(reads(alloc, &mut kept, &of_sum)?);
     }
     Ok(())
 }
@@ -169,7 +170,7 @@ fn other_bounds_with_the_same_attributes_are_another_series(rt: HostRuntime) -> 
     let none = histogram(alloc, &[SEVEN, FIVE], "[7,5]", false)?;
     for point in [&one, &other, &none, &one] {
         let metric = metric(alloc, "h", 9, "histogram", point)?;
-        assert!(rt; reads(alloc, &mut kept, &metric)?);
+        ensure!(reads(alloc, &mut kept, &metric)?);
     }
     Ok(())
 }
@@ -183,7 +184,7 @@ fn bounds_may_come_in_parts(rt: HostRuntime) -> Result<(), Fail> {
     let other = histogram(alloc, &[0, FIVE], "[0,5]", true)?;
     for point in [&parts, &whole, &other, &parts, &whole] {
         let metric = metric(alloc, "h", 9, "histogram", point)?;
-        assert!(rt; reads(alloc, &mut kept, &metric)?);
+        ensure!(reads(alloc, &mut kept, &metric)?);
     }
     Ok(())
 }
@@ -194,11 +195,11 @@ fn a_known_point_reads_alike_after_a_body_that_was_refused(rt: HostRuntime) -> R
     let mut kept = Kept::new(alloc);
     let point = histogram(alloc, &[FIVE, SEVEN], "[5,7]", false)?;
     let metric = metric(alloc, "h", 9, "histogram", &point)?;
-    assert!(rt; reads(alloc, &mut kept, &metric)?);
+    ensure!(reads(alloc, &mut kept, &metric)?);
     let mut body = request(alloc, &metric)?;
     body.bytes.push(10)?;
-    assert!(rt; read_request_with(alloc, body.bytes.as_slice(), &mut kept).is_err());
-    assert!(rt; reads(alloc, &mut kept, &metric)?);
+    ensure!(read_request_with(alloc, body.bytes.as_slice(), &mut kept).is_err());
+    ensure!(reads(alloc, &mut kept, &metric)?);
     Ok(())
 }
 
@@ -223,7 +224,7 @@ fn known_attributes_are_taken_for_no_others(rt: HostRuntime) -> Result<(), Fail>
     for name in ["a", "b", "a"] {
         for point in &points {
             let metric = metric(alloc, name, 7, "sum", point)?;
-            assert!(rt; reads(alloc, &mut kept, &metric)?);
+            ensure!(reads(alloc, &mut kept, &metric)?);
         }
     }
     Ok(())
@@ -235,12 +236,12 @@ fn a_point_of_known_attributes_is_refused_for_another(rt: HostRuntime) -> Result
     let alloc = rt.alloc();
     let mut kept = Kept::new(alloc);
     let known = metric(alloc, "s", 7, "sum", &sum(alloc)?)?;
-    assert!(rt; reads(alloc, &mut kept, &known)?);
+    ensure!(reads(alloc, &mut kept, &known)?);
     let mut point = sum(alloc)?;
     point.content(7, &[10, 2, 107])?;
     let faulty = request(alloc, &metric(alloc, "s", 7, "sum", &point)?)?;
-    assert!(rt; read_request_with(alloc, faulty.bytes.as_slice(), &mut kept).is_err());
-    assert!(rt; reads(alloc, &mut kept, &known)?);
+    ensure!(read_request_with(alloc, faulty.bytes.as_slice(), &mut kept).is_err());
+    ensure!(reads(alloc, &mut kept, &known)?);
     Ok(())
 }
 
@@ -250,12 +251,12 @@ fn a_point_of_a_known_rest_is_refused_for_its_numbers(rt: HostRuntime) -> Result
     let alloc = rt.alloc();
     let mut kept = Kept::new(alloc);
     let known = metric(alloc, "s", 7, "sum", &sum(alloc)?)?;
-    assert!(rt; reads(alloc, &mut kept, &known)?);
+    ensure!(reads(alloc, &mut kept, &known)?);
     let mut point = Body::new(alloc);
     point.number(2, 10)?;
     point.content(7, ATTRIBUTE)?;
     let faulty = request(alloc, &metric(alloc, "s", 7, "sum", &point)?)?;
-    assert!(rt; read_request_with(alloc, faulty.bytes.as_slice(), &mut kept).is_err());
-    assert!(rt; reads(alloc, &mut kept, &known)?);
+    ensure!(read_request_with(alloc, faulty.bytes.as_slice(), &mut kept).is_err());
+    ensure!(reads(alloc, &mut kept, &known)?);
     Ok(())
 }

@@ -1,5 +1,6 @@
 //! Which bytes are a request. They were encoded by hand, after the guide of protobuf's encoding.
 
+use ensure::{ensure, ensure_eq};
 use otlp_protobuf::{Kept, Malformed, ReadFault, read_request_with};
 use std::alloc::Global;
 use std::test::Fail;
@@ -62,7 +63,7 @@ fn fault_of(alloc: Global, bytes: &[u8]) -> Option<ReadFault> {
 #[test]
 fn reads_requests(rt: HostRuntime) -> Result<(), Fail> {
     for bytes in REQUESTS {
-        assert!(rt; fault_of(rt.alloc(), bytes).is_none());
+        ensure!(fault_of(rt.alloc(), bytes).is_none());
     }
     Ok(())
 }
@@ -70,7 +71,10 @@ fn reads_requests(rt: HostRuntime) -> Result<(), Fail> {
 #[test]
 fn refuses_others_and_says_why(rt: HostRuntime) -> Result<(), Fail> {
     for (bytes, why) in OTHERS {
-        assert!(rt; fault_of(rt.alloc(), bytes) == Some(ReadFault::Malformed(*why)));
+        ensure_eq!(
+            fault_of(rt.alloc(), bytes),
+            Some(ReadFault::Malformed(*why))
+        );
     }
     Ok(())
 }
@@ -78,7 +82,10 @@ fn refuses_others_and_says_why(rt: HostRuntime) -> Result<(), Fail> {
 #[test]
 fn refuses_a_request_that_is_cut(rt: HostRuntime) -> Result<(), Fail> {
     let bytes = &REQUEST[..REQUEST.len() - 1];
-    assert!(rt; fault_of(rt.alloc(), bytes) == Some(ReadFault::Malformed(Malformed::Cut)));
+    ensure_eq!(
+        fault_of(rt.alloc(), bytes),
+        Some(ReadFault::Malformed(Malformed::Cut))
+    );
     Ok(())
 }
 
@@ -90,9 +97,9 @@ fn refuses_groups_nested_too_deep(rt: HostRuntime) -> Result<(), Fail> {
         bytes.push(75)?;
     }
     let cut = fault_of(alloc, bytes.as_slice());
-    assert!(rt; cut == Some(ReadFault::Malformed(Malformed::Cut)));
+    ensure_eq!(cut, Some(ReadFault::Malformed(Malformed::Cut)));
     bytes.push(75)?;
     let deep = fault_of(alloc, bytes.as_slice());
-    assert!(rt; deep == Some(ReadFault::Malformed(Malformed::Deep)));
+    ensure_eq!(deep, Some(ReadFault::Malformed(Malformed::Deep)));
     Ok(())
 }

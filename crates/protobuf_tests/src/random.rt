@@ -2,6 +2,7 @@
 ghost use Rattle.std.specs.Prelude.{◌<◌};
 
 use crate::bodies::{Body, are_alike};
+use ensure::ensure;
 use otlp_protobuf::Kept;
 use std::alloc::Global;
 use std::test::Fail;
@@ -299,7 +300,7 @@ fn random_requests_are_read_as_their_json(rt: HostRuntime) -> Result<(), Fail> {
     for _ in 0..REQUESTS {
         let body = maker.request()?;
         let text = format!(in alloc; "{{{}}}", body.text)?;
-        assert!(rt; are_alike(alloc, &mut kept, body.bytes.as_slice(), text.as_bytes()));
+        ensure!(are_alike(alloc, &mut kept, body.bytes.as_slice(), text.as_bytes()));
     }
     Ok(())
 }

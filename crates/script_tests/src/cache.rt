@@ -1,6 +1,7 @@
 //! What a cache of identities shares, and that a body is read with it as without one.
 
 use crate::reading::{first, letters, read, sum_about, sum_of};
+use ensure::{ensure, ensure_eq};
 use metric_events::point::Point;
 use otlp_read::{IdentityCache, ReadFault, Reading, read_request_with};
 use std::alloc::{AllocError, Global};
@@ -70,7 +71,7 @@ fn shares<R: Abort + AllocGlobal>(
 ) -> Result<(), Fail> {
     let reading = read_with(rt.alloc(), body, cache)?;
     expect_plain(rt, body, &reading, body)?;
-    expect_owners(rt, &reading, owners, body)?;
+    expect_owners(&reading, owners, body)?;
     readings.push(reading)?;
     Ok(())
 }
@@ -83,19 +84,14 @@ fn expect_plain<R: Abort + AllocGlobal>(
     what: &str,
 ) -> Result<(), Fail> {
     let plain = read(rt.alloc(), body.as_bytes())?;
-    assert!(rt; reading.points.is_same(&plain.points), "at {what}");
+    ensure!(reading.points.is_same(&plain.points), what);
     Ok(())
 }
 
 /// So many share the series of its first point.
-fn expect_owners(
-    rt: &impl Abort,
-    reading: &Reading,
-    owners: usize,
-    what: &str,
-) -> Result<(), Fail> {
+fn expect_owners(reading: &Reading, owners: usize, what: &str) -> Result<(), Fail> {
     let point = first(reading).ok_or("a point")?;
-    assert_eq!(rt; point.shared_series().owners(), owners, "at {what}");
+    ensure_eq!(point.shared_series().owners(), owners, what);
     Ok(())
 }
 
@@ -134,14 +130,14 @@ fn reads_another<R: Abort + AllocGlobal>(
 ) -> Result<(), Fail> {
     let reading = read_with(rt.alloc(), body, cache)?;
     expect_plain(rt, body, &reading, what)?;
-    expect_other(rt, &reading, point, what)?;
-    expect_owners(rt, &reading, 2, what)
+    expect_other(&reading, point, what)?;
+    expect_owners(&reading, 2, what)
 }
 
 /// The first point is of another series than this one.
-fn expect_other(rt: &impl Abort, reading: &Reading, point: &Point, what: &str) -> Result<(), Fail> {
+fn expect_other(reading: &Reading, point: &Point, what: &str) -> Result<(), Fail> {
     let other = first(reading).ok_or("a point")?;
-    assert!(rt; !other.series().is_same(point.series()), "at {what}");
+    ensure!(!other.series().is_same(point.series()), what);
     Ok(())
 }
 
@@ -212,7 +208,7 @@ fn share_pairs<R: Abort + AllocGlobal>(
     for (one, another, owners) in [(a, b, 2), (b, a, 3), (a, b, 4)] {
         let pairs = format!(in rt.alloc(); "{one},{another}")?;
         let reading = read_about(rt, pairs.as_str(), cache)?;
-        expect_owners(rt, &reading, owners, pairs.as_str())?;
+        expect_owners(&reading, owners, pairs.as_str())?;
         readings.push(reading)?;
     }
     Ok(())
@@ -245,7 +241,7 @@ fn a_cache_keeps_no_large_series(rt: HostRuntime) -> Result<(), Fail> {
     let mut cache = IdentityCache::new(rt.alloc());
     for (length, owners) in [(3900, 2), (4096, 1)] {
         let reading = read_key(&rt, length, &mut cache)?;
-        expect_owners(&rt, &reading, owners, "a long key")?;
+        expect_owners(&reading, owners, "a long key")?;
     }
     Ok(())
 }
@@ -271,7 +267,7 @@ fn read_thousand<R: Abort + AllocGlobal>(
 ) -> Result<(), Fail> {
     let body = thousand_of(rt.alloc(), part)?;
     let reading = read_with(rt.alloc(), body.as_str(), cache)?;
-    assert_eq!(rt; reading.points.as_slice().len(), 1000);
+    ensure_eq!(reading.points.as_slice().len(), 1000);
     Ok(())
 }
 
@@ -285,7 +281,7 @@ fn a_cache_takes_in_what_is_new(rt: HostRuntime) -> Result<(), Fail> {
     for key in ["a", "b", "c", "d", "e", "f", "g", "h"] {
         let pair = format!(in rt.alloc(); r#"{{"key":"{key}"}}"#)?;
         let reading = read_about(&rt, pair.as_str(), &mut cache)?;
-        expect_owners(&rt, &reading, 2, key)?;
+        expect_owners(&reading, 2, key)?;
     }
     Ok(())
 }

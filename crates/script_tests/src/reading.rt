@@ -1,5 +1,6 @@
 //! What no clause says: requests whose meaning was worked out by hand.
 
+use ensure::{ensure, ensure_eq};
 use metric_events::point::Point;
 use otlp_read::{Place, ReadFault, Reading, read_request};
 use series_id::SeriesId;
@@ -132,13 +133,14 @@ const FAULTS: [(&str, ReadFault); 16] = [
 ];
 
 #[test]
-fn names_the_first_wrong_container(rt: HostRuntime) {
+fn names_the_first_wrong_container(rt: HostRuntime) -> Result<(), Fail> {
     let alloc = rt.alloc();
     for (body, fault) in FAULTS {
         let found = read(alloc, body.as_bytes()).err();
-        assert_eq!(rt; found, Some(fault), "at {body}");
+        ensure_eq!(found, Some(fault), body);
     }
-    assert_eq!(rt; read(alloc, b"\"\xff\"").err(), Some(ReadFault::NotJson));
+    ensure_eq!(read(alloc, b"\"\xff\"").err(), Some(ReadFault::NotJson));
+    Ok(())
 }
 
 /// That many arrays, one in another.
@@ -161,11 +163,7 @@ fn nests_as_deep_as_serde_json(rt: HostRuntime) -> Result<(), Fail> {
         (128, ReadFault::NotJson),
     ] {
         let body = arrays(alloc, depth)?;
-        assert_eq!(rt;
-            read(alloc, body.as_bytes()).err(),
-            Some(want),
-            "{depth} deep"
-        );
+        ensure_eq!(read(alloc, body.as_bytes()).err(), Some(want), depth);
     }
     Ok(())
 }
@@ -248,9 +246,9 @@ const COUNTED_METRICS: [(&str, Counts); 6] = [
 fn counts<R: Abort + AllocGlobal>(rt: &R, body: &str, counts: Counts) -> Result<(), Fail> {
     let (points, foreign, metrics) = counts;
     let reading = read(rt.alloc(), body.as_bytes())?;
-    assert_eq!(rt; reading.points.as_slice().len(), points, "at {body}");
-    assert_eq!(rt; reading.foreign, foreign, "at {body}");
-    assert_eq!(rt; reading.metrics, metrics, "at {body}");
+    ensure_eq!(reading.points.as_slice().len(), points, body);
+    ensure_eq!(reading.foreign, foreign, body);
+    ensure_eq!(reading.metrics, metrics, body);
     Ok(())
 }
 
@@ -274,9 +272,9 @@ fn reads_one<R: Abort + AllocGlobal>(
     what: &str,
 ) -> Result<(), Fail> {
     let reading = read(rt.alloc(), body.as_bytes())?;
-    assert_eq!(rt; reading.foreign, foreign, "at {what}");
+    ensure_eq!(reading.foreign, foreign, what);
     let read = if foreign == 0 { 1 } else { 0 };
-    assert_eq!(rt; reading.points.as_slice().len(), read, "at {what}");
+    ensure_eq!(reading.points.as_slice().len(), read, what);
     Ok(())
 }
 
@@ -300,12 +298,8 @@ fn reads_row<R: Abort + AllocGlobal>(
 ) -> Result<(), Fail> {
     let reading = read(rt.alloc(), body.as_bytes())?;
     let found = first(&reading).ok_or("a point")?;
-    assert_eq!(rt; found.row(), row, "at {what}");
-    assert_eq!(rt;
-        (found.span().start(), found.span().end()),
-        (10, 20),
-        "at {what}"
-    );
+    ensure_eq!(found.row(), row, what);
+    ensure_eq!((found.span().start(), found.span().end()), (10, 20), what);
     Ok(())
 }
 
@@ -485,19 +479,20 @@ fn reads_histograms(rt: HostRuntime) -> Result<(), Fail> {
 }
 
 /// The names of the series below.
-fn expect_names(rt: &impl Abort, series: &SeriesId) {
-    assert_eq!(rt; series.scope_name().as_str(), "n");
-    assert_eq!(rt; series.scope_version().as_str(), "v");
-    assert_eq!(rt; series.name().as_str(), "m");
-    assert_eq!(rt; series.unit().as_str(), "By");
+fn expect_names(series: &SeriesId) -> Result<(), Fail> {
+    ensure_eq!(series.scope_name().as_str(), "n");
+    ensure_eq!(series.scope_version().as_str(), "v");
+    ensure_eq!(series.name().as_str(), "m");
+    ensure_eq!(series.unit().as_str(), "By");
+    Ok(())
 }
 
 /// The sets of the series below.
-fn expect_sets(rt: &impl Abort, series: &SeriesId) -> Result<(), Fail> {
-    assert_eq!(rt; series.resource().pairs().len(), 1);
-    assert_eq!(rt; series.scope_attrs().pairs().len(), 1);
+fn expect_sets(series: &SeriesId) -> Result<(), Fail> {
+    ensure_eq!(series.resource().pairs().len(), 1);
+    ensure_eq!(series.scope_attrs().pairs().len(), 1);
     let first = series.attrs().pairs().first().ok_or("an attribute")?;
-    assert_eq!(rt; first.key.as_str(), "a");
+    ensure_eq!(first.key.as_str(), "a");
     Ok(())
 }
 
@@ -507,13 +502,13 @@ fn reads_identities(rt: HostRuntime) -> Result<(), Fail> {
     let body =
         r#"{"resourceMetrics":[{"resource":{"attributes":[{"key":"r"}]},"scopeMetrics":[{"scope":{"name":"n","version":"v","attributes":[{"key":"s"}]},"metrics":[{"name":"m","unit":"By","sum":{"aggregationTemporality":1,"dataPoints":[{"asInt":1,"startTimeUnixNano":10,"timeUnixNano":20,"attributes":[{"key":"b","value":{"intValue":1}},{"key":"a","value":{"stringValue":"x"}}]},{"asInt":2,"startTimeUnixNano":20,"timeUnixNano":30,"attributes":[{"key":"a","value":{"stringValue":"x"}},{"key":"b","value":{"intValue":"1"}}]},{"asInt":3,"startTimeUnixNano":30,"timeUnixNano":40,"attributes":[{"key":"a"},{"key":"a"}]}]}}]}]}]}"#;
     let reading = read(alloc, body.as_bytes())?;
-    assert_eq!(rt; reading.foreign, 1);
+    ensure_eq!(reading.foreign, 1);
     let [one, other] = reading.points.as_slice() else {
         return Err(Fail::from("two points"));
     };
-    assert!(rt; one.series().is_same(other.series()));
-    expect_names(&rt, one.series());
-    expect_sets(&rt, one.series())
+    ensure!(one.series().is_same(other.series()));
+    expect_names(one.series())?;
+    expect_sets(one.series())
 }
 
 /// What the points of one metric have in common is made once.
@@ -524,10 +519,10 @@ fn points_share_their_resource(rt: HostRuntime) -> Result<(), Fail> {
         r#"{"resourceMetrics":[{"resource":{"attributes":[{"key":"r"}]},"scopeMetrics":[{"metrics":[{"name":"m","sum":{"aggregationTemporality":1,"dataPoints":[{"asInt":1,"startTimeUnixNano":10,"timeUnixNano":20},{"asInt":2,"startTimeUnixNano":20,"timeUnixNano":30}]}}]}]}]}"#;
     let reading = read(alloc, body.as_bytes())?;
     for point in reading.points.as_slice() {
-        assert_eq!(rt; point.series().resource().owners(), 2);
-        assert_eq!(rt; point.shared_series().owners(), 1);
+        ensure_eq!(point.series().resource().owners(), 2);
+        ensure_eq!(point.shared_series().owners(), 1);
     }
-    assert_eq!(rt; reading.points.as_slice().len(), 2);
+    ensure_eq!(reading.points.as_slice().len(), 2);
     Ok(())
 }
 

@@ -2,12 +2,13 @@
 //! reports are in `tests/scripts`.
 
 use back_answers::Act;
+use ensure::ensure_eq;
 use out_texts::{no_memory_text, status_text, success_text, turn_text};
-use std::process::Abort;
 use std::test::Fail;
 
-fn expect_text(rt: &impl Abort, text: &[u8], wanted: &str) {
-    assert!(rt; text == wanted.as_bytes(), "{wanted}");
+fn expect_text(text: &[u8], wanted: &str) -> Result<(), Fail> {
+    ensure_eq!(text, wanted.as_bytes(), wanted);
+    Ok(())
 }
 
 #[test]
@@ -20,9 +21,9 @@ fn refusals_say_why(rt: HostRuntime) -> Result<(), Fail> {
         ("1\n2\t3\u{1}", r#"{"message":"1\n2\t3\u0001"}"#),
         ("é ☃", r#"{"message":"é ☃"}"#),
     ] {
-        expect_text(&rt, status_text(alloc, message)?.as_slice(), wanted);
+        expect_text(status_text(alloc, message)?.as_slice(), wanted)?;
     }
-    expect_text(&rt, no_memory_text(), r#"{"message":"no memory"}"#);
+    expect_text(no_memory_text(), r#"{"message":"no memory"}"#)?;
     Ok(())
 }
 
@@ -40,7 +41,7 @@ fn success_tells_foreign_points(rt: HostRuntime) -> Result<(), Fail> {
             r#"{"partialSuccess":{"errorMessage":"points outside the profile","rejectedDataPoints":"18446744073709551615"}}"#,
         ),
     ] {
-        expect_text(&rt, success_text(alloc, foreign)?.as_slice(), wanted);
+        expect_text(success_text(alloc, foreign)?.as_slice(), wanted)?;
     }
     Ok(())
 }
@@ -70,7 +71,7 @@ fn a_turn_tells_what_was_done(rt: HostRuntime) -> Result<(), Fail> {
             r#"{"act":"dropped","flush":"1","points":"4"}"#,
         ),
     ] {
-        expect_text(&rt, turn_text(alloc, 1, 4, act, after)?.as_slice(), wanted);
+        expect_text(turn_text(alloc, 1, 4, act, after)?.as_slice(), wanted)?;
     }
     Ok(())
 }

@@ -3,6 +3,7 @@
 use back_answers::Answer;
 use byte_ends::{Script, Step, Tape};
 use delta_book::book::Book;
+use ensure::ensure_eq;
 use gate_workers::{BookKeeper, End, NoPace, Served, serve_book};
 use http_edge::Written;
 use std::alloc::Global;
@@ -57,8 +58,8 @@ pub fn ask_by<R: Abort + AllocGlobal>(
     assert!(rt; request.len() <= SINGLE_BYTES);
     let mut writer = Tape::new(rt.alloc(), &[]);
     let got = serve(rt.alloc(), keeper, request, reads, &mut writer);
-    assert_eq!(rt; got, served);
-    assert_eq!(rt; writer.taken(), text);
+    ensure_eq!(got, served);
+    ensure_eq!(writer.taken(), text);
     Ok(())
 }
 

@@ -1,6 +1,7 @@
 //! The exchange with the back end.
 use back_answers::Answer;
 use byte_ends::{Script, Step, Tape};
+use ensure::{ensure, ensure_eq};
 use gate_workers::exchange;
 use std::alloc::Global;
 use std::test::Fail;
@@ -25,16 +26,16 @@ fn writes_the_request(rt: HostRuntime) -> Result<(), Fail> {
     let mut reader = Script::new(b"HTTP/1.1 200 OK\r\n\r\n", &[]);
     let mut writer = Tape::new(alloc, &[]);
     let answer = exchange(&mut reader, &mut writer, "127.0.0.1:9", FORWARDED);
-    assert_eq!(rt; answer, Answer::Success);
+    ensure_eq!(answer, Answer::Success);
     let head = b"POST /v1/metrics HTTP/1.1\r\n\
             Host: 127.0.0.1:9\r\n\
             Content-Type: application/json\r\n\
             Content-Length: 299\r\n\
             Connection: close\r\n\r\n"
         .as_slice();
-    assert!(rt; writer.taken().starts_with(head));
-    assert!(rt; writer.taken().ends_with(FORWARDED));
-    assert_eq!(rt; writer.taken().len(), head.len() + 299);
+    ensure!(writer.taken().starts_with(head));
+    ensure!(writer.taken().ends_with(FORWARDED));
+    ensure_eq!(writer.taken().len(), head.len() + 299);
     Ok(())
 }
 
@@ -55,7 +56,7 @@ fn answers_by_the_head(rt: HostRuntime) -> Result<(), Fail> {
         (b"", Answer::Unknown),
     ];
     for (reply, answer) in cases {
-        assert_eq!(rt; answer_to(rt.alloc(), reply, &[]), answer);
+        ensure_eq!(answer_to(rt.alloc(), reply, &[]), answer);
     }
     Ok(())
 }
@@ -80,7 +81,7 @@ fn a_request_that_was_cut_is_unknown(rt: HostRuntime) -> Result<(), Fail> {
     let reply = b"HTTP/1.1 200 OK\r\n\r\n";
     let steps: [&[Step]; 2] = [&[Step::Fail], &[Step::AtMost(400), Step::Fail]];
     for steps in steps {
-        assert_eq!(rt; answer_to(rt.alloc(), reply, steps), Answer::Unknown);
+        ensure_eq!(answer_to(rt.alloc(), reply, steps), Answer::Unknown);
     }
     Ok(())
 }

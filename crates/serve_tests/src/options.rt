@@ -1,4 +1,5 @@
 //! The options that lines give, and lines that give none.
+use ensure::{ensure, ensure_eq};
 use gateway_options::{LineFault, Options, RehearseOptions, ServeOptions, options};
 use std::process::Abort;
 use std::test::Fail;
@@ -31,13 +32,13 @@ fn rehearsed<'a, R: Abort>(
 fn defaults_stand_in(rt: HostRuntime) -> Result<(), Fail> {
     let words = ["gateway", "serve", "--backend", "b:9", "--connections", "0"];
     let options = served(&rt, rt.alloc(), words.as_slice())?;
-    assert_eq!(rt; options.backend, "b:9");
-    assert_eq!(rt; options.listen, "127.0.0.1:4318");
-    assert_eq!(rt; options.connections, 0);
-    assert_eq!(rt; options.receivers, 2);
-    assert_eq!(rt; options.flushers, 1);
-    assert_eq!(rt; options.flush_series, 1000);
-    assert_eq!(rt; options.round, 32_000);
+    ensure_eq!(options.backend, "b:9");
+    ensure_eq!(options.listen, "127.0.0.1:4318");
+    ensure_eq!(options.connections, 0);
+    ensure_eq!(options.receivers, 2);
+    ensure_eq!(options.flushers, 1);
+    ensure_eq!(options.flush_series, 1000);
+    ensure_eq!(options.round, 32_000);
     Ok(())
 }
 
@@ -55,10 +56,10 @@ fn what_is_given_is_taken(rt: HostRuntime) -> Result<(), Fail> {
         "b:9",
     ];
     let options = served(&rt, rt.alloc(), words.as_slice())?;
-    assert_eq!(rt; options.backend, "b:9");
-    assert_eq!(rt; options.listen, "[::1]:80");
-    assert_eq!(rt; options.connections, 1_000_000);
-    assert_eq!(rt; options.flush_series, 1);
+    ensure_eq!(options.backend, "b:9");
+    ensure_eq!(options.listen, "[::1]:80");
+    ensure_eq!(options.connections, 1_000_000);
+    ensure_eq!(options.flush_series, 1);
     Ok(())
 }
 
@@ -81,20 +82,20 @@ fn the_most_of_each_is_taken(rt: HostRuntime) -> Result<(), Fail> {
         "b:9",
     ];
     let options = served(&rt, rt.alloc(), words.as_slice())?;
-    assert_eq!(rt; options.round, 32_000);
-    assert_eq!(rt; options.flushers, 4);
-    assert_eq!(rt; options.receivers, 8);
-    assert_eq!(rt; options.flush_series, 1000);
-    assert_eq!(rt; options.connections, 1_000_000);
-    assert_eq!(rt; options.listen, "ADDR");
+    ensure_eq!(options.round, 32_000);
+    ensure_eq!(options.flushers, 4);
+    ensure_eq!(options.receivers, 8);
+    ensure_eq!(options.flush_series, 1000);
+    ensure_eq!(options.connections, 1_000_000);
+    ensure_eq!(options.listen, "ADDR");
     Ok(())
 }
 
 #[test]
 fn a_rehearsal_has_defaults(rt: HostRuntime) -> Result<(), Fail> {
     let options = rehearsed(&rt, rt.alloc(), ["gateway", "rehearse"].as_slice())?;
-    assert_eq!(rt; options.senders, 2);
-    assert_eq!(rt; options.batches, 3);
+    ensure_eq!(options.senders, 2);
+    ensure_eq!(options.batches, 3);
     Ok(())
 }
 
@@ -102,8 +103,8 @@ fn a_rehearsal_has_defaults(rt: HostRuntime) -> Result<(), Fail> {
 fn the_longest_rehearsal(rt: HostRuntime) -> Result<(), Fail> {
     let words = ["gateway", "rehearse", "--batches", "100", "--senders", "4"];
     let options = rehearsed(&rt, rt.alloc(), words.as_slice())?;
-    assert_eq!(rt; options.senders, 4);
-    assert_eq!(rt; options.batches, 100);
+    ensure_eq!(options.senders, 4);
+    ensure_eq!(options.batches, 100);
     Ok(())
 }
 
@@ -140,7 +141,7 @@ fn numbers_out_of_range(rt: HostRuntime) -> Result<(), Fail> {
             name,
             value,
         ];
-        assert!(rt; is_refused(rt.alloc(), words.as_slice()));
+        ensure!(is_refused(rt.alloc(), words.as_slice()));
     }
     Ok(())
 }
@@ -175,7 +176,7 @@ fn faulty_lines_are_refused(rt: HostRuntime) -> Result<(), Fail> {
         &["gateway", "--receivers", "2", "rehearse"],
     ];
     for line in lines {
-        assert!(rt; is_refused(rt.alloc(), line));
+        ensure!(is_refused(rt.alloc(), line));
     }
     Ok(())
 }
@@ -201,7 +202,7 @@ fn an_option_stands_once(rt: HostRuntime) -> Result<(), Fail> {
             first,
             second,
         ];
-        assert!(rt; is_refused(rt.alloc(), words.as_slice()));
+        ensure!(is_refused(rt.alloc(), words.as_slice()));
     }
     Ok(())
 }

@@ -2,6 +2,7 @@
 use crate::desk::{READS, ask, done, keeper, refused, serve};
 use back_answers::Answer;
 use byte_ends::{Step, Tape};
+use ensure::ensure;
 use gate_workers::{BookKeeper, End};
 use std::process::Abort;
 use std::test::Fail;
@@ -171,8 +172,8 @@ fn refuses<R: Abort + AllocGlobal>(
 ) -> Result<(), Fail> {
     let mut writer = Tape::new(rt.alloc(), &[]);
     let _ = serve(rt.alloc(), keeper, request, reads, &mut writer);
-    assert!(rt; writer.taken().starts_with(line));
-    assert!(rt; writer.taken().ends_with(body));
+    ensure!(writer.taken().starts_with(line));
+    ensure!(writer.taken().ends_with(body));
     Ok(())
 }
 

@@ -2,6 +2,7 @@
 use crate::desk::{READS, ask, ask_by, done, keeper, refused, serve};
 use back_answers::Answer;
 use byte_ends::{Step, Tape};
+use ensure::ensure_eq;
 use gate_workers::{End, Served};
 use http_edge::Written;
 use std::test::Fail;
@@ -140,7 +141,7 @@ fn a_batch_ends_by_what_was_written(rt: HostRuntime) -> Result<(), Fail> {
     for reads in READS {
         for (writes, written, end) in cases {
             let served = served_by(&rt, reads, writes)?;
-            assert_eq!(rt;
+            ensure_eq!(
                 served,
                 Served::Replied {
                     status: 200,

@@ -2,6 +2,7 @@
 use crate::desk::{done, keeper, refused};
 use back_answers::Answer;
 use delta_book::book::Book;
+use ensure::{ensure, ensure_eq};
 use gate_workers::{BookKeeper, Connection, End, NoPace, Served, Uplink};
 use gateway_serve::{Backend, ClientConnection, TcpConnector};
 use otlp_read::IdentityCache;
@@ -31,7 +32,7 @@ fn answer_to<R: Abort, U: Uplink<Pass = ()> + Drop>(
         &mut NoPace,
         &mut cache,
     );
-    assert_eq!(rt; got, served);
+    ensure_eq!(got, served);
     let mut text = Vec::new(net.alloc());
     client.read_to_end(&mut text)?;
     Ok(text)
@@ -39,8 +40,7 @@ fn answer_to<R: Abort, U: Uplink<Pass = ()> + Drop>(
 
 /// Has the request of a client served that keeps its writing side open, and looks at how the answer
 /// begins.
-fn answers_before_the_end<R: Abort>(
-    rt: &R,
+fn answers_before_the_end(
     net: &HostRuntime,
     keeper: &mut BookKeeper<Fixed>,
     request: &[u8],
@@ -54,7 +54,7 @@ fn answers_before_the_end<R: Abort>(
     let _ = ClientConnection::new(net, stream).serve(net.alloc(), keeper, &mut NoPace, &mut cache);
     let mut text = Vec::new(net.alloc());
     client.read_to_end(&mut text)?;
-    assert!(rt; text.as_slice().starts_with(line));
+    ensure!(text.as_slice().starts_with(line));
     Ok(())
 }
 
@@ -77,10 +77,9 @@ fn a_client_that_keeps_its_side_open_is_answered(rt: HostRuntime) -> Result<(), 
             0\r\n\r\n",
     ];
     for request in routes {
-        answers_before_the_end(&rt, &rt, &mut keeper, request, done)?;
+        answers_before_the_end(&rt, &mut keeper, request, done)?;
     }
     answers_before_the_end(
-        &rt,
         &rt,
         &mut keeper,
         b"GET /nowhere HTTP/1.1\r\n\r\n",
@@ -92,7 +91,7 @@ fn a_client_that_keeps_its_side_open_is_answered(rt: HostRuntime) -> Result<(), 
 fn a_post_is_answered(rt: HostRuntime) -> Result<(), Fail> {
     let mut keeper = keeper(rt.alloc(), Answer::Success)?;
     let text = answer_to(&rt, &rt, &mut keeper, POSTED, done(End::Confirmed))?;
-    assert_eq!(rt; text.as_slice(), ACCEPTED);
+    ensure_eq!(text.as_slice(), ACCEPTED);
     Ok(())
 }
 
@@ -108,11 +107,11 @@ fn a_body_that_is_too_long_and_still_comes_is_answered(rt: HostRuntime) -> Resul
     )?;
     request.resize(60_000, b' ')?;
     let text = answer_to(&rt, &rt, &mut keeper, request.as_slice(), refused(413))?;
-    assert!(rt;
+    ensure!(
         text.as_slice()
             .starts_with(b"HTTP/1.1 413 Payload Too Large\r\n")
     );
-    assert!(rt;
+    ensure!(
         text.as_slice()
             .ends_with(b"{\"message\":\"body too long\"}")
     );
@@ -132,7 +131,7 @@ fn a_flush_to_nobody_is_returned(rt: HostRuntime) -> Result<(), Fail> {
         b"POST /flush HTTP/1.1\r\n\r\n",
         done(End::NoBatch),
     )?;
-    assert!(rt;
+    ensure!(
         text.as_slice()
             .ends_with(b"{\"act\":\"returned\",\"flush\":\"1\",\"points\":\"1\"}")
     );

@@ -11,6 +11,7 @@ use crate::look;
 use delta_book::book::Book;
 use delta_book::faults::{AdmitFault, QuarantineFault, TakeFault};
 use delta_book::flush::FlushPoint;
+use ensure::ensure_eq;
 use metric_events::batch::Batch;
 use metric_events::limits::{MAX_ENTRIES, MAX_HELD, MAX_LIVE, MAX_OPEN, MAX_SERIES, MAX_TAKEN};
 use series_id::{Kind, SharedId};
@@ -41,7 +42,7 @@ fn expect_two(rt: &impl Abort, sent: &[FlushPoint]) {
 fn a_flush_of_two_series(rt: HostRuntime) -> Result<(), Fail> {
     let alloc = rt.alloc();
     let mut book = Book::new(alloc)?;
-    assert_eq!(rt; admit(&rt, &mut book, both_kinds(alloc)?), Ok(1));
+    ensure_eq!(admit(&rt, &mut book, both_kinds(alloc)?), Ok(1));
     let flush = book
         .take(7, MAX_TAKEN as usize)?
         .ok_or("nothing was taken")?;
@@ -232,7 +233,7 @@ fn a_cell_shares_the_identity_of_its_first_point(rt: HostRuntime) -> Result<(), 
     let series = series(alloc, 1, Kind::Sum { monotonic: false })?;
     let body = batch_of(alloc, SharedId::new(alloc, series)?, 1)?;
     let kept = body.copy(alloc)?;
-    assert_eq!(rt; admit(&rt, &mut book, body), Ok(1));
+    ensure_eq!(admit(&rt, &mut book, body), Ok(1));
     let cell = book.cells().first().ok_or("no cell")?;
     let point = kept.points.as_slice().first().ok_or("no point")?;
     look::count(&rt, cell.shared_id().owners(), 2, "owners");
@@ -255,7 +256,7 @@ fn a_noted_position_may_be_wrong(rt: HostRuntime) -> Result<(), Fail> {
     for (number, place) in [(2, 0), (3, 1), (4, 2), (5, usize::MAX)] {
         shared.note_place(place);
         let body = batch_of(alloc, shared.share()?, number)?;
-        assert_eq!(rt; admit(&rt, &mut book, body), Ok(number));
+        ensure_eq!(admit(&rt, &mut book, body), Ok(number));
         look::count(&rt, shared.place(), 2, "the place");
     }
     let cell = book.cells().last().ok_or("no cell")?;

@@ -5,6 +5,7 @@ use delta_book::book::Book;
 use delta_book::faults::{
     AdmitFault, NotLive, NotOpen, NotQuarantined, QuarantineFault, RoundFault, TakeFault, UndoFault,
 };
+use ensure::ensure;
 use metric_events::batch::Batch;
 use std::alloc::Global;
 use std::process::Abort;
@@ -72,7 +73,7 @@ fn has_result(rt: &impl Abort, alloc: Global, book: &mut Book, call: Call) -> Re
 /// Makes the calls in turn, and compares their results.
 pub fn run(rt: &impl Abort, alloc: Global, book: &mut Book, calls: &[Call]) -> Result<(), Fail> {
     for (at, call) in calls.iter().enumerate() {
-        assert!(rt; has_result(rt, alloc, book, *call)?, "at call {at}");
+        ensure!(has_result(rt, alloc, book, *call)?, at);
     }
     Ok(())
 }

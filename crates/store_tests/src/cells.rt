@@ -9,6 +9,7 @@ ghost use Rattle.series_cell.specs.Cells.{Stands, IsOfSame};
 use crate::bodies::{series, sum_point};
 use crate::look;
 use bucket_lanes::{fits, is_zero, total};
+use ensure::ensure_eq;
 use metric_events::point::Point;
 use metric_events::sender_name::SenderName;
 use metric_events::span::Span;
@@ -126,8 +127,8 @@ fn a_flush_comes_back_and_a_batch_is_undone(rt: HostRuntime) -> Result<(), Fail>
     let first = sum_point(alloc, 1, 10, 10, 5)?;
     let second = sum_point(alloc, 1, 20, 10, 7)?;
     let mut cell = sum_cell(alloc)?;
-    assert_eq!(&rt; cell.owner().as_bytes(), b"A".as_slice());
-    assert_eq!(&rt; cell.frontier(), 0);
+    ensure_eq!(cell.owner().as_bytes(), b"A".as_slice());
+    ensure_eq!(cell.frontier(), 0);
     give_back_and_undo(&rt, &mut cell, &first, &second);
     Ok(())
 }
@@ -213,7 +214,7 @@ fn a_span_comes_without_its_words(rt: HostRuntime) -> Result<(), Fail> {
     bring_span(&rt, &mut cell, &spanned, 2);
     expect_rows(&rt, &cell, [[1, 5, 0], [1, 5, 0], ZERO, ZERO, ZERO]);
     expect_span(&rt, cell.stored_span(), Some((10, 30)));
-    assert_eq!(&rt; cell.frontier(), 30);
+    ensure_eq!(cell.frontier(), 30);
     Ok(())
 }
 

@@ -2,6 +2,7 @@ ghost use Rattle.std.specs.Prelude.{◌≡◌};
 ghost use Rattle.metric_events.specs.PointFaults.{IsHistogram};
 
 use crate::look;
+use ensure::ensure_eq;
 use metric_events::batch::Batch;
 use metric_events::laws::striking;
 use metric_events::merged_point::MergedPoint;
@@ -151,14 +152,15 @@ fn names_of_senders(rt: HostRuntime) {
 }
 
 #[test]
-fn copies_of_names(rt: HostRuntime) {
+fn copies_of_names(rt: HostRuntime) -> Result<(), Fail> {
     let alloc = rt.alloc();
     let name = SenderName::new(alloc, b"shop").expect(&rt, "a name");
     let other = SenderName::new(alloc, b"shopA").expect(&rt, "a name");
     let copy = name.copy(alloc).expect(&rt, "memory");
-    assert_eq!(rt; copy.as_bytes(), b"shop".as_slice());
+    ensure_eq!(copy.as_bytes(), b"shop".as_slice());
     look::holds(&rt, name.is_same(&copy), "the same name");
     look::holds(&rt, !name.is_same(&other), "another name");
+    Ok(())
 }
 
 #[test]
@@ -176,7 +178,7 @@ fn rows_of_sums(rt: HostRuntime) {
 }
 
 #[test]
-fn faults_of_sums(rt: HostRuntime) {
+fn faults_of_sums(rt: HostRuntime) -> Result<(), Fail> {
     let alloc = rt.alloc();
     let negative = PointFault::NegativeMonotonic;
     for (monotonic, start, value, want) in [
@@ -192,6 +194,7 @@ fn faults_of_sums(rt: HostRuntime) {
         let fault = Point::sum(alloc, series, start, 20, value).err();
         assert_eq!(rt; fault, want, "at {start} {value}");
     }
+    Ok(())
 }
 
 #[test]
@@ -218,7 +221,7 @@ fn rows_of_histograms(rt: HostRuntime) {
 }
 
 #[test]
-fn faults_of_histograms(rt: HostRuntime) {
+fn faults_of_histograms(rt: HostRuntime) -> Result<(), Fail> {
     let alloc = rt.alloc();
     let most = 18446744073709551615;
     let mismatch = PointFault::BucketMismatch;
@@ -242,6 +245,7 @@ fn faults_of_histograms(rt: HostRuntime) {
         let fault = histogram(&rt, alloc, bounds, start, count, sum, buckets).err();
         assert_eq!(rt; fault, Some(want), "of {count} at {start}");
     }
+    Ok(())
 }
 
 /// A batch of the sender `shop`: a sum's point for each value, one after another.
@@ -308,7 +312,7 @@ fn shared_series(rt: &impl Abort, alloc: Global, monotonic: bool) -> SharedId
 }
 
 #[test]
-fn points_of_one_identity_share_it(rt: HostRuntime) {
+fn points_of_one_identity_share_it(rt: HostRuntime) -> Result<(), Fail> {
     let alloc = rt.alloc();
     let shared = shared_series(&rt, alloc, false);
     let series = shared.share().expect(&rt, "a count");
@@ -320,8 +324,9 @@ fn points_of_one_identity_share_it(rt: HostRuntime) {
     look::holds(&rt, copy.is_same(&point), "the same point");
     let series = shared.share().expect(&rt, "a count");
     let late = Point::shared_sum(series, 20, 10, -7).err();
-    assert_eq!(rt; late, Some(PointFault::BadSpan));
+    ensure_eq!(late, Some(PointFault::BadSpan));
     look::count(&rt, shared.owners(), 3, "owners");
+    Ok(())
 }
 
 // An identity is one word, a span two, and a row in place four.

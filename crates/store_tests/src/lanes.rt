@@ -4,7 +4,9 @@
 ghost use Rattle.std.specs.Prelude.{◌≡◌, ◌≤◌, length};
 
 use bucket_lanes::{add_into, clear, fits, is_zero, move_into, sub_from, total};
+use ensure::{ensure, ensure_eq};
 use std::process::Abort;
+use std::test::Fail;
 
 const MOST: u64 = 18_446_744_073_709_551_615;
 
@@ -157,17 +159,19 @@ fn each_place_counts(rt: HostRuntime) {
 
 /// A row without words is all 0, and fits with another one under every limit.
 #[test]
-fn rows_without_words(rt: HostRuntime) {
+fn rows_without_words(rt: HostRuntime) -> Result<(), Fail> {
     let mut words = [3u64; 1];
     clear(&mut words[..0]);
-    assert_eq!(rt; words, [3]);
+    ensure_eq!(words, [3]);
     expect_total(&rt, &words[..0], 0);
     expect_fits(&rt, &words[..0], &words[..0], 0, true);
+    Ok(())
 }
 
 #[test]
-fn a_total_is_wider_than_a_word(rt: HostRuntime) {
+fn a_total_is_wider_than_a_word(rt: HostRuntime) -> Result<(), Fail> {
     let words = [MOST; 259];
-    assert_eq!(rt; total(&words), 259 * u128::from(MOST));
-    assert!(rt; !fits(&[MOST], &[1], MOST));
+    ensure_eq!(total(&words), 259 * u128::from(MOST));
+    ensure!(!fits(&[MOST], &[1], MOST));
+    Ok(())
 }

@@ -5,6 +5,7 @@ use crate::call::Call::{Confirm, Settle, Single, Take};
 use crate::call::{admit, run};
 use delta_book::book::Book;
 use delta_book::faults::AdmitFault;
+use ensure::ensure_eq;
 use metric_events::batch::Batch;
 use metric_events::points::Points;
 use series_cell::batch_span::KEPT_ROOM;
@@ -41,20 +42,20 @@ fn refused_posts_keep_no_room(rt: HostRuntime) -> Result<(), Fail> {
     run(&rt, alloc, &mut book, &[Single(0, 1, 1, Ok(1))])?;
     for _ in 0..3 {
         let strange = many(alloc, 1, 20, 1000, false)?;
-        assert_eq!(rt;
+        ensure_eq!(
             admit(&rt, &mut book, strange),
             Err(AdmitFault::OtherWriter(0))
         );
         expect_room(&rt, &book, KEPT_ROOM)?;
         let late = many(alloc, 0, 1, 1000, false)?;
-        assert_eq!(rt;
+        ensure_eq!(
             admit(&rt, &mut book, late),
             Err(AdmitFault::OutOfOrder(0, 11))
         );
         expect_room(&rt, &book, KEPT_ROOM)?;
         let last_late = many(alloc, 0, 20, 1000, true)?;
         let fault = Err(AdmitFault::OutOfOrder(1000, 1020));
-        assert_eq!(rt; admit(&rt, &mut book, last_late), fault);
+        ensure_eq!(admit(&rt, &mut book, last_late), fault);
         expect_room(&rt, &book, KEPT_ROOM)?;
     }
     Ok(())
@@ -66,7 +67,7 @@ fn landed_points_keep_no_room(rt: HostRuntime) -> Result<(), Fail> {
     let alloc = rt.alloc();
     let mut book = Book::new(alloc)?;
     let first = many(alloc, 0, 1, 1000, false)?;
-    assert_eq!(rt; admit(&rt, &mut book, first), Ok(1));
+    ensure_eq!(admit(&rt, &mut book, first), Ok(1));
     run(
         &rt,
         alloc,
@@ -80,7 +81,7 @@ fn landed_points_keep_no_room(rt: HostRuntime) -> Result<(), Fail> {
     )?;
     expect_room(&rt, &book, KEPT_ROOM)?;
     let second = many(alloc, 0, 3000, 1000, false)?;
-    assert_eq!(rt; admit(&rt, &mut book, second), Ok(3));
+    ensure_eq!(admit(&rt, &mut book, second), Ok(3));
     run(
         &rt,
         alloc,
@@ -97,7 +98,7 @@ fn undone_points_keep_no_room(rt: HostRuntime) -> Result<(), Fail> {
     let mut book = Book::new(alloc)?;
     run(&rt, alloc, &mut book, &[Single(0, 1, 1, Ok(1))])?;
     let undone = many(alloc, 0, 20, 1000, false)?;
-    assert_eq!(rt; admit(&rt, &mut book, undone), Ok(2));
-    assert_eq!(rt; book.undo(7, 2), Ok(()));
+    ensure_eq!(admit(&rt, &mut book, undone), Ok(2));
+    ensure_eq!(book.undo(7, 2), Ok(()));
     expect_room(&rt, &book, KEPT_ROOM)
 }

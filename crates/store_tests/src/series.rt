@@ -1,4 +1,5 @@
 use crate::look;
+use ensure::ensure_eq;
 use series_id::limits::{MAX_ATTRIBUTES, MAX_BOUNDS, MAX_TEXT, MAX_VALUES};
 use series_id::{
     AttrFault, AttrSet, AttrValue, IdFault, Kind, KindFault, Scalar, Scalars, SeriesId, SharedId,
@@ -7,6 +8,7 @@ use series_id::{
 use std::alloc::Global;
 use std::cmp::Ordering;
 use std::process::Abort;
+use std::test::Fail;
 
 fn text(rt: &impl Abort, alloc: Global, text: &str) -> Text {
     Text::new(String::from_str(alloc, text).expect(rt, "memory"))
@@ -163,7 +165,7 @@ fn texts_fault(rt: &impl Abort, alloc: Global, lengths: [usize; 4]) -> Option<Id
 }
 
 #[test]
-fn bounds_are_checked_in_order(rt: HostRuntime) {
+fn bounds_are_checked_in_order(rt: HostRuntime) -> Result<(), Fail> {
     let alloc = rt.alloc();
     let cases = [
         ([0, 5, 5], Some(KindFault::NotAscending)),
@@ -182,12 +184,9 @@ fn bounds_are_checked_in_order(rt: HostRuntime) {
         (256, Some(KindFault::TooManyBounds)),
         (MAX_BOUNDS, Some(KindFault::BoundTooLarge)),
     ] {
-        assert_eq!(rt;
-            bounds_fault(&rt, alloc, &many[..bounds]),
-            fault,
-            "of {bounds}"
-        );
+        ensure_eq!(bounds_fault(&rt, alloc, &many[..bounds]), fault, bounds);
     }
+    Ok(())
 }
 
 #[test]
@@ -370,7 +369,7 @@ fn rows_fit_their_kind(rt: HostRuntime) {
 }
 
 #[test]
-fn texts_of_series_are_short(rt: HostRuntime) {
+fn texts_of_series_are_short(rt: HostRuntime) -> Result<(), Fail> {
     let alloc = rt.alloc();
     let long = Some(IdFault::TextTooLong);
     for (lengths, fault) in [
@@ -382,6 +381,7 @@ fn texts_of_series_are_short(rt: HostRuntime) {
     ] {
         assert_eq!(rt; texts_fault(&rt, alloc, lengths), fault, "of {lengths:?}");
     }
+    Ok(())
 }
 
 /// Compiles only for types that threads may share and send.

@@ -1,8 +1,10 @@
 //! Identities that are shared, which are compared by the bytes that say all of them.
 use crate::look;
+use ensure::ensure;
 use series_id::{AttrSet, AttrValue, Kind, Scalar, Scalars, SeriesId, SharedId, Text};
 use std::alloc::Global;
 use std::process::Abort;
+use std::test::Fail;
 
 fn text(rt: &impl Abort, alloc: Global, text: &str) -> Text {
     Text::new(String::from_str(alloc, text).expect(rt, "memory"))
@@ -253,16 +255,17 @@ fn lists_are_apart(rt: HostRuntime) {
 }
 
 #[test]
-fn long_texts_are_apart(rt: HostRuntime) {
+fn long_texts_are_apart(rt: HostRuntime) -> Result<(), Fail> {
     let alloc = rt.alloc();
     let mut all = Vec::new(alloc);
     for bytes in [0, 1, 126, 127, 128, 129, 255, 256, 257, 4095, 4096] {
         let name = long_text(&rt, alloc, bytes);
         let made = of_texts(&rt, alloc, ["", "", name.as_str(), "a"]);
         if all.push(made).is_err() {
-            assert!(rt; false, "memory");
+            ensure!(false, "memory");
         }
     }
     look::count(&rt, all.len(), 11, "texts");
     check_apart(&rt, alloc, &all);
+    Ok(())
 }

@@ -4,6 +4,7 @@ ghost use Rattle.metric_events.specs.Opening.{first_opening};
 
 use crate::bodies::{admit, body};
 use delta_book::book::Book;
+use ensure::{ensure, ensure_eq};
 use shared_book::audit::{AuditFault, check};
 use shared_book::round::Round;
 use shared_book::seat::Seat;
@@ -20,7 +21,7 @@ fn book_of(rt: &impl Abort, alloc: Global, seat: u16, value: i64) -> Result<Book
     let mut book = Book::new(alloc)?;
     let body = body(alloc, "A", "req", (10, 20), value)?;
     assert!(rt; !body.points.as_slice().is_empty());
-    assert!(rt; book.admit(seat, body).is_ok());
+    ensure!(book.admit(seat, body).is_ok());
     Ok(book)
 }
 
@@ -73,7 +74,7 @@ fn one_seat<L: Round, R: Wait + Abort>(rt: &R, alloc: Global, blank: Blank) -> R
     let mut seats = seats;
     let mut seat = seats.pop().ok_or("no seat")?;
     let body = body(alloc, "A", "req", (10, 20), 5)?;
-    assert_eq!(rt; admit(rt, &shared, &mut seat, body), Ok(1));
+    ensure_eq!(admit(rt, &shared, &mut seat, body), Ok(1));
     seats.push(seat)?;
     expect_checks(rt, alloc, seats.as_slice(), WITH_RECEIPT)
 }

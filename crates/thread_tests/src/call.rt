@@ -5,6 +5,7 @@ use crate::compare::{Sent, Total, expect_sent, expect_totals};
 use delta_book::faults::{
     AdmitFault, NotLive, NotOpen, NotQuarantined, QuarantineFault, UndoFault,
 };
+use ensure::ensure;
 use shared_book::round::Round;
 use shared_book::seat::Seat;
 use shared_book::shared::SharedBook;
@@ -104,7 +105,7 @@ pub fn run<L: Round, R: Wait + Abort>(
     calls: &[Call],
 ) -> Result<(), Fail> {
     for (at, call) in calls.iter().enumerate() {
-        assert!(rt; has_result(rt, alloc, shared, seat, *call)?, "at call {at}");
+        ensure!(has_result(rt, alloc, shared, seat, *call)?, at);
     }
     Ok(())
 }

@@ -4,6 +4,7 @@
 use crate::bodies::{sender, series};
 use delta_book::flush::Flush;
 use delta_book::totals::SeriesTotals;
+use ensure::{ensure, ensure_eq};
 use metric_events::row::Row;
 use std::alloc::Global;
 use std::process::Abort;
@@ -30,13 +31,13 @@ pub struct Total(
 
 /// The flush has this number and this one point.
 pub fn expect_sent(rt: &impl Abort, alloc: Global, flush: &Flush, want: Sent) -> Result<(), Fail> {
-    assert_eq!(rt; flush.number, want.number);
+    ensure_eq!(flush.number, want.number);
     let points = flush.points.as_slice();
     assert_eq!(rt; points.len(), 1, "points of flush {}", want.number);
     let point = &points[0];
-    assert!(rt; point.series().is_same(&series(alloc, want.series)?));
-    assert_eq!(rt; (point.span().start(), point.span().end()), want.span);
-    assert_eq!(rt; point.row(), want.row.as_slice());
+    ensure!(point.series().is_same(&series(alloc, want.series)?));
+    ensure_eq!((point.span().start(), point.span().end()), want.span);
+    ensure_eq!(point.row(), want.row.as_slice());
     Ok(())
 }
 
@@ -52,15 +53,15 @@ fn expect_total(
     want: Total,
 ) -> Result<(), Fail> {
     let Total(name, owner, frontier, rows) = want;
-    assert!(rt;
+    ensure!(
         totals.series.as_series().is_same(&series(alloc, name)?),
-        "not {name}"
+        name
     );
     assert!(rt;
         totals.owner.is_same(&sender(alloc, owner)?),
         "{name} is not of {owner}"
     );
-    assert_eq!(rt; totals.frontier, frontier);
+    ensure_eq!(totals.frontier, frontier);
     expect_row(rt, &totals.accepted, &rows[0]);
     expect_row(rt, &totals.acknowledged, &rows[1]);
     expect_row(rt, &totals.dropped, &rows[2]);
@@ -77,7 +78,7 @@ pub fn expect_totals(
     totals: &[SeriesTotals],
     wanted: &[Total],
 ) -> Result<(), Fail> {
-    assert_eq!(rt; totals.len(), wanted.len(), "series");
+    ensure_eq!(totals.len(), wanted.len(), "series");
     for (one, want) in totals.iter().zip(wanted) {
         expect_total(rt, alloc, one, *want)?;
     }

@@ -9,6 +9,7 @@ use crate::compare::{Sent, Total};
 use crate::pair::{finish, finish_both, two_seats};
 use delta_book::book::Book;
 use delta_book::faults::{AdmitFault, NotQuarantined};
+use ensure::ensure_eq;
 use shared_book::audit::Audit;
 use shared_book::round::Round;
 use shared_book::seat::Seat;
@@ -143,7 +144,7 @@ fn from_one_seat<L: Round, R: Wait + Abort>(rt: &R, alloc: Global, blank: Blank)
     ];
     let seats = run_from(rt, alloc, &shared, seats, &lists)?;
     let (_, audit) = finish(shared, seats)?;
-    assert_eq!(rt; audit, ALL);
+    ensure_eq!(audit, ALL);
     Ok(())
 }
 
@@ -174,7 +175,7 @@ fn from_two_seats<L: Round, R: Wait + Abort>(
     let (shared, mut first, mut second) = two_seats::<L>(alloc, blank)?;
     run_in_turn(rt, alloc, &shared, &mut first, &mut second)?;
     let (_, audit) = finish_both(alloc, shared, (first, second))?;
-    assert_eq!(rt; audit, ALL);
+    ensure_eq!(audit, ALL);
     Ok(())
 }
 

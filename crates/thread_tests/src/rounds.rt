@@ -4,6 +4,7 @@ ghost use Rattle.metric_events.specs.Opening.{first_opening};
 
 use crate::pair::{Then, bring_from_both, finish, finish_both, two_seats};
 use delta_book::book::Book;
+use ensure::ensure_eq;
 use shared_book::audit::Audit;
 use shared_book::round::Round;
 use shared_book::seat::Seat;
@@ -34,7 +35,7 @@ fn first_round<L: Round + Send + Sync, R: Threads + Wait + Abort + Sync>(
         admitted: 8,
         acknowledged: 0,
     };
-    assert_eq!(rt; audit, wanted);
+    ensure_eq!(audit, wanted);
     Ok(book)
 }
 
@@ -45,8 +46,8 @@ fn take_and_settle<L: Round, R: Wait + Abort>(
     seat: &mut Seat<L>,
 ) -> Result<(), Fail> {
     let flush = shared.take(rt, seat, 10)?.ok_or("nothing was taken")?;
-    assert_eq!(rt; flush.points.as_slice().len(), 2);
-    assert_eq!(rt; shared.settle(rt, seat, flush.number), Ok(()));
+    ensure_eq!(flush.points.as_slice().len(), 2);
+    ensure_eq!(shared.settle(rt, seat, flush.number), Ok(()));
     Ok(())
 }
 
@@ -81,7 +82,7 @@ fn second_round<L: Round, R: Wait + Abort>(
     };
     let seats = settle_from(rt, &shared, seats)?;
     let (book, audit) = finish(shared, seats)?;
-    assert_eq!(rt;
+    ensure_eq!(
         audit,
         Audit {
             events: 2,
@@ -97,10 +98,10 @@ fn two_rounds(rt: HostRuntime) -> Result<(), Fail> {
     let alloc = rt.alloc();
     let mut book = first_round::<Brand, _>(&rt, alloc, Blank::new(2))?;
     match book.close_round() {
-        Ok(round) => assert_eq!(rt; round, 2),
+        Ok(round) => ensure_eq!(round, 2),
         Err(_) => return Err(Fail::from("the round is not closed")),
     }
     let book = second_round::<Brand, _>(&rt, alloc, book, Blank::new(1))?;
-    assert_eq!(rt; book.round(), 2);
+    ensure_eq!(book.round(), 2);
     Ok(())
 }

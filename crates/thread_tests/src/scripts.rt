@@ -13,6 +13,7 @@ use delta_book::book::Book;
 use delta_book::faults::{
     AdmitFault, NotLive, NotOpen, NotQuarantined, QuarantineFault, UndoFault,
 };
+use ensure::ensure_eq;
 use shared_book::audit::Audit;
 use shared_book::round::Round;
 use shared_book::shared::SharedBook;
@@ -45,7 +46,7 @@ fn one_seat<L: Round, R: Wait + Abort>(
     };
     let seats = run_from(rt, alloc, &shared, seats, &[calls])?;
     let (book, audit) = finish(shared, seats)?;
-    assert_eq!(rt; audit, wanted);
+    ensure_eq!(audit, wanted);
     Ok(book)
 }
 
@@ -262,7 +263,7 @@ fn a_later_round_begins_with_a_quarantine(rt: HostRuntime) -> Result<(), Fail> {
     };
     let mut book = in_a_new_book(&rt, alloc, LEFT_BEHIND, wanted)?;
     match book.close_round() {
-        Ok(round) => assert_eq!(rt; round, 2),
+        Ok(round) => ensure_eq!(round, 2),
         Err(_) => return Err(Fail::from("the round is not closed")),
     }
     let wanted = Audit {
@@ -278,6 +279,6 @@ fn a_later_round_begins_with_a_quarantine(rt: HostRuntime) -> Result<(), Fail> {
         QUARANTINED_AT_FIRST,
         wanted,
     )?;
-    assert_eq!(rt; book.round(), 2);
+    ensure_eq!(book.round(), 2);
     Ok(())
 }

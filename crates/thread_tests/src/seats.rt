@@ -4,6 +4,7 @@ ghost use Rattle.metric_events.specs.Opening.{first_opening};
 
 use crate::pair::{Then, bring_from_both, finish_both, two_seats};
 use delta_book::book::Book;
+use ensure::ensure_eq;
 use shared_book::audit::{Audit, AuditFault};
 use shared_book::receipt::EventKind;
 use shared_book::round::Round;
@@ -36,7 +37,7 @@ fn ends_with_both<L: Round>(
     let mut seats = Vec::new(alloc);
     seats.push(one)?;
     let (fault, shared, mut seats) = shared.finish(seats).err().ok_or("ended without a seat")?;
-    assert_eq!(rt; (fault, seats.len()), (AuditFault::SeatOut, 1));
+    ensure_eq!((fault, seats.len()), (AuditFault::SeatOut, 1));
     let one = seats.pop().ok_or("no seat")?;
     finish_both(alloc, shared, (one, zero))
 }
@@ -61,7 +62,7 @@ fn four_admissions<L: Round + Send + Sync, R: Threads + Wait + Abort + Sync>(
         admitted: 8,
         acknowledged: 0,
     };
-    assert_eq!(rt; (audit, book.journal().len()), (wanted, 8));
+    ensure_eq!((audit, book.journal().len()), (wanted, 8));
     Ok(())
 }
 

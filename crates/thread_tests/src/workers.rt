@@ -6,6 +6,7 @@ use crate::pair::{finish_both, two_seats};
 use crate::pause::{After, Flags, PauseAt, Scripted, is_set_in_time};
 use back_answers::{Act, Answer};
 use crossbeam_channel::{Receiver, Sender, bounded};
+use ensure::{ensure, ensure_eq};
 use gate_workers::{
     CHANNEL_PLACES, NoPace, Order, Pace, SharedKeeper, Spot, Turn, flusher_loop, receiver_loop,
 };
@@ -41,15 +42,14 @@ const SETTLED: &[u8] = b"HTTP/1.1 200 OK\r\n\
         {\"act\":\"settled\",\"flush\":\"1\",\"points\":\"1\"}";
 
 /// Ends the round, and compares the audit: events, admitted points, acknowledged points.
-fn expect_audit<L: Round, R: Abort>(
-    rt: &R,
+fn expect_audit<L: Round>(
     alloc: Global,
     shared: SharedBook<L>,
     seats: (Seat<L>, Seat<L>),
     wanted: (u128, u128, u128),
 ) -> Result<(), Fail> {
     let (_, audit) = finish_both(alloc, shared, seats)?;
-    assert_eq!(rt; (audit.events, audit.admitted, audit.acknowledged), wanted);
+    ensure_eq!((audit.events, audit.admitted, audit.acknowledged), wanted);
     Ok(())
 }
 
@@ -156,7 +156,7 @@ fn serve_one<L: Round, R: Wait + Abort>(
     let is_answered = AtomicBool::new(false);
     let connection = one_connection(rt, alloc, Scripted::new(bytes, response, &is_answered))?;
     let seat = receive(rt, alloc, shared, seat, orders, connection, &mut NoPace);
-    assert!(rt; is_answered.load(Ordering::SeqCst));
+    ensure!(is_answered.load(Ordering::SeqCst));
     Ok(seat)
 }
 
@@ -176,9 +176,9 @@ fn serve_and_flush<L: Round + Send + Sync, R: Threads + Wait + Clock + Abort + S
         || receive_after(rt, alloc, shared, first, later, flags),
         || flush_and_pause(rt, alloc, shared, second, orders, flags),
     );
-    assert!(rt; !flags.late.load(Ordering::SeqCst));
-    assert!(rt; flags.free.load(Ordering::SeqCst));
-    assert_eq!(rt; turn.recv(rt).ok(), Some(settled_turn()));
+    ensure!(!flags.late.load(Ordering::SeqCst));
+    ensure!(flags.free.load(Ordering::SeqCst));
+    ensure_eq!(turn.recv(rt).ok(), Some(settled_turn()));
     Ok(seats)
 }
 
@@ -196,7 +196,7 @@ fn a_batch_while_a_flush_is_sent<L: Round + Send + Sync, R: Threads + Wait + Clo
     let (shared, first, second) = two_seats::<L>(alloc, blank)?;
     let first = serve_one(rt, alloc, &shared, first, None, POSTED, ACCEPTED)?;
     let seats = serve_and_flush(rt, alloc, &shared, (first, second), &Flags::new())?;
-    expect_audit(rt, alloc, shared, seats, (6, 2, 1))
+    expect_audit(alloc, shared, seats, (6, 2, 1))
 }
 
 /// The turn of flush 1, whose one point the back end accepted.
@@ -245,8 +245,8 @@ fn serve_two<L: Round + Send + Sync, R: Threads + Wait + Clock + Abort + Sync>(
             )
         },
     );
-    assert!(rt; fed && !flags.late.load(Ordering::SeqCst));
-    assert!(rt; answered.load(Ordering::SeqCst) && flags.free.load(Ordering::SeqCst));
+    ensure!(fed && !flags.late.load(Ordering::SeqCst));
+    ensure!(answered.load(Ordering::SeqCst) && flags.free.load(Ordering::SeqCst));
     Ok((first, second))
 }
 
@@ -262,7 +262,7 @@ fn a_connection_while_another_is_paused<
 {
     let (shared, first, second) = two_seats::<L>(alloc, blank)?;
     let seats = serve_two(rt, alloc, &shared, (first, second), &Flags::new())?;
-    expect_audit(rt, alloc, shared, seats, (4, 2, 0))
+    expect_audit(alloc, shared, seats, (4, 2, 0))
 }
 
 /// Orders flushes without a flusher and from one that has ended, and returns the seat.
@@ -293,7 +293,7 @@ fn order_and_drop<L: Round + Send + Sync, R: Threads + Wait + Abort + Sync>(
         || receive(rt, alloc, shared, seat, Some(to), flush, &mut NoPace),
         || orders.recv(rt).is_ok(),
     );
-    assert!(rt; taken && is_answered.load(Ordering::SeqCst));
+    ensure!(taken && is_answered.load(Ordering::SeqCst));
     Ok(seat)
 }
 
@@ -311,7 +311,7 @@ fn orders_of_nobody<L: Round + Send + Sync, R: Threads + Wait + Abort + Sync>(
     let (shared, first, second) = two_seats::<L>(alloc, blank)?;
     let first = order_from_nobody(rt, alloc, &shared, first)?;
     let first = order_and_drop(rt, alloc, &shared, first)?;
-    expect_audit(rt, alloc, shared, (first, second), (0, 0, 0))
+    expect_audit(alloc, shared, (first, second), (0, 0, 0))
 }
 
 /// The flusher's turn answers an order of the channel. The flusher ends once the receiver has.
@@ -330,7 +330,7 @@ fn order_and_flush<L: Round + Send + Sync, R: Threads + Wait + Abort + Sync>(
         || receive(rt, alloc, shared, first, Some(to), order, &mut NoPace),
         || flush(rt, alloc, shared, second, orders, &mut NoPace),
     );
-    assert!(rt; is_answered.load(Ordering::SeqCst));
+    ensure!(is_answered.load(Ordering::SeqCst));
     Ok(seats)
 }
 
@@ -348,7 +348,7 @@ fn an_order_is_made<L: Round + Send + Sync, R: Threads + Wait + Abort + Sync>(
     let (shared, first, second) = two_seats::<L>(alloc, blank)?;
     let first = serve_one(rt, alloc, &shared, first, None, POSTED, ACCEPTED)?;
     let seats = order_and_flush(rt, alloc, &shared, (first, second))?;
-    expect_audit(rt, alloc, shared, seats, (4, 1, 1))
+    expect_audit(alloc, shared, seats, (4, 1, 1))
 }
 
 #[test]
