@@ -17,7 +17,9 @@ fn points_by_number_are_counted_once_over_kills() {
     let place = Place::new();
     let (names, mut total) = (["a", "b", "c"], 0);
     for run in 0..4 {
-        let mut service = place.serve();
+        // The first takes no checkpoint: all of its points are in the journal when that is looked at.
+        let every = if run == 0 { "1h" } else { "200ms" };
+        let mut service = place.serve_with(&["--sink", &place.sink(), "--flush-every", every]);
         for number in 0..50 {
             let end = 1_000 * (run + 1) + 10 * number;
             if run > 0 && number == 0 {
