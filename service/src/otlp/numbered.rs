@@ -1,5 +1,6 @@
 //! The points of a request in protobuf, by the numbers of their series: what nearly all requests have is read without a
-//! text of any of it.
+//! text of any of it. A request that is plain (`plain_protobuf`) is read by the book's own reader; this is for all others: in
+//! units that `--whole` is about, with exemplars, cumulative, or with points that are foreign or off by their clock.
 //!
 //! A series is known by the raw bytes of its resource, its scope, its metric without points, its bounds and its
 //! attributes, level by level (`levels`). What is not known yet is written as a request of one point by the reader for all

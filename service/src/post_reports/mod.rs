@@ -308,8 +308,8 @@ impl<T: Taker> Taker for Reported<T> {
         self.taker.reading(of_all)
     }
 
-    fn numbered(&self, body: &Bytes, reading: &Arc<Reading>) -> Option<ByNumber> {
-        self.taker.numbered(body, reading)
+    fn of_protobuf(&self, body: &Bytes, reading: &Arc<Reading>) -> Option<Request> {
+        self.taker.of_protobuf(body, reading)
     }
 
     fn numbered_text(&self, text: &Bytes) -> Result<Option<ByNumber>, core::Refused> {

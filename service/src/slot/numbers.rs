@@ -6,10 +6,13 @@
 //! other request, so that series which come and go cost no more than that. Posts that are under way keep the numbers
 //! that they have.
 
+use super::request::SHORT;
 use super::Slot;
 use crate::core::{memory_used, Core, Names, Read, Refused};
 use crate::files::Points;
-use crate::otlp::{prepare, Encoding, Learnt, NotNamed, Numbered, Reading, Rounded, Series};
+use crate::otlp::{
+    is_plain, prepare, Encoding, Learnt, NotNamed, Numbered, Reading, Rounded, Series, Window,
+};
 use bytes::Bytes;
 use std::sync::{Arc, PoisonError, RwLock};
 use std::time::{Duration, Instant};
@@ -32,9 +35,21 @@ const PART_OF_ALL: u64 = 8;
 pub enum Request {
     /// In the book's form.
     Text(Bytes),
-    /// Of protobuf.
+    /// In protobuf that the book's reader reads as it came, unless it finds that it can't.
+    Plain(Plain),
+    /// Of other protobuf.
     Numbered(ByNumber),
 }
+
+/// What may be read as it came.
+pub struct Plain {
+    body: Bytes,
+    /// How it is read otherwise.
+    reading: Arc<Reading>,
+}
+
+/// How many times its length a plain body takes once its points have numbers too: one of 31 bytes has four words and an end.
+const WITH_NUMBERS: usize = 4;
 
 /// Points that have numbers, and by which names.
 pub struct ByNumber {
@@ -80,6 +95,7 @@ impl Request {
     pub fn source(&self) -> Source {
         match self {
             Request::Text(text) => Source::Text(text.clone()),
+            Request::Plain(plain) => plain.source(),
             Request::Numbered(points) => points.source.clone(),
         }
     }
@@ -88,7 +104,33 @@ impl Request {
     pub fn bytes(&self) -> usize {
         match self {
             Request::Text(text) => text.len(),
+            Request::Plain(plain) => WITH_NUMBERS * plain.body.len(),
             Request::Numbered(points) => points.bytes(),
+        }
+    }
+
+    /// What of it was rounded, which its answer has.
+    pub fn take_rounded(&mut self) -> Rounded {
+        match self {
+            Request::Text(_) | Request::Plain(_) => Rounded::default(), // who wrote a text has it
+            Request::Numbered(points) => std::mem::take(&mut points.rounded),
+        }
+    }
+
+    /// Whether it takes so little to read that it is read in place.
+    pub(super) fn is_short(&self) -> bool {
+        match self {
+            Request::Plain(plain) => plain.body.len() <= SHORT,
+            other => other.bytes() <= SHORT,
+        }
+    }
+}
+
+impl Plain {
+    fn source(&self) -> Source {
+        Source::Protobuf {
+            body: self.body.clone(),
+            reading: self.reading.clone(),
         }
     }
 }
@@ -239,6 +281,35 @@ impl Numbers {
         Some(now.by_number(now.read(body, reading)?, source))
     }
 
+    /// The same as it is taken; none where it is to be written in the book's form.
+    fn request(&self, core: &Core, body: &Bytes, reading: &Arc<Reading>) -> Option<Request> {
+        let now = self.now(core, &self.of_texts);
+        if now.is_some_and(|now| !now.is_full()) && is_plain(body, reading) {
+            return Some(Request::Plain(Plain {
+                body: body.clone(),
+                reading: reading.clone(),
+            }));
+        }
+        self.read(core, body, reading).map(Request::Numbered)
+    }
+
+    /// A plain body with its points by number; none where it is to be read `otherwise`.
+    pub fn read_plain(&self, core: &Core, window: &Window, sender: &str, plain: &Plain) -> Option<Read> {
+        let now = self.now(core, &self.of_texts).filter(|now| !now.is_full())?;
+        let (sender, body) = (sender.to_string(), plain.body.clone());
+        let is_within = |first, last| window.has_all(first, last);
+        let has_room = |text| now.series.take_room(text);
+        core.read_protobuf(sender, body, is_within, &now.names, has_room)
+    }
+
+    /// A plain body as any other in protobuf.
+    pub fn otherwise(&self, core: &Core, plain: &Plain) -> Result<Request, Refused> {
+        match self.read(core, &plain.body, &plain.reading) {
+            Some(points) => Ok(Request::Numbered(points)),
+            None => plain.source().text().map(Request::Text).ok_or(Refused::NotJson),
+        }
+    }
+
     /// Has a text that was read have its points by number. It stays a text where there is no room for numbers, but for one of
     /// several stretches.
     pub fn number(&self, core: &Core, read: &mut Read) -> Result<(), Refused> {
@@ -271,6 +342,12 @@ impl Slot {
     /// The points of a request in protobuf by their numbers; none where it is to be read otherwise, which says nothing of it.
     pub fn numbered(&self, body: &Bytes, reading: &Arc<Reading>) -> Option<ByNumber> {
         self.numbers.read(&self.core, body, reading)
+    }
+
+    /// A request in protobuf as it is taken, as it came or by the numbers of its series; none where it is to be read
+    /// otherwise, which says nothing of it.
+    pub fn of_protobuf(&self, body: &Bytes, reading: &Arc<Reading>) -> Option<Request> {
+        self.numbers.request(&self.core, body, reading)
     }
 
     /// The same of a request in the book's form, also of what is cumulative; none where the book refuses it whole.

@@ -62,7 +62,7 @@ impl Slot {
 
     async fn read(&self, sender: String, request: Request) -> Result<Posted, Refused> {
         let window = self.clock.window();
-        if request.bytes() <= SHORT {
+        if request.is_short() {
             return read(&self.core, &self.numbers, &window, sender, request);
         }
         let _turn = self.readers.acquire().await; // it is never closed
