@@ -20,14 +20,8 @@ const DELTA: u64 = 1;
 
 /// Whether the book's reader reads a body as all others here read it, as far as that is seen at once. False says nothing.
 pub fn is_plain(body: &[u8], reading: &Reading) -> bool {
-    let mut look = Look {
-        reading,
-        unit: &[],
-        is_about: false,
-        bounds: &[],
-        last: [&[]; ATTRIBUTES],
-        last_number: 0,
-    };
+    let mut look =
+        Look { reading, unit: &[], is_about: false, bounds: &[], last: [&[]; ATTRIBUTES], last_number: 0 };
     !reading.finer_units.has_no_unit() && look.request(body).is_some()
 }
 

@@ -128,10 +128,7 @@ impl Request {
 
 impl Plain {
     fn source(&self) -> Source {
-        Source::Protobuf {
-            body: self.body.clone(),
-            reading: self.reading.clone(),
-        }
+        Source::Protobuf { body: self.body.clone(), reading: self.reading.clone() }
     }
 }
 
@@ -285,10 +282,7 @@ impl Numbers {
     fn request(&self, core: &Core, body: &Bytes, reading: &Arc<Reading>) -> Option<Request> {
         let now = self.now(core, &self.of_texts);
         if now.is_some_and(|now| !now.is_full()) && is_plain(body, reading) {
-            return Some(Request::Plain(Plain {
-                body: body.clone(),
-                reading: reading.clone(),
-            }));
+            return Some(Request::Plain(Plain { body: body.clone(), reading: reading.clone() }));
         }
         self.read(core, body, reading).map(Request::Numbered)
     }

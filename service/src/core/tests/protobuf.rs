@@ -35,22 +35,11 @@ fn a_post_in_protobuf_has_its_points_by_number() {
         let (core, by) = (Core::new(series).unwrap(), Names::new().unwrap());
         let all = names("s", 30);
         assert_eq!(put(&core, &by, "A", body(&all, 10, -5)), Ok(()));
-        let late = Err(Refused::OutOfOrder {
-            point: 2,
-            frontier: 20,
-        });
+        let late = Err(Refused::OutOfOrder { point: 2, frontier: 20 });
         let other = [&names("n", 2)[..], &all[..1]].concat();
         assert_eq!(put(&core, &by, "A", body(&other, 15, 1)), late);
         let other = Err(Refused::OtherWriter { point: 2 });
-        assert_eq!(
-            put(
-                &core,
-                &by,
-                "B",
-                body(&[&names("n", 2)[..], &all[..1]].concat(), 20, 1)
-            ),
-            other
-        );
+        assert_eq!(put(&core, &by, "B", body(&[&names("n", 2)[..], &all[..1]].concat(), 20, 1)), other);
         assert_eq!(core.lock().series(), 30);
         assert!(taken(&core).values().all(|one| *one == (-5, 20)));
     }
@@ -63,27 +52,15 @@ fn what_is_not_to_be_read_so_is_left() {
     let is_read = |body: Bytes| read(&core, &by, "A", body).is_some();
     assert!(is_read(one.clone()) && is_read(Bytes::new()));
     assert!(!is_read(one.slice(..one.len() - 1)), "it is cut");
-    assert!(
-        !is_read(body(&names("a", 1), 0, 5)),
-        "its point begins with nothing"
-    );
+    assert!(!is_read(body(&names("a", 1), 0, 5)), "its point begins with nothing");
     let within = |last_end| {
         let has_all = |first, last| (first, last) == (20, last_end);
-        core.read_protobuf("A".into(), one.clone(), has_all, &by, |_| true)
-            .is_some()
+        core.read_protobuf("A".into(), one.clone(), has_all, &by, |_| true).is_some()
     };
     assert!(within(20) && !within(21));
+    assert!(core.read_protobuf("a b".into(), one.clone(), |_, _| true, &by, |_| true).is_none());
     assert!(core
-        .read_protobuf("a b".into(), one.clone(), |_, _| true, &by, |_| true)
-        .is_none());
-    assert!(core
-        .read_protobuf(
-            "A".into(),
-            body(&names("new", 1), 10, 5),
-            |_, _| true,
-            &by,
-            |_| false
-        )
+        .read_protobuf("A".into(), body(&names("new", 1), 10, 5), |_, _| true, &by, |_| false)
         .is_none());
     assert!(by.are_closed() && !is_read(one));
 }

@@ -43,47 +43,22 @@ fn point_of_histogram() -> HistogramDataPoint {
 }
 
 fn sum() -> Sum {
-    Sum {
-        data_points: vec![point_of_sum(); 2],
-        aggregation_temporality: 1,
-        is_monotonic: true,
-    }
+    Sum { data_points: vec![point_of_sum(); 2], aggregation_temporality: 1, is_monotonic: true }
 }
 
 fn histogram() -> Histogram {
-    Histogram {
-        data_points: vec![point_of_histogram(); 2],
-        aggregation_temporality: 1,
-    }
+    Histogram { data_points: vec![point_of_histogram(); 2], aggregation_temporality: 1 }
 }
 
 fn metric(unit: &str, data: Data) -> Metric {
-    Metric {
-        name: "m".into(),
-        unit: unit.into(),
-        data: Some(data),
-    }
+    Metric { name: "m".into(), unit: unit.into(), data: Some(data) }
 }
 
 fn request(metrics: Vec<Metric>) -> ExportMetricsServiceRequest {
-    let scope = InstrumentationScope {
-        name: "s".into(),
-        version: "1".into(),
-        attributes: attributes(),
-    };
-    let scope_metrics = vec![ScopeMetrics {
-        scope: Some(scope),
-        metrics,
-    }];
-    let resource = Some(Resource {
-        attributes: attributes(),
-    });
-    ExportMetricsServiceRequest {
-        resource_metrics: vec![ResourceMetrics {
-            resource,
-            scope_metrics,
-        }],
-    }
+    let scope = InstrumentationScope { name: "s".into(), version: "1".into(), attributes: attributes() };
+    let scope_metrics = vec![ScopeMetrics { scope: Some(scope), metrics }];
+    let resource = Some(Resource { attributes: attributes() });
+    ExportMetricsServiceRequest { resource_metrics: vec![ResourceMetrics { resource, scope_metrics }] }
 }
 
 fn body(metrics: Vec<Metric>) -> Vec<u8> {
@@ -108,10 +83,7 @@ fn is_plain_by_default(body: &[u8]) -> bool {
 
 #[test]
 fn what_senders_write_is_plain() {
-    let both = vec![
-        metric("1", Data::Sum(sum())),
-        metric("", Data::Histogram(histogram())),
-    ];
+    let both = vec![metric("1", Data::Sum(sum())), metric("", Data::Histogram(histogram()))];
     let bodies = [
         body(both),
         body(vec![]),
@@ -161,10 +133,7 @@ fn what_is_written_anew_or_foreign_is_not_plain() {
 fn what_settings_are_about_is_not_plain() {
     let reading = |words: &[&str]| {
         let choices = words.iter().map(|word| word.parse::<Choice>().unwrap());
-        Reading {
-            finer_units: FinerUnits::of(choices).unwrap(),
-            ..Reading::default()
-        }
+        Reading { finer_units: FinerUnits::of(choices).unwrap(), ..Reading::default() }
     };
     let of_unit = |unit| body(vec![metric(unit, Data::Sum(sum()))]);
     let is_plain_of = |unit, words: &[&str]| is_plain(&of_unit(unit), &reading(words));
@@ -173,24 +142,15 @@ fn what_settings_are_about_is_not_plain() {
         assert!(!is_plain_of(unit, &["auto"]), "{unit}: nothing is decided");
     }
     assert!(!is_plain_of("s", &["off", "s=us"]) && is_plain_of("By", &["off", "s=us"]));
-    assert!(
-        !is_plain_of("{request}", &["off", "="]),
-        "metrics without a unit have a rule"
-    );
-    let dropping = |name: &str| Reading {
-        dropped: vec![name.into()],
-        ..Reading::default()
-    };
+    assert!(!is_plain_of("{request}", &["off", "="]), "metrics without a unit have a rule");
+    let dropping = |name: &str| Reading { dropped: vec![name.into()], ..Reading::default() };
     assert!(is_plain(&of_unit(""), &dropping("host")) && !is_plain(&of_unit(""), &dropping("code")));
 }
 
 /// What its first points have decided is known then.
 #[test]
 fn a_metric_is_plain_once_it_is_decided_that_it_is_taken_in_its_own_unit() {
-    let reading = Reading {
-        finer_units: FinerUnits::of([Choice::Auto]).unwrap(),
-        ..Reading::default()
-    };
+    let reading = Reading { finer_units: FinerUnits::of([Choice::Auto]).unwrap(), ..Reading::default() };
     let seconds = body(vec![metric("s", Data::Histogram(histogram()))]);
     let bytes = body(vec![metric("By", Data::Sum(sum()))]);
     for (body, is_own) in [(seconds, false), (bytes, true)] {
@@ -204,10 +164,7 @@ fn a_metric_is_plain_once_it_is_decided_that_it_is_taken_in_its_own_unit() {
 /// A change of a byte, a byte more, and pieces that are gone or there twice.
 #[test]
 fn a_body_with_any_change_is_plain_only_where_it_is_read_whole() {
-    let both = vec![
-        metric("1", Data::Sum(sum())),
-        metric("", Data::Histogram(histogram())),
-    ];
+    let both = vec![metric("1", Data::Sum(sum())), metric("", Data::Histogram(histogram()))];
     let (body, reading) = (body(both), Reading::default());
     let (mut tried, mut plain) = (0, 0);
     let mut is_sound = |changed: Vec<u8>| {
@@ -221,9 +178,7 @@ fn a_body_with_any_change_is_plain_only_where_it_is_read_whole() {
     };
     for at in 0..body.len() {
         let (before, behind) = body.split_at(at);
-        for byte in [
-            0, 1, 2, 3, 8, 9, 10, 16, 18, 24, 34, 42, 49, 58, 64, 127, 128, 255,
-        ] {
+        for byte in [0, 1, 2, 3, 8, 9, 10, 16, 18, 24, 34, 42, 49, 58, 64, 127, 128, 255] {
             is_sound([before, &[byte], &behind[1..]].concat());
             is_sound([before, &[byte], behind].concat());
         }

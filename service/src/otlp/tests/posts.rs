@@ -59,15 +59,9 @@ pub fn plain_posts(seed: u64, many: usize) -> Vec<Vec<u8>> {
 fn plain_request(random: &mut Random) -> ExportMetricsServiceRequest {
     let mut request = random.request();
     for resource in &mut request.resource_metrics {
-        resource
-            .resource
-            .iter_mut()
-            .for_each(|one| keep_scalars(&mut one.attributes));
+        resource.resource.iter_mut().for_each(|one| keep_scalars(&mut one.attributes));
         for scope in &mut resource.scope_metrics {
-            scope
-                .scope
-                .iter_mut()
-                .for_each(|one| keep_scalars(&mut one.attributes));
+            scope.scope.iter_mut().for_each(|one| keep_scalars(&mut one.attributes));
             scope.metrics.truncate(2);
             scope.metrics.iter_mut().for_each(make_plain);
         }
@@ -92,9 +86,7 @@ fn make_plain(metric: &mut Metric) {
         Some(Data::Sum(sum)) => {
             sum.aggregation_temporality = 1;
             sum.data_points.truncate(2);
-            sum.data_points
-                .iter_mut()
-                .for_each(|point| keep_scalars(&mut point.attributes));
+            sum.data_points.iter_mut().for_each(|point| keep_scalars(&mut point.attributes));
         }
         Some(Data::Histogram(histogram)) => {
             histogram.aggregation_temporality = 1;

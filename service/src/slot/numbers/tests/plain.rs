@@ -36,9 +36,7 @@ impl Ways {
 
     fn text(&self, body: &Bytes) -> Result<Request, String> {
         let prepared = prepare(Encoding::Protobuf, body.clone(), &self.reading);
-        prepared
-            .map(|prepared| Request::Text(prepared.body))
-            .map_err(|refused| refused.to_string())
+        prepared.map(|prepared| Request::Text(prepared.body)).map_err(|refused| refused.to_string())
     }
 
     fn read(&self, core: &Arc<Core>, sender: &str, request: Request) -> Result<Read, String> {
@@ -46,9 +44,7 @@ impl Ways {
     }
 
     fn post(&mut self, sender: &str, body: Bytes) {
-        let slow = self
-            .text(&body)
-            .and_then(|text| self.read(&self.slow, sender, text));
+        let slow = self.text(&body).and_then(|text| self.read(&self.slow, sender, text));
         let request = self.numbers.request(&self.fast, &body, &self.reading);
         let is_plain = matches!(request, Some(Request::Plain(_)));
         let request = request.map_or_else(|| self.text(&body), Ok);
@@ -89,14 +85,8 @@ impl Ways {
 }
 
 fn settings() -> [(Reading, f64); 5] {
-    let finer_units = |finer_units| Reading {
-        finer_units,
-        ..Reading::default()
-    };
-    let dropping = Reading {
-        dropped: vec!["a".into(), "long name".into()],
-        ..Reading::default()
-    };
+    let finer_units = |finer_units| Reading { finer_units, ..Reading::default() };
+    let dropping = Reading { dropped: vec!["a".into(), "long name".into()], ..Reading::default() };
     [
         (Reading::default(), 0.4),
         (dropping, 0.1),
@@ -124,15 +114,8 @@ fn what_is_read_as_it_came_is_what_its_json_says() {
             "{share} as they came, {} plain ones otherwise, {} taken, {requests} requests",
             ways.otherwise, ways.taken
         );
-        assert!(
-            share >= least && (least > 0.0 || ways.as_they_came == 0),
-            "{share}"
-        );
-        assert!(
-            ways.taken > POSTS / 4 && requests > 15,
-            "{} {requests}",
-            ways.taken
-        );
+        assert!(share >= least && (least > 0.0 || ways.as_they_came == 0), "{share}");
+        assert!(ways.taken > POSTS / 4 && requests > 15, "{} {requests}", ways.taken);
     }
 }
 
@@ -178,10 +161,7 @@ fn a_plain_body_of_several_hours_goes_in_hour_by_hour() {
 #[test]
 fn a_point_of_a_plain_body_that_is_off_by_its_clock_is_left_out() {
     let (core, numbers) = (Core::new(1).unwrap(), Numbers::default());
-    let clock = Clock {
-        most_ahead: Some(Duration::from_secs(600)),
-        most_behind: None,
-    };
+    let clock = Clock { most_ahead: Some(Duration::from_secs(600)), most_behind: None };
     let three = body(&[("a", HOUR, 5), ("b", i64::MAX as u64, 6), ("c", HOUR, 7)]);
     let request = plain(&core, &numbers, &three);
     let posted = posted::read(&core, &numbers, &clock.window(), "A".into(), request).unwrap();
@@ -194,30 +174,19 @@ fn a_point_of_a_plain_body_that_is_off_by_its_clock_is_left_out() {
 /// The journal keeps a text that a start reads.
 #[test]
 fn where_there_is_no_room_for_names_a_plain_body_goes_as_its_json() {
-    let limits = Limits {
-        bytes: 0,
-        kept: Duration::from_secs(60),
-    };
-    let numbers = Numbers {
-        limits,
-        ..Numbers::default()
-    };
+    let limits = Limits { bytes: 0, kept: Duration::from_secs(60) };
+    let numbers = Numbers { limits, ..Numbers::default() };
     let [core, again] = [(); 2].map(|()| Core::new(1).unwrap());
     let [one, later] = [HOUR, HOUR + SECOND].map(|end| body(&[("a", end, 5)]));
     let both = [plain(&core, &numbers, &one), plain(&core, &numbers, &later)];
     for request in both {
         let mut read = read(&core, &numbers, "A", request).unwrap();
-        let Body::Text(text) = &read.post.body else {
-            panic!("{:?}", read.post)
-        };
+        let Body::Text(text) = &read.post.body else { panic!("{:?}", read.post) };
         let mut replayed = again.read("A".into(), text.clone()).unwrap();
         for (core, read) in [(&core, &mut read), (&again, &mut replayed)] {
             assert_eq!((core.lock().admit(read), read.points()), (Ok(()), 1));
         }
     }
-    assert!(
-        numbers.request(&core, &later, &Arc::default()).is_none(),
-        "names are closed"
-    );
+    assert!(numbers.request(&core, &later, &Arc::default()).is_none(), "names are closed");
     assert_eq!(flushed(&core), flushed(&again));
 }
