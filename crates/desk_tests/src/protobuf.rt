@@ -6,9 +6,9 @@ use book_desk::desk::Desk;
 use book_desk::names::Names;
 use book_desk::reader::{BytesFault, PostFault, Reader};
 use book_desk::window::Window;
+use ensure::{ensure, ensure_eq};
 use otlp_read::read_request;
 use std::alloc::{AllocError, Global};
-use std::process::Abort;
 use std::test::Fail;
 
 /// Two points of the counter `a`, of value 5 from 10 to 20 nanoseconds, of value 7 from 20 to 30.
@@ -59,12 +59,12 @@ fn words(reader: &Reader, names: &mut Names) -> Result<Vec<u64>, AllocError> {
 }
 
 /// What the bytes say is what their JSON says, in words of one beginning.
-fn say_the_same(rt: &impl Abort, reader: &mut Reader, names: &mut Names) -> Result<(), Fail> {
-    assert!(rt; read(reader, SAME.as_bytes())? == (1, 0, 1));
+fn say_the_same(reader: &mut Reader, names: &mut Names) -> Result<(), Fail> {
+    ensure_eq!(read(reader, SAME.as_bytes())?, (1, 0, 1));
     let expected = words(reader, names)?;
-    assert!(rt; read_bytes(reader, b"A", POST)? == (1, 0, 1));
-    assert!(rt; words(reader, names)?.as_slice() == expected.as_slice());
-    assert!(rt; names.len() == 1);
+    ensure_eq!(read_bytes(reader, b"A", POST)?, (1, 0, 1));
+    ensure_eq!(words(reader, names)?.as_slice(), expected.as_slice());
+    ensure_eq!(names.len(), 1);
     Ok(())
 }
 
@@ -72,9 +72,9 @@ fn say_the_same(rt: &impl Abort, reader: &mut Reader, names: &mut Names) -> Resu
 fn bytes_say_what_their_json_says(rt: HostRuntime) -> Result<(), Fail> {
     let alloc = rt.alloc();
     let (mut reader, mut names) = (Reader::new(alloc), Names::new(alloc));
-    say_the_same(&rt, &mut reader, &mut names)?;
+    say_the_same(&mut reader, &mut names)?;
     // Also once each of both is known.
-    say_the_same(&rt, &mut reader, &mut names)
+    say_the_same(&mut reader, &mut names)
 }
 
 /// Whether these bytes are no request.
@@ -85,14 +85,14 @@ fn is_malformed(reader: &mut Reader, body: &[u8]) -> bool {
     }
 }
 
-fn refuse(rt: &impl Abort, reader: &mut Reader, names: &mut Names) -> Result<(), Fail> {
+fn refuse(reader: &mut Reader, names: &mut Names) -> Result<(), Fail> {
     for cut in 1..POST.len() {
-        assert!(rt; is_malformed(reader, &POST[..cut]));
+        ensure!(is_malformed(reader, &POST[..cut]), cut);
     }
-    assert!(rt; is_malformed(reader, SAME.as_bytes()));
-    assert!(rt; words(reader, names)?.is_empty());
-    assert!(rt; read_bytes(reader, b"a b", POST) == Err(BytesFault::BadSender));
-    assert!(rt; read_bytes(reader, b"A", b"")? == (0, 0, 0));
+    ensure!(is_malformed(reader, SAME.as_bytes()));
+    ensure!(words(reader, names)?.is_empty());
+    ensure_eq!(read_bytes(reader, b"a b", POST), Err(BytesFault::BadSender));
+    ensure_eq!(read_bytes(reader, b"A", b"")?, (0, 0, 0));
     Ok(())
 }
 
@@ -100,7 +100,7 @@ fn refuse(rt: &impl Abort, reader: &mut Reader, names: &mut Names) -> Result<(),
 #[test]
 fn what_is_no_request_is_refused(rt: HostRuntime) -> Result<(), Fail> {
     let alloc = rt.alloc();
-    refuse(&rt, &mut Reader::new(alloc), &mut Names::new(alloc))
+    refuse(&mut Reader::new(alloc), &mut Names::new(alloc))
 }
 
 /// What forwards a post of the sender `A` through fresh books, if it is forwarded.
@@ -117,7 +117,7 @@ fn a_post_comes_out_as_its_sum(rt: HostRuntime) -> Result<(), Fail> {
     };
     let found = read_request(alloc, text.as_slice())?;
     let expected = read_request(alloc, SUM.as_bytes())?;
-    assert!(rt; found.points.is_same(&expected.points));
-    assert!(rt; forwarded(alloc, &[])?.is_none());
+    ensure!(found.points.is_same(&expected.points));
+    ensure!(forwarded(alloc, &[])?.is_none());
     Ok(())
 }
