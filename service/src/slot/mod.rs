@@ -233,11 +233,13 @@ impl Slot {
     /// Takes none any more.
     pub(crate) fn stop(&self) {
         self.phases.stop();
+        self.landed.notify_waiters(); // what is in flight may never land
     }
 
     /// The same, for another instance takes them.
     pub(crate) fn lose(&self) {
         self.phases.lose();
+        self.landed.notify_waiters();
     }
 
     fn count_post(&self) {
