@@ -137,18 +137,6 @@ impl Core {
         Ok(read)
     }
 
-    /// A post in protobuf, by the numbers of its series. None where it is to be read otherwise, as `Read::of_protobuf` says.
-    pub fn read_protobuf(
-        &self,
-        sender: String,
-        body: Bytes,
-        has_all: impl FnOnce(u64, u64) -> bool,
-        names: &Arc<Names>,
-        has_room: impl Fn(usize) -> bool,
-    ) -> Option<Read> {
-        Read::of_protobuf(self, sender, body, has_all, names, has_room)
-    }
-
     /// A post that is to be read, by whatever thread.
     pub fn unread(&self, sender: String, body: Bytes) -> Read {
         Read::unread(self, sender, Body::Text(body), None, 0)

@@ -64,7 +64,7 @@ impl Read {
     /// A post in protobuf that was read, and its points have numbers by these names; `has_room` as of `number`. None where one
     /// is foreign, where it has none within the time that `has_all` is asked about, or where it can't be read or numbered: then it
     /// is to be read otherwise.
-    pub(super) fn of_protobuf(
+    pub fn of_protobuf(
         core: &Core,
         sender: String,
         body: Bytes,

@@ -209,20 +209,12 @@ impl FinerUnits {
         self.rules.contains_key(unit) || (self.units.is_some() && Unit::of(unit).is_some())
     }
 
-    /// Whether it is decided that a metric of this unit, which has no rule, is taken in it.
-    pub fn has_decided(&self, metric: &str, unit: &str) -> bool {
-        let own = Unit::of(unit).filter(|_| !self.rules.contains_key(unit));
-        let decided = |unit| self.units.as_ref()?.decided(metric, unit);
-        own.is_some_and(|own| decided(own) == Some(own))
-    }
-
-    /// Whether whole numbers of a metric's sums stay as they are, which is known without a look at its points.
+    /// Whether whole numbers of a metric stay as they are, which is known without a look at its points: also in the finest unit
+    /// only once that is decided, since other units of its name go by it.
     pub fn leaves(&self, metric: &str, unit: &str) -> bool {
         match (self.rules.contains_key(unit), &self.units, Unit::of(unit)) {
             (true, ..) => false,
-            (_, Some(units), Some(unit)) => {
-                units.is_finest(unit) || units.decided(metric, unit) == Some(unit)
-            }
+            (_, Some(units), Some(unit)) => units.decided(metric, unit) == Some(unit),
             _ => true,
         }
     }

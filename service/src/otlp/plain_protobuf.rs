@@ -155,7 +155,7 @@ impl<'a> Look<'a> {
             return Some(());
         }
         let (name, unit) = (std::str::from_utf8(name).ok()?, std::str::from_utf8(unit).ok()?);
-        finer_units.has_decided(name, unit).then_some(())
+        finer_units.leaves(name, unit).then_some(())
     }
 
     fn sum(&mut self, sum: &'a [u8]) -> Option<()> {

@@ -183,7 +183,7 @@ impl Reporter {
             let causes = self.read(source, find).await;
             return causes.unwrap_or_else(|| find(b""));
         };
-        let (length, source) = (source.length(), source.clone());
+        let (length, source) = (source.length().max(original.body.len()), source.clone());
         let find = move || original.outside(foreign, profile, || source.text());
         let (outside, causes) = self.work(length, find).await;
         if let Some(outside) = outside {

@@ -36,15 +36,15 @@ pub enum Request {
     /// In the book's form.
     Text(Bytes),
     /// In protobuf that the book's reader reads as it came, unless it finds that it can't.
-    Plain(Plain),
+    Plain(Protobuf),
     /// Of other protobuf.
     Numbered(ByNumber),
 }
 
-/// What may be read as it came.
-pub struct Plain {
+/// A body, and how it is read where it is not read as it came.
+#[derive(Clone)]
+pub struct Protobuf {
     body: Bytes,
-    /// How it is read otherwise.
     reading: Arc<Reading>,
 }
 
@@ -67,7 +67,7 @@ pub struct ByNumber {
 #[derive(Clone)]
 pub enum Source {
     Text(Bytes),
-    Protobuf { body: Bytes, reading: Arc<Reading> },
+    Protobuf(Protobuf),
 }
 
 /// Numbers from one beginning on.
@@ -95,7 +95,7 @@ impl Request {
     pub fn source(&self) -> Source {
         match self {
             Request::Text(text) => Source::Text(text.clone()),
-            Request::Plain(plain) => plain.source(),
+            Request::Plain(plain) => Source::Protobuf(plain.clone()),
             Request::Numbered(points) => points.source.clone(),
         }
     }
@@ -126,9 +126,15 @@ impl Request {
     }
 }
 
-impl Plain {
-    fn source(&self) -> Source {
-        Source::Protobuf { body: self.body.clone(), reading: self.reading.clone() }
+impl Protobuf {
+    fn new(body: &Bytes, reading: &Arc<Reading>) -> Protobuf {
+        Protobuf { body: body.clone(), reading: reading.clone() }
+    }
+
+    /// In the book's form.
+    fn text(self) -> Option<Bytes> {
+        let prepared = prepare(Encoding::Protobuf, self.body, &self.reading);
+        prepared.ok().map(|prepared| prepared.body)
     }
 }
 
@@ -171,7 +177,7 @@ impl Source {
     /// Of the request as it came.
     pub fn length(&self) -> usize {
         match self {
-            Source::Text(body) | Source::Protobuf { body, .. } => body.len(),
+            Source::Text(body) | Source::Protobuf(Protobuf { body, .. }) => body.len(),
         }
     }
 
@@ -179,10 +185,7 @@ impl Source {
     pub fn text(self) -> Option<Bytes> {
         match self {
             Source::Text(text) => Some(text),
-            Source::Protobuf { body, reading } => {
-                let prepared = prepare(Encoding::Protobuf, body, &reading);
-                prepared.ok().map(|prepared| prepared.body)
-            }
+            Source::Protobuf(protobuf) => protobuf.text(),
         }
     }
 }
@@ -274,33 +277,33 @@ impl Numbers {
     /// The points of a request in protobuf; none where it is to be read otherwise.
     fn read(&self, core: &Core, body: &Bytes, reading: &Arc<Reading>) -> Option<ByNumber> {
         let now = self.now(core, reading)?;
-        let source = Source::Protobuf { body: body.clone(), reading: reading.clone() };
+        let source = Source::Protobuf(Protobuf::new(body, reading));
         Some(now.by_number(now.read(body, reading)?, source))
     }
 
     /// The same as it is taken; none where it is to be written in the book's form.
     fn request(&self, core: &Core, body: &Bytes, reading: &Arc<Reading>) -> Option<Request> {
-        let now = self.now(core, &self.of_texts);
+        let now = self.now(core, reading);
         if now.is_some_and(|now| !now.is_full()) && is_plain(body, reading) {
-            return Some(Request::Plain(Plain { body: body.clone(), reading: reading.clone() }));
+            return Some(Request::Plain(Protobuf::new(body, reading)));
         }
         self.read(core, body, reading).map(Request::Numbered)
     }
 
     /// A plain body with its points by number; none where it is to be read `otherwise`.
-    pub fn read_plain(&self, core: &Core, window: &Window, sender: &str, plain: &Plain) -> Option<Read> {
-        let now = self.now(core, &self.of_texts).filter(|now| !now.is_full())?;
+    pub fn read_plain(&self, core: &Core, window: &Window, sender: &str, plain: &Protobuf) -> Option<Read> {
+        let now = self.now(core, &plain.reading).filter(|now| !now.is_full())?;
         let (sender, body) = (sender.to_string(), plain.body.clone());
         let is_within = |first, last| window.has_all(first, last);
         let has_room = |text| now.series.take_room(text);
-        core.read_protobuf(sender, body, is_within, &now.names, has_room)
+        Read::of_protobuf(core, sender, body, is_within, &now.names, has_room)
     }
 
     /// A plain body as any other in protobuf.
-    pub fn otherwise(&self, core: &Core, plain: &Plain) -> Result<Request, Refused> {
+    pub fn otherwise(&self, core: &Core, plain: Protobuf) -> Result<Request, Refused> {
         match self.read(core, &plain.body, &plain.reading) {
             Some(points) => Ok(Request::Numbered(points)),
-            None => plain.source().text().map(Request::Text).ok_or(Refused::NotJson),
+            None => plain.text().map(Request::Text).ok_or(Refused::NotJson),
         }
     }
 
@@ -333,11 +336,6 @@ impl Numbers {
 }
 
 impl Slot {
-    /// The points of a request in protobuf by their numbers; none where it is to be read otherwise, which says nothing of it.
-    pub fn numbered(&self, body: &Bytes, reading: &Arc<Reading>) -> Option<ByNumber> {
-        self.numbers.read(&self.core, body, reading)
-    }
-
     /// A request in protobuf as it is taken, as it came or by the numbers of its series; none where it is to be read
     /// otherwise, which says nothing of it.
     pub fn of_protobuf(&self, body: &Bytes, reading: &Arc<Reading>) -> Option<Request> {

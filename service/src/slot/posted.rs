@@ -87,7 +87,7 @@ pub fn read(
     match request {
         Request::Plain(plain) => match numbers.read_plain(core, window, &sender, &plain) {
             Some(read) => fits(Posted::whole(read)),
-            None => read(core, numbers, window, sender, numbers.otherwise(core, &plain)?),
+            None => read(core, numbers, window, sender, numbers.otherwise(core, plain)?),
         },
         Request::Text(body) => read_text(core, numbers, window, sender, body),
         Request::Numbered(by) => read_numbered(core, numbers, window, sender, by),

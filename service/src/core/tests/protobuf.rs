@@ -21,7 +21,7 @@ fn body(names: &[String], start: u64, value: i64) -> Bytes {
 }
 
 fn read(core: &Arc<Core>, names: &Arc<Names>, sender: &str, body: Bytes) -> Option<Read> {
-    core.read_protobuf(sender.into(), body, |_, _| true, names, |_| true)
+    Read::of_protobuf(core, sender.into(), body, |_, _| true, names, |_| true)
 }
 
 fn put(core: &Arc<Core>, names: &Arc<Names>, sender: &str, body: Bytes) -> Result<(), Refused> {
@@ -55,12 +55,11 @@ fn what_is_not_to_be_read_so_is_left() {
     assert!(!is_read(body(&names("a", 1), 0, 5)), "its point begins with nothing");
     let within = |last_end| {
         let has_all = |first, last| (first, last) == (20, last_end);
-        core.read_protobuf("A".into(), one.clone(), has_all, &by, |_| true).is_some()
+        Read::of_protobuf(&core, "A".into(), one.clone(), has_all, &by, |_| true).is_some()
     };
     assert!(within(20) && !within(21));
-    assert!(core.read_protobuf("a b".into(), one.clone(), |_, _| true, &by, |_| true).is_none());
-    assert!(core
-        .read_protobuf("A".into(), body(&names("new", 1), 10, 5), |_, _| true, &by, |_| false)
+    assert!(Read::of_protobuf(&core, "a b".into(), one.clone(), |_, _| true, &by, |_| true).is_none());
+    assert!(Read::of_protobuf(&core, "A".into(), body(&names("new", 1), 10, 5), |_, _| true, &by, |_| false)
         .is_none());
     assert!(by.are_closed() && !is_read(one));
 }

@@ -130,11 +130,6 @@ impl Units {
         self.rules[from.0][to.0].as_ref()
     }
 
-    /// Whether there is none that is finer.
-    pub fn is_finest(&self, unit: Unit) -> bool {
-        self.finer[unit.0] == bit(unit)
-    }
-
     /// Whether such a series was noted.
     pub fn has(&self, metric: &str, unit: Unit) -> bool {
         self.read().units.get(metric).is_some_and(|known| known & bit(unit) != 0)

@@ -204,3 +204,26 @@ fn there_is_a_bound() {
     assert!((3..12).contains(&fit) && book.series.is_full(), "{fit}");
     assert!(read(b'a') && !read(b'z'));
 }
+
+/// Else it is written once more for each metric below it: a post of 4 MiB took minutes.
+#[test]
+fn what_is_long_above_points_is_read_otherwise() {
+    let put = |number: u32, inner: &[u8]| {
+        let mut out = Vec::new();
+        crate::otlp::outside::protobuf::put(&mut out, number, inner);
+        out
+    };
+    let point = [fixed(2, 10), fixed(3, 20), fixed(6, 5)].concat();
+    let body = |resource: &[u8], scope: &[u8], about: &[u8]| {
+        let sum = put(7, &[put(1, &point), DELTA.to_vec()].concat());
+        let metric = put(2, &[put(1, b"m"), put(2, about), sum].concat());
+        put(1, &[put(1, resource), put(2, &[put(1, scope), metric].concat())].concat())
+    };
+    let book = Book::new(1 << 20);
+    let long = vec![b'x'; crate::otlp::output::LONGEST_LIST + 1];
+    let attribute = |number| put(number, &[put(1, b"k"), put(2, &put(1, &long))].concat());
+    assert!(book.read(&body(b"", b"", b"")).is_some());
+    for body in [body(&attribute(1), b"", b""), body(b"", &attribute(3), b""), body(b"", b"", &long)] {
+        assert_eq!(book.read(&body), None);
+    }
+}

@@ -177,3 +177,11 @@ fn what_a_folder_knows_decides() {
         ["us", "s", "ms", "s"]
     );
 }
+
+/// Else a later unit of its name was taken otherwise than behind a start, or than of protobuf.
+#[test]
+fn what_goes_on_as_it_came_decides_too() {
+    let reading = auto(&[]);
+    assert_eq!(taken(&reading, &[sum("a", "By", &[WHOLE])]), ("By".into(), values(&["7"]), 0, None));
+    assert_eq!(taken(&reading, &[sum("a", "KiBy", &[WHOLE])]), ("By".into(), values(&["7168"]), 0, None));
+}
