@@ -48,6 +48,8 @@ pub struct Protobuf {
     reading: Arc<Reading>,
 }
 
+/// A reader has two places for a series among twice as many: of more it would read many anew each time.
+const PLAIN_SERIES: u64 = 16_384;
 /// How many times its length a plain body takes once its points have numbers too: one of 31 bytes has four words and an end.
 const WITH_NUMBERS: usize = 4;
 
@@ -209,6 +211,11 @@ impl Generation {
         self.series.is_full() || self.names.are_closed()
     }
 
+    /// Whether a reader of the library knows most of the series again.
+    fn may_be_plain(&self) -> bool {
+        !self.is_full() && self.names.count() <= PLAIN_SERIES
+    }
+
     fn is_over(&self, limits: Limits) -> bool {
         self.is_full() && self.began.elapsed() >= limits.kept
     }
@@ -284,7 +291,7 @@ impl Numbers {
     /// The same as it is taken; none where it is to be written in the book's form.
     fn request(&self, core: &Core, body: &Bytes, reading: &Arc<Reading>) -> Option<Request> {
         let now = self.now(core, reading);
-        if now.is_some_and(|now| !now.is_full()) && is_plain(body, reading) {
+        if now.is_some_and(|now| now.may_be_plain()) && is_plain(body, reading) {
             return Some(Request::Plain(Protobuf::new(body, reading)));
         }
         self.read(core, body, reading).map(Request::Numbered)
@@ -292,7 +299,7 @@ impl Numbers {
 
     /// A plain body with its points by number; none where it is to be read `otherwise`.
     pub fn read_plain(&self, core: &Core, window: &Window, sender: &str, plain: &Protobuf) -> Option<Read> {
-        let now = self.now(core, &plain.reading).filter(|now| !now.is_full())?;
+        let now = self.now(core, &plain.reading).filter(|now| now.may_be_plain())?;
         let (sender, body) = (sender.to_string(), plain.body.clone());
         let is_within = |first, last| window.has_all(first, last);
         let has_room = |text| now.series.take_room(text);
