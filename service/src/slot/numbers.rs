@@ -343,8 +343,12 @@ impl Numbers {
 }
 
 impl Slot {
-    /// A request in protobuf as it is taken, as it came or by the numbers of its series; none where it is to be read
-    /// otherwise, which says nothing of it.
+    /// The points of a request in protobuf by their numbers; none where it is to be read otherwise, which says nothing of it.
+    pub fn numbered(&self, body: &Bytes, reading: &Arc<Reading>) -> Option<ByNumber> {
+        self.numbers.read(&self.core, body, reading)
+    }
+
+    /// A request in protobuf as it is taken: as it came, if it is plain, or by the numbers of its series; none as above.
     pub fn of_protobuf(&self, body: &Bytes, reading: &Arc<Reading>) -> Option<Request> {
         self.numbers.request(&self.core, body, reading)
     }
