@@ -207,6 +207,11 @@ impl Slot {
         self.journal.held()
     }
 
+    /// Whether posts of a sender that was released wait for a flush.
+    pub fn has_released(&self) -> bool {
+        self.journal.holds_of_others(&self.outbox.quarantined())
+    }
+
     /// The book, for who shows what it has.
     pub fn core(&self) -> &Core {
         &self.core
