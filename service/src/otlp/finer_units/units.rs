@@ -144,6 +144,19 @@ impl Units {
         self.of_all.iter().for_each(|of_all| of_all.note(metric, unit));
     }
 
+    /// Notes a series that a rule has put into a unit, but where one of its name is in a finer one: what is coarser than that
+    /// may be taken in it, and would be taken in this from then on.
+    pub fn note_of_rule(&self, metric: &str, unit: Unit) {
+        if self.decided(metric, unit).is_none() {
+            let mut names = self.write();
+            let known = names.units.get(metric).copied().unwrap_or(0);
+            if self.coarsest(known, unit).is_none() {
+                names.put(metric, unit); // nobody has decided meanwhile
+            }
+        }
+        self.of_all.iter().for_each(|of_all| of_all.note_of_rule(metric, unit));
+    }
+
     /// In which unit a metric of this one is taken, where that is decided.
     pub fn decided(&self, metric: &str, unit: Unit) -> Option<Unit> {
         let known = self.read().units.get(metric).copied()?;
