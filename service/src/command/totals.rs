@@ -108,7 +108,7 @@ mod tests {
     fn rows_are_read_as_the_view_has_them() {
         let folder = tempfile::tempdir().unwrap();
         let path = folder.path().join("sink.db");
-        let file = Connection::open(&path).unwrap();
+        let file = rusqlite::Connection::open(&path).unwrap();
         let columns = COLUMNS.map(|name| format!("{name} text")).join(", ");
         file.execute_batch(&format!("create table totals ({columns})")).unwrap();
         file.execute("insert into totals (name, total) values ('b', '9'), ('a', null)", []).unwrap();
