@@ -62,8 +62,8 @@ impl Read {
     }
 
     /// A post in protobuf that was read, and its points have numbers by these names; `has_room` as of `number`. None where one
-    /// is foreign, where it has none within the time that `has_all` is asked about, or where it can't be read or numbered: then it
-    /// is to be read otherwise.
+    /// is foreign, where `has_all` says no to the first and the last of their ends, or where it can't be read or numbered: then
+    /// it is to be read otherwise.
     pub fn of_protobuf(
         core: &Core,
         sender: String,

@@ -217,8 +217,14 @@ impl Disk {
     /// A drive needs none.
     pub fn make_folder(&self, path: &Path) -> Result<(), Fault> {
         match &self.place {
-            Place::Folder { .. } => self
-                .call(Call::MakeFolder, path, || DirBuilder::new().recursive(true).mode(0o700).create(path)),
+            Place::Folder { .. } => self.call(Call::MakeFolder, path, || {
+                let is_new = !path.exists();
+                DirBuilder::new().recursive(true).mode(0o700).create(path)?;
+                if is_new {
+                    give_to_owner(&std::fs::File::open(path)?, path);
+                }
+                Ok(())
+            }),
             Place::Drive(_) => Ok(()),
         }
     }
@@ -352,9 +358,9 @@ impl Disk {
     }
 }
 
-/// Root makes a file for whose folder it is: a command of root may change that of the service's user, who has to read it. Of
-/// anybody else a file is its own, or stays so.
-fn give_to_owner(file: &std::fs::File, path: &Path) {
+/// Root makes a file or a folder for whose the folder above is: a command of root may change that of the service's user, who
+/// has to read it. Of anybody else it is its own, or stays so.
+pub(super) fn give_to_owner(file: &std::fs::File, path: &Path) {
     let folder = path.parent().and_then(|folder| std::fs::metadata(folder).ok());
     let is_other = |folder: &std::fs::Metadata| file.metadata().is_ok_and(|own| own.uid() != folder.uid());
     if let Some(folder) = folder.filter(is_other) {

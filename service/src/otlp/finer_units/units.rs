@@ -145,7 +145,8 @@ impl Units {
     }
 
     /// Notes a series that a rule has put into a unit, but where one of its name is in a finer one: what is coarser than that
-    /// may be taken in it, and would be taken in this from then on.
+    /// may be taken in it, and would be taken in this from then on. A start knows all series of a folder, and not in which order
+    /// they came: behind it what is coarser is taken in this unit after all.
     pub fn note_of_rule(&self, metric: &str, unit: Unit) {
         if self.decided(metric, unit).is_none() {
             let mut names = self.write();
