@@ -208,6 +208,34 @@ def load(checks, program, store, folder, seconds, seed):
         sink.close()
 
 
+def waiting(service):
+    """How many requests its sink has not taken."""
+    return sum(slot["waiting"] for slot in service.status()["slots"])
+
+
+def try_repeat_without_its_standby(checks, program, store, folder):
+    """A request whose answer was lost, and that a restart of the sink's server shows, is taken once the standby has it too."""
+    sink = f"postgres://postgres@{store.primary.host}:{store.primary.port}/postgres"
+    service = Service(program, f"{folder}/sink", sink, "--flush-every", "1s")
+    service.start()
+    try:
+        checks.true("a service with a PostgreSQL sink is ready", service.wait_ready(), service.last_lines())
+        sender = Sender(service, SENDERS)
+        sender.post(sender.next_points())
+        checks.true("its requests are delivered", service.has_delivered_all(), service.last_lines())
+        store.standby.kill()
+        sender.post(sender.next_points())
+        waits = "select count(*) > 0 from pg_stat_activity where wait_event = 'SyncRep' and query = 'COMMIT'"
+        checks.true("the next one waits for the standby", wait_until(lambda: store.ask(waits) == "t"), service.last_lines())
+        store.restart()
+        checks.same("it can be read then", "t", store.ask("select count(*) > 2 from totxegun.request"))
+        checks.true("what one server alone has is not taken", not wait_until(lambda: waiting(service) < 2, 8), service.last_lines())
+        store.standby.start()
+        checks.true("it is taken once both have it", service.has_delivered_all(), service.last_lines())
+    finally:
+        service.end()
+
+
 def main(words):
     if not 1 <= len(words) <= 3:
         sys.exit(__doc__.split("\n\n")[1].strip())
@@ -221,6 +249,7 @@ def main(words):
             try_starts(checks, program, store, folder)
             store.make_standby()
             load(checks, program, store, folder, seconds, seed)
+            try_repeat_without_its_standby(checks, program, store, folder)
         finally:
             store.close()
     return checks.end()

@@ -20,12 +20,15 @@ use Rattle.book_desk.specs.declared.by_number.PutFault.{PutFault}
 use Rattle.book_desk.specs.declared.by_number.PutFault.TheVariants as put
 use Rattle.book_desk.specs.declared.reader.PostFault.{PostFault}
 use Rattle.book_desk.specs.declared.reader.PostFault.TheVariants as post
+use Rattle.book_desk.specs.declared.reader.BytesFault.{BytesFault}
+use Rattle.book_desk.specs.declared.reader.BytesFault.TheVariants as bytes
 use Rattle.book_c.specs.declared.answers.Answer.{Answer}
 use Rattle.book_c.specs.declared.statuses.TheConstants.{QUARANTINED, FULL, OTHER_WRITER}
 use Rattle.book_c.specs.declared.statuses.TheConstants.{OUT_OF_ORDER, TOO_MANY_SERIES, TOO_LARGE}
 use Rattle.book_c.specs.declared.statuses.TheConstants.{NO_MEMORY, BAD_SENDER, NOT_JSON}
 use Rattle.book_c.specs.declared.statuses.TheConstants.{WRONG_SHAPE}
 use Rattle.book_c.specs.declared.statuses.TheConstants.{NOTHING, NO_SUCH, ALREADY, NOT_ENDED}
+use Rattle.book_c.specs.declared.statuses.TheConstants.{NOT_PROTOBUF}
 
 -- a status alone
 abbrev pub plain : ℕ → Answer
@@ -50,6 +53,12 @@ post_status post.BadSender = BAD_SENDER
 post_status post.NotJson = NOT_JSON
 post_status post.WrongShape = WRONG_SHAPE
 post_status post.NoMemory = NO_MEMORY
+
+-- why a post in protobuf is not read
+abbrev pub bytes_status : BytesFault → ℕ
+bytes_status bytes.BadSender = BAD_SENDER
+bytes_status (bytes.Malformed why) = NOT_PROTOBUF
+bytes_status bytes.NoMemory = NO_MEMORY
 
 -- why points by number are not put
 abbrev pub put_status : PutFault → ℕ

@@ -11,7 +11,7 @@ use Rattle.book_desk.specs.EndRanges.{ends_of}
 use Rattle.book_desk.specs.Ends.{IsNotEnded}
 use Rattle.book_desk.specs.Holds.{RestsFrom, HoldFails, hold_refusal, is_held_in}
 use Rattle.book_desk.specs.Naming.{IsNamed, IsNotNamed}
-use Rattle.book_desk.specs.Reads.{IsUnread, IsNotPut}
+use Rattle.book_desk.specs.Reads.{IsUnread, IsUnreadBytes, IsNotPut}
 use Rattle.book_desk.specs.Refusals.{IsNotAdmitted}
 use Rattle.book_desk.specs.Said.{ArePartsSaid}
 use Rattle.book_desk.specs.Takes.{IsNotTaken, IsNotTakenAlone}
@@ -23,8 +23,10 @@ use Rattle.book_desk.specs.declared.desk.TakeAllFault.{TakeAllFault}
 use Rattle.book_desk.specs.declared.end.End.{End}
 use Rattle.book_desk.specs.declared.flushes.TextFault.{TextFault}
 use Rattle.book_desk.specs.declared.part.Part.{Part}
+use Rattle.book_desk.specs.declared.reader.BytesFault.{BytesFault}
 use Rattle.book_desk.specs.declared.reader.PostFault.{PostFault}
-use Rattle.book_c.specs.Answers.{plain, admit_answer, post_status, take_status, end_status}
+use Rattle.book_c.specs.Answers.{plain, admit_answer, post_status, bytes_status}
+use Rattle.book_c.specs.Answers.{take_status, end_status}
 use Rattle.book_c.specs.Answers.{text_status, hold_status, put_status}
 use Rattle.book_c.specs.Slices.{AreAtFront, AreTooMany}
 use Rattle.book_c.specs.declared.answers.Answer.{Answer}
@@ -36,6 +38,12 @@ use Rattle.book_c.specs.declared.statuses.TheConstants.{NONE_CROSSES, TOO_SHORT}
 abbrev pub TellsUnread : (sender bytes : List ℕ) → Answer → List (Option Part) → Type 0
 TellsUnread sender bytes answer parts =
     (e : PostFault) × (answer ≡ plain (post_status e)) × IsUnread sender bytes e × (parts ≡ [])
+
+-- the same of a post in protobuf
+abbrev pub TellsUnreadBytes : (sender bytes : List ℕ) → Answer → List (Option Part) → Type 0
+TellsUnreadBytes sender bytes answer parts =
+    (e : BytesFault) × (answer ≡ plain (bytes_status e)) × IsUnreadBytes sender bytes e
+    × (parts ≡ [])
 
 -- points by number were not put, and the reader has nothing
 abbrev pub TellsNotPut :

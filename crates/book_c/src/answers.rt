@@ -3,13 +3,13 @@ ghost use Rattle.std.specs.Prelude.{◌≡◌, ◌≢◌};
 ghost use Rattle.book_c.specs.Answers as spec;
 
 use crate::statuses::{
-    ALREADY, BAD_SENDER, FULL, NO_MEMORY, NO_SUCH, NOT_ENDED, NOT_JSON, NOTHING, OTHER_WRITER,
-    OUT_OF_ORDER, QUARANTINED, TOO_LARGE, TOO_MANY_SERIES, WRONG_SHAPE,
+    ALREADY, BAD_SENDER, FULL, NO_MEMORY, NO_SUCH, NOT_ENDED, NOT_JSON, NOT_PROTOBUF, NOTHING,
+    OTHER_WRITER, OUT_OF_ORDER, QUARANTINED, TOO_LARGE, TOO_MANY_SERIES, WRONG_SHAPE,
 };
 use book_desk::by_number::PutFault;
 use book_desk::desk::{DeskFault, EndFault, TakeAllFault};
 use book_desk::flushes::TextFault;
-use book_desk::reader::PostFault;
+use book_desk::reader::{BytesFault, PostFault};
 use delta_book::faults::{AdmitFault, QuarantineFault, TakeFault};
 
 /// A status, and what it tells of.
@@ -89,6 +89,17 @@ pub fn post_status(fault: PostFault) -> u32
         PostFault::NotJson => NOT_JSON,
         PostFault::WrongShape => WRONG_SHAPE,
         PostFault::NoMemory => NO_MEMORY,
+    }
+}
+
+pub fn bytes_status(fault: BytesFault) -> u32
+    ensures value { result ≡ spec.bytes_status fault }
+    ensures some { result ≢ 0 }
+{
+    match fault {
+        BytesFault::BadSender => BAD_SENDER,
+        BytesFault::Malformed(_) => NOT_PROTOBUF,
+        BytesFault::NoMemory => NO_MEMORY,
     }
 }
 

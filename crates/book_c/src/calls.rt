@@ -7,13 +7,14 @@ ghost use Rattle.book_desk.specs.Crossings.{IsCrossing};
 ghost use Rattle.book_desk.specs.EndRanges.{IsRangeOf, ends_of};
 ghost use Rattle.book_desk.specs.Posts.{Keeps, Rests};
 ghost use Rattle.book_desk.specs.Naming.{Extends};
-ghost use Rattle.book_desk.specs.Reads.{IsRead, IsPut};
+ghost use Rattle.book_desk.specs.Reads.{IsRead, IsReadBytes, IsPut};
 ghost use Rattle.book_desk.specs.Refusals.{post_refusal};
 ghost use Rattle.book_desk.specs.Takes as takes;
 ghost use Rattle.book_desk.specs.Takes.{Takes, take_all_refusal, IsTakenAlone};
 ghost use Rattle.book_desk.specs.Written.{IsForwarded, IsReported};
 ghost use Rattle.book_c.specs.Answers.{counts_of, written_of, left_of, range_of};
-ghost use Rattle.book_c.specs.Calls.{TellsUnread, TellsNotAdmitted, TellsNotTaken, TellsNotEnded};
+ghost use Rattle.book_c.specs.Calls.{TellsUnread, TellsUnreadBytes, TellsNotAdmitted};
+ghost use Rattle.book_c.specs.Calls.{TellsNotTaken, TellsNotEnded};
 ghost use Rattle.book_c.specs.Calls.{TellsNotForwarded, TellsNotReported, TellsNotPut};
 ghost use Rattle.book_c.specs.Calls.{TellsNoPoints, TellsNoCrossing};
 ghost use Rattle.book_c.specs.Calls.{TellsNotTakenAlone};
@@ -22,8 +23,8 @@ ghost use Rattle.book_c.specs.inner.Names as names;
 ghost use Rattle.book_c.specs.Calls.{TellsNotHeld, TellsNotLifted};
 
 use crate::answers::{
-    Answer, admit_answer, end_status, hold_status, post_status, put_status, take_status,
-    text_status,
+    Answer, admit_answer, bytes_status, end_status, hold_status, post_status, put_status,
+    take_status, text_status,
 };
 use crate::fronts::copy_front;
 use crate::statuses::{BAD_SENDER, DONE, NO_MEMORY, NONE_CROSSES, NOT_QUARANTINED, NOTHING};
@@ -60,6 +61,24 @@ pub fn read(reader: &mut Reader, sender: &[u8], body: &[u8], books: usize, windo
     match reader.read(sender, body, books, window) {
         Ok(counts) => counted(counts),
         Err(fault) => Answer::plain(post_status(fault)),
+    }
+}
+
+pub fn read_protobuf(
+    reader: &mut Reader,
+    sender: &[u8],
+    body: &[u8],
+    books: usize,
+    window: Window,
+) -> Answer
+    requires { 0 < books }
+    ensures read { result.status ≡ DONE → IsReadBytes sender.now body.now books window
+        (counts_of result) reader.new }
+    ensures unread { result.status ≢ DONE → TellsUnreadBytes sender.now body.now result reader.new }
+{
+    match reader.read_protobuf(sender, body, books, window) {
+        Ok(counts) => counted(counts),
+        Err(fault) => Answer::plain(bytes_status(fault)),
     }
 }
 

@@ -15,13 +15,14 @@ ghost use Rattle.book_desk.specs.Ends.{IsEndedBy};
 ghost use Rattle.book_desk.specs.Holds.{Holds, Releases, hold_refusal, is_held_in};
 ghost use Rattle.book_desk.specs.Posts.{Keeps, Rests};
 ghost use Rattle.book_desk.specs.Naming.{Extends};
-ghost use Rattle.book_desk.specs.Reads.{IsRead, IsPut};
+ghost use Rattle.book_desk.specs.Reads.{IsRead, IsReadBytes, IsPut};
 ghost use Rattle.book_desk.specs.Refusals.{post_refusal};
 ghost use Rattle.book_desk.specs.Rounds.{IsClosedAlone};
 ghost use Rattle.book_desk.specs.Takes.{Takes, IsTakenAlone, count, take_all_refusal};
 ghost use Rattle.book_desk.specs.Written.{IsForwarded, IsReported, all_series};
 ghost use Rattle.book_c.specs.Answers.{counts_of, written_of, left_of, range_of};
-ghost use Rattle.book_c.specs.Calls.{TellsUnread, TellsNotAdmitted, TellsNotTaken, TellsNotEnded};
+ghost use Rattle.book_c.specs.Calls.{TellsUnread, TellsUnreadBytes, TellsNotAdmitted};
+ghost use Rattle.book_c.specs.Calls.{TellsNotTaken, TellsNotEnded};
 ghost use Rattle.book_c.specs.Calls.{TellsNotForwarded, TellsNotReported, TellsNotPut};
 ghost use Rattle.book_c.specs.Calls.{TellsNoPoints, TellsNoCrossing};
 ghost use Rattle.book_c.specs.Calls.{TellsNotTakenAlone};
@@ -131,6 +132,34 @@ pub extern "C" fn reader_read(
         unreachable!()
     };
     *out = calls::read(it, sender, body, books, Window { from, until });
+    put_back(reader, kept);
+}
+
+/// As `reader_read`, of a body in protobuf.
+#[unsafe(no_mangle)]
+pub extern "C" fn reader_read_protobuf(
+    alloc: Global,
+    reader: &mut Handle,
+    sender: &[u8],
+    body: &[u8],
+    books: usize,
+    from: u64,
+    until: u64,
+    out: &mut Answer,
+)
+    requires reader { HasReader reader.old }
+    requires books { 0 < books }
+    ensures reader { HasReader reader.new }
+    ensures read { out.new.status ≡ DONE → IsReadBytes sender.now body.now books
+        (record { from = from; until = until }) (counts_of out.new) (parts_of reader.new.kept) }
+    ensures unread { out.new.status ≢ DONE → TellsUnreadBytes sender.now body.now out.new
+        (parts_of reader.new.kept) }
+{
+    let mut kept = out_of(alloc, reader);
+    let Kept::Reader(it) = &mut *kept else {
+        unreachable!()
+    };
+    *out = calls::read_protobuf(it, sender, body, books, Window { from, until });
     put_back(reader, kept);
 }
 

@@ -36,3 +36,5 @@ pub const NOT_ENDED: u32 = 15;
 pub const NONE_CROSSES: u32 = 17;
 /// The slice has no room for that.
 pub const TOO_SHORT: u32 = 18;
+/// The body is no request in protobuf.
+pub const NOT_PROTOBUF: u32 = 19;

@@ -5,6 +5,7 @@ use Rattle.std.specs.List.{All}
 use Rattle.series_id.specs.Identity.{Identity}
 use Rattle.metric_events.specs.DataPoint.{DataPoint}
 use Rattle.metric_events.specs.Senders.{name_fault}
+use Rattle.otlp_protobuf.specs.Reading.{bytes_reading}
 use Rattle.otlp_read.specs.Reading.{text_reading}
 use Rattle.otlp_read.specs.Tallies.{Tally}
 use Rattle.otlp_read.specs.declared.place.Place.{Place}
@@ -12,6 +13,8 @@ use Rattle.book_desk.specs.declared.draft.Counts.{Counts}
 use Rattle.book_desk.specs.declared.part.Part.{Part}
 use Rattle.book_desk.specs.declared.reader.PostFault.{PostFault}
 use Rattle.book_desk.specs.declared.reader.PostFault.TheVariants as faults
+use Rattle.book_desk.specs.declared.reader.BytesFault.{BytesFault}
+use Rattle.book_desk.specs.declared.reader.BytesFault.TheVariants as bytes
 use Rattle.book_desk.specs.declared.by_number.PutFault.{PutFault}
 use Rattle.book_desk.specs.declared.by_number.PutFault.TheVariants as put
 use Rattle.book_desk.specs.declared.window.Window.{Window}
@@ -47,6 +50,18 @@ IsUnread sender bytes faults.BadSender = name_fault sender ≢ None
 IsUnread sender bytes faults.NotJson = text_reading bytes ≡ None
 IsUnread sender bytes faults.WrongShape = (p : Place) × (text_reading bytes ≡ Some (Err p))
 IsUnread sender bytes faults.NoMemory = ⊤
+
+-- they are those that the bytes say in protobuf
+abbrev pub IsReadBytes :
+    (sender body : List ℕ) (books : ℕ) → Window → Counts → List (Option Part) → Type 0
+IsReadBytes sender body books window counts parts =
+    (t : Tally) × (bytes_reading body ≡ Ok (Ok t)) × IsKept books sender window t counts parts
+
+-- why a post in protobuf is not read
+abbrev pub IsUnreadBytes : (sender body : List ℕ) → BytesFault → Type 0
+IsUnreadBytes sender body bytes.BadSender = name_fault sender ≢ None
+IsUnreadBytes sender body (bytes.Malformed why) = bytes_reading body ≡ Err why
+IsUnreadBytes sender body bytes.NoMemory = ⊤
 
 -- they are those that the words say over the names
 abbrev pub IsPut :

@@ -1,11 +1,14 @@
 //! Reads posts. A reader has no lock: each thread has one of its own.
-ghost use Rattle.std.specs.Prelude.{◌≡◌, ◌<◌, [], IfOk, IfErr, OnErr, IfSome, IfNone};
+ghost use Rattle.std.specs.Prelude.{◌≡◌, ◌<◌, [], None, IfOk, IfErr, OnErr, IfSome, IfNone};
 ghost use Rattle.std.specs.List.{All};
+ghost use Rattle.metric_events.specs.Senders.{name_fault};
+ghost use Rattle.otlp_read.specs.Tallies.{tally};
 ghost use Rattle.book_desk.specs.inner.Opened.{HasPoints};
 ghost use Rattle.book_desk.specs.inner.Faults as faults;
 ghost use Rattle.book_desk.specs.EndRanges.{IsRangeOf, ends_of};
 ghost use Rattle.book_desk.specs.Naming.{Extends};
-ghost use Rattle.book_desk.specs.Reads.{IsRead, IsUnread, IsPut, IsNotPut};
+ghost use Rattle.book_desk.specs.Reads.{IsRead, IsUnread, IsReadBytes, IsUnreadBytes};
+ghost use Rattle.book_desk.specs.Reads.{IsPut, IsNotPut, IsKept};
 ghost use Rattle.book_desk.specs.Said.{ArePartsSaid};
 
 use crate::by_number::{PutFault, draft_said};
@@ -18,7 +21,8 @@ use crate::said::words_said;
 use crate::window::Window;
 use json_points::{Kept, read_request_with};
 use metric_events::sender_name::{NameFault, SenderName};
-use otlp_read::ReadFault;
+use otlp_protobuf::Malformed;
+use otlp_read::{ReadFault, Reading};
 use std::alloc::{AllocError, Global};
 use std::marker::Model;
 use std::mem;
@@ -35,12 +39,23 @@ pub enum PostFault {
     NoMemory,
 }
 
+/// Why a post in protobuf is not read.
+#[derive(Clone, Copy, Debug, PartialEq, Eq)]
+pub enum BytesFault {
+    /// The sender has no name of 1 to 64 bytes of `A-Z a-z 0-9 . _ -`.
+    BadSender,
+    /// The bytes are no request. `Malformed` is their first fault.
+    Malformed(Malformed),
+    NoMemory,
+}
+
 /// Identities that were read, and the post that was read last, in parts: one for each book, or none
 /// if the post has no points. Contracts see the parts.
 #[derive(Drop)]
 pub struct Reader {
     alloc: Global,
     kept: Kept,
+    kept_bytes: otlp_protobuf::Kept,
     parts: Vec<Option<Part>>,
 }
 
@@ -76,8 +91,27 @@ fn body_fault(fault: ReadFault) -> PostFault
     }
 }
 
+/// The same of a post in protobuf.
+fn bytes_sender_fault(fault: NameFault) -> BytesFault
+    ensures { result ≡ faults.bytes_sender_fault fault }
+{
+    match fault {
+        NameFault::NoMemory => BytesFault::NoMemory,
+        _ => BytesFault::BadSender,
+    }
+}
+
+fn bytes_fault(fault: otlp_protobuf::ReadFault) -> BytesFault
+    ensures { result ≡ faults.bytes_fault fault }
+{
+    match fault {
+        otlp_protobuf::ReadFault::Malformed(why) => BytesFault::Malformed(why),
+        otlp_protobuf::ReadFault::NoMemory => BytesFault::NoMemory,
+    }
+}
+
 /// The same of points by number.
-fn name_fault(fault: NameFault) -> PutFault
+fn put_sender_fault(fault: NameFault) -> PutFault
     ensures { result ≡ faults.put_fault fault }
 {
     match fault {
@@ -94,6 +128,7 @@ impl Reader {
         Reader {
             alloc,
             kept: Kept::new(alloc),
+            kept_bytes: otlp_protobuf::Kept::new(alloc),
             parts: Vec::new(alloc),
         }
     }
@@ -122,9 +157,62 @@ impl Reader {
             Ok(reading) => reading,
             Err(fault) => return Err(body_fault(fault)),
         };
+        let Ok(counts) = self.keep(sender, &reading, books, window) else {
+            return Err(PostFault::NoMemory);
+        };
+        Ok(counts)
+    }
+
+    /// As `read`, of a body in protobuf.
+    pub fn read_protobuf(
+        &mut self,
+        sender: &[u8],
+        body: &[u8],
+        books: usize,
+        window: Window,
+    ) -> Result<Counts, BytesFault>
+        requires { 0 < books }
+        ensures read { IfOk result (λ counts. IsReadBytes sender.now body.now books window counts
+            self.new) }
+        ensures fault { IfErr result (λ e. IsUnreadBytes sender.now body.now e) }
+        ensures none { OnErr result (self.new ≡ []) }
+    {
+        self.parts = Vec::new(self.alloc);
+        let sender = match SenderName::new(self.alloc, sender) {
+            Ok(sender) => sender,
+            Err(fault) => return Err(bytes_sender_fault(fault)),
+        };
+        let reading = match otlp_protobuf::read_request_with(
+            self.alloc,
+            body,
+            &mut self.kept_bytes,
+        ) {
+            Ok(reading) => reading,
+            Err(fault) => return Err(bytes_fault(fault)),
+        };
+        let Ok(counts) = self.keep(sender, &reading, books, window) else {
+            return Err(BytesFault::NoMemory);
+        };
+        Ok(counts)
+    }
+
+    /// Keeps what was read of a sender, split into parts.
+    fn keep(
+        &mut self,
+        sender: SenderName,
+        reading: &Reading,
+        books: usize,
+        window: Window,
+    ) -> Result<Counts, AllocError>
+        requires books { 0 < books }
+        requires named { name_fault sender ≡ None }
+        ensures kept { IfOk result (λ counts. IsKept books sender window (tally reading.now) counts
+            self.new) }
+        ensures same { OnErr result (self.new ≡ self.old) }
+    {
         let points = reading.points.as_slice();
         let Ok(draft) = draft_of(self.alloc, sender, points, books, window) else {
-            return Err(PostFault::NoMemory);
+            return Err(AllocError);
         };
         let mut counts = draft.counts;
         counts.foreign = reading.foreign;
@@ -151,7 +239,7 @@ impl Reader {
         self.parts = Vec::new(self.alloc);
         let sender = match SenderName::new(self.alloc, sender) {
             Ok(sender) => sender,
-            Err(fault) => return Err(name_fault(fault)),
+            Err(fault) => return Err(put_sender_fault(fault)),
         };
         let draft = match draft_said(self.alloc, sender, names, words, books, window) {
             Ok(draft) => draft,

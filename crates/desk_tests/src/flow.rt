@@ -147,8 +147,7 @@ fn a_post_is_spread_and_comes_out_whole(rt: HostRuntime) -> Result<(), Fail> {
     let mut flushes = Flushes::new(alloc);
     take_and_give_back(alloc, &mut desk, &mut flushes)?;
     take_and_settle(&mut desk, &mut flushes)?;
-    close_rounds(&mut desk)?;
-    Ok(())
+    close_rounds(&mut desk)
 }
 
 /// A post of which a point is too early is refused.

@@ -3,6 +3,8 @@
 //! `edge_tests` is proved in four fifths of the processor time.
 #![tactic(auto)]
 
+ghost use Rattle.std.specs.Prelude.{◌≡◌, IfOk, IfErr, true, false};
+
 use std::fmt::{Debug, Display};
 use std::test::Fail;
 
@@ -23,7 +25,10 @@ macro_rules! ensure_eq {
 }
 
 /// `ensure!` of a fact with this text.
-pub fn holds(fact: bool, text: &str) -> Result<(), Fail> {
+pub fn holds(fact: bool, text: &str) -> Result<(), Fail>
+    ensures holds { IfOk result (λ u. fact ≡ true) }
+    ensures fails { IfErr result (λ e. fact ≡ false) }
+{
     if fact {
         return Ok(());
     }
@@ -31,7 +36,10 @@ pub fn holds(fact: bool, text: &str) -> Result<(), Fail> {
 }
 
 /// The same of a case.
-pub fn holds_of(fact: bool, text: &str, case: impl Display + Drop) -> Result<(), Fail> {
+pub fn holds_of(fact: bool, text: &str, case: impl Display + Drop) -> Result<(), Fail>
+    ensures holds { IfOk result (λ u. fact ≡ true) }
+    ensures fails { IfErr result (λ e. fact ≡ false) }
+{
     if fact {
         return Ok(());
     }
@@ -39,7 +47,10 @@ pub fn holds_of(fact: bool, text: &str, case: impl Display + Drop) -> Result<(),
 }
 
 /// `ensure_eq!` of two values.
-pub fn same<T: PartialEq + Debug + Drop>(got: T, want: T) -> Result<(), Fail> {
+pub fn same<T: PartialEq + Debug + Drop>(got: T, want: T) -> Result<(), Fail>
+    ensures same { IfOk result (λ u. T.eq got want ≡ true) }
+    ensures differ { IfErr result (λ e. T.eq got want ≡ false) }
+{
     if got == want {
         return Ok(());
     }
@@ -51,7 +62,10 @@ pub fn same_of<T: PartialEq + Debug + Drop>(
     got: T,
     want: T,
     case: impl Display + Drop,
-) -> Result<(), Fail> {
+) -> Result<(), Fail>
+    ensures same { IfOk result (λ u. T.eq got want ≡ true) }
+    ensures differ { IfErr result (λ e. T.eq got want ≡ false) }
+{
     if got == want {
         return Ok(());
     }

@@ -77,6 +77,7 @@ fn read(file: &Path) -> std::io::Result<Vec<u8>> {
 fn found(body: Vec<u8>, reading: &Reading, clock: &Clock) -> anyhow::Result<Explanation> {
     let (framed, body) = unframed(body);
     let (packed, body) = unpacked(not_too_long(body)?)?;
+    let (_, body) = unpacked(not_too_long(body)?)?; // as the service: Python's gRPC packs some messages twice
     let body = not_too_long(body)?;
     let bytes = body.len();
     let encoding = if framed { Encoding::Protobuf } else { Encoding::of(&body) };
@@ -223,10 +224,17 @@ mod tests {
 
     #[test]
     fn forms_are_recognised() {
-        let mut packer = flate2::write::GzEncoder::new(Vec::new(), flate2::Compression::default());
-        packer.write_all(BODY.as_bytes()).unwrap();
-        let packed = found(packer.finish().unwrap(), &Reading::default(), &Clock::default()).unwrap();
-        assert!(packed.packed && packed.encoding == "JSON" && packed.taken == 1);
+        let gzip = |plain: &[u8]| {
+            let mut packer = flate2::write::GzEncoder::new(Vec::new(), flate2::Compression::default());
+            packer.write_all(plain).unwrap();
+            packer.finish().unwrap()
+        };
+        let once = gzip(BODY.as_bytes());
+        // Packed twice it is taken too.
+        for body in [gzip(&once), once] {
+            let packed = found(body, &Reading::default(), &Clock::default()).unwrap();
+            assert!(packed.packed && packed.encoding == "JSON" && packed.taken == 1);
+        }
         // A protobuf that begins as JSON may: a line feed and a brace are its field and its length.
         let scope = [&b"\x12\x77\x12\x75\x0a\x73"[..], &[b'n'; 115]].concat();
         let body = [&b"\x0a{\x12\x79"[..], &scope].concat();

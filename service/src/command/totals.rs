@@ -3,12 +3,12 @@
 use super::table::Table;
 use super::{ask, client, json, line, Form};
 use crate::operate::Status;
-use crate::sinks::Address;
+use crate::sinks::{sqlite, Address};
 use anyhow::{bail, Context, Result};
 use clap::Args;
 use hyper::Method;
 use rusqlite::types::Value;
-use rusqlite::{Connection, OpenFlags, Row};
+use rusqlite::Row;
 use serde_json::json;
 use std::path::{Path, PathBuf};
 
@@ -71,7 +71,7 @@ impl Options {
 /// Beside a service that writes: nothing is changed, nobody waits.
 fn rows(path: &Path) -> Result<Vec<Vec<Value>>> {
     std::fs::File::open(path)?; // it says in fewer words than SQLite why that can't be
-    let file = Connection::open_with_flags(path, OpenFlags::SQLITE_OPEN_READ_ONLY)?;
+    let file = sqlite::totals::open(path)?;
     let mut query = file
         .prepare(&format!("select {} from totals order by name, attributes, resource", COLUMNS.join(", ")))?;
     let read = |row: &Row| (0..COLUMNS.len()).map(|column| row.get(column)).collect();
@@ -108,7 +108,7 @@ mod tests {
     fn rows_are_read_as_the_view_has_them() {
         let folder = tempfile::tempdir().unwrap();
         let path = folder.path().join("sink.db");
-        let file = Connection::open(&path).unwrap();
+        let file = rusqlite::Connection::open(&path).unwrap();
         let columns = COLUMNS.map(|name| format!("{name} text")).join(", ");
         file.execute_batch(&format!("create table totals ({columns})")).unwrap();
         file.execute("insert into totals (name, total) values ('b', '9'), ('a', null)", []).unwrap();

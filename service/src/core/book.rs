@@ -22,10 +22,25 @@ struct Handle {
     at: *mut u8,
 }
 
+/// A reader, a sender's name, a body, how many books, a window of time, an answer.
+type ReadCall =
+    unsafe extern "C" fn(*mut Handle, *const u8, usize, *const u8, usize, usize, u64, u64, *mut Answer);
+
 extern "C" {
     fn reader_new(out: *mut Handle) -> bool;
     fn reader_free(reader: *mut Handle);
     fn reader_read(
+        reader: *mut Handle,
+        sender: *const u8,
+        sender_length: usize,
+        body: *const u8,
+        body_length: usize,
+        books: usize,
+        from: u64,
+        until: u64,
+        out: *mut Answer,
+    );
+    fn reader_read_protobuf(
         reader: *mut Handle,
         sender: *const u8,
         sender_length: usize,
@@ -105,41 +120,29 @@ impl Reader {
         made(|handle| unsafe { reader_new(handle) }).map(Reader)
     }
 
+    /// Reads JSON.
     pub fn read(&mut self, sender: &[u8], body: &[u8], books: usize) -> Answer {
-        let (sender_at, body_at) = (sender.as_ptr(), body.as_ptr());
+        self.read_by(reader_read, sender, body, books)
+    }
+
+    /// The same of protobuf.
+    pub fn read_protobuf(&mut self, sender: &[u8], body: &[u8], books: usize) -> Answer {
+        self.read_by(reader_read_protobuf, sender, body, books)
+    }
+
+    fn read_by(&mut self, read: ReadCall, sender: &[u8], body: &[u8], books: usize) -> Answer {
+        let (by, by_len, at, len) = (sender.as_ptr(), sender.len(), body.as_ptr(), body.len());
+        let (reader, books) = (&mut self.0, books.max(1));
         // SAFETY: the handle is live and lent for this call alone; both slices and the answer are there through it.
-        asked(|answer| unsafe {
-            reader_read(
-                &mut self.0,
-                sender_at,
-                sender.len(),
-                body_at,
-                body.len(),
-                books.max(1),
-                0,
-                u64::MAX,
-                answer,
-            )
-        })
+        asked(|answer| unsafe { read(reader, by, by_len, at, len, books, 0, u64::MAX, answer) })
     }
 
     /// The same of points by number: each is its number, start, end, and what it says.
     pub fn put(&mut self, names: &mut Names, sender: &[u8], words: &[u64], books: usize) -> Answer {
+        let (by, by_len, at, len) = (sender.as_ptr(), sender.len(), words.as_ptr(), words.len());
+        let (reader, names, books) = (&mut self.0, &mut names.0, books.max(1));
         // SAFETY: both handles are live and lent for this call alone; both slices and the answer are there through it.
-        asked(|answer| unsafe {
-            reader_put(
-                &mut self.0,
-                &mut names.0,
-                sender.as_ptr(),
-                sender.len(),
-                words.as_ptr(),
-                words.len(),
-                books.max(1),
-                0,
-                u64::MAX,
-                answer,
-            )
-        })
+        asked(|answer| unsafe { reader_put(reader, names, by, by_len, at, len, books, 0, u64::MAX, answer) })
     }
 
     /// The points that it has, as `put` takes them, into a list that is about as long as they are. A series that has no number

@@ -155,7 +155,8 @@ impl Names {
         Ok(())
     }
 
-    fn count(&self) -> u64 {
+    /// How many series have a number.
+    pub fn count(&self) -> u64 {
         self.named().texts.count() as u64
     }
 

@@ -8,14 +8,20 @@ use crate::files::{self, Body, NoNames, Points, Post};
 use bytes::Bytes;
 use std::sync::Arc;
 
+/// What a post is read from: its points by number are in another order.
+enum Source {
+    Json(Bytes),
+    Protobuf(Bytes),
+}
+
 /// A post that is to be read, or was, and is in no book yet. Its reader is another's once this is dropped.
 pub struct Read {
     books: usize,
     across: Across,
     /// None until it is read.
     pub(super) reader: Option<Reader>,
-    /// What it is read from, where that is a text: its points by number are in another order.
-    text: Option<Bytes>,
+    /// None of points by number.
+    source: Option<Source>,
     pub post: Post,
     /// By which its points have numbers, where they have.
     names: Option<Arc<Names>>,
@@ -36,14 +42,14 @@ impl Read {
         names: Option<Arc<Names>>,
         left_out: u64,
     ) -> Read {
-        let text = match &body {
-            Body::Text(text) => Some(text.clone()),
+        let source = match &body {
+            Body::Text(text) => Some(Source::Json(text.clone())),
             Body::Points(_) => None,
         };
         let post = Post { sender, foreign: left_out, body };
         Read {
             reader: None,
-            text,
+            source,
             books: core.books,
             across: core.across,
             post,
@@ -55,6 +61,25 @@ impl Read {
         }
     }
 
+    /// A post in protobuf that was read, and its points have numbers by these names; `has_room` as of `number`. None where one
+    /// is foreign, where `has_all` says no to the first and the last of their ends, or where it can't be read or numbered: then
+    /// it is to be read otherwise.
+    pub fn of_protobuf(
+        core: &Core,
+        sender: String,
+        body: Bytes,
+        has_all: impl FnOnce(u64, u64) -> bool,
+        names: &Arc<Names>,
+        has_room: impl Fn(usize) -> bool,
+    ) -> Option<Read> {
+        let mut read = Read::unread(core, sender, Body::Points(Points::default()), None, 0);
+        read.source = Some(Source::Protobuf(body));
+        read.be_read().ok()?;
+        let is_within = read.ends().is_none_or(|(first, last)| has_all(first, last));
+        let is_plain = is_within && read.post.foreign == 0;
+        (is_plain && read.number(names, has_room)).then_some(read)
+    }
+
     /// Reads it, or reads it again behind a book that was asked to take it.
     pub fn be_read(&mut self) -> Result<(), Refused> {
         let ends = check(self.again()?.ends()).ok();
@@ -63,7 +88,7 @@ impl Read {
         Ok(())
     }
 
-    /// Has points that were read from a text have numbers by these names: the journal keeps these, and those of a series are in
+    /// Has points that were read from a body have numbers by these names: the journal keeps these, and those of a series are in
     /// their order. `has_room` takes room for the request of each series that is new. False, and the post is as it was, where
     /// one can't be named.
     pub fn number(&mut self, names: &Arc<Names>, has_room: impl Fn(usize) -> bool) -> bool {
@@ -91,8 +116,9 @@ impl Read {
             none => none.insert(reader().ok_or(Refused::NoMemory)?),
         };
         let (sender, books) = (self.post.sender.as_bytes(), self.books);
-        let answer = match (&self.text, &self.post.body, &self.names) {
-            (Some(text), ..) => reader.read(sender, text, books),
+        let answer = match (&self.source, &self.post.body, &self.names) {
+            (Some(Source::Json(text)), ..) => reader.read(sender, text, books),
+            (Some(Source::Protobuf(body)), ..) => reader.read_protobuf(sender, body, books),
             (None, Body::Points(points), Some(names)) => names.put(reader, sender, points.words(), books),
             _ => return Err(Refused::NoSuch),
         };
@@ -142,6 +168,12 @@ impl Read {
             Some(names) => &**names,
             None => &NoNames,
         }
+    }
+
+    /// Whether it was read from protobuf as it came.
+    #[cfg(test)]
+    pub(crate) fn is_of_protobuf(&self) -> bool {
+        matches!(self.source, Some(Source::Protobuf(_)))
     }
 
     /// Those of the profile.

@@ -5,6 +5,7 @@ use crate::otlp::series::{forwarded, Value};
 use std::collections::BTreeMap;
 
 mod points;
+mod protobuf;
 mod rounds;
 mod sizes;
 mod stretches;

@@ -19,7 +19,7 @@ use owned::Owned;
 use std::fs::{DirBuilder, OpenOptions};
 use std::io::{self, IoSlice};
 use std::os::fd::AsRawFd;
-use std::os::unix::fs::{DirBuilderExt, FileExt, OpenOptionsExt};
+use std::os::unix::fs::{fchown, DirBuilderExt, FileExt, MetadataExt, OpenOptionsExt};
 use std::path::Path;
 use std::sync::Arc;
 use std::time::Duration;
@@ -217,8 +217,14 @@ impl Disk {
     /// A drive needs none.
     pub fn make_folder(&self, path: &Path) -> Result<(), Fault> {
         match &self.place {
-            Place::Folder { .. } => self
-                .call(Call::MakeFolder, path, || DirBuilder::new().recursive(true).mode(0o700).create(path)),
+            Place::Folder { .. } => self.call(Call::MakeFolder, path, || {
+                let is_new = !path.exists();
+                DirBuilder::new().recursive(true).mode(0o700).create(path)?;
+                if is_new {
+                    give_to_owner(&std::fs::File::open(path)?, path);
+                }
+                Ok(())
+            }),
             Place::Drive(_) => Ok(()),
         }
     }
@@ -242,7 +248,11 @@ impl Disk {
         let mut how = OpenOptions::new();
         how.read(true).write(true).create_new(true).mode(0o600);
         self.call(Call::Create, path, || match &self.place {
-            Place::Folder { .. } => Ok(File::OfFolder(how.open(path)?)),
+            Place::Folder { .. } => {
+                let file = how.open(path)?;
+                give_to_owner(&file, path);
+                Ok(File::OfFolder(file))
+            }
             Place::Drive(owned) => {
                 let number = owned.change(|drive| drive.create(path))?;
                 Ok(File::OfDrive(owned.clone(), number))
@@ -345,6 +355,16 @@ impl Disk {
         self.order(&file, &draft)?;
         self.rename(&draft, path)?;
         path.parent().map_or(Ok(()), |folder| self.sync_folder(folder))
+    }
+}
+
+/// Root makes a file or a folder for whose the folder above is: a command of root may change that of the service's user, who
+/// has to read it. Of anybody else it is its own, or stays so.
+pub(super) fn give_to_owner(file: &std::fs::File, path: &Path) {
+    let folder = path.parent().and_then(|folder| std::fs::metadata(folder).ok());
+    let is_other = |folder: &std::fs::Metadata| file.metadata().is_ok_and(|own| own.uid() != folder.uid());
+    if let Some(folder) = folder.filter(is_other) {
+        let _ = fchown(file, Some(folder.uid()), Some(folder.gid())); // where it may not, a start says who can't read it
     }
 }
 

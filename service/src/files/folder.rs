@@ -265,6 +265,7 @@ fn locked(folder: &Path) -> Result<Locks, FolderFault> {
         .mode(0o600)
         .open(&path)
         .map_err(io_fault(&path))?;
+    super::disk::give_to_owner(&file, &path);
     match take_lock(&file) {
         Ok(()) => {}
         Err(Errno::EWOULDBLOCK) => return Err(FolderFault::InUse(folder.into())),

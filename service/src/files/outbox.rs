@@ -182,12 +182,13 @@ impl Outbox {
         })
     }
 
-    /// Whether there may be a series to forget.
-    pub fn has_any_of(&self, age: Duration) -> bool {
+    /// Whether there is a series to forget, but those in `keep`.
+    pub fn has_any_of(&self, age: Duration, keep: &HashSet<SeriesKey>) -> bool {
         let age = Age::from_now(age);
         let state = lock(&self.state);
+        let keep: HashSet<u32> = keep.iter().filter_map(|key| state.series.id(key)).collect();
         let mut all = state.series.iter();
-        all.any(|(_, known)| known.may_be_forgotten(age))
+        all.any(|(id, known)| known.may_be_forgotten(age) && !keep.contains(&id))
     }
 
     /// How many requests wait, how many bytes they take on disk, and the first of them.

@@ -63,8 +63,8 @@ pub trait Taker: Send + Sync + 'static {
         of_all
     }
 
-    /// The points of a request in protobuf by number; none where it is to be written in the book's form.
-    fn numbered(&self, _body: &Bytes, _reading: &Arc<Reading>) -> Option<ByNumber> {
+    /// A request in protobuf as it is taken; none where it is to be written in the book's form.
+    fn of_protobuf(&self, _body: &Bytes, _reading: &Arc<Reading>) -> Option<Request> {
         None
     }
 
@@ -108,8 +108,8 @@ impl Taker for Slot {
         Slot::reading(self, of_all)
     }
 
-    fn numbered(&self, body: &Bytes, reading: &Arc<Reading>) -> Option<ByNumber> {
-        Slot::numbered(self, body, reading)
+    fn of_protobuf(&self, body: &Bytes, reading: &Arc<Reading>) -> Option<Request> {
+        Slot::of_protobuf(self, body, reading)
     }
 
     fn numbered_text(&self, text: &Bytes) -> Result<Option<ByNumber>, core::Refused> {

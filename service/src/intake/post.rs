@@ -188,14 +188,14 @@ impl<'r> Reader<'r> {
         let encoding = self.encoding;
         let original = taker.wants_originals().then(|| Original { encoding, body: body.clone() });
         let reading = taker.reading(self.reading);
-        let numbered = match encoding {
+        let known = match encoding {
             Encoding::Json => None,
-            Encoding::Protobuf => taker.numbered(&body, reading),
+            Encoding::Protobuf => taker.of_protobuf(&body, reading),
         };
-        let (request, rounded) = match numbered {
-            Some(mut points) => {
-                let rounded = std::mem::take(&mut points.rounded);
-                (Request::Numbered(points), rounded)
+        let (request, rounded) = match known {
+            Some(mut request) => {
+                let rounded = request.take_rounded();
+                (request, rounded)
             }
             None => self.written(&*taker, reading, body)?,
         };

@@ -25,6 +25,12 @@ impl Keeper {
         if self.checkpoint().await?.is_err() {
             return Ok(());
         }
+        // Else all posts would wait for a fresh book that is as the old one, and at each look again.
+        let slot = self.slot.clone();
+        let helps = blocking(move || Ok::<_, Fault>(slot.outbox.has_any_of(age, &with_posts(&slot)?)));
+        if !helps.await? {
+            return Ok(());
+        }
         let done = self.renew(move |slot| forget_series(slot, age)).await?;
         let slot = self.slot.number();
         match done {

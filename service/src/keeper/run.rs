@@ -8,6 +8,7 @@ use crate::log::shown;
 use crate::post_reports::SERIES_SHOWN;
 use crate::slot::Slot;
 use crate::work::blocking;
+use std::collections::HashSet;
 use std::time::{Duration, Instant, SystemTime, UNIX_EPOCH};
 use tokio::sync::{oneshot, watch};
 use tokio::time::MissedTickBehavior;
@@ -158,7 +159,7 @@ impl Keeper {
             return Ok(());
         }
         self.next_look_at_ages = Instant::now() + BETWEEN_LOOKS_AT_AGES;
-        if self.slot.outbox.has_any_of(age) {
+        if self.slot.outbox.has_any_of(age, &HashSet::new()) {
             self.forget(age).await?;
             self.next_look_at_ages = Instant::now() + BETWEEN_FORGETTING;
         }

@@ -13,6 +13,7 @@ use serde::Serialize;
 use std::fs::{File, OpenOptions};
 use std::future::Future;
 use std::io::{Read, Seek, SeekFrom, Write};
+use std::os::unix::fs::OpenOptionsExt;
 use std::path::{Path, PathBuf};
 use std::sync::{Mutex, PoisonError};
 
@@ -110,7 +111,7 @@ impl Acts {
     fn append(&self, line: &Written, is_first: bool) -> std::io::Result<()> {
         let path = self.folder.join(NAME);
         let mut options = OpenOptions::new();
-        options.read(true).append(true).create(true);
+        options.read(true).append(true).create(true).mode(0o600);
         let mut file = options.open(&path)?;
         if file.metadata()?.len() >= MOST {
             std::fs::rename(&path, self.folder.join(EARLIER))?;
@@ -182,6 +183,7 @@ async fn told(response: Response<Body>) -> (Response<Body>, String) {
 #[cfg(test)]
 mod tests {
     use super::*;
+    use std::os::unix::fs::PermissionsExt;
 
     fn lines(folder: &Path, name: &str) -> Vec<serde_json::Value> {
         let text = std::fs::read_to_string(folder.join(name)).unwrap();
@@ -197,6 +199,8 @@ mod tests {
         let first = lines(folder.path(), NAME);
         assert_eq!((&first[0]["who"], &first[0]["act"]), (&"operator".into(), &"dead drop".into()));
         assert!(first[0].get("outcome").is_none() && first.len() == 1, "{first:?}");
+        let mode = std::fs::metadata(folder.path().join(NAME)).unwrap().permissions().mode();
+        assert_eq!(mode & 0o077, 0, "{mode:o}: others may read it");
         acts.ended(&act, "no such\u{1b}request");
         let both = lines(folder.path(), NAME);
         assert_eq!((both.len(), &both[1]["outcome"]), (2, &"no such request".into()));

@@ -47,9 +47,7 @@ impl Desk {
 
     /// Asks the slot that has the letter of a key.
     pub(super) async fn of_key(self: &Arc<Self>, who: &str, key: &str, command: Command) -> Response<Body> {
-        let Some(slot) = self.units.slot_of_key(key) else {
-            return no_such().into();
-        };
+        let slot = self.units.slot_of_key(key);
         match self.in_slots(who, &command, [slot]).await.all() {
             Ok(answers) => {
                 let answer = answers.into_iter().next();

@@ -45,6 +45,7 @@ use crate::sinks::Sink;
 use hyper::header::{HeaderValue, ALLOW, CONTENT_TYPE};
 use hyper::{Body, Method, Request, Response, StatusCode};
 use pages::Page;
+use percent_encoding::percent_decode_str;
 use reach::Command;
 use serde_json::json;
 use std::sync::Arc;
@@ -215,8 +216,10 @@ impl Desk {
     }
 }
 
+/// The parts of a path, which may be percent-encoded.
 fn owned(parts: &[&str]) -> Vec<String> {
-    parts.iter().map(|part| part.to_string()).collect()
+    let decoded = |part: &&str| percent_decode_str(part).decode_utf8_lossy().into_owned();
+    parts.iter().map(decoded).collect()
 }
 
 /// HEAD is answered as GET is (RFC 9110, 9.3.2), but for the body, which hyper leaves out.
@@ -268,6 +271,16 @@ mod tests {
         ] {
             assert_eq!(Route::of(path).map(|(method, _)| method), Some(method), "{path}");
         }
+    }
+
+    #[test]
+    fn a_path_may_be_percent_encoded() {
+        let parts = |path| match Route::of(path).unwrap().1 {
+            Route::Period(parts) | Route::Amend(parts) => parts,
+            _ => vec![],
+        };
+        assert_eq!(parts("/repair/2026-11-05T13%3A30%3A15"), ["repair", "2026-11-05T13:30:15"]);
+        assert_eq!(parts("/correct/2/2026-11-05%2013:00/5"), ["correct", "2", "2026-11-05 13:00", "5"]);
     }
 
     /// The first are taken at the socket, or with a token.

@@ -56,7 +56,7 @@ fn not_in_the_sink(status: &Status) -> Option<String> {
     if let Some((slot, why)) = status.unknown() {
         return Some(format!("slot {slot} can't be asked, and may have some ({why})"));
     }
-    let has_posts = status.slots.iter().any(|slot| slot.journal.age_seconds.is_some());
+    let has_posts = status.slots.iter().any(|slot| slot.released || slot.journal.age_seconds.is_some());
     match (status.waiting(), has_posts) {
         (0, false) => None,
         (0, true) => Some("there are posts that are not flushed".into()),

@@ -134,6 +134,9 @@ pub struct SlotStatus {
     /// Posts of quarantined senders that no flush takes, in files of their own.
     #[serde(default)]
     pub held: Held,
+    /// Some of these are of a sender that is quarantined no more: the next flush takes them.
+    #[serde(default)]
+    pub released: bool,
     /// Posts that are in no group yet.
     #[serde(default)]
     pub posts: u64,
@@ -302,6 +305,7 @@ impl SlotStatus {
             journal: Stock::new(journal, since),
             posts: unit.slot.ungrouped(),
             held: unit.slot.held(),
+            released: unit.slot.has_released(), // before what waits, as the journal
             ..SlotStatus::of(&unit.undelivered)
         }
     }

@@ -91,15 +91,11 @@ impl Units {
         self.all().iter().map(|unit| of(unit)).sum()
     }
 
-    /// The slot that has the dead letter of this key.
-    pub fn slot_of_key(&self, key: &str) -> Option<u16> {
-        match self.slots {
-            1 => Some(0), // also of slots that there were
-            _ => {
-                let slot = key.split_once('-')?.0.parse().ok()?;
-                (slot < self.slots).then_some(slot)
-            }
-        }
+    /// The slot that has the dead letter of this key: the first also has those of slots that there were, as a move brings
+    /// them (`store/moving.rs`).
+    pub fn slot_of_key(&self, key: &str) -> u16 {
+        let slot = key.split('-').next().and_then(|slot| slot.parse().ok());
+        slot.filter(|slot| *slot < self.slots).unwrap_or(0)
     }
 
     /// How many requests the sink refused for good.
@@ -143,5 +139,28 @@ impl Owned for Arc<Units> {
     fn has(&self, series: &SeriesKey) -> bool {
         let units = self.all();
         units.iter().any(|unit| unit.slot.outbox.owner(series).is_some())
+    }
+}
+
+#[cfg(test)]
+mod tests {
+    use super::*;
+
+    /// As `store move` brings letters there: else they are listed, and nobody can show, send or drop them.
+    #[test]
+    fn a_letter_of_a_slot_that_is_none_is_in_the_first() {
+        let found = |slots, key: &str| Units::of(slots).slot_of_key(key);
+        for (key, slot) in [
+            ("0-a-1", 0),
+            ("3-a-1", 3),
+            ("3-a-1_2", 3),
+            ("4-a-1", 0),
+            ("11-a-1-partial", 0),
+            ("70000-a-1", 0),
+            ("a", 0),
+        ] {
+            assert_eq!(found(4, key), slot, "{key}");
+        }
+        assert_eq!(found(1, "3-a-1"), 0);
     }
 }

@@ -209,13 +209,12 @@ impl FinerUnits {
         self.rules.contains_key(unit) || (self.units.is_some() && Unit::of(unit).is_some())
     }
 
-    /// Whether whole numbers of a metric's sums stay as they are, which is known without a look at its points.
+    /// Whether whole numbers of a metric stay as they are, which is known without a look at its points: also in the finest unit
+    /// only once that is decided, since other units of its name go by it.
     pub fn leaves(&self, metric: &str, unit: &str) -> bool {
         match (self.rules.contains_key(unit), &self.units, Unit::of(unit)) {
             (true, ..) => false,
-            (_, Some(units), Some(unit)) => {
-                units.is_finest(unit) || units.decided(metric, unit) == Some(unit)
-            }
+            (_, Some(units), Some(unit)) => units.decided(metric, unit) == Some(unit),
             _ => true,
         }
     }

@@ -83,9 +83,6 @@ impl Walk<'_, '_> {
 
     /// A message that is an object.
     fn message(&mut self, of: &'static Message, value: Value<'_>) -> Result<(), Stop> {
-        if self.out.is_none() && std::ptr::eq(of, &METRIC) && changes(&self.reading.finer_units, value) {
-            self.changed()?;
-        }
         self.push("{");
         let inside = self.length();
         let mut found: u32 = 0;
@@ -116,6 +113,10 @@ impl Walk<'_, '_> {
             self.member(of, field.name, field.kind, member)?;
         }
         self.push("}");
+        // Behind its members: so it is in the book's form where its points decide in which unit its name is taken.
+        if self.out.is_none() && std::ptr::eq(of, &METRIC) && changes(&self.reading.finer_units, value) {
+            self.changed()?;
+        }
         Ok(())
     }
 

@@ -1,4 +1,5 @@
-//! A request in protobuf, written as the book reads it.
+//! A request in protobuf, written as the book reads it: one that is not plain (`plain_protobuf`), and that `numbered` does not
+//! know. What it refuses is refused, also of a plain one.
 //!
 //! It is never held as a tree of messages: each is looked through once, and then its fields are written in the order of
 //! its table. So the memory is that of the JSON, however many small messages the bytes are. `fast_path` writes at once what

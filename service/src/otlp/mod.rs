@@ -2,7 +2,8 @@
 //!
 //! `prepare` writes a request of either encoding as the book reads it: `from_protobuf` and `from_json` go
 //! by the tables of `schema`, over the readers `wire` and `json`; `json_fast_path` sees at once most JSON that goes on as
-//! it came; `numbered` reads nearly all protobuf without that, by the numbers of series that are known;
+//! it came, and `plain_protobuf` most protobuf that the book's reader reads; `numbered` reads nearly all other protobuf without
+//! that, by the numbers of series that are known;
 //! `finer_units` takes fractions as whole numbers of a finer unit, `exponential` exponential histograms in given buckets. `series`
 //! reads bodies as the book does, and what it forwards. `sender` finds a request's sender in it, `instance` puts a sender's name
 //! into its resources.
@@ -27,6 +28,7 @@ mod number;
 mod numbered;
 mod output;
 mod outside;
+mod plain_protobuf;
 mod resources;
 mod schema;
 mod sender;
@@ -44,6 +46,7 @@ pub use instance::{with_instance, INSTANCE};
 pub(crate) use messages::ExportMetricsServiceResponse;
 pub use numbered::{Learnt, NotNamed, Numbered, Series};
 pub use outside::{Original, Outside};
+pub(crate) use plain_protobuf::is_plain;
 pub use resources::{slot_of, slot_of_series, Part, Resources, Split};
 pub use sender::{legal, sender, NO_NAME};
 pub use series::Profile;
@@ -294,6 +297,12 @@ pub(crate) fn a_request_of_test() -> Vec<u8> {
 #[cfg(test)]
 pub(crate) fn posts_of_test(seed: u64, many: usize) -> Vec<Vec<u8>> {
     tests::posts(seed, many)
+}
+
+/// The same, nearly all of them plain.
+#[cfg(test)]
+pub(crate) fn plain_posts_of_test(seed: u64, many: usize) -> Vec<Vec<u8>> {
+    tests::plain_posts(seed, many)
 }
 
 /// Requests drawn at random in the book's form, each as it comes of protobuf and of JSON.

@@ -1,5 +1,7 @@
 //! The points of a request in protobuf, by the numbers of their series: what nearly all requests have is read without a
-//! text of any of it.
+//! text of any of it. A request that is plain (`plain_protobuf`) is read by the book's own reader; this is for all others: of
+//! metrics that are rewritten, or of whose unit nothing is decided yet, with exemplars, cumulative, with points that are foreign
+//! or off by their clock, and where very many series have a number.
 //!
 //! A series is known by the raw bytes of its resource, its scope, its metric without points, its bounds and its
 //! attributes, level by level (`levels`). What is not known yet is written as a request of one point by the reader for all

@@ -18,7 +18,7 @@ mod refused;
 mod speed;
 
 pub(super) use mapping::Spelling;
-pub(super) use posts::posts;
+pub(super) use posts::{plain_posts, posts};
 pub(super) use random::{requests, Random};
 
 fn prepared(encoding: Encoding, body: impl Into<Bytes>) -> Result<Bytes, String> {

@@ -183,7 +183,7 @@ impl Reporter {
             let causes = self.read(source, find).await;
             return causes.unwrap_or_else(|| find(b""));
         };
-        let (length, source) = (source.length(), source.clone());
+        let (length, source) = (source.length().max(original.body.len()), source.clone());
         let find = move || original.outside(foreign, profile, || source.text());
         let (outside, causes) = self.work(length, find).await;
         if let Some(outside) = outside {
@@ -308,8 +308,8 @@ impl<T: Taker> Taker for Reported<T> {
         self.taker.reading(of_all)
     }
 
-    fn numbered(&self, body: &Bytes, reading: &Arc<Reading>) -> Option<ByNumber> {
-        self.taker.numbered(body, reading)
+    fn of_protobuf(&self, body: &Bytes, reading: &Arc<Reading>) -> Option<Request> {
+        self.taker.of_protobuf(body, reading)
     }
 
     fn numbered_text(&self, text: &Bytes) -> Result<Option<ByNumber>, core::Refused> {

@@ -66,6 +66,14 @@ impl Drop for Driver {
     }
 }
 
+/// Warnings that say nothing of a commit: each transaction that writes gets these once the server's numbers of transactions are
+/// short, and is done all the same. By the server's function, since the text is in its language.
+const OF_NUMBERS: [&str; 2] = ["GetNewTransactionId", "GetNewMultiXactId"];
+
+fn is_doubt(code: &SqlState, routine: Option<&str>) -> bool {
+    *code == SqlState::WARNING && !routine.is_some_and(|routine| OF_NUMBERS.contains(&routine))
+}
+
 /// The last warning (01000) that the server gave on this connection, until it is taken. The server gives it before it
 /// ends a statement, so it is here before who waits for the statement goes on.
 #[derive(Clone, Default)]
@@ -74,7 +82,7 @@ pub(crate) struct Warnings(Arc<Mutex<Option<String>>>);
 impl Warnings {
     fn note(&self, message: &AsyncMessage) {
         if let AsyncMessage::Notice(notice) = message {
-            if *notice.code() == SqlState::WARNING {
+            if is_doubt(notice.code(), notice.routine()) {
                 *self.0.lock().unwrap_or_else(PoisonError::into_inner) = Some(notice.message().into());
             }
         }
@@ -83,5 +91,24 @@ impl Warnings {
     pub(crate) fn take(&self) -> Option<String> {
         let mut last = self.0.lock().unwrap_or_else(PoisonError::into_inner); // any value of it is sound
         last.take()
+    }
+}
+
+#[cfg(test)]
+mod tests {
+    use super::*;
+
+    /// Else nothing is taken any more long before the server takes nothing.
+    #[test]
+    fn a_server_that_is_short_of_numbers_is_believed() {
+        for (routine, doubt) in [
+            (Some("SyncRepWaitForLSN"), true),
+            (Some("exec_stmt_raise"), true),
+            (None, true),
+            (Some("GetNewTransactionId"), false),
+        ] {
+            assert_eq!(is_doubt(&SqlState::WARNING, routine), doubt, "{routine:?}");
+        }
+        assert!(!is_doubt(&SqlState::SUCCESSFUL_COMPLETION, None));
     }
 }

@@ -1,9 +1,10 @@
 //! The points that the book is asked to take of a post.
 
-use super::{Added, Entry, Kind, Locked, Names, Options, Points, Refused, Run, Runs, SeriesKey, SeriesPlace};
+use super::{added_by, Added, Entry, Kind, Locked, Names, Options, Points};
+use super::{Refused, Run, Runs, SeriesKey, SeriesPlace};
 use crate::core;
 use crate::files::OfRun;
-use std::collections::BTreeMap;
+use std::collections::{BTreeMap, HashMap};
 use std::sync::Arc;
 
 /// Of a post. Unless it is kept all is as it was before.
@@ -31,6 +32,11 @@ pub struct Draft<'r> {
     made: Vec<(u32, u32)>,
     /// Of each point its place in the post.
     places: Vec<u32>,
+    /// Of the delta points so far: by the number of their series where the last one ends.
+    deltas: HashMap<u64, u64>,
+    /// Of series that are not here, and of which no point was taken so far, by their numbers, what a point needs of them. Their
+    /// texts are long, and are read once for it.
+    untaken: HashMap<u64, (Kind, u64)>,
 }
 
 /// Sound points that are not taken.
@@ -76,11 +82,13 @@ impl Runs {
             run: Run::default(),
             made: Vec::with_capacity(cumulative),
             places: Vec::with_capacity(points.count()),
+            deltas: HashMap::new(),
+            untaken: HashMap::new(),
         };
         let mut cumulative = posted.cumulative.iter().copied().peekable();
         for (place, point) in (0..).zip(points.each()) {
             match cumulative.next_if_eq(&place) {
-                None => draft.points.push_words(point[0], &point[1..]),
+                None => draft.add_delta(point),
                 Some(_) => draft.add(self.options(), posted.names, (place, point), &frontier),
             }
             draft.places.resize(draft.points.count(), place);
@@ -90,6 +98,13 @@ impl Runs {
 }
 
 impl Draft<'_> {
+    /// For what is made behind it. The book would refuse that, one series at a time, and as if it had this already.
+    fn add_delta(&mut self, point: &[u64]) {
+        self.points.push_words(point[0], &point[1..]);
+        let end = self.deltas.entry(point[0]).or_default();
+        *end = point[2].max(*end);
+    }
+
     fn add(
         &mut self,
         options: Options,
@@ -110,6 +125,18 @@ impl Draft<'_> {
         (place, number, run): (u32, u64, &Run),
         frontier: impl Fn(&SeriesKey) -> u64,
     ) {
+        let deltas = self.deltas.get(&number).copied().unwrap_or(0);
+        if let Some((kind, frontier)) = self.untaken.get(&number).copied() {
+            if !run.is_sound(kind) {
+                self.unsound.push(place);
+                return;
+            }
+            let is_told = self.turned.first.is_some();
+            match added_by(options, self.runs.since, kind, None, frontier.max(deltas), run) {
+                Err(refused) if is_told => return self.turned.count_one(refused),
+                _ => {} // it is looked up
+            }
+        }
         let Some(found) = self.runs.find(names, number, frontier) else {
             self.unsound.push(place);
             return;
@@ -118,11 +145,14 @@ impl Draft<'_> {
             SeriesPlace::At(place) => &self.runs.series[*place as usize],
             SeriesPlace::New(series) => series,
         };
+        if let SeriesPlace::New(series) = &found {
+            self.untaken.insert(number, (series.kind, series.frontier));
+        }
         if !run.is_sound(series.kind) {
             self.unsound.push(place);
             return;
         }
-        match series.entry(options, self.runs.since, run) {
+        match series.entry(options, self.runs.since, run, deltas) {
             Ok(None) => self.late.push((place, series.key.clone())),
             Ok(Some(entry)) => self.take(found, number, entry, run),
             Err(refused) => self.turned.add(refused, &series.key),
@@ -130,6 +160,7 @@ impl Draft<'_> {
     }
 
     fn take(&mut self, found: SeriesPlace, number: u64, entry: Entry, run: &Run) {
+        self.untaken.remove(&number);
         let place = self.runs.place(found, number);
         let series = &self.runs.series[place as usize];
         if let Entry::Noted(run) = &entry {
@@ -147,8 +178,8 @@ impl Draft<'_> {
         entry.put(&mut self.points, number);
     }
 
-    /// The book has refused this point, since the series ends there in it: it has delta points too. The series, where the
-    /// point was made here.
+    /// The book has refused this point, since the series ends there in it: it has delta points too, which came before this post.
+    /// So that stays also where the post is refused. The series, where the point was made here.
     pub fn note_frontier(&mut self, at: u32, frontier: u64) -> Option<SeriesKey> {
         let found = self.made.binary_search_by_key(&at, |made| made.0).ok()?;
         let place = self.made[found].1;
@@ -218,8 +249,12 @@ impl Drop for Draft<'_> {
 
 impl Turned {
     fn add(&mut self, refused: Refused, series: &SeriesKey) {
-        *self.by.entry(refused).or_default() += 1;
+        self.count_one(refused);
         self.first.get_or_insert_with(|| (refused, series.clone()));
+    }
+
+    fn count_one(&mut self, refused: Refused) {
+        *self.by.entry(refused).or_default() += 1;
     }
 
     pub fn count(&self) -> u64 {

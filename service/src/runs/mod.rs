@@ -241,20 +241,37 @@ impl Series {
         Some(Series { key, kind, run: None, is_changed: false, frontier })
     }
 
-    /// What a point of it adds. Where the book has more of it than its run, that is of delta points: what begins before these
-    /// end was counted by them.
-    fn entry(&self, options: Options, since: Since, point: &Run) -> Result<Option<Entry>, Refused> {
-        let known = self.run.as_deref();
-        let found = entry(options, since, self.kind, known, point)?;
-        let begins = found.as_ref().map_or(u64::MAX, |entry| match (entry, known) {
-            (Entry::Noted(run), None) => run.start.min(run.time - 1),
-            (Entry::Noted(run), Some(_)) => run.time - 1,
-            (Entry::Counted { added, .. } | Entry::More(added), _) => added.from,
-        });
-        match begins < self.frontier {
-            true => Err(Refused::Delta),
-            false => Ok(found),
-        }
+    /// What a point of it adds; the delta points ahead of it in its post end at `deltas`.
+    fn entry(
+        &self,
+        options: Options,
+        since: Since,
+        point: &Run,
+        deltas: u64,
+    ) -> Result<Option<Entry>, Refused> {
+        added_by(options, since, self.kind, self.run.as_deref(), self.frontier.max(deltas), point)
+    }
+}
+
+/// What a point adds to a series that has this run. Where the book has more of it than its run, up to `frontier`, that is of
+/// delta points: what begins before these end was counted by them.
+fn added_by(
+    options: Options,
+    since: Since,
+    kind: Kind,
+    known: Option<&Run>,
+    frontier: u64,
+    point: &Run,
+) -> Result<Option<Entry>, Refused> {
+    let found = entry(options, since, kind, known, point)?;
+    let begins = found.as_ref().map_or(u64::MAX, |entry| match (entry, known) {
+        (Entry::Noted(run), None) => run.start.min(run.time - 1),
+        (Entry::Noted(run), Some(_)) => run.time - 1,
+        (Entry::Counted { added, .. } | Entry::More(added), _) => added.from,
+    });
+    match begins < frontier {
+        true => Err(Refused::Delta),
+        false => Ok(found),
     }
 }
 

@@ -216,6 +216,36 @@ fn a_place_is_told_among_the_points_of_the_profile() {
     }
 }
 
+/// Its text is long, and a post may have very many points of it that are not taken.
+#[test]
+fn a_series_is_looked_up_once_however_many_of_its_points_are_not_taken() {
+    let names = Names::new().unwrap();
+    let sum = r#""aggregationTemporality":1,"isMonotonic":true,"dataPoints":[{"startTimeUnixNano":"1","timeUnixNano":"2","asInt":"0"}]"#;
+    let text = format!(
+        r#"{{"resourceMetrics":[{{"scopeMetrics":[{{"metrics":[{{"name":"a","sum":{{{sum}}}}}]}}]}}]}}"#
+    );
+    let number = names.learn(text.into()).unwrap();
+    let mut points = Points::default();
+    for _ in 0..50 {
+        points.push(number, 10, 20, [-5i64 as u64]); // it is not sound
+    }
+    for _ in 0..50 {
+        points.push(number, 10, 20, [5]); // delta points have its span
+    }
+    points.push(number, 60, 70, [5]);
+    points.push(number, 60, 80, [7]);
+    let cumulative: Vec<u32> = (0..points.count() as u32).collect();
+    let posted = Posted { points: &points, cumulative: &cumulative, names: &names };
+    let (runs, asked) = (Runs::default(), std::cell::Cell::new(0));
+    let draft = runs.draft(posted, |_| {
+        asked.set(asked.get() + 1);
+        50
+    });
+    assert_eq!((draft.foreign(), draft.turned.count(), draft.points.count()), (50, 50, 2));
+    assert_eq!(draft.turned.by, [(Refused::Delta, 50)].into());
+    assert_eq!(asked.get(), 3, "once of each kind");
+}
+
 /// A start finds entries that a commit has already, and others.
 #[test]
 fn entries_behind_any_commit_come_to_what_was_kept() {

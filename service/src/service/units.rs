@@ -137,8 +137,8 @@ impl Units {
         let slots = self.slots.count();
         let opened = blocking(move || Opened::new(files, slots, &settings, &shared)).await?;
         let (number, taker) = (opened.slot.number(), taker(&opened.slot, &self.reporter));
+        self.slots.set(number, Place::Here(taker)); // first, since one that is lost at once is nobody's
         self.at_work.start(opened.start(&self.sink));
-        self.slots.set(number, Place::Here(taker));
         Ok(())
     }
 

@@ -82,11 +82,12 @@ impl Store for Files {
     }
 
     async fn may_deliver(&self, number: u64) -> Result<(), Fault> {
-        if self.outbox.may_deliver(number) {
-            return Ok(());
+        // Also behind a settling: its answer may have been long on its way, and the slot be another's meanwhile.
+        while !self.outbox.may_deliver(number) {
+            let outbox = self.outbox.clone();
+            blocking(move || outbox.settle()).await?;
         }
-        let outbox = self.outbox.clone();
-        blocking(move || outbox.settle()).await
+        Ok(())
     }
 
     async fn lost(&self) -> Lost {

@@ -148,7 +148,7 @@ pub(super) fn closed(period: &Period) -> String {
 }
 
 pub(super) const NOT_FILLED: &str =
-    "hours of an older version are being filled in: wait until the log says that all are";
+    "hours of an older version are being filled in by the service: wait until its log says that all are";
 
 /// Of corrections together, without their signs: so sums of any of them fit 64 bits.
 pub(super) const MOST_CORRECTED: i64 = 1 << 62;

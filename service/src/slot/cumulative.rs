@@ -12,7 +12,7 @@ use crate::post_reports::SERIES_SHOWN;
 use crate::runs::{self, Draft, Noted};
 use crate::shares::Claim;
 use crate::work::blocking;
-use std::collections::HashMap;
+use std::collections::{HashMap, HashSet};
 use std::sync::Arc;
 
 /// So many points the book is asked about by themselves while its lock is held.
@@ -187,8 +187,9 @@ impl Slot {
     /// The place of a point that adds nothing, and whose series is another sender's: it is no repeat.
     fn of_another(&self, sender: &str, draft: &Draft<'_>) -> Option<u32> {
         let is_of_another = |series| self.outbox.owner(series).is_some_and(|owner| owner != sender);
-        let mut late = draft.late.iter();
-        let found = late.find(|(_, series)| is_of_another(series));
+        let (mut late, mut asked) = (draft.late.iter(), HashSet::new());
+        // Of each series once: the outbox knows it by a digest of all that identifies it.
+        let found = late.find(|(_, series)| asked.insert(series.0.as_ptr()) && is_of_another(series));
         found.map(|(place, _)| *place)
     }
 

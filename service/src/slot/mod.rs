@@ -207,6 +207,11 @@ impl Slot {
         self.journal.held()
     }
 
+    /// Whether posts of a sender that was released wait for a flush.
+    pub fn has_released(&self) -> bool {
+        self.journal.holds_of_others(&self.outbox.quarantined())
+    }
+
     /// The book, for who shows what it has.
     pub fn core(&self) -> &Core {
         &self.core
@@ -233,11 +238,13 @@ impl Slot {
     /// Takes none any more.
     pub(crate) fn stop(&self) {
         self.phases.stop();
+        self.landed.notify_waiters(); // what is in flight may never land
     }
 
     /// The same, for another instance takes them.
     pub(crate) fn lose(&self) {
         self.phases.lose();
+        self.landed.notify_waiters();
     }
 
     fn count_post(&self) {

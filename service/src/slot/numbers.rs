@@ -6,10 +6,13 @@
 //! other request, so that series which come and go cost no more than that. Posts that are under way keep the numbers
 //! that they have.
 
+use super::request::SHORT;
 use super::Slot;
 use crate::core::{memory_used, Core, Names, Read, Refused};
 use crate::files::Points;
-use crate::otlp::{prepare, Encoding, Learnt, NotNamed, Numbered, Reading, Rounded, Series};
+use crate::otlp::{
+    is_plain, prepare, Encoding, Learnt, NotNamed, Numbered, Reading, Rounded, Series, Window,
+};
 use bytes::Bytes;
 use std::sync::{Arc, PoisonError, RwLock};
 use std::time::{Duration, Instant};
@@ -32,9 +35,23 @@ const PART_OF_ALL: u64 = 8;
 pub enum Request {
     /// In the book's form.
     Text(Bytes),
-    /// Of protobuf.
+    /// In protobuf that the book's reader reads as it came, unless it finds that it can't.
+    Plain(Protobuf),
+    /// Of other protobuf.
     Numbered(ByNumber),
 }
+
+/// A body, and how it is read where it is not read as it came.
+#[derive(Clone)]
+pub struct Protobuf {
+    body: Bytes,
+    reading: Arc<Reading>,
+}
+
+/// A reader has two places for a series among twice as many: of more it would read many anew each time.
+const PLAIN_SERIES: u64 = 16_384;
+/// How many times its length a plain body takes once its points have numbers too: one of 31 bytes has four words and an end.
+const WITH_NUMBERS: usize = 4;
 
 /// Points that have numbers, and by which names.
 pub struct ByNumber {
@@ -52,7 +69,7 @@ pub struct ByNumber {
 #[derive(Clone)]
 pub enum Source {
     Text(Bytes),
-    Protobuf { body: Bytes, reading: Arc<Reading> },
+    Protobuf(Protobuf),
 }
 
 /// Numbers from one beginning on.
@@ -80,6 +97,7 @@ impl Request {
     pub fn source(&self) -> Source {
         match self {
             Request::Text(text) => Source::Text(text.clone()),
+            Request::Plain(plain) => Source::Protobuf(plain.clone()),
             Request::Numbered(points) => points.source.clone(),
         }
     }
@@ -88,8 +106,37 @@ impl Request {
     pub fn bytes(&self) -> usize {
         match self {
             Request::Text(text) => text.len(),
+            Request::Plain(plain) => WITH_NUMBERS * plain.body.len(),
             Request::Numbered(points) => points.bytes(),
         }
+    }
+
+    /// What of it was rounded, which its answer has.
+    pub fn take_rounded(&mut self) -> Rounded {
+        match self {
+            Request::Text(_) | Request::Plain(_) => Rounded::default(), // who wrote a text has it
+            Request::Numbered(points) => std::mem::take(&mut points.rounded),
+        }
+    }
+
+    /// Whether it takes so little to read that it is read in place.
+    pub(super) fn is_short(&self) -> bool {
+        match self {
+            Request::Plain(plain) => plain.body.len() <= SHORT,
+            other => other.bytes() <= SHORT,
+        }
+    }
+}
+
+impl Protobuf {
+    fn new(body: &Bytes, reading: &Arc<Reading>) -> Protobuf {
+        Protobuf { body: body.clone(), reading: reading.clone() }
+    }
+
+    /// In the book's form.
+    fn text(self) -> Option<Bytes> {
+        let prepared = prepare(Encoding::Protobuf, self.body, &self.reading);
+        prepared.ok().map(|prepared| prepared.body)
     }
 }
 
@@ -132,7 +179,7 @@ impl Source {
     /// Of the request as it came.
     pub fn length(&self) -> usize {
         match self {
-            Source::Text(body) | Source::Protobuf { body, .. } => body.len(),
+            Source::Text(body) | Source::Protobuf(Protobuf { body, .. }) => body.len(),
         }
     }
 
@@ -140,10 +187,7 @@ impl Source {
     pub fn text(self) -> Option<Bytes> {
         match self {
             Source::Text(text) => Some(text),
-            Source::Protobuf { body, reading } => {
-                let prepared = prepare(Encoding::Protobuf, body, &reading);
-                prepared.ok().map(|prepared| prepared.body)
-            }
+            Source::Protobuf(protobuf) => protobuf.text(),
         }
     }
 }
@@ -165,6 +209,11 @@ impl Generation {
 
     fn is_full(&self) -> bool {
         self.series.is_full() || self.names.are_closed()
+    }
+
+    /// Whether a reader of the library knows most of the series again.
+    fn may_be_plain(&self) -> bool {
+        !self.is_full() && self.names.count() <= PLAIN_SERIES
     }
 
     fn is_over(&self, limits: Limits) -> bool {
@@ -235,8 +284,34 @@ impl Numbers {
     /// The points of a request in protobuf; none where it is to be read otherwise.
     fn read(&self, core: &Core, body: &Bytes, reading: &Arc<Reading>) -> Option<ByNumber> {
         let now = self.now(core, reading)?;
-        let source = Source::Protobuf { body: body.clone(), reading: reading.clone() };
+        let source = Source::Protobuf(Protobuf::new(body, reading));
         Some(now.by_number(now.read(body, reading)?, source))
+    }
+
+    /// The same as it is taken; none where it is to be written in the book's form.
+    fn request(&self, core: &Core, body: &Bytes, reading: &Arc<Reading>) -> Option<Request> {
+        let now = self.now(core, reading);
+        if now.is_some_and(|now| now.may_be_plain()) && is_plain(body, reading) {
+            return Some(Request::Plain(Protobuf::new(body, reading)));
+        }
+        self.read(core, body, reading).map(Request::Numbered)
+    }
+
+    /// A plain body with its points by number; none where it is to be read `otherwise`.
+    pub fn read_plain(&self, core: &Core, window: &Window, sender: &str, plain: &Protobuf) -> Option<Read> {
+        let now = self.now(core, &plain.reading).filter(|now| now.may_be_plain())?;
+        let (sender, body) = (sender.to_string(), plain.body.clone());
+        let is_within = |first, last| window.has_all(first, last);
+        let has_room = |text| now.series.take_room(text);
+        Read::of_protobuf(core, sender, body, is_within, &now.names, has_room)
+    }
+
+    /// A plain body as any other in protobuf.
+    pub fn otherwise(&self, core: &Core, plain: Protobuf) -> Result<Request, Refused> {
+        match self.read(core, &plain.body, &plain.reading) {
+            Some(points) => Ok(Request::Numbered(points)),
+            None => plain.text().map(Request::Text).ok_or(Refused::NotJson),
+        }
     }
 
     /// Has a text that was read have its points by number. It stays a text where there is no room for numbers, but for one of
@@ -271,6 +346,11 @@ impl Slot {
     /// The points of a request in protobuf by their numbers; none where it is to be read otherwise, which says nothing of it.
     pub fn numbered(&self, body: &Bytes, reading: &Arc<Reading>) -> Option<ByNumber> {
         self.numbers.read(&self.core, body, reading)
+    }
+
+    /// A request in protobuf as it is taken: as it came, if it is plain, or by the numbers of its series; none as above.
+    pub fn of_protobuf(&self, body: &Bytes, reading: &Arc<Reading>) -> Option<Request> {
+        self.numbers.request(&self.core, body, reading)
     }
 
     /// The same of a request in the book's form, also of what is cumulative; none where the book refuses it whole.

@@ -76,8 +76,7 @@ impl LeftOut {
     }
 }
 
-/// Reads a request. The journal has no point by number that the book does not take, since it says whose a series is: where
-/// the library finds one the request is read as its text.
+/// Reads a request. A plain one that is not as it seemed is read as any other.
 pub fn read(
     core: &Arc<Core>,
     numbers: &Numbers,
@@ -85,18 +84,32 @@ pub fn read(
     sender: String,
     request: Request,
 ) -> Result<Posted, Refused> {
-    let body = match request {
-        Request::Text(body) => body,
-        Request::Numbered(by) => {
-            let (foreign, source) = (by.foreign, by.source.clone());
-            let posted = read_points(core, window, sender.clone(), by)?;
-            if posted.read.post.foreign == foreign {
-                return fits(posted);
-            }
-            source.text().ok_or(Refused::NotJson)? // it was one when it was read by number
-        }
-    };
-    read_text(core, numbers, window, sender, body)
+    match request {
+        Request::Plain(plain) => match numbers.read_plain(core, window, &sender, &plain) {
+            Some(read) => fits(Posted::whole(read)),
+            None => read(core, numbers, window, sender, numbers.otherwise(core, plain)?),
+        },
+        Request::Text(body) => read_text(core, numbers, window, sender, body),
+        Request::Numbered(by) => read_numbered(core, numbers, window, sender, by),
+    }
+}
+
+/// The journal has no point by number that the book does not take, since it says whose a series is: where the library finds one
+/// the request is read as its text.
+fn read_numbered(
+    core: &Arc<Core>,
+    numbers: &Numbers,
+    window: &Window,
+    sender: String,
+    by: ByNumber,
+) -> Result<Posted, Refused> {
+    let (foreign, source) = (by.foreign, by.source.clone());
+    let posted = read_points(core, window, sender.clone(), by)?;
+    if posted.read.post.foreign == foreign {
+        return fits(posted);
+    }
+    let text = source.text().ok_or(Refused::NotJson)?; // it was one when it was read by number
+    read_text(core, numbers, window, sender, text)
 }
 
 fn read_text(

@@ -62,7 +62,7 @@ impl Slot {
 
     async fn read(&self, sender: String, request: Request) -> Result<Posted, Refused> {
         let window = self.clock.window();
-        if request.bytes() <= SHORT {
+        if request.is_short() {
             return read(&self.core, &self.numbers, &window, sender, request);
         }
         let _turn = self.readers.acquire().await; // it is never closed
@@ -178,6 +178,41 @@ mod tests {
     use crate::metrics::Metrics;
     use crate::otlp::Clock;
     use crate::slot::Shared;
+    use std::time::Duration;
+
+    /// As where there is no memory to write it: what is in flight never lands, and the slot ends.
+    #[tokio::test]
+    async fn who_waits_behind_what_is_in_flight_is_told_that_the_slot_has_ended() {
+        let (journal, outbox, _dead) =
+            drive::open(Arc::<Store>::default().take(), "00000000000000aa").unwrap();
+        let shared = Shared::new(Arc::new(Metrics::new().unwrap()), Clock::default());
+        let slot = Slot::of(0, journal, Arc::new(outbox), Core::new(10).unwrap(), &shared);
+        slot.open();
+        let post = |start: u64| {
+            let (slot, body) = (slot.clone(), point(start));
+            async move { slot.post("A".into(), body.into()).await }
+        };
+        assert_eq!(post(10).await, Outcome::taken(0));
+        let _in_flight = slot.core.lock().take_all().unwrap();
+        assert_eq!(post(20).await, Outcome::taken(0));
+        let waiting = tokio::spawn(post(HOUR + 10));
+        tokio::time::sleep(Duration::from_millis(50)).await;
+        assert!(!waiting.is_finished());
+        slot.lose();
+        let told = tokio::time::timeout(Duration::from_secs(5), waiting).await.expect("it waits for ever");
+        assert!(matches!(told.unwrap(), Outcome::Refused { status: 503, .. }));
+    }
+
+    const HOUR: u64 = 3_600_000_000_000;
+
+    fn point(start: u64) -> String {
+        format!(
+            "{{\"resourceMetrics\":[{{\"scopeMetrics\":[{{\"metrics\":[{{\"name\":\"a\",\"sum\":{{\
+             \"aggregationTemporality\":1,\"dataPoints\":[{{\"asInt\":\"1\",\
+             \"startTimeUnixNano\":\"{start}\",\"timeUnixNano\":\"{}\"}}]}}}}]}}]}}]}}",
+            start + 1
+        )
+    }
 
     /// Of a folder the process ends.
     #[tokio::test]

@@ -155,6 +155,28 @@ async fn a_series_out_of_use_loses_its_spans_alone() {
     taken(&*sink, 13, sum("a", old + 30, old + 40, 1)).await;
 }
 
+/// As where a run was killed, or its connection cut, once it had written down that they go.
+#[tokio::test(flavor = "multi_thread")]
+async fn a_series_in_use_again_keeps_its_new_spans() {
+    let Some(server) = Server::start() else { return };
+    let address = server.by_socket("postgres");
+    let before = open(&address);
+    let (old, new) = (now() - 3 * DAY, now() - 100);
+    make_day(&server, old);
+    taken(&*before, 1, sum("a", old, old + 10, 1)).await;
+    for (number, start) in [(2, new), (3, new + 10), (4, new + 20)] {
+        taken(&*before, number, sum("a", start, start + 10, number as i64)).await;
+    }
+    drop(before);
+    server.ask(&format!("update totxegun.series_total set spans_from_ns = {}", old + 10));
+    server.ask("insert into totxegun.ending select series from totxegun.series_total");
+    let sink = open(&address);
+    until(&server, "select count(*) from totxegun.ending", "0").await;
+    assert_eq!(server.ask("select value from totxegun.span order by start_ns"), "2\n3\n4");
+    refused(&*sink, 12, sum("a", new + 10, new + 20, 3), "overlaps").await;
+    assert_eq!(server.ask("select points, total from totxegun.totals"), "4|10");
+}
+
 /// Who reads for long holds up the deletion, and no delivery longer than a step waits: a second.
 #[tokio::test(flavor = "multi_thread")]
 async fn deliveries_go_on_while_a_reader_holds_up_a_deletion() {

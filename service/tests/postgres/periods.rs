@@ -6,6 +6,7 @@ use crate::server::{sum, Server};
 use crate::{open, refused, request, taken};
 use std::collections::BTreeSet;
 use std::sync::Arc;
+use std::time::Duration;
 use totxegun::sinks::periods::{hour_shown, Correction, Deed, Period, Told};
 use totxegun::sinks::{Fate, Sink};
 
@@ -164,6 +165,40 @@ async fn what_counts_where_is_right_over_closes_late_points_and_corrections() {
         while !tried(&database, seed).await {
             server.ask("drop schema if exists totxegun cascade");
         }
+    }
+}
+
+/// It can be read once its wait for a standby is cut, and would be lost with this server, after the bill.
+#[tokio::test(flavor = "multi_thread")]
+async fn what_no_standby_has_is_not_closed() {
+    let Some(server) = Server::start() else { return };
+    let sink = open(&server.by_socket("postgres"));
+    // The first round of the upkeep writes too.
+    tokio::time::sleep(Duration::from_secs(3)).await;
+    let standbys = |what: &str| {
+        server.ask(&format!("alter system {what}"));
+        server.ask("select pg_reload_conf()");
+        std::thread::sleep(Duration::from_secs(1));
+    };
+    let waiting = "from pg_stat_activity where wait_event = 'SyncRep'";
+    for (hour, cut) in [(100, "pg_terminate_backend"), (101, "pg_cancel_backend")] {
+        standbys("set synchronous_standby_names = 'nobody'");
+        let deed = Deed::Close(period(hour, 1));
+        let (to, first) = (sink.clone(), deed.clone());
+        let closing = tokio::spawn(async move { to.settle("alice", &first).await });
+        while server.ask(&format!("select count(*) {waiting}")) == "0" {
+            tokio::time::sleep(Duration::from_millis(20)).await;
+        }
+        server.ask(&format!("select {cut}(pid) {waiting}"));
+        let told = closing.await.unwrap();
+        assert!(matches!(told, Told::Later(_)), "{cut}: {told:?}");
+        let closed = format!("select count(*) from totxegun.closed where from_hour = {hour}");
+        assert_eq!(server.ask(&closed), "1", "it can be read");
+        let soon = tokio::time::timeout(Duration::from_secs(3), sink.settle("alice", &deed)).await;
+        assert!(soon.is_err(), "{cut}: {soon:?}");
+        standbys("reset synchronous_standby_names");
+        let told = done(&*sink, deed).await;
+        assert!(told.contains("was closed before"), "{told}");
     }
 }
 

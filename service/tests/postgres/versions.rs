@@ -4,6 +4,7 @@ use crate::server::{histogram, sum, Server};
 use crate::{again, open, open_with, refused, request, taken};
 use std::collections::BTreeSet;
 use std::time::Duration;
+use totxegun::sinks::periods::{hour_shown, Correction, Deed, Told};
 use totxegun::sinks::{Fate, Retention};
 
 /// The steps, of which each version has made so many.
@@ -257,6 +258,36 @@ async fn hours_are_filled_in_while_deliveries_go_on_over_kills() {
     assert_eq!(ask(far), "20|-446744073709551607");
     old_spans_go_together(&server, &address, number + 1).await;
     assert_eq!(ask(ODD), "0|0|0|60020");
+}
+
+/// An hour that is not filled in has no row: the one that a correction makes has no buckets.
+#[tokio::test(flavor = "multi_thread")]
+async fn what_is_corrected_before_it_is_filled_in_keeps_its_buckets() {
+    let Some(server) = Server::start() else { return };
+    make(&server, "old", 4);
+    let ask = |query: &str| server.ask_of("old", query);
+    server.run_file("old", MANY);
+    let address = server.by_socket("old");
+    drop(open(&address));
+    // A step takes a second, and the series 39 comes with the sixth.
+    server.run_file(
+        "old",
+        "create function public.slow() returns trigger language plpgsql as $$ begin perform pg_sleep(1); return new; end $$;
+        create trigger slow before update on totxegun.filling for each row execute function public.slow()",
+    );
+    let sink = open(&address);
+    let hour: i64 = ask("select min(hour) from public.wanted where series = 39").parse().unwrap();
+    let hour = hour_shown(hour).parse().unwrap();
+    let correction = Correction { series: 39, hour, value: -5, reason: "x".into() };
+    let told = sink.settle("alice", &Deed::Correct(correction)).await;
+    assert!(matches!(told, Told::Done(_)), "{told:?}");
+    assert_eq!(ask("select points, buckets is null from totxegun.past_hour where series = 39"), "0|t");
+    while ask(IS_DONE) == "f" {
+        tokio::time::sleep(Duration::from_millis(50)).await;
+    }
+    let odd = ask(ODD);
+    assert!(odd.starts_with("0|0|0|"), "{odd}");
+    assert_eq!(ask("select sum(corrections) from totxegun.by_month"), "-5");
 }
 
 /// Once all of them are too old.

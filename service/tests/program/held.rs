@@ -49,6 +49,35 @@ fn held(service: &Service) -> (u64, u64, u64) {
     (of("senders"), of("posts"), of("bytes"))
 }
 
+/// The next flush takes what was released, also over a kill: a close before it would have all of that come late.
+#[test]
+fn a_period_is_not_closed_while_what_was_released_waits_for_a_flush() {
+    let place = Place::new();
+    let sink = place.sink();
+    let words = ["--flush-every", "1h", "--sink", &sink];
+    let mut service = place.serve_with(&words);
+    assert_eq!(service.post("A", &points(&["a"], 100, 5)).unwrap(), (200, "{}".into()));
+    // Of B, which stays quarantined, nothing is held.
+    for order in ["/quarantine/A", "/quarantine/B", "/flush", "/lift/A"] {
+        assert_eq!(service.order(order).0, 200, "{order}");
+    }
+    let close = "/close/1970-01";
+    let is_not_closed = |service: &Service| {
+        assert_eq!(held(service).1, 1);
+        let (status, text) = service.order(close);
+        assert!(status == 409 && text.contains("there are posts that are not flushed"), "{status}: {text}");
+    };
+    is_not_closed(&service);
+    service.kill();
+    let service = place.serve_with(&words);
+    is_not_closed(&service);
+    service.drain();
+    let (status, text) = service.order(close);
+    assert!(status == 200 && !text.contains("quarantined"), "{status}: {text}");
+    assert_eq!(service.end(), Some(0));
+    assert_eq!(place.totals(), [("a".to_string(), 5)].into());
+}
+
 #[test]
 fn posts_of_a_quarantined_sender_cost_a_checkpoint_nothing_and_come_out_whole() {
     let place = Place::new();

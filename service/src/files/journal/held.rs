@@ -82,6 +82,13 @@ impl Journal {
         held
     }
 
+    /// Whether something is held of a sender that is none of these: it was released, and the next flush takes it. So until
+    /// that is committed.
+    pub fn holds_of_others(&self, quarantined: &BTreeSet<String>) -> bool {
+        let lists = lock(&self.shared.held);
+        lists.values().flat_map(List::keys).any(|sender| !quarantined.contains(sender))
+    }
+
     /// Deletes the files of which nothing counts from this segment on.
     pub(super) fn forget_held(&self, before: u64) -> Result<(), Fault> {
         let shared = &*self.shared;

@@ -107,6 +107,7 @@ impl Table {
             for (key, known) in old.keys.of(ids.into_iter()).zip(left) {
                 self.put(key, known);
             }
+            self.owners.retain(|owner| Arc::strong_count(owner) > 1);
         }
     }
 

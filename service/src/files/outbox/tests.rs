@@ -10,6 +10,7 @@ mod size;
 
 use super::*;
 use crate::files::disk::Call;
+use crate::files::records::{self, Which};
 use crate::files::test_random::TestRandom;
 use std::fs::File;
 use std::path::Path;
@@ -248,5 +249,26 @@ fn what_was_forgotten_is_known_by_when_it_ended() {
     for _ in 0..2 {
         let wanted = Since { made, forgotten: 70 };
         assert_eq!(open(folder.path()).since(), wanted);
+    }
+}
+
+/// 0.5.0 did not note it, and forgot series too: of a run that is older only what comes from now on counts. What it forgot may
+/// end where a wrong clock has put it.
+#[test]
+fn an_outbox_of_version_1_begins_now_also_where_it_has_forgotten_series() {
+    const AHEAD: u64 = 4_000_000_000_000_000_000;
+    for end in [70, AHEAD] {
+        let folder = tempfile::tempdir().unwrap();
+        let snapshot = format!(
+            r#"{{"epoch":"e","next":1,"acknowledged":0,"journal":1,"quarantined":[],"series":[["a",{end},6,"A"],["b",9,6,"A"]]}}"#
+        );
+        let mut bytes = records::header(Which::Outbox, 1);
+        records::put(&mut bytes, rows::SNAPSHOT, &[&rows::deflated(snapshot.as_bytes())]);
+        records::put(&mut bytes, rows::FORGET, &[&rows::packed(&[0u32])]);
+        std::fs::write(segment::path(folder.path(), 1), bytes).unwrap();
+        let since = open(folder.path()).since();
+        assert!((1_700_000_000_000_000_000..AHEAD).contains(&since.made), "{since:?}");
+        assert_eq!(since.forgotten, end.min(since.made));
+        assert_eq!(open(folder.path()).since(), since);
     }
 }

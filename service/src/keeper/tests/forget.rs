@@ -80,3 +80,29 @@ async fn none_is_forgotten_where_none_is_old_enough() {
     assert_eq!(run.slot.metrics.forgotten_series.get(), 0);
     run.end().await;
 }
+
+/// What is old has posts that are kept back: a fresh book would be as the old one, and all posts would wait for it.
+#[tokio::test(flavor = "multi_thread")]
+async fn no_fresh_book_is_made_where_only_what_is_kept_back_is_old() {
+    let place = tempfile::tempdir().unwrap();
+    let folder = || Folder::open(&place.path().join("data"), Durability::Process).unwrap();
+    let run = Run::begin_in(folder(), settings()).await;
+    assert_eq!(post(&run, "B", &["held".into()], 10).await, Outcome::taken(0));
+    run.end().await;
+    tokio::time::sleep(Duration::from_millis(4_100)).await;
+    let forget = Some(Duration::from_secs(3));
+    let run = Run::begin_in(folder(), Settings { forget, ..settings() }).await;
+    assert_eq!(post(&run, "B", &["held".into()], 20).await, Outcome::taken(0));
+    let quarantined = run.orders.order(Order::Quarantine("B".into())).await;
+    assert_eq!(quarantined, Some(Done::Answered(Outcome::taken(0))));
+    let pauses = || run.slot.metrics.checkpoint_pause_seconds.get_sample_count();
+    let before = pauses();
+    run.slot.crowded.notify_one();
+    while pauses() == before {
+        tokio::time::sleep(Duration::from_millis(5)).await;
+    }
+    // It has its turn once the look is over.
+    assert_eq!(run.flush().await, 0);
+    assert_eq!(pauses() - before, 2, "the checkpoint ahead of the look, and this one");
+    run.end().await;
+}

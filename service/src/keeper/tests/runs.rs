@@ -6,6 +6,7 @@ use super::*;
 use crate::files::test_random::TestRandom;
 use crate::otlp::Outcome;
 use crate::runs::{First, Options, Reset};
+use crate::slot::Request;
 use std::collections::BTreeMap;
 
 #[tokio::test(flavor = "multi_thread")]
@@ -198,6 +199,59 @@ async fn a_post_learns_at_once_where_all_of_its_series_end() {
     run.flush().await;
     let sums = run.forwarded().await;
     assert!(sums.len() == 700 && sums.values().all(|sum| sum.0 == 1), "{sums:?}");
+    run.end().await;
+}
+
+/// A request of both.
+fn mixed(deltas: &[Point], all: &[Point]) -> String {
+    let [deltas, all] = [text(deltas, 1), text(all, 2)];
+    let resource = all.strip_prefix(r#"{"resourceMetrics":["#).unwrap();
+    format!("{},{resource}", deltas.strip_suffix("]}").unwrap())
+}
+
+impl Run {
+    async fn mixed(&self, sender: &str, deltas: &[Point], all: &[Point]) -> Outcome {
+        let by = self.slot.numbered_text(&mixed(deltas, all).into()).unwrap().unwrap();
+        self.slot.request(sender.into(), Request::Numbered(by)).await
+    }
+}
+
+/// Else a post that has delta and cumulative points of many series is tried as often as it has series.
+#[tokio::test(flavor = "multi_thread")]
+async fn a_post_is_tried_once_whatever_delta_points_are_ahead_of_its_cumulative_ones() {
+    const SERIES: u64 = 60;
+    let place = tempfile::tempdir().unwrap();
+    let run = Run::begin_runs(&place.path().join("data"), Options::default()).await;
+    let points = |start, time| -> Vec<Point> {
+        (0..SERIES).map(|name| point(&format!("m{name}"), start, time, 1)).collect()
+    };
+    let (deltas, all) = (points(BEGIN, BEGIN + 20), points(BEGIN, BEGIN + 30));
+    let before = run.slot.core.lock().came();
+    let said = rejected(&run.mixed("A", &deltas, &all).await);
+    assert_eq!(said, (SERIES, format!("{SERIES} cumulative points of series with delta points")));
+    let tries = run.slot.core.lock().came() - before;
+    assert!(tries < 2 * SERIES, "{tries} tries");
+    run.flush().await;
+    let sums = run.forwarded().await;
+    assert!(sums.len() == SERIES as usize && sums.values().all(|sum| sum.0 == 1), "{sums:?}");
+    run.end().await;
+}
+
+/// Delta points that were refused with their post end no run.
+#[tokio::test(flavor = "multi_thread")]
+async fn a_run_goes_on_behind_a_refused_post_with_delta_points_of_its_series() {
+    let place = tempfile::tempdir().unwrap();
+    let run = Run::begin_runs(&place.path().join("data"), Options::default()).await;
+    assert_eq!(run.cumulative("B", &[point("m2", BEGIN, BEGIN + 10, 1)]).await, Outcome::taken(0));
+    assert_eq!(run.cumulative("A", &[point("m", BEGIN, BEGIN + 10, 5)]).await, Outcome::taken(0));
+    let deltas = [point("m", BEGIN + 10, BEGIN + 20, 2)];
+    let all = [point("m", BEGIN, BEGIN + 30, 9), point("m2", BEGIN, BEGIN + 30, 3)];
+    let message = "other writer: point 2".into();
+    assert_eq!(run.mixed("A", &deltas, &all).await, Outcome::Refused { status: 400, message });
+    assert_eq!(run.cumulative("A", &[point("m", BEGIN, BEGIN + 30, 9)]).await, Outcome::taken(0));
+    run.flush().await;
+    let sums = run.forwarded().await;
+    assert_eq!((sums["m"].0, sums["m2"].0), (9, 1));
     run.end().await;
 }
 

@@ -293,6 +293,17 @@ mod tests {
     }
 
     #[test]
+    fn a_sum_and_a_monotonic_one_have_pages_of_their_own() {
+        let counter = series("orders", json!({}));
+        let sum = SeriesTotal { kind: Kind::Sum, total: Exact(-5), ..counter.clone() };
+        for wanted in [&counter, &sum] {
+            let query = format!("id={}", identity(wanted));
+            let found = Wanted::of(&query).found(vec![counter.clone(), sum.clone()]);
+            assert_eq!(found.one(), Some(wanted));
+        }
+    }
+
+    #[test]
     fn each_of_the_last_hours_has_its_bar() {
         let hours = [(1000, 5, None), (1047, 7000, Some(Exact(3)))];
         let hours = hours.map(|(hour, total, count)| Hour { hour, total: Exact(total), count });

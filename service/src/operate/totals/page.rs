@@ -123,7 +123,11 @@ fn distinct(series: &[&SeriesTotal], is_mixed: bool) -> Vec<Labels> {
 
 /// By all that makes it a series of its own, so it is the same at each scrape.
 pub fn identity(series: &SeriesTotal) -> String {
-    let bounds = series.histogram.as_ref().map(|histogram| &histogram.bounds);
+    let kind = match (&series.histogram, series.kind) {
+        (Some(histogram), _) => serde_json::json!(histogram.bounds),
+        (None, Kind::Sum) => "sum".into(),
+        (None, _) => serde_json::Value::Null,
+    };
     let all = serde_json::json!([
         series.name,
         series.unit,
@@ -132,7 +136,7 @@ pub fn identity(series: &SeriesTotal) -> String {
         series.scope_name,
         series.scope_version,
         series.scope_attributes,
-        bounds,
+        kind,
     ])
     .to_string();
     let turned: Vec<u8> = all.bytes().rev().collect();

@@ -118,7 +118,7 @@ fn plan<'r, 'd>(
         if let (Some(units), Some(to), Some(_)) =
             (&finer_units.units, Unit::of(&rule.to), Delta::of(finer_units, metric))
         {
-            name().iter().for_each(|name| units.note(name, to));
+            name().iter().for_each(|name| units.note_of_rule(name, to));
         }
         return Some(Taken::In(rule));
     }

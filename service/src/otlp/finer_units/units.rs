@@ -130,11 +130,6 @@ impl Units {
         self.rules[from.0][to.0].as_ref()
     }
 
-    /// Whether there is none that is finer.
-    pub fn is_finest(&self, unit: Unit) -> bool {
-        self.finer[unit.0] == bit(unit)
-    }
-
     /// Whether such a series was noted.
     pub fn has(&self, metric: &str, unit: Unit) -> bool {
         self.read().units.get(metric).is_some_and(|known| known & bit(unit) != 0)
@@ -147,6 +142,20 @@ impl Units {
             self.write().put(metric, unit);
         }
         self.of_all.iter().for_each(|of_all| of_all.note(metric, unit));
+    }
+
+    /// Notes a series that a rule has put into a unit, but where one of its name is in a finer one: what is coarser than that
+    /// may be taken in it, and would be taken in this from then on. A start knows all series of a folder, and not in which order
+    /// they came: behind it what is coarser is taken in this unit after all.
+    pub fn note_of_rule(&self, metric: &str, unit: Unit) {
+        if self.decided(metric, unit).is_none() {
+            let mut names = self.write();
+            let known = names.units.get(metric).copied().unwrap_or(0);
+            if self.coarsest(known, unit).is_none() {
+                names.put(metric, unit); // nobody has decided meanwhile
+            }
+        }
+        self.of_all.iter().for_each(|of_all| of_all.note_of_rule(metric, unit));
     }
 
     /// In which unit a metric of this one is taken, where that is decided.

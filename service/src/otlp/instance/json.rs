@@ -24,9 +24,12 @@ pub fn with(request: &[u8], name: &str) -> Option<(Vec<u8>, usize)> {
     Some((text.into_bytes(), count))
 }
 
-/// None where it has one already, or where it is none that can be read.
+/// None where it has one already, or where it is none that can be read: also what is there twice is left to who refuses it.
 fn named(element: Value<'_>, name: &str) -> Option<String> {
     let [resource] = element.named(["resource"])?;
+    if is_twice(element, "resource") || resource.is_some_and(|resource| is_twice(resource, "attributes")) {
+        return None;
+    }
     let attributes = match resource {
         Some(resource) => resource.named(["attributes"])?[0],
         None => None,
@@ -46,6 +49,10 @@ fn named(element: Value<'_>, name: &str) -> Option<String> {
     let others = resource.map(|resource| without(resource, "attributes"));
     let resource = format!("\"resource\":{}", with_member(&attributes, &others.unwrap_or_default()));
     Some(with_member(&resource, &without(element, "resource")))
+}
+
+fn is_twice(object: Value<'_>, wanted: &str) -> bool {
+    object.members().into_iter().flatten().filter(|(name, _)| name == wanted).count() > 1
 }
 
 fn pair(name: &str) -> String {

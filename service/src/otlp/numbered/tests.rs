@@ -204,3 +204,57 @@ fn there_is_a_bound() {
     assert!((3..12).contains(&fit) && book.series.is_full(), "{fit}");
     assert!(read(b'a') && !read(b'z'));
 }
+
+/// Else it is written once more for each metric below it: a post of 4 MiB took minutes.
+#[test]
+fn what_is_long_above_points_is_read_otherwise() {
+    let put = |number: u32, inner: &[u8]| {
+        let mut out = Vec::new();
+        crate::otlp::outside::protobuf::put(&mut out, number, inner);
+        out
+    };
+    let point = [fixed(2, 10), fixed(3, 20), fixed(6, 5)].concat();
+    let body = |resource: &[u8], scope: &[u8], about: &[u8]| {
+        let sum = put(7, &[put(1, &point), DELTA.to_vec()].concat());
+        let metric = put(2, &[put(1, b"m"), put(2, about), sum].concat());
+        put(1, &[put(1, resource), put(2, &[put(1, scope), metric].concat())].concat())
+    };
+    let book = Book::new(1 << 20);
+    let long = vec![b'x'; crate::otlp::output::LONGEST_LIST + 1];
+    let attribute = |number| put(number, &[put(1, b"k"), put(2, &put(1, &long))].concat());
+    assert!(book.read(&body(b"", b"", b"")).is_some());
+    for body in [body(&attribute(1), b"", b""), body(b"", &attribute(3), b""), body(b"", b"", &long)] {
+        assert_eq!(book.read(&body), None);
+    }
+}
+
+/// Else a series that came then was named in the one unit, and its values were in the other.
+#[test]
+fn a_metric_keeps_its_unit_where_a_rule_puts_another_of_its_name_into_a_coarser_one() {
+    use crate::otlp::{prepare, Encoding, FinerUnits};
+    let choices = ["auto", "ms"].map(|choice| choice.parse().unwrap());
+    let reading = Reading { finer_units: FinerUnits::of(choices).unwrap(), ..Reading::default() };
+    let body = |unit: &[u8], key: &[u8]| {
+        let point = [fixed(2, 10), fixed(3, 20), double(4, 0.5), attribute(7, key)].concat();
+        let sum = field(7, &[&field(1, &point)[..], DELTA].concat());
+        let metric = [field(1, b"m"), field(3, unit), sum].concat();
+        field(1, &field(2, &field(2, &metric)))
+    };
+    let as_text = |body: Vec<u8>| prepare(Encoding::Protobuf, body.into(), &reading).unwrap().body;
+    let (series, named) = (Series::new(Arc::new(reading.clone()), 1 << 20), RefCell::new(Vec::new()));
+    let read = |body: Vec<u8>| {
+        let read = series.read(&body, &reading, |request| {
+            named.borrow_mut().push(String::from_utf8(request.to_vec()).unwrap());
+            Some(Learnt::Number(named.borrow().len() as u64 - 1))
+        });
+        read.unwrap().points.words().to_vec()
+    };
+    let is_in =
+        |text: &[u8], unit: &str| String::from_utf8_lossy(text).contains(&format!(r#""unit":"{unit}""#));
+    assert!(is_in(&as_text(body(b"s", b"a")), "us"), "its first point decides");
+    assert_eq!(read(body(b"s", b"a")), [0, 10, 20, 500_000]);
+    assert!(is_in(&as_text(body(b"ms", b"a")), "ms"), "by the rule");
+    assert_eq!(read(body(b"s", b"b")), [1, 10, 20, 500_000]);
+    assert!(named.borrow().iter().all(|text| is_in(text.as_bytes(), "us")), "{named:?}");
+    assert!(is_in(&as_text(body(b"s", b"c")), "us"));
+}

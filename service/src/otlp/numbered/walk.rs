@@ -7,6 +7,7 @@ use super::Numbered;
 use crate::files::Points;
 use crate::otlp::finer_units::{InFiner, RoundedPoint, Scale, ShownSeries};
 use crate::otlp::from_protobuf::is_exemplar;
+use crate::otlp::output::LONGEST_LIST;
 use crate::otlp::schema::{Message, METRIC, REQUEST, RESOURCE_METRICS, SCOPE_METRICS};
 use crate::otlp::wire::{Fields, Payload};
 use crate::otlp::{Reading, Rounded};
@@ -23,6 +24,11 @@ const POINTS: u8 = 1;
 /// What most requests have more of for a word that is read of them, and for a point.
 const BYTES_OF_A_WORD: usize = 16;
 const BYTES_OF_A_POINT: usize = 64;
+
+/// What is above points, where it is short. It is written once more for each metric and series below it that is not known yet.
+fn short(above: &[u8]) -> Result<&[u8], Stop> {
+    (above.len() <= LONGEST_LIST).then_some(above).ok_or(Stop::Slow)
+}
 
 /// Why a request is not read here.
 #[derive(Clone, Copy, Debug, PartialEq, Eq)]
@@ -164,7 +170,7 @@ impl<'b, F: Find> Walk<'b, F> {
 
     fn resource(&mut self, message: &'b [u8]) -> Result<(), Stop> {
         let mut fields = Fields::of(message);
-        let resource = fields.bytes(1).unwrap_or_default();
+        let resource = short(fields.bytes(1).unwrap_or_default())?;
         self.path = Path { resource, ..Path::default() };
         let top = self.find.top(self.reading.finer_units.decides())?;
         let level = self.find.level(&self.path, top, resource)?;
@@ -173,7 +179,7 @@ impl<'b, F: Find> Walk<'b, F> {
 
     fn scope(&mut self, resource: Level, message: &'b [u8]) -> Result<(), Stop> {
         let mut fields = Fields::of(message);
-        let scope = fields.bytes(1).unwrap_or_default();
+        let scope = short(fields.bytes(1).unwrap_or_default())?;
         (self.path.scope, self.path.head) = (Some(scope), None);
         let level = self.find.level(&self.path, resource, scope)?;
         each(&SCOPE_METRICS, 2, fields, |metric| self.metric(level, metric))
@@ -204,7 +210,7 @@ impl<'b, F: Find> Walk<'b, F> {
         if !behind.all(|field| matches!(field, Ok((number, _)) if number != u32::from(POINTS))) {
             return Err(Stop::Slow);
         }
-        let head = Head { before, data: number, tail };
+        let head = Head { before: short(before)?, data: number, tail: short(tail)? };
         let level = self.head(scope, head)?;
         self.points(level, number, Fields::of(points))
     }

@@ -2,6 +2,7 @@
 
 use super::{Choose, KINDS};
 use crate::otlp::wire::{Fields, Payload};
+use std::collections::VecDeque;
 
 /// The fields of lists: a request's resources, a resource's scopes, a scope's metrics, and points of any kind of data.
 const RESOURCES: u32 = 1;
@@ -40,23 +41,24 @@ fn list<'b>(
 
 fn metric(message: &[u8], choose: &mut Choose<'_>) -> Option<Vec<u8>> {
     let fields = fields(message)?;
-    let mut chosen = Vec::new();
+    // Of each kind what becomes of its parts, in order.
+    let mut chosen: [VecDeque<Option<Vec<u8>>>; KINDS.len()] = Default::default();
     for (place, kind) in KINDS.iter().enumerate() {
         for (number, payload, _) in &fields {
             if let (true, Payload::Bytes(data)) = (*number == kind.number, payload) {
-                chosen.push((kind.number, data_with(data, &mut || choose(place))));
+                chosen[place].push_back(data_with(data, &mut || choose(place)));
             }
         }
     }
-    if chosen.iter().all(|(_, data)| data.is_none()) {
+    if chosen.iter().flatten().all(Option::is_none) {
         return None;
     }
     let mut out = Vec::with_capacity(message.len());
     for (number, payload, raw) in &fields {
-        let place = chosen.iter().position(|(kind, _)| kind == number);
+        let place = KINDS.iter().position(|kind| kind.number == *number);
         match (place, payload) {
             (Some(place), Payload::Bytes(_)) => {
-                if let (_, Some(data)) = chosen.remove(place) {
+                if let Some(Some(data)) = chosen[place].pop_front() {
                     put(&mut out, *number, &data);
                 }
             }

@@ -120,3 +120,26 @@ fn random_requests_have_their_points() {
     }
     assert!(handed > 500, "{handed}");
 }
+
+/// Else one post of a few megabytes holds a thread for hours: a message of protobuf may come in parts.
+#[test]
+fn a_metric_in_very_many_parts_takes_time_by_its_bytes() {
+    let put = |number: u32, bytes: &[u8]| {
+        let mut out = Vec::new();
+        super::protobuf::put(&mut out, number, bytes);
+        out
+    };
+    let request = |gauges: &[u8]| {
+        let metric = put(2, &[&put(1, b"m")[..], gauges].concat());
+        put(1, &put(2, &metric))
+    };
+    let gauge = put(5, &put(1, b""));
+    let body = Bytes::from(request(&[put(5, b"").repeat(200_000), gauge.clone()].concat()));
+    let began = std::time::Instant::now();
+    let original = Original { encoding: Encoding::Protobuf, body };
+    let (outside, causes) = original.outside(1, Profile::Deltas, || None);
+    let outside = outside.unwrap();
+    assert_eq!((&outside.body[..], outside.points), (&request(&gauge)[..], 1));
+    assert_eq!(causes, Causes::default());
+    assert!(began.elapsed().as_secs() < 5, "{:?}", began.elapsed());
+}

@@ -86,6 +86,8 @@ fn json_is_read_in_any_form() {
         r#"{"resourceMetrics":[{"resource":{"attributes":[{"key":"service.instance.id","value":{"stringValue":"own"}}]}}]}"#,
         r#"{"resourceMetrics":[{"resource":{"attributes":[{"key":"service\u002einstance.id"}]}}]}"#,
         r#"{"resourceMetrics":[{"resource":5},7,null]}"#,
+        r#"{"resourceMetrics":[{"resource":{"attributes":[{"key":"a"}]},"resource":{}}]}"#,
+        r#"{"resourceMetrics":[{"resource":{"attributes":[{"key":"a"}],"attributes":[]}}]}"#,
         r#"{"resourceMetrics":{}}"#,
         "[]",
         "no JSON",

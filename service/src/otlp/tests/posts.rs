@@ -35,6 +35,74 @@ pub fn posts(seed: u64, many: usize) -> Vec<Vec<u8>> {
     (0..many).map(one).collect()
 }
 
+/// The same of points that are plain, nearly all of them.
+pub fn plain_posts(seed: u64, many: usize) -> Vec<Vec<u8>> {
+    let mut random = Random(seed);
+    let mut clock = 1_700_000_000_000_000_000;
+    let mut requests: Vec<_> = (0..REQUESTS).map(|_| plain_request(&mut random)).collect();
+    let one = |_| {
+        let place = random.below(REQUESTS as u64) as usize;
+        if random.below(40) == 0 {
+            requests[place] = plain_request(&mut random);
+        }
+        set(&mut requests[place], &mut random, &mut clock);
+        let body = requests[place].encode_to_vec();
+        let body = written(&REQUEST, &body, &mut |_| false, random.below(2) == 0);
+        match random.below(6) {
+            0 => mutated(body, &mut random),
+            _ => body,
+        }
+    };
+    (0..many).map(one).collect()
+}
+
+fn plain_request(random: &mut Random) -> ExportMetricsServiceRequest {
+    let mut request = random.request();
+    for resource in &mut request.resource_metrics {
+        resource.resource.iter_mut().for_each(|one| keep_scalars(&mut one.attributes));
+        for scope in &mut resource.scope_metrics {
+            scope.scope.iter_mut().for_each(|one| keep_scalars(&mut one.attributes));
+            scope.metrics.truncate(2);
+            scope.metrics.iter_mut().for_each(make_plain);
+        }
+    }
+    request
+}
+
+/// No two of one key.
+fn keep_scalars(attributes: &mut Vec<KeyValue>) {
+    let is_scalar = |one: &KeyValue| {
+        let value = one.value.as_ref().and_then(|any| any.value.as_ref());
+        matches!(value, Some(Any::Text(_) | Any::Bool(_) | Any::Int(_)))
+    };
+    attributes.retain(is_scalar);
+    attributes.dedup_by(|one, other| one.key == other.key);
+}
+
+fn make_plain(metric: &mut Metric) {
+    metric.name.insert(0, 'm');
+    match metric.data.as_mut() {
+        None => metric.data = Some(Data::Sum(Sum::default())),
+        Some(Data::Sum(sum)) => {
+            sum.aggregation_temporality = 1;
+            sum.data_points.truncate(2);
+            sum.data_points.iter_mut().for_each(|point| keep_scalars(&mut point.attributes));
+        }
+        Some(Data::Histogram(histogram)) => {
+            histogram.aggregation_temporality = 1;
+            histogram.data_points.truncate(2);
+            for point in &mut histogram.data_points {
+                keep_scalars(&mut point.attributes);
+                let bounds = point.explicit_bounds.iter_mut().enumerate();
+                bounds.for_each(|(place, bound)| *bound = place as f64 * 2.0);
+            }
+        }
+    }
+    if let Some(Data::Sum(sum)) = &mut metric.data {
+        sum.aggregation_temporality = 1;
+    }
+}
+
 /// Gives each point a span behind all others, and nearly all of them values that can be added up.
 fn set(request: &mut ExportMetricsServiceRequest, random: &mut Random, clock: &mut u64) {
     let scopes = request.resource_metrics.iter_mut().flat_map(|resource| &mut resource.scope_metrics);

@@ -85,18 +85,23 @@ async fn settled(
     deed: &Deed,
 ) -> Result<Told, PostgresFault> {
     let fault = |error: Error| PostgresFault::told(name, shown(&error));
-    let (mut client, _connection) = session::connect(server).await?;
+    let (mut client, connection) = session::connect(server).await?;
     if schema::version(&client, name).await? != schema::KNOWN {
         return Err(PostgresFault::told(name, "the schema is not of this version yet: the log says why"));
     }
     let transaction = client.transaction().await.map_err(fault)?;
     transaction.query(ALONE, &[&LOCK]).await.map_err(fault)?;
-    let id = transaction.query_one("select id from totxegun.sink", &[]);
+    // A row that is locked makes the commit a write, which waits for the standby: also where nothing is done any more.
+    let id = transaction.query_one("select id from totxegun.sink for update", &[]);
     let id: String = id.await.map_err(fault)?.get(0);
     memory.admit(Some(&id), false).map_err(PostgresFault::Another)?;
     let told = carried_out(&transaction, who, deed).await.map_err(fault)?;
+    connection.warnings.take(); // of before
     transaction.commit().await.map_err(fault)?;
-    Ok(told)
+    match connection.warnings.take() {
+        None => Ok(told),
+        Some(warning) => Err(PostgresFault::told(name, format!("the server warns: {warning}"))),
+    }
 }
 
 async fn carried_out(transaction: &Transaction<'_>, who: &str, deed: &Deed) -> Result<Told, Error> {

@@ -29,7 +29,7 @@ pub(super) struct Session {
     pub(super) seen: Seen,
     /// Where the sink is in the store's database.
     pub(super) fence: Option<Fence>,
-    _connection: Driver,
+    pub(super) connection: Driver,
 }
 
 pub(super) struct Statements {
@@ -87,7 +87,7 @@ impl Session {
         };
         let prepared = timeout(patience, preparing).await.map_err(late)?;
         let (statements, fence) = prepared.map_err(|error| PostgresFault::of(&name, &error))?;
-        Ok(Session { client, statements, seen: Seen::default(), fence, _connection: connection })
+        Ok(Session { client, statements, seen: Seen::default(), fence, connection })
     }
 }
 

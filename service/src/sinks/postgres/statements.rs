@@ -21,8 +21,9 @@ pub(super) const KEY: &str = "insert into totxegun.request (slot, epoch, number,
     select $1::int4, $2::text, $3::numeric, $4::int8, $6::bytea from totxegun.version where version = $5::int4
     on conflict (slot, epoch, number) do nothing returning id";
 
+/// A row that is locked makes the commit behind it a write, which waits for the standby.
 pub(super) const IS_TAKEN: &str = "select id, points, digest, left_out from totxegun.request
-    where slot = $1::int4 and epoch = $2::text and number = $3::numeric";
+    where slot = $1::int4 and epoch = $2::text and number = $3::numeric for update";
 
 /// Of a request of which not all was added.
 pub(super) const SET_LEFT_OUT: &str =

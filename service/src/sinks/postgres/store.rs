@@ -11,6 +11,7 @@ use super::series::StoredSeries;
 use super::session::{Session, Statements};
 use super::values::Numeric;
 use crate::otlp::series::ForwardedPoint;
+use crate::postgres::Warnings;
 use crate::sinks::left_out::LeftOut;
 use crate::sinks::periods::Closed;
 use crate::sinks::Forwarded;
@@ -32,13 +33,19 @@ pub(super) async fn take(
     term: Option<u64>,
     content: Content,
 ) -> Result<Option<LeftOut>, NotTaken> {
+    let warnings = &session.connection.warnings;
     let transaction = session.client.transaction().await;
     let transaction = transaction.map_err(|error| NotTaken::of(server, &error))?;
-    let writing = Writing { transaction, statements: &session.statements, server };
+    let writing = Writing { transaction, warnings, statements: &session.statements, server };
     let (_, key) = tokio::try_join!(writing.hold_periods(), writing.key(request, &content))?;
     let row = match key {
         Key::New(row) => row,
-        Key::Taken(taken) => return writing.left_of(&taken, request, &content).await,
+        Key::Taken(taken) => {
+            let left = writing.left_of(&taken, request, &content).await?;
+            // A server shows, after a restart, what its standby does not have: it is believed behind a commit.
+            writing.commit().await?;
+            return Ok(left);
+        }
     };
     let all = content.all;
     let (closed, known) = tokio::try_join!(writing.closed(), writing.series(&all, &session.seen))?;
@@ -60,19 +67,32 @@ pub(super) async fn take(
         writing.leave_out(row, repeat::points(&all), left).await?;
     }
     // No content can be at fault any more.
-    let committed = writing.transaction.commit().await;
-    committed.map_err(|error| PostgresFault::of(server, &error))?;
+    writing.commit().await?;
     session.seen.add(&all);
     Ok(left)
 }
 
 pub(super) struct Writing<'a> {
     transaction: Transaction<'a>,
+    warnings: &'a Warnings,
     pub(super) statements: &'a Statements,
     pub(super) server: &'a str,
 }
 
 impl Writing<'_> {
+    /// A warning is a doubt: as after `pg_cancel_backend` in the wait for a standby, it is on this server alone.
+    async fn commit(self) -> Result<(), NotTaken> {
+        self.warnings.take(); // of before
+        let committed = self.transaction.commit().await;
+        committed.map_err(|error| PostgresFault::of(self.server, &error))?;
+        match self.warnings.take() {
+            None => Ok(()),
+            Some(warning) => {
+                Err(PostgresFault::told(self.server, format!("the server warns: {warning}")).into())
+            }
+        }
+    }
+
     pub(super) async fn rows(
         &self,
         statement: &Statement,

@@ -1,10 +1,11 @@
 //! Reads what a file has of a month or a day, as of one moment.
 
 use super::fault::SqliteFault;
+use super::horizon::Horizon;
 use super::schema::{self, STEPS};
 use super::totals::{open, Kind};
 use crate::sinks::export::{view_of, Each, Line};
-use crate::sinks::periods::{Closed, Period};
+use crate::sinks::periods::{Closed, Period, NOT_FILLED};
 use rusqlite::{Row, Transaction};
 use serde_json::value::RawValue;
 use std::path::Path;
@@ -22,6 +23,10 @@ pub fn read(path: &Path, period: &Period, each: Each<'_>) -> anyhow::Result<Clos
         .into());
     }
     let transaction = connection.transaction().map_err(fault)?;
+    // The views lack what is not moved yet, and nobody would see it by the rows.
+    if !Horizon::read(&transaction).map_err(fault)?.is_filled() {
+        return Err(SqliteFault::told(path, NOT_FILLED).into());
+    }
     lines(&transaction, period, each, &fault)?;
     Ok(super::periods::read(&transaction).map_err(fault)?)
 }

@@ -171,7 +171,7 @@ pub fn read(path: &Path, filter: &Filter) -> Result<Vec<SeriesTotal>, SqliteFaul
 
 /// Opens a file to read. A reader of a write-ahead log writes to a file beside it; who may not, and finds no log,
 /// reads the file as one that nobody writes.
-pub(super) fn open(path: &Path) -> Result<Connection, SqliteFault> {
+pub(crate) fn open(path: &Path) -> Result<Connection, SqliteFault> {
     let fault = |error| SqliteFault::of(path, error);
     if !path.is_file() {
         return Err(SqliteFault::told(path, "there is no such file: nothing was delivered to it yet"));

@@ -7,6 +7,8 @@ use crate::otlp::{posts_of_test, requests_of_test, Choice, Clock, FinerUnits, Ru
 use crate::slot::posted::{self, Posted};
 use std::collections::HashSet;
 
+mod plain;
+
 struct Both {
     slow: Arc<Core>,
     fast: Arc<Core>,

@@ -37,6 +37,29 @@ fn has_no_rights() {
     println!("refused: {}", unusable(Path::new(&path)));
 }
 
+/// As where root calls `totxegun store move` on the folder of the unit's user, and gives it up: that user starts there again.
+#[test]
+fn what_root_makes_in_a_folder_of_another_user_is_that_user_s() {
+    use std::os::unix::fs::chown;
+    const USER: u32 = 65534;
+    fn all(path: &Path) -> Vec<PathBuf> {
+        let below = std::fs::read_dir(path).into_iter().flatten().flatten();
+        std::iter::once(path.to_path_buf()).chain(below.flat_map(|entry| all(&entry.path()))).collect()
+    }
+    let place = tempfile::tempdir().unwrap();
+    drop(open(place.path()).unwrap().slot(0).unwrap());
+    if all(place.path()).iter().any(|path| chown(path, Some(USER), Some(USER)).is_err()) {
+        return eprintln!("skipped: no right to give files away");
+    }
+    let folder = open(place.path()).unwrap();
+    drop(folder.slot(0).unwrap());
+    drop(folder.slot(1).unwrap()); // as where `store move --to` brings slots back
+    folder.renew_epoch().unwrap();
+    for path in all(place.path()) {
+        assert_eq!(std::fs::metadata(&path).unwrap().uid(), USER, "{}", path.display());
+    }
+}
+
 #[test]
 fn a_folder_without_rights_is_refused_by_name() {
     use std::os::unix::process::CommandExt;

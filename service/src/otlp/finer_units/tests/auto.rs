@@ -115,6 +115,10 @@ fn rules_win_and_off_is_off() {
     let reading = auto(&["s=ns"]);
     assert_eq!(taken(&reading, &[sum("a", "s", &[DOUBLE])]).0, "ns");
     assert_eq!(taken(&reading, &[sum("a", "ms", &[DOUBLE])]).0, "ns");
+    // But one that is in a finer unit already stays there.
+    let reading = auto(&["ms"]);
+    let units = ["s", "ms", "s", "min"].map(|unit| taken(&reading, &[sum("a", unit, &[DOUBLE])]).0);
+    assert_eq!(units, ["us", "ms", "us", "us"]);
 }
 
 #[test]
@@ -176,4 +180,23 @@ fn what_a_folder_knows_decides() {
         [unit("a", "s", WHOLE), unit("b", "s", DOUBLE), unit("c", "s", DOUBLE), unit("d", "s", WHOLE)],
         ["us", "s", "ms", "s"]
     );
+}
+
+/// Else a later unit of its name was taken otherwise than behind a start, or than of protobuf.
+#[test]
+fn what_goes_on_as_it_came_decides_too() {
+    let reading = auto(&[]);
+    assert_eq!(taken(&reading, &[sum("a", "By", &[WHOLE])]), ("By".into(), values(&["7"]), 0, None));
+    assert_eq!(taken(&reading, &[sum("a", "KiBy", &[WHOLE])]), ("By".into(), values(&["7168"]), 0, None));
+}
+
+/// Else a name was decided by what is not in the book's form yet: for all senders, and for good.
+#[test]
+fn what_decides_is_what_a_body_means_however_it_is_written() {
+    let reading = auto(&[]);
+    let whole = r#""count":1,"sum":3.0,"bucketCounts":[1,0],"explicitBounds":[5.0]"#;
+    let found = taken(&reading, &[histogram("h", "1", whole)]);
+    assert_eq!((&*found.0, found.2), ("1", 0), "as in protobuf, where it is no fraction");
+    let found = taken(&reading, &[sum("d", "s", &[r#""as_double":0.25"#])]);
+    assert_eq!(found, ("us".into(), values(&["250000"]), 0, None));
 }

@@ -1,6 +1,8 @@
 //! A slot that another instance takes while its requests are delivered.
 
 use super::*;
+use crate::files::drive::{self, memory};
+use std::sync::atomic::{AtomicBool, Ordering::SeqCst};
 
 #[tokio::test]
 async fn a_delivery_ends_once_its_slot_is_lost() {
@@ -35,4 +37,24 @@ async fn the_next_owner_sends_what_waits_under_the_same_key() {
         let memory = Memory { term: Some(term), ..waiting([1]) };
         assert_eq!(run(&memory, vec![]).await.keys(), ["2-e-1"]);
     }
+}
+
+/// The store had its commit, and another took the slot before the answer came: so where the instance is stopped there.
+#[tokio::test(flavor = "multi_thread")]
+async fn nothing_is_sent_behind_an_answer_that_was_long_on_its_way() {
+    let (store, stops) = (Arc::<memory::Store>::default(), Arc::new(AtomicBool::new(false)));
+    let (taken, stop) = (store.clone(), stops.clone());
+    let owner = store.take_with(move |step| {
+        if step == memory::Step::Committed && stop.swap(false, SeqCst) {
+            drop(taken.take());
+            std::thread::sleep(Duration::from_millis(350)); // more than `OURS` of a test
+        }
+        Ok(())
+    });
+    let (journal, outbox, dead) = drive::open(owner, "00000000000000aa").unwrap();
+    let body = br#"{"resourceMetrics":[{"resource":{"attributes":[]},"scopeMetrics":[{"scope":{"name":"","version":"","attributes":[]},"metrics":[{"name":"a","unit":"","sum":{"aggregationTemporality":1,"isMonotonic":false,"dataPoints":[{"attributes":[],"startTimeUnixNano":"4","timeUnixNano":"5","asInt":"1"}]}}]}]}]}"#;
+    outbox.commit(&[body.to_vec()], journal.turn().0).unwrap();
+    stops.store(true, SeqCst);
+    let files = super::super::Files { outbox: Arc::new(outbox), dead: Arc::new(dead) };
+    assert!(matches!(files.may_deliver(1).await, Err(Fault::Lost(_))));
 }

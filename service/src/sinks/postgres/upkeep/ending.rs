@@ -33,10 +33,16 @@ const HOURS: &str = "select hour::int8 * 3600000000000, (hour + 1)::int8 * 36000
         where nspname = 'totxegun' and relkind = 'r' and relname ~ '^span_[0-9]{8}$'
     ) as day where hour < hours_from order by 1";
 
-const OF_HOUR: &str = "delete from totxegun.span_row where end_ns > $1::int8 and end_ns <= $2::int8
-    and series in (select series from totxegun.ending)";
+/// What ended later came since it was written down that they go, as where a run was killed in between: it stays.
+const OF_HOUR: &str = "delete from totxegun.span_row as s
+    using totxegun.ending as e join totxegun.series_total as t on t.series = e.series
+    where s.series = e.series and s.end_ns > $1::int8 and s.end_ns <= $2::int8 and s.end_ns <= t.spans_from_ns";
 
-const OTHERS: &str = "delete from totxegun.span_other where series in (select series from totxegun.ending)";
+/// Times from 2^63 on are less 2^64.
+const OTHERS: &str = "delete from totxegun.span_other as s
+    using totxegun.ending as e join totxegun.series_total as t on t.series = e.series
+    where s.series = e.series
+        and s.end_ns + case when s.end_ns < 0 then 18446744073709551616 else 0 end <= t.spans_from_ns";
 
 pub(super) async fn delete(client: &Client, kept: Option<Duration>) -> Result<(), Error> {
     // What a run that was killed has begun.

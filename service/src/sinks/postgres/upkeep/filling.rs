@@ -48,7 +48,7 @@ const STEP_OF: &str = "with part as materialized (
             count = h.count + excluded.count,
             without_sum = h.without_sum + excluded.without_sum,
             buckets = case when excluded.buckets is null then h.buckets else array(
-                select a + b from unnest(h.buckets, excluded.buckets) with ordinality as both_of(a, b, place)
+                select coalesce(a, 0) + b from unnest(h.buckets, excluded.buckets) with ordinality as both_of(a, b, place)
                 order by place
             ) end
     ), last as (

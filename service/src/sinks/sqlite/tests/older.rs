@@ -1,9 +1,11 @@
 //! A file of an older version is filled in, also over kills.
 
+use super::super::export;
 use super::super::schema::STEPS;
 use super::hours::{agree, sums, view, Rows};
 use super::upkeep::{HOUR, NOVEMBER};
 use super::*;
+use crate::sinks::periods::Period;
 use rusqlite::Connection;
 
 /// As version 2 of the schema wrote it.
@@ -81,6 +83,30 @@ fn hours_of_an_older_file_are_filled_in() {
         trial.ask("select day, sum(points) from by_day where name = 'shop.revenue' group by 1"),
         "2024-02-28|6\n2024-02-29|72\n2024-03-01|12"
     );
+}
+
+/// Else a bill lacks what is not moved yet, with the status of a whole one.
+#[test]
+fn nothing_is_exported_of_a_file_whose_hours_are_being_filled_in() {
+    let mut trial = Trial::new();
+    older(&trial.path());
+    let leap_day: Period = "2024-02-29".parse().expect("a day");
+    let exported = |trial: &Trial| {
+        let mut points = 0;
+        let read = export::read(&trial.path(), &leap_day, &mut |line| {
+            points += if line.name == "shop.revenue" { line.points } else { 0 };
+            Ok(())
+        });
+        read.map(|_| points).map_err(|why| why.to_string())
+    };
+    for steps in 0..3 {
+        trial.writer.store().expect("it is brought up to date");
+        let why = exported(&trial).expect_err("hours are missing");
+        assert!(why.contains("totals.db: hours of an older version are being filled in"), "{steps}: {why}");
+        assert!(trial.step(NOVEMBER), "{steps}");
+    }
+    trial.keep_up(NOVEMBER);
+    assert_eq!(exported(&trial), Ok(72));
 }
 
 /// 2024-03-01 12:00.
