@@ -45,6 +45,9 @@ pub enum Refused {
     /// Each would be forwarded by itself.
     #[error("too many hours in a post: {parts}, at most {most}: post fewer points at a time")]
     TooManyHours { parts: usize, most: usize },
+    /// All that identifies its series, each by itself, is too long to go by number.
+    #[error("too long series in a post: what its points share counts for each: post fewer series at a time")]
+    LongSeries,
     /// A post of several stretches is in the book by half: there was no memory for the rest. Only a new start has it right.
     #[error("no memory for the rest of a post of several hours")]
     HalfTaken,
@@ -94,7 +97,7 @@ impl Refused {
             Refused::Unknown(_) | Refused::Nothing | Refused::NoSuch | Refused::NotEnded => 503,
             Refused::NotOne | Refused::InFlight | Refused::HalfTaken => 503,
             Refused::OtherWriter { .. } | Refused::OutOfOrder { .. } => 400,
-            Refused::TooManyHours { .. } => 413,
+            Refused::TooManyHours { .. } | Refused::LongSeries => 413,
             Refused::BadSender | Refused::NotJson | Refused::WrongShape => 400,
             Refused::AlreadyQuarantined | Refused::NotQuarantined => 400,
         }

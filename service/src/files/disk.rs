@@ -13,7 +13,7 @@ use super::drive::{is_lost, Drive, Lost};
 use super::Fault;
 pub use file::{Cursor, File};
 use nix::errno::Errno;
-use nix::fcntl::{fallocate, FallocateFlags};
+use nix::fcntl::{fallocate, FallocateFlags, OFlag};
 use nix::sys::uio::pwritev;
 use owned::Owned;
 use std::fs::{DirBuilder, OpenOptions};
@@ -221,7 +221,10 @@ impl Disk {
                 let is_new = !path.exists();
                 DirBuilder::new().recursive(true).mode(0o700).create(path)?;
                 if is_new {
-                    give_to_owner(&std::fs::File::open(path)?, path);
+                    // Who has the folder above may have put a link in its place.
+                    let itself = (OFlag::O_NOFOLLOW | OFlag::O_DIRECTORY).bits();
+                    let made = OpenOptions::new().read(true).custom_flags(itself).open(path)?;
+                    give_to_owner(&made, path);
                 }
                 Ok(())
             }),

@@ -23,7 +23,7 @@ use super::{lock, segment, Dead, Durability, Fault, Journal, Outbox};
 use nix::errno::Errno;
 use nix::fcntl::{flock, FlockArg};
 use std::fs::{File, OpenOptions};
-use std::io::Read;
+use std::io::{ErrorKind, Read};
 use std::os::fd::AsRawFd;
 use std::os::unix::fs::OpenOptionsExt;
 use std::path::{Path, PathBuf};
@@ -257,15 +257,19 @@ impl Folder {
 fn locked(folder: &Path) -> Result<Locks, FolderFault> {
     let path = folder.join("lock");
     let mut options = OpenOptions::new();
-    let file = options
-        .read(true)
-        .write(true)
-        .create(true)
-        .truncate(false)
-        .mode(0o600)
-        .open(&path)
-        .map_err(io_fault(&path))?;
-    super::disk::give_to_owner(&file, &path);
+    options.read(true).write(true).mode(0o600);
+    // Only what is made here is given away: a link there may lead to any file of root's.
+    let made = options.clone().create_new(true).open(&path);
+    let file = match made {
+        Ok(made) => {
+            super::disk::give_to_owner(&made, &path);
+            made
+        }
+        Err(error) if error.kind() == ErrorKind::AlreadyExists => {
+            options.open(&path).map_err(io_fault(&path))?
+        }
+        Err(error) => return Err(io_fault(&path)(error).into()),
+    };
     match take_lock(&file) {
         Ok(()) => {}
         Err(Errno::EWOULDBLOCK) => return Err(FolderFault::InUse(folder.into())),

@@ -5,11 +5,14 @@
 //! The library's own bounds on these are younger than the release that is used here, so the frames are counted where
 //! their bytes are read: what a frame is and how long, no more. What is no HTTP/2 at all is left to the library, but for
 //! what it panics at: a status in a request (`block`), and that a client goes away, which it is not told.
+//!
+//! To a frame that is wrong by itself the library queues a reset of its stream, without a bound where nobody reads them
+//! (RUSTSEC-2024-0003). So only so many frames are read before all is sent that was said to those before.
 
 use super::block::Block;
 use std::io::{Error, ErrorKind, IoSlice, Result};
 use std::pin::Pin;
-use std::task::{ready, Context, Poll};
+use std::task::{ready, Context, Poll, Waker};
 use std::time::{Duration, Instant};
 use tokio::io::{AsyncRead, AsyncWrite, ReadBuf};
 
@@ -25,6 +28,9 @@ const BLOCK_FRAMES: usize = 16;
 /// How many idle frames may come within this time.
 const IDLE_FRAMES: usize = 1000;
 const WITHIN: Duration = Duration::from_secs(10);
+
+/// How many frames are read at most, more or less, before what was said to them is sent.
+const UNANSWERED: usize = 1000;
 
 const DATA: u8 = 0;
 /// A flag of data. Some clients say by an empty frame that a message was all: one for each call.
@@ -51,6 +57,8 @@ struct Frames {
     block: Block,
     /// Whether what comes is of the block.
     is_of_block: bool,
+    /// How many came since all was sent.
+    unanswered: usize,
     idle: usize,
     since: Instant,
     /// How many pings may come for messages that came.
@@ -67,6 +75,7 @@ impl Frames {
             of_head: 0,
             block: Block::default(),
             is_of_block: false,
+            unanswered: 0,
             idle: 0,
             since: Instant::now(),
             pings: 0,
@@ -114,6 +123,7 @@ impl Frames {
         let [a, b, c, kind, flags, ..] = self.head;
         let length = u32::from_be_bytes([0, a, b, c]) as usize;
         self.passed_over = length;
+        self.unanswered += 1;
         self.is_of_block = matches!(kind, HEADERS | CONTINUATION);
         match kind {
             HEADERS => {
@@ -142,11 +152,13 @@ impl Frames {
 pub struct Guarded<S> {
     stream: S,
     frames: Frames,
+    /// Who reads again once all is sent.
+    reader: Option<Waker>,
 }
 
 impl<S> Guarded<S> {
     pub fn new(stream: S) -> Guarded<S> {
-        Guarded { stream, frames: Frames::new() }
+        Guarded { stream, frames: Frames::new(), reader: None }
     }
 }
 
@@ -156,6 +168,10 @@ impl<S: AsyncRead + Unpin> AsyncRead for Guarded<S> {
         context: &mut Context<'_>,
         into: &mut ReadBuf<'_>,
     ) -> Poll<Result<()>> {
+        if self.frames.unanswered >= UNANSWERED {
+            self.reader = Some(context.waker().clone()); // `poll_flush` wakes it
+            return Poll::Pending;
+        }
         let before = into.filled().len();
         ready!(Pin::new(&mut self.stream).poll_read(context, into))?;
         if !self.frames.may_go_on(&mut into.filled_mut()[before..]) {
@@ -183,7 +199,12 @@ impl<S: AsyncWrite + Unpin> AsyncWrite for Guarded<S> {
     }
 
     fn poll_flush(mut self: Pin<&mut Self>, context: &mut Context<'_>) -> Poll<Result<()>> {
-        Pin::new(&mut self.stream).poll_flush(context)
+        ready!(Pin::new(&mut self.stream).poll_flush(context))?;
+        self.frames.unanswered = 0;
+        if let Some(reader) = self.reader.take() {
+            reader.wake();
+        }
+        Poll::Ready(Ok(()))
     }
 
     fn poll_shutdown(mut self: Pin<&mut Self>, context: &mut Context<'_>) -> Poll<Result<()>> {
@@ -244,6 +265,34 @@ mod tests {
         let empty = vec![frame(CONTINUATION, 0); BLOCK_FRAMES];
         assert!(!may_go_on(&[vec![frame(HEADERS, 1)], empty].concat()));
         assert!(!may_go_on(&[frame(HEADERS, 16384), frame(CONTINUATION, 50_000)]));
+    }
+
+    /// Else who reads nothing has the library keep a reset for each of its frames.
+    #[tokio::test]
+    async fn no_more_is_read_before_what_was_said_is_sent() {
+        use tokio::io::{AsyncReadExt, AsyncWriteExt};
+        let short = Duration::from_millis(200);
+        let (mut client, stream) = tokio::io::duplex(1 << 20);
+        let mut guarded = Guarded::new(stream);
+        let flood = [vec![0; PREFACE], frame(HEADERS, 0).repeat(2 * UNANSWERED + 500)].concat();
+        client.write_all(&flood).await.unwrap();
+        let (mut all, mut part) = (0, [0; 100 * HEAD]);
+        for round in 1..=2 {
+            while let Ok(read) = tokio::time::timeout(short, guarded.read(&mut part)).await {
+                all += read.unwrap();
+            }
+            let most = PREFACE + round * (UNANSWERED + 100) * HEAD;
+            assert!(all >= round * UNANSWERED * HEAD && all <= most, "{round}: {all}");
+            if round == 1 {
+                guarded.flush().await.unwrap();
+            }
+        }
+        let (mut reading, mut sending) = tokio::io::split(guarded);
+        let more = tokio::spawn(async move { reading.read(&mut [0; HEAD]).await });
+        tokio::time::sleep(short).await;
+        assert!(!more.is_finished());
+        sending.flush().await.unwrap();
+        assert_eq!(tokio::time::timeout(short, more).await.unwrap().unwrap().unwrap(), HEAD);
     }
 
     const END_HEADERS: u8 = 4;

@@ -3,6 +3,7 @@
 use super::head::Head;
 use super::refusal::Refusal;
 use super::{body, Hold, Taker, MOST};
+use crate::core;
 use crate::metrics::Metrics;
 use crate::otlp::{self, Cumulative, Encoding, Original, Outcome, Part, Prepared, Reading, Rounded, Split};
 use crate::slot::{Request, Slots, Way};
@@ -215,7 +216,10 @@ impl<'r> Reader<'r> {
         let Prepared { body, rounded, is_cumulative } =
             otlp::prepare_with(self.encoding, body, reading, room)?;
         let numbered = match is_cumulative && reading.cumulative == Cumulative::On {
-            true => taker.numbered_text(&body).map_err(|_| Refusal::NoMemory)?,
+            true => taker.numbered_text(&body).map_err(|refused| match refused {
+                core::Refused::LongSeries => Refusal::TooLong,
+                _ => Refusal::NoMemory,
+            })?,
             false => None,
         };
         Ok((numbered.map_or(Request::Text(body), Request::Numbered), rounded))

@@ -7,7 +7,7 @@ use crate::otlp::Outcome;
 const UNREADABLE: &str = "unreadable";
 
 /// What an answer's text begins with, and what is to be done.
-const REASONS: [(&str, &str); 38] = [
+const REASONS: [(&str, &str); 39] = [
     (
         "out of order",
         "right for a repeat: it was taken before. If each post of a sender gets it, its clock was set back",
@@ -84,6 +84,10 @@ const REASONS: [(&str, &str); 38] = [
     (
         "too many hours in a post",
         "have the sender post fewer points at a time, or serve with --never-across day",
+    ),
+    (
+        "too long series in a post",
+        "have the sender post fewer series at a time, or drop long attributes (--drop-attribute)",
     ),
     ("the deadline has passed", "give the exporter a longer timeout"),
     (

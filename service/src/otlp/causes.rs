@@ -1,6 +1,6 @@
 //! Why points of a request are foreign, counted by cause: what a sender is told in one line, and what is counted.
 
-use super::json::{Document, Value};
+use super::json::Document;
 use super::series::{visit_with, Profile, Seen, What};
 use super::{Off, OffClock};
 use crate::runs::{self, Turned};
@@ -167,7 +167,7 @@ impl Cause {
                 _ => Cause::ExponentialHistogram,
             },
             What::Cumulative if seen.kind == "histogram" => Cause::CumulativeHistogram,
-            What::Cumulative if is_monotonic(seen.metric) => Cause::CumulativeSum,
+            What::Cumulative if seen.metric.is_monotonic => Cause::CumulativeSum,
             What::Cumulative => Cause::UpDownCounter,
             What::Double => Cause::Double,
             What::NotWhole if ["a bound", "sum"].contains(&why.field) => Cause::Fraction,
@@ -278,11 +278,4 @@ impl Cause {
             Cause::NoValue | Cause::Other => "`totxegun explain FILE` says of each point of a captured body why",
         }
     }
-}
-
-/// Whether the sum of a metric only goes up.
-pub(super) fn is_monotonic(metric: Value<'_>) -> bool {
-    let sum = metric.named(["sum"]).and_then(|[sum]| sum);
-    let found = sum.and_then(|sum| sum.named(["isMonotonic"])).and_then(|[found]| found);
-    found.and_then(Value::truth) == Some(true)
 }

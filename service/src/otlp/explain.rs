@@ -1,6 +1,6 @@
 //! What becomes of each point of a request in the book's form, in words.
 
-use super::causes::{is_monotonic, Cause};
+use super::causes::Cause;
 use super::clock::{Off, Window};
 use super::json::{Document, Value};
 use super::outside::is_of_no_series;
@@ -85,13 +85,13 @@ pub fn point_at(body: &[u8], profile: Profile, place: u64) -> Option<(Explained,
 }
 
 fn of(seen: &Seen<'_, '_>) -> Explained {
-    let name = seen.metric.named(["name"]).and_then(|[name]| name?.text());
+    let name = seen.metric.name.and_then(Value::text);
     Explained {
         metric: name.unwrap_or_default().into_owned(),
         kind: seen.kind,
         attributes: attributes(seen.point),
         foreign: seen.found.err().map(|why| match why.what {
-            What::Cumulative if seen.kind == "sum" && !is_monotonic(seen.metric) => UP_DOWN.to_string(),
+            What::Cumulative if seen.kind == "sum" && !seen.metric.is_monotonic => UP_DOWN.to_string(),
             _ => why.to_string(),
         }),
         cause: Cause::of(seen),

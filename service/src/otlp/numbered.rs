@@ -21,6 +21,7 @@ use crate::files::Points;
 use bytes::Bytes;
 use identity::{Learn, Learner};
 use levels::{Levels, LookupOnly};
+use std::cell::Cell;
 use std::sync::atomic::{AtomicBool, Ordering::Relaxed};
 use std::sync::{Arc, PoisonError, RwLock};
 use walk::{Find, Stop, Walk};
@@ -109,8 +110,10 @@ impl Series {
         text::read(&self.learner(&self.reading, &learn), text)
     }
 
+    /// For one request.
     fn learner<'s>(&'s self, reading: &'s Reading, learn: &'s Learn<'s>) -> Learner<'s> {
-        Learner { levels: &self.levels, reading, is_full: &self.is_full, learn }
+        let left = Cell::new(identity::LEARNT_AT_ONCE);
+        Learner { levels: &self.levels, reading, is_full: &self.is_full, learn, left }
     }
 }
 

@@ -1,7 +1,7 @@
 //! How much each sender may have.
 
 use crate::identity::Tokens;
-use crate::otlp::series::{posted_with, Profile, SeriesKey};
+use crate::otlp::series::{all_are, Profile, SeriesKey};
 use crate::reloaded::Reloaded;
 use bytes::Bytes;
 use std::collections::HashMap;
@@ -60,7 +60,6 @@ impl Rules {
 
     /// Whether a post has no series but those of an earlier flush.
     pub fn knows_all(&self, text: Option<Bytes>) -> bool {
-        let read = text.and_then(|text| posted_with(&text, self.profile));
-        read.is_some_and(|read| read.series.keys().all(|key| self.owned.has(key)))
+        text.is_some_and(|text| all_are(&text, self.profile, |key| self.owned.has(key)))
     }
 }

@@ -29,6 +29,9 @@ struct Limits {
 const LIMITS: Limits = Limits { bytes: 1 << 10, kept: Duration::from_secs(60) };
 /// All series take no more than this part of what the book may have, since the library takes about as much for them.
 const PART_OF_ALL: u64 = 8;
+/// Numbers of one post alone take no more than this: each of its series has all that its points share, some kilobytes for a point
+/// of some bytes.
+const MOST_OF_ONE: usize = 256 << 20;
 
 /// What is posted. It is moved as often as it is boxed otherwise.
 #[allow(clippy::large_enum_variant)]
@@ -83,6 +86,8 @@ pub(super) struct Numbers {
     /// None until there is a request, and where there is no memory for them.
     now: RwLock<Option<Arc<Generation>>>,
     limits: Limits,
+    /// What those of one post alone may take.
+    most_of_one: usize,
     /// Of numbers that began with a text, which needs none. All others are of the process' way of reading, or of its slots'.
     of_texts: Arc<Reading>,
 }
@@ -216,6 +221,14 @@ impl Generation {
         !self.is_full() && self.names.count() <= PLAIN_SERIES
     }
 
+    /// Why a series has no number in those of one post.
+    fn refused(&self) -> Refused {
+        match self.series.is_full() {
+            true => Refused::LongSeries,
+            false => Refused::NoMemory,
+        }
+    }
+
     fn is_over(&self, limits: Limits) -> bool {
         self.is_full() && self.began.elapsed() >= limits.kept
     }
@@ -248,7 +261,7 @@ impl Generation {
 
 impl Default for Numbers {
     fn default() -> Numbers {
-        Numbers { now: RwLock::default(), limits: LIMITS, of_texts: Arc::default() }
+        Numbers { now: RwLock::default(), limits: LIMITS, most_of_one: MOST_OF_ONE, of_texts: Arc::default() }
     }
 }
 
@@ -321,9 +334,10 @@ impl Numbers {
         if now.is_some_and(|now| now.number(read)) || !read.is_of_several() {
             return Ok(());
         }
-        match read.number(&Names::new()?, |_| true) {
+        let own = Generation::with_room(self.most_of_one, &self.of_texts)?;
+        match own.number(read) {
             true => Ok(()),
-            false => Err(Refused::NoMemory),
+            false => Err(own.refused()),
         }
     }
 
@@ -336,8 +350,8 @@ impl Numbers {
             }
         }
         // Numbers for this one alone: there is no room for more.
-        let own = Generation::with_room(usize::MAX, &self.of_texts)?;
-        let read = own.read_text(text).map_err(|NotNamed| Refused::NoMemory)?;
+        let own = Generation::with_room(self.most_of_one, &self.of_texts)?;
+        let read = own.read_text(text).map_err(|NotNamed| own.refused())?;
         Ok(read.map(|numbered| own.by_number(numbered, source())))
     }
 }

@@ -71,8 +71,7 @@ impl FinerUnits {
             return;
         }
         let _ = visit(&document, |seen| {
-            if let (Ok(_), Some([Some(name), Some(unit)])) = (seen.found, seen.metric.named(["name", "unit"]))
-            {
+            if let (Ok(_), Some(name), Some(unit)) = (seen.found, seen.metric.name, seen.metric.unit) {
                 self.know_unit(name, unit);
             }
         });

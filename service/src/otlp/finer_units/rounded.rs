@@ -129,7 +129,7 @@ fn point(mark: Mark<'_>, seen: &Seen<'_, '_>, rules: &Rules<'_>) -> RoundedPoint
 }
 
 fn series_shown(seen: &Seen<'_, '_>, rule: Arc<str>, resource: Arc<str>) -> ShownSeries {
-    let name = seen.metric.named(["name"]).and_then(|[name]| name?.text());
+    let name = seen.metric.name.and_then(Value::text);
     ShownSeries {
         rule,
         series: hash(seen.key),

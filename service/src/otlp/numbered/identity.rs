@@ -9,11 +9,16 @@ use crate::otlp::output::Written;
 use crate::otlp::wire::{Fields, Payload};
 use crate::otlp::{Cumulative, Reading};
 use bytes::Bytes;
+use std::cell::Cell;
 use std::sync::atomic::{AtomicBool, Ordering::Relaxed};
 use std::sync::{Arc, PoisonError, RwLock, RwLockReadGuard};
 
 /// Names a series by a request of one point.
 pub type Learn<'s> = dyn Fn(Bytes) -> Option<Learnt> + 's;
+
+/// So many bytes a request has written at most, of what is not known: a metric of some bytes is written with all that is above it.
+/// Where it has more it is read otherwise, and the next one learns on from there.
+pub const LEARNT_AT_ONCE: usize = 8 << 20;
 
 /// Who learns what is not known. No lock is held while something is read or named.
 pub struct Learner<'s> {
@@ -21,6 +26,8 @@ pub struct Learner<'s> {
     pub reading: &'s Reading,
     pub is_full: &'s AtomicBool,
     pub learn: &'s Learn<'s>,
+    /// How much it may still have written.
+    pub left: Cell<usize>,
 }
 
 impl Find for Learner<'_> {
@@ -130,6 +137,7 @@ impl Learner<'_> {
 
     /// A request as it is written for the book.
     fn written(&self, request: &[u8]) -> Result<Written, Stop> {
+        self.left.set(self.left.get().checked_sub(request.len()).ok_or(Stop::Slow)?);
         from_protobuf::written_plainly(request, self.reading).map_err(|_| Stop::Slow)
     }
 }

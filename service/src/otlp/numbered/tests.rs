@@ -205,6 +205,23 @@ fn there_is_a_bound() {
     assert!(read(b'a') && !read(b'z'));
 }
 
+/// Else a post of 4 MiB, of metrics of some bytes under a resource of 16 KiB, took a minute.
+#[test]
+fn what_a_request_may_learn_has_a_bound_and_the_next_one_goes_on() {
+    let put = |number: u32, inner: &[u8]| {
+        let mut out = Vec::new();
+        crate::otlp::outside::protobuf::put(&mut out, number, inner);
+        out
+    };
+    let resource = put(1, &put(1, b"").repeat(8 << 10)); // attributes without a key
+    let metrics: Vec<u8> =
+        (0..1200).flat_map(|number| put(2, &put(1, format!("{number}").as_bytes()))).collect();
+    let body = put(1, &[resource, put(2, &metrics)].concat());
+    let book = Book::new(4 << 20);
+    let reads: Vec<bool> = (0..4).map(|_| book.read(&body).is_some()).collect();
+    assert_eq!((reads, book.series.is_full()), (vec![false, false, true, true], false));
+}
+
 /// Else it is written once more for each metric below it: a post of 4 MiB took minutes.
 #[test]
 fn what_is_long_above_points_is_read_otherwise() {

@@ -11,7 +11,7 @@ use std::sync::Arc;
 
 /// A point where it is in its body.
 pub struct Seen<'s, 'd> {
-    pub metric: Value<'d>,
+    pub metric: &'s SeenMetric<'d>,
     /// The field of the metric's data.
     pub kind: &'static str,
     pub point: Value<'d>,
@@ -19,6 +19,14 @@ pub struct Seen<'s, 'd> {
     pub key: &'s str,
     pub words: &'s [u64],
     pub found: Result<Temporality, Why<'d>>,
+}
+
+/// What is looked for in a metric, once: it may have as many members as points.
+pub struct SeenMetric<'d> {
+    pub name: Option<Value<'d>>,
+    pub unit: Option<Value<'d>>,
+    /// Whether its sum only goes up.
+    pub is_monotonic: bool,
 }
 
 /// Which points are of the profile.
@@ -52,6 +60,22 @@ pub fn posted_with(body: &[u8], profile: Profile) -> Option<Posted> {
         Ok(_) => posted.add(seen.key, seen.end()),
     })?;
     Some(posted)
+}
+
+/// Whether all series that a body has points of are such, looked at until one is not; false where the book refuses it whole. No
+/// key is kept: together they may be a thousand times as long as the body.
+pub fn all_are(body: &[u8], profile: Profile, mut is_such: impl FnMut(&SeriesKey) -> bool) -> bool {
+    let Ok(document) = Document::parse(body) else {
+        return false;
+    };
+    let (mut all, mut last) = (true, SeriesKey("".into()));
+    let whole = visit_with(&document, profile, |seen| {
+        if all && seen.found.is_ok() && *last.0 != *seen.key {
+            last = SeriesKey(seen.key.into());
+            all = is_such(&last);
+        }
+    });
+    all && whole.is_some()
 }
 
 /// The series of a request of one point, by which a number has its name.
@@ -195,6 +219,8 @@ impl<'d, F: FnMut(Seen<'_, 'd>)> Walk<F> {
         let others =
             [part("gauge", gauge)?, part("exponentialHistogram", exponential)?, part("summary", summary)?];
         let (sum, histogram) = (part("sum", sum)?, part("histogram", histogram)?);
+        let is_monotonic = sum.as_ref().is_some_and(|sum| is_monotonic(sum.whole));
+        let value = &SeenMetric { name, unit, is_monotonic };
         let there = others.iter().chain([&sum, &histogram]).flatten().count();
         let known = match there {
             0 | 1 => known,
@@ -223,7 +249,7 @@ impl<'d, F: FnMut(Seen<'_, 'd>)> Walk<F> {
     /// The points of a sum or a histogram; `kind` writes what all of them share, `point` what each has.
     fn points(
         &mut self,
-        metric: Value<'d>,
+        metric: &SeenMetric<'d>,
         part: Part<'d>,
         known: ForeignCheck<'d>,
         kind: fn(&mut Put, Value<'d>) -> ForeignCheck<'d>,
@@ -249,7 +275,7 @@ impl<'d, F: FnMut(Seen<'_, 'd>)> Walk<F> {
 
     fn show(
         &mut self,
-        metric: Value<'d>,
+        metric: &SeenMetric<'d>,
         kind: &'static str,
         point: Value<'d>,
         found: Result<Temporality, Why<'d>>,
@@ -268,6 +294,11 @@ fn part<'d>(kind: &'static str, found: Option<Value<'d>>) -> Option<Option<Part<
     let [points] = whole.named(["dataPoints"])?;
     drop(objects(points)?);
     Some(Some(Part { kind, whole, points }))
+}
+
+fn is_monotonic(sum: Value<'_>) -> bool {
+    let [found] = sum.named(["isMonotonic"]).unwrap_or_default();
+    found.and_then(Value::truth) == Some(true)
 }
 
 fn in_words(kind: &'static str) -> &'static str {

@@ -52,6 +52,20 @@ fn causes_add_up_to_what_was_not_taken() {
     assert_eq!(Causes::of(b"no JSON", Profile::Deltas, 2).to_string(), "2 points of another form");
 }
 
+/// Else a post of 4 MiB, half of it members that say nothing, took an hour.
+#[test]
+fn what_a_metric_has_beside_its_points_is_looked_through_once() {
+    let (nothing, points) = (r#""x":0,"#.repeat(100_000), vec!["{}"; 50_000].join(","));
+    let sum = |more: &str| {
+        format!(r#""sum":{{{more}"aggregationTemporality":2,"isMonotonic":true,"dataPoints":[{points}]}}"#)
+    };
+    let begun = std::time::Instant::now();
+    for metric in [format!("{{{nothing}{}}}", sum("")), format!("{{{}}}", sum(&nothing))] {
+        assert_eq!(said(&metric, 50_000), "50000 cumulative sums");
+    }
+    assert!(begun.elapsed().as_secs() < 20, "{:?}", begun.elapsed());
+}
+
 /// Where deltas are made of cumulative points, these are no cause by themselves, unless the book was given none of them.
 #[test]
 fn a_cumulative_point_that_is_not_taken_has_its_own_cause() {

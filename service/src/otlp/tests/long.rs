@@ -6,7 +6,7 @@ use super::messages::{
 };
 use super::{in_json, prepared};
 use crate::otlp::output::LONGEST_LIST;
-use crate::otlp::series::posted;
+use crate::otlp::series::{all_are, posted};
 use crate::otlp::{explained, Clock, Encoding, Profile};
 use prost::Message;
 
@@ -83,6 +83,29 @@ fn a_list_that_is_too_long_makes_foreign_what_it_identifies() {
                 assert_eq!(why, (expected > 0).then_some(wanted));
             }
         }
+    }
+}
+
+/// Who is over its share posts as often as it likes.
+#[test]
+fn a_body_is_looked_through_up_to_a_series_that_is_not_known() {
+    let mut of_each = request(Vec::new(), Vec::new(), Vec::new());
+    let scope = &mut of_each.resource_metrics[0].scope_metrics[0];
+    let Some(Data::Sum(sum)) = &mut scope.metrics[0].data else { panic!() };
+    for (number, point) in sum.data_points.iter_mut().enumerate() {
+        point.attributes = vec![attribute(format!("k{number:03}"), text(1))];
+    }
+    for body in bodies(&of_each) {
+        let asked = |known: usize| {
+            let mut asked = 0;
+            let all = all_are(&body, Profile::Deltas, |_| {
+                asked += 1;
+                asked <= known
+            });
+            (all, asked)
+        };
+        assert_eq!((asked(50), asked(7), asked(0)), ((true, 50), (false, 8), (false, 1)));
+        assert!(!all_are(b"no JSON", Profile::Deltas, |_| true));
     }
 }
 

@@ -227,6 +227,41 @@ fn a_text_has_numbers_also_where_there_is_no_room_for_them() {
     assert_ne!(generation(&one), generation(&other));
 }
 
+/// Else a post of 4 MiB would have gigabytes of them: each of its series has all that its points share.
+#[test]
+fn numbers_of_one_post_alone_have_a_bound_too() {
+    const HOUR: u64 = 3_600_000_000_000;
+    let limits = Limits { bytes: 0, kept: Duration::from_secs(60) };
+    let numbers = Numbers { limits, most_of_one: 100 << 10, ..Numbers::default() };
+    let core = Core::new(1).unwrap();
+    let text = |series: u64, apart: u64| {
+        let point = |number: u64| {
+            let end = 5 + apart * (number % 2);
+            let attributes = format!(r#"[{{"key":"{number}","value":{{"intValue":"1"}}}}]"#);
+            format!(
+                r#"{{"asInt":"5","attributes":{attributes},"startTimeUnixNano":"{}","timeUnixNano":"{end}"}}"#,
+                end - 1
+            )
+        };
+        let points = (0..series).map(point).collect::<Vec<String>>().join(",");
+        let (name, sum) =
+            ("n".repeat(4000), format!(r#"{{"aggregationTemporality":1,"dataPoints":[{points}]}}"#));
+        Bytes::from(format!(
+            r#"{{"resourceMetrics":[{{"scopeMetrics":[{{"metrics":[{{"name":"{name}","sum":{sum}}}]}}]}}]}}"#
+        ))
+    };
+    let by_number = |series| {
+        let read = numbers.read_text(&core, &text(series, 0));
+        read.map(|by| by.map_or(0, |by| by.points.count()))
+    };
+    assert_eq!((by_number(5), by_number(50)), (Ok(5), Err(Refused::LongSeries)));
+    let of_two_hours = |series| {
+        let request = text(series, HOUR).into();
+        read(&core, &numbers, "A", request).map(|read| read.parts())
+    };
+    assert_eq!((of_two_hours(10), of_two_hours(50)), (Ok(2), Err(Refused::LongSeries)));
+}
+
 /// A post that takes more than it asks room for uses up what the disk keeps back, where many come at once.
 #[test]
 fn a_post_asks_for_the_room_that_it_takes_in_the_journal() {

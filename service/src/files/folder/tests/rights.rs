@@ -60,6 +60,23 @@ fn what_root_makes_in_a_folder_of_another_user_is_that_user_s() {
     }
 }
 
+/// Else who has the folder has root give it any file.
+#[test]
+fn what_a_link_in_place_of_the_lock_leads_to_is_not_given_away() {
+    use std::os::unix::fs::{chown, symlink};
+    const USER: u32 = 65534;
+    let (place, elsewhere) = (tempfile::tempdir().unwrap(), tempfile::tempdir().unwrap());
+    let of_root = elsewhere.path().join("shadow");
+    std::fs::write(&of_root, "root").unwrap();
+    if chown(place.path(), Some(USER), Some(USER)).is_err() {
+        return eprintln!("skipped: no right to give files away");
+    }
+    let owner = std::fs::metadata(&of_root).unwrap().uid();
+    symlink(&of_root, place.path().join("lock")).unwrap();
+    let _ = open(place.path());
+    assert_eq!(std::fs::metadata(&of_root).unwrap().uid(), owner);
+}
+
 #[test]
 fn a_folder_without_rights_is_refused_by_name() {
     use std::os::unix::process::CommandExt;
