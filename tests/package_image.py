@@ -32,6 +32,7 @@ LISTEN = 4318
 NOBODY = 65534
 TIME_TO_END = 10
 PROGRAM = "/usr/bin/totxegun"
+MADE_OF = [f"/usr/share/doc/totxegun/{name}" for name in ("LICENCES.txt", "totxegun.spdx.json")]
 LIBRARY = re.compile(r"/(usr/)?lib(64)?/(x86_64-linux-gnu/)?[\w.+-]+\.so\.\d+$")
 
 # What a runtime gives: processes, and a few devices.
@@ -71,8 +72,9 @@ class Container:
         self.pid: str = None
 
     def start(self) -> bool:
-        # There is no env inside: variables are set before the root is changed.
-        inner = ["env", "-i", *self.settings["Env"], "/usr/sbin/chroot", f"--userspec={self.settings['User']}", self.root,
+        # There is no env inside: variables are set before the root is changed. What the senders post is of 1970.
+        variables = [*self.settings["Env"], "TOTXEGUN_KEEP_SPANS=forever"]
+        inner = ["env", "-i", *variables, "/usr/sbin/chroot", f"--userspec={self.settings['User']}", self.root,
                  *self.settings["Entrypoint"], *self.settings["Cmd"]]
         script = MOUNTS.format(root=self.root)
         words = ["setpriv", "--pdeathsig", "KILL", "unshare", "--pid", "--mount", "--uts", "--ipc", "--fork", "--kill-child",
@@ -103,6 +105,11 @@ class Container:
             self.end()
             return None, time.monotonic() - begun
 
+    def is_drained(self) -> bool:
+        """Whether the sink has all that was flushed."""
+        status, text = self.said("status", "--json")
+        return status == 0 and all(slot["waiting"] == 0 for slot in json.loads(text)["slots"])
+
     def end(self) -> None:
         if self.process and self.process.poll() is None:
             self.process.kill()
@@ -112,7 +119,7 @@ class Container:
 def look_at_files(checks: Checks, root: str, settings: dict[str, str]) -> None:
     files = {f"{at}/{name}"[len(root):] for at, _, names in os.walk(root) for name in names}
     more = sorted(path for path in files if not LIBRARY.match(path))
-    checks.same("it has the program, and nothing else but what it loads", [PROGRAM], more)
+    checks.same("it has the program, what all is made of, and nothing else but what it loads", [PROGRAM, *MADE_OF], more)
     checks.same("the data's folder is its user's", NOBODY, os.stat(f"{root}/var/lib/totxegun").st_uid)
     wanted = {"Entrypoint": [PROGRAM], "Cmd": ["serve"], "User": f"{NOBODY}:{NOBODY}", "StopSignal": "SIGTERM",
               "ExposedPorts": {"4318/tcp": {}}, "Volumes": {"/var/lib/totxegun": {}}}
@@ -139,7 +146,7 @@ def run(checks: Checks, container: Container) -> None:
     checks.true("what was taken is in the outbox then", "all that was taken is in the outbox" in log, log[-1500:])
     print(f"note: a stop took {seconds:.1f} s", flush=True)
     checks.true("it starts again", container.start(), text_there(container.log)[-2000:])
-    checks.true("and delivers", wait_until(lambda: '"waiting":0' in container.said("status", "--json")[1].replace(" ", "")), "")
+    checks.true("and delivers", wait_until(container.is_drained), container.said("status", "--json"))
     found: dict[str, Value] = {}
     add_points(found, SqliteSink(f"{container.root}/var/lib/totxegun/metrics.db").points())
     wanted = told_to_all(senders)

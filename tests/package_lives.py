@@ -37,6 +37,8 @@ SENDERS = 4
 EARLIER = "0.0.1"
 SETTINGS = "/etc/totxegun/totxegun.env"
 FORGET = "9d"
+# What the senders post is of 1970.
+WRITTEN = f"TOTXEGUN_FORGET_SERIES={FORGET}\nTOTXEGUN_KEEP_SPANS=forever\n"
 # Where a purge may leave something: what was taken, the manager's own books, and what systemd notes of a unit.
 MAY_STAY = re.compile(r"/var/lib/(private/totxegun|totxegun$|dpkg/|systemd/|private$)|/var/(log|cache)/|/run/|/tmp/|/proc|/sys|/dev"
                       r"|/etc/(machine-id|hostname|\.pwd\.lock|(passwd|group|shadow|gshadow)-)")
@@ -202,14 +204,14 @@ def write_settings(debian: Debian) -> None:
     """Before the first start, as docs/OPERATING.md has it."""
     os.makedirs(f"{debian.root}/etc/totxegun")
     with open(f"{debian.root}{SETTINGS}", "w", encoding="utf-8") as file:
-        file.write(f"TOTXEGUN_FORGET_SERIES={FORGET}\n")
+        file.write(WRITTEN)
     os.chmod(f"{debian.root}{SETTINGS}", 0o644)
 
 
 def look_at_settings(checks: Checks, debian: Debian, what: str) -> None:
     mode = os.stat(f"{debian.root}{SETTINGS}").st_mode & 0o777
     checks.same(f"{what}: the settings that were written are there, and nobody else may read them",
-                (f"TOTXEGUN_FORGET_SERIES={FORGET}\n", 0o600), (text_there(f"{debian.root}{SETTINGS}"), mode))
+                (WRITTEN, 0o600), (text_there(f"{debian.root}{SETTINGS}"), mode))
     pid = debian.said("systemctl", "show", "-P", "MainPID", "totxegun")[1].strip()
     status, said = debian.said("grep", "-z", "TOTXEGUN_FORGET_SERIES", f"/proc/{pid}/environ")
     checks.true(f"{what}: the service has them", FORGET in said, said)
