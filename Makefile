@@ -80,7 +80,7 @@ deb: ## a Debian package of what make build has built
 image: ## an image for containers of what make build has built
 	@tools/image
 
-# As root, after make deb and make image; Debian's base is fetched once, into out/debian.
+# As root, after make deb and make image; Debian's base is fetched once, into /var/tmp.
 life: ## tries package and image: installed, upgraded under load, killed, purged, stopped
 	@tests/package_lives.py out/totxegun_$$(cat VERSION)_amd64.deb
 	@tests/package_image.py out/totxegun_$$(cat VERSION)_image.tar

@@ -3,7 +3,7 @@
 
     tests/package_lives.py DEB
 
-Debian's base is fetched once by debootstrap, into out/debian. A copy of it is booted by its own systemd in namespaces of
+Debian's base is fetched once by debootstrap, into /var/tmp/totxegun-debian. A copy of it is booted by its own systemd in namespaces of
 its own, without the toolchain and without a network but loopback. There settings are written, which anybody may read, and
 the package is installed as of an earlier version: it has these settings, which nobody else may read then. It serves as the
 README's first use shows, and is replaced by DEB while senders post; the program is killed meanwhile. At the end the sink
@@ -28,7 +28,7 @@ from testing.checks import Checks
 from testing.service import OUT_OF_ORDER, Sender, SqliteSink, Value, add_points, ask, differences, told_to_all, wait_until
 from tooling.files import text_there
 
-BASE = f"{ROOT}/out/debian"
+BASE = "/var/tmp/totxegun-debian"  # the prover takes no folder here that has links
 MIRROR = "http://deb.debian.org/debian"
 TRIES = 3  # a mirror may fail at first
 PACKAGES = "systemd,systemd-sysv,dbus,libsqlite3-0,libtcmalloc-minimal4,ca-certificates"
