@@ -10,7 +10,7 @@
 
 // What may be missing is handled; in a test these two are the check. `print!` and `eprint!` panic where nobody reads: see
 // `command` and `log`.
-// The one file that may is `core/book`.
+// What may is `core/book` alone.
 #![deny(unsafe_code)]
 #![cfg_attr(
     not(test),

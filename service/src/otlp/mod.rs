@@ -305,6 +305,12 @@ pub(crate) fn plain_posts_of_test(seed: u64, many: usize) -> Vec<Vec<u8>> {
     tests::plain_posts(seed, many)
 }
 
+/// Sums in protobuf, each of its name, its start, its end and its value.
+#[cfg(test)]
+pub(crate) fn sums_of_test(sums: &[(&str, u64, u64, i64)]) -> Bytes {
+    tests::sums(sums)
+}
+
 /// Requests drawn at random in the book's form, each as it comes of protobuf and of JSON.
 #[cfg(test)]
 pub(crate) fn requests_of_test(many: usize) -> Vec<[Bytes; 2]> {

@@ -18,7 +18,7 @@ mod refused;
 mod speed;
 
 pub(super) use mapping::Spelling;
-pub(super) use posts::{plain_posts, posts};
+pub(super) use posts::{plain_posts, posts, sums};
 pub(super) use random::{requests, Random};
 
 fn prepared(encoding: Encoding, body: impl Into<Bytes>) -> Result<Bytes, String> {
@@ -43,7 +43,7 @@ fn sum(point: &str) -> String {
 }
 
 /// A field of protobuf that has a length.
-fn bytes(number: u32, inner: &[u8]) -> Vec<u8> {
+pub(super) fn bytes(number: u32, inner: &[u8]) -> Vec<u8> {
     let mut out = varint(number << 3 | 2);
     out.extend(varint(inner.len() as u64));
     out.extend(inner);

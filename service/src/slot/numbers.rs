@@ -53,7 +53,8 @@ pub struct Protobuf {
 
 /// A reader has two places for a series among twice as many: of more it would read many anew each time.
 const PLAIN_SERIES: u64 = 16_384;
-/// How many times its length a plain body takes once its points have numbers too: one of 31 bytes has four words and an end.
+/// How many times its length a plain body takes once its points have numbers too, in lists with room for twice as many: one of
+/// 31 bytes has four words and an end.
 const WITH_NUMBERS: usize = 4;
 
 /// Points that have numbers, and by which names.

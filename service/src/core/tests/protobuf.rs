@@ -1,23 +1,12 @@
 //! Posts in protobuf that the library reads as they come.
 
 use super::*;
-use crate::otlp::protobuf_of_forwarded;
+use crate::otlp::sums_of_test;
 
 /// A request with a point of each of these series.
 fn body(names: &[String], start: u64, value: i64) -> Bytes {
-    let end = start + 10;
-    let metric = |name: &String| {
-        format!(
-            r#"{{"name":"{name}","unit":"","sum":{{"aggregationTemporality":1,"isMonotonic":false,"dataPoints":[{{"asInt":"{value}","attributes":[],"startTimeUnixNano":"{start}","timeUnixNano":"{end}"}}]}}}}"#
-        )
-    };
-    let metrics: Vec<String> = names.iter().map(metric).collect();
-    let scope = r#"{"attributes":[],"name":"s","version":"1"}"#;
-    let json = format!(
-        r#"{{"resourceMetrics":[{{"resource":{{"attributes":[]}},"scopeMetrics":[{{"metrics":[{}],"scope":{scope}}}]}}]}}"#,
-        metrics.join(",")
-    );
-    protobuf_of_forwarded(json.as_bytes()).unwrap().into()
+    let sums: Vec<_> = names.iter().map(|name| (&**name, start, start + 10, value)).collect();
+    sums_of_test(&sums)
 }
 
 fn read(core: &Arc<Core>, names: &Arc<Names>, sender: &str, body: Bytes) -> Option<Read> {

@@ -28,6 +28,20 @@ async fn until_taken(run: &Run, sender: &str, names: &[String], start: u64) {
     panic!("it was never taken");
 }
 
+/// A later run, in which all that was posted is old enough to be forgotten. B's point stays in the journal, in no group: so its
+/// series is not.
+async fn with_old_and_held(run: Run, folder: impl Fn() -> Folder) -> Run {
+    assert_eq!(post(&run, "B", &["held".into()], 10).await, Outcome::taken(0));
+    run.end().await;
+    tokio::time::sleep(Duration::from_millis(4_100)).await;
+    let forget = Some(Duration::from_secs(3));
+    let run = Run::begin_in(folder(), Settings { forget, ..settings() }).await;
+    assert_eq!(post(&run, "B", &["held".into()], 20).await, Outcome::taken(0));
+    let quarantined = run.orders.order(Order::Quarantine("B".into())).await;
+    assert_eq!(quarantined, Some(Done::Answered(Outcome::taken(0))));
+    run
+}
+
 #[tokio::test(flavor = "multi_thread")]
 async fn series_are_forgotten_where_there_are_too_many() {
     let place = tempfile::tempdir().unwrap();
@@ -36,15 +50,7 @@ async fn series_are_forgotten_where_there_are_too_many() {
     for part in names(0..MOST - 1).chunks(1_000) {
         assert_eq!(post(&run, "A", part, 10).await, Outcome::taken(0));
     }
-    assert_eq!(post(&run, "B", &["held".into()], 10).await, Outcome::taken(0));
-    run.end().await;
-    tokio::time::sleep(Duration::from_millis(4_100)).await;
-    let forget = Some(Duration::from_secs(3));
-    let run = Run::begin_in(folder(), Settings { forget, ..settings() }).await;
-    // B's point stays in the journal, in no group: so its series is not forgotten.
-    assert_eq!(post(&run, "B", &["held".into()], 20).await, Outcome::taken(0));
-    let quarantined = run.orders.order(Order::Quarantine("B".into())).await;
-    assert_eq!(quarantined, Some(Done::Answered(Outcome::taken(0))));
+    let run = with_old_and_held(run, folder).await;
     // What was seen meanwhile stays.
     let (used, new) = (names(7..8), names(MOST..MOST + 1));
     assert_eq!(post(&run, "A", &used, 20).await, Outcome::taken(0));
@@ -87,14 +93,7 @@ async fn no_fresh_book_is_made_where_only_what_is_kept_back_is_old() {
     let place = tempfile::tempdir().unwrap();
     let folder = || Folder::open(&place.path().join("data"), Durability::Process).unwrap();
     let run = Run::begin_in(folder(), settings()).await;
-    assert_eq!(post(&run, "B", &["held".into()], 10).await, Outcome::taken(0));
-    run.end().await;
-    tokio::time::sleep(Duration::from_millis(4_100)).await;
-    let forget = Some(Duration::from_secs(3));
-    let run = Run::begin_in(folder(), Settings { forget, ..settings() }).await;
-    assert_eq!(post(&run, "B", &["held".into()], 20).await, Outcome::taken(0));
-    let quarantined = run.orders.order(Order::Quarantine("B".into())).await;
-    assert_eq!(quarantined, Some(Done::Answered(Outcome::taken(0))));
+    let run = with_old_and_held(run, folder).await;
     let pauses = || run.slot.metrics.checkpoint_pause_seconds.get_sample_count();
     let before = pauses();
     run.slot.crowded.notify_one();

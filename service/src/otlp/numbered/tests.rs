@@ -1,6 +1,7 @@
 //! What is read by number: nearly all that encoders write. That it says the same as its JSON is tried over the book.
 
 use super::*;
+use crate::otlp::tests::bytes;
 use std::cell::RefCell;
 
 fn field(number: u8, inner: &[u8]) -> Vec<u8> {
@@ -208,15 +209,10 @@ fn there_is_a_bound() {
 /// Else a post of 4 MiB, of metrics of some bytes under a resource of 16 KiB, took a minute.
 #[test]
 fn what_a_request_may_learn_has_a_bound_and_the_next_one_goes_on() {
-    let put = |number: u32, inner: &[u8]| {
-        let mut out = Vec::new();
-        crate::otlp::outside::protobuf::put(&mut out, number, inner);
-        out
-    };
-    let resource = put(1, &put(1, b"").repeat(8 << 10)); // attributes without a key
+    let resource = bytes(1, &bytes(1, b"").repeat(8 << 10)); // attributes without a key
     let metrics: Vec<u8> =
-        (0..1200).flat_map(|number| put(2, &put(1, format!("{number}").as_bytes()))).collect();
-    let body = put(1, &[resource, put(2, &metrics)].concat());
+        (0..1200).flat_map(|number| bytes(2, &bytes(1, format!("{number}").as_bytes()))).collect();
+    let body = bytes(1, &[resource, bytes(2, &metrics)].concat());
     let book = Book::new(4 << 20);
     let reads: Vec<bool> = (0..4).map(|_| book.read(&body).is_some()).collect();
     assert_eq!((reads, book.series.is_full()), (vec![false, false, true, true], false));
@@ -225,20 +221,15 @@ fn what_a_request_may_learn_has_a_bound_and_the_next_one_goes_on() {
 /// Else it is written once more for each metric below it: a post of 4 MiB took minutes.
 #[test]
 fn what_is_long_above_points_is_read_otherwise() {
-    let put = |number: u32, inner: &[u8]| {
-        let mut out = Vec::new();
-        crate::otlp::outside::protobuf::put(&mut out, number, inner);
-        out
-    };
     let point = [fixed(2, 10), fixed(3, 20), fixed(6, 5)].concat();
     let body = |resource: &[u8], scope: &[u8], about: &[u8]| {
-        let sum = put(7, &[put(1, &point), DELTA.to_vec()].concat());
-        let metric = put(2, &[put(1, b"m"), put(2, about), sum].concat());
-        put(1, &[put(1, resource), put(2, &[put(1, scope), metric].concat())].concat())
+        let sum = bytes(7, &[bytes(1, &point), DELTA.to_vec()].concat());
+        let metric = bytes(2, &[bytes(1, b"m"), bytes(2, about), sum].concat());
+        bytes(1, &[bytes(1, resource), bytes(2, &[bytes(1, scope), metric].concat())].concat())
     };
     let book = Book::new(1 << 20);
     let long = vec![b'x'; crate::otlp::output::LONGEST_LIST + 1];
-    let attribute = |number| put(number, &[put(1, b"k"), put(2, &put(1, &long))].concat());
+    let attribute = |number| bytes(number, &[bytes(1, b"k"), bytes(2, &bytes(1, &long))].concat());
     assert!(book.read(&body(b"", b"", b"")).is_some());
     for body in [body(&attribute(1), b"", b""), body(b"", &attribute(3), b""), body(b"", b"", &long)] {
         assert_eq!(book.read(&body), None);

@@ -1,6 +1,7 @@
 //! What is handed on, against messages that are put together another way.
 
 use super::*;
+use crate::otlp::tests::bytes;
 use crate::otlp::{prepare, Reading};
 use serde_json::{json, Value};
 
@@ -124,17 +125,12 @@ fn random_requests_have_their_points() {
 /// Else one post of a few megabytes holds a thread for hours: a message of protobuf may come in parts.
 #[test]
 fn a_metric_in_very_many_parts_takes_time_by_its_bytes() {
-    let put = |number: u32, bytes: &[u8]| {
-        let mut out = Vec::new();
-        super::protobuf::put(&mut out, number, bytes);
-        out
-    };
     let request = |gauges: &[u8]| {
-        let metric = put(2, &[&put(1, b"m")[..], gauges].concat());
-        put(1, &put(2, &metric))
+        let metric = bytes(2, &[&bytes(1, b"m")[..], gauges].concat());
+        bytes(1, &bytes(2, &metric))
     };
-    let gauge = put(5, &put(1, b""));
-    let body = Bytes::from(request(&[put(5, b"").repeat(200_000), gauge.clone()].concat()));
+    let gauge = bytes(5, &bytes(1, b""));
+    let body = Bytes::from(request(&[bytes(5, b"").repeat(200_000), gauge.clone()].concat()));
     let began = std::time::Instant::now();
     let original = Original { encoding: Encoding::Protobuf, body };
     let (outside, causes) = original.outside(1, Profile::Deltas, || None);

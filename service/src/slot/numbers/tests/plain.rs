@@ -1,7 +1,7 @@
 //! Bodies in protobuf that are read as they came, beside their JSON, and beside what a start reads of the journal.
 
 use super::*;
-use crate::otlp::{plain_posts_of_test, protobuf_of_forwarded};
+use crate::otlp::{plain_posts_of_test, sums_of_test};
 
 struct Ways {
     /// By their JSON.
@@ -121,19 +121,8 @@ fn what_is_read_as_it_came_is_what_its_json_says() {
 
 /// A request of sums, each of its name, its end and its value; each begins a second before its end.
 fn body(sums: &[(&str, u64, i64)]) -> Bytes {
-    let metric = |(name, end, value): &(&str, u64, i64)| {
-        let start = end - SECOND;
-        format!(
-            r#"{{"name":"{name}","unit":"","sum":{{"aggregationTemporality":1,"isMonotonic":false,"dataPoints":[{{"asInt":"{value}","attributes":[],"startTimeUnixNano":"{start}","timeUnixNano":"{end}"}}]}}}}"#
-        )
-    };
-    let metrics: Vec<String> = sums.iter().map(metric).collect();
-    let scope = r#"{"attributes":[],"name":"s","version":"1"}"#;
-    let json = format!(
-        r#"{{"resourceMetrics":[{{"resource":{{"attributes":[]}},"scopeMetrics":[{{"metrics":[{}],"scope":{scope}}}]}}]}}"#,
-        metrics.join(",")
-    );
-    protobuf_of_forwarded(json.as_bytes()).unwrap().into()
+    let sums: Vec<_> = sums.iter().map(|(name, end, value)| (*name, end - SECOND, *end, *value)).collect();
+    sums_of_test(&sums)
 }
 
 const SECOND: u64 = 1_000_000_000;
