@@ -85,6 +85,7 @@ pub fn make_room(spans: &mut Vec<BatchSpan>) -> Result<(), AllocError>
     ensures len { vec_len spans.new ≡ vec_len spans.old }
     ensures room { OnOk result (vec_len spans.new < vec_capacity spans.new) }
     ensures succeeds { vec_len spans.old < vec_capacity spans.old → IsOk result }
+    ensures less { vec_capacity spans.old ≤ vec_capacity spans.new }
     ensures most { vec_capacity spans.new ≤ max (vec_capacity spans.old) (vec_len spans.old
         + max (vec_len spans.old) LEAST_ROOM) }
     ensures err { OnErr result (vec_capacity spans.new ≡ vec_capacity spans.old) }

@@ -93,6 +93,7 @@ impl Cell {
     fn make_room(&mut self) -> Result<(), AllocError>
         ensures room { OnOk result (1 ≤ self.new.spare) }
         ensures succeeds { 1 ≤ self.old.spare → IsOk result }
+        ensures less { self.old.spare ≤ self.new.spare }
         ensures most { self.new.spare ≤ max self.old.spare (max (length self.old.spans)
             LEAST_ROOM) }
         ensures rest { self.new ≡ record self.old { spare = self.new.spare } }
@@ -113,6 +114,7 @@ impl Cell {
         ensures same { IsOfSame self.old self.new }
         ensures flush { self.new.flush ≡ self.old.flush }
         ensures room { 1 ≤ self.old.spare → IsOk result }
+        ensures spare { self.old.spare ≤ self.new.spare + 1 }
         ensures most { self.new.spare ≤ max self.old.spare (max (length self.old.spans)
             LEAST_ROOM) }
         ensures err { OnErr result (self.new ≡ self.old) }
@@ -132,6 +134,7 @@ impl Cell {
             → Stands self.new (qs ++ admitted batch self.old.owner point.now ∷ []) }
         ensures same { IsOfSame self.old self.new }
         ensures flush { self.new.flush ≡ self.old.flush }
+        ensures less { self.old.spare ≤ self.new.spare + 1 }
         ensures spare { self.new.spare ≤ self.old.spare }
     {
         let kept = self.kept.as_mut();
@@ -153,6 +156,7 @@ impl Cell {
         ensures same { IsOfSame self.old self.new }
         ensures flush { self.new.flush ≡ self.old.flush }
         ensures room { 1 ≤ self.old.spare → IsOk result }
+        ensures spare { self.old.spare ≤ self.new.spare + 1 }
         ensures most { self.new.spare ≤ max self.old.spare (max (length self.old.spans)
             LEAST_ROOM) }
         ensures err { OnErr result (self.new ≡ self.old) }
@@ -171,6 +175,7 @@ impl Cell {
             → Stands self.new (qs ++ admitted batch self.old.owner (bare point.now) ∷ []) }
         ensures same { IsOfSame self.old self.new }
         ensures flush { self.new.flush ≡ self.old.flush }
+        ensures less { self.old.spare ≤ self.new.spare + 1 }
         ensures spare { self.new.spare ≤ self.old.spare }
     {
         let kept = self.kept.as_mut();
