@@ -10,6 +10,7 @@ unfolding delay_seconds
 seconds_exactly ds n = number_tells most_seconds ds n
 
 -- of a value that may be absent
-pub wait_exactly : (value : Option (List ℕ)) (n : ℕ) → (option_and_then delay_seconds value ≡ Some n) ↔ IsSomeAnd value (λ ds. IsDelayOf ds n)
+pub wait_exactly : (value : Option (List ℕ)) (n : ℕ)
+    → (option_and_then delay_seconds value ≡ Some n) ↔ IsSomeAnd value (λ ds. IsDelayOf ds n)
 wait_exactly None n = (λ e. cc, λ h. absurd h)
 wait_exactly (Some ds) n = seconds_exactly ds n

@@ -14,7 +14,19 @@ use Rattle.book_c.specs.contracts.handle.parts.Parts as Parts
 use Rattle.book_c.specs.contracts.handle.Handle as Handle
 
 abbrev pub E : Bx
-E = record { row = Kept.the_row; laws = kept.the_row_laws; al = record { row = Heap.the_row; laws = heap.the_row_laws; g = ghosts; d = dict; drops = impl [] tnil dnil } }
+E = record {
+  row = Kept.the_row;
+  laws = kept.the_row_laws;
+  al =
+      record {
+        row = Heap.the_row;
+        laws = heap.the_row_laws;
+        g = ghosts;
+        d = dict;
+        drops =
+            impl [] tnil dnil;
+      };
+}
 
 abbrev pub FromParts : Slot 0
 FromParts = plain (λ _. Parts.the_row Kept.the_row Heap.the_row ghosts)

@@ -5,5 +5,7 @@ use Rattle.metric_events.specs.Standing.{SeriesStanding}
 use Rattle.series_cell.specs.Cells.{CellView}
 use Rattle.delta_book.specs.CellTotals.{cell_totals, standing_totals}
 
-pub same_length : (cs : List CellView) (ss : List SeriesStanding) → map cell_totals cs ≡ map standing_totals ss → length cs ≡ length ss
-same_length cs ss e = sym (length-map cs cell_totals) ∙ (ap length e ∙ length-map ss standing_totals)
+pub same_length : (cs : List CellView) (ss : List SeriesStanding)
+    → map cell_totals cs ≡ map standing_totals ss → length cs ≡ length ss
+same_length cs ss e =
+    sym (length-map cs cell_totals) ∙ (ap length e ∙ length-map ss standing_totals)

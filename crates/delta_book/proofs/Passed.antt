@@ -8,5 +8,7 @@ use Rattle.series_cell.specs.Cells.{CellView}
 use Rattle.delta_book.specs.Tables.{AreCells}
 use Rattle.delta_book.proofs.Counting.{count_is, counted_none}
 
-pub many_is : (v : Bool) (cs : List CellView) (qs : List Accepted) (n : ℕ) → n ≡ length cs → v ≡ nat_lt MAX_SERIES n → AreCells cs qs → v ≡ nat_lt MAX_SERIES (series_count qs)
-many_is v cs qs n l e h = e ∙ ap (nat_lt MAX_SERIES) (omega (arith, l, counted_none cs qs h, count_is qs))
+pub many_is : (v : Bool) (cs : List CellView) (qs : List Accepted) (n : ℕ) → n ≡ length cs
+    → v ≡ nat_lt MAX_SERIES n → AreCells cs qs → v ≡ nat_lt MAX_SERIES (series_count qs)
+many_is v cs qs n l e h =
+    e ∙ ap (nat_lt MAX_SERIES) (omega (arith, l, counted_none cs qs h, count_is qs))

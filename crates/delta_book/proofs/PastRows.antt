@@ -10,9 +10,13 @@ use Rattle.delta_book.specs.PastRows.{PastRow, past_row, past_of, past_rows}
 use Rattle.delta_book.specs.Journal.{Journal, history}
 use Rattle.delta_book.proofs.Journaled.{opening-history}
 
-pub if_rows : (r : Result (Vec PastTotals Global) AllocError) (ts us : List PastRow) → IfOk r (λ v. map past_row v.items ≡ ts) → ts ≡ us → IfOk r (λ v. map past_row v.items ≡ us)
+pub if_rows : (r : Result (Vec PastTotals Global) AllocError) (ts us : List PastRow)
+    → IfOk r (λ v. map past_row v.items ≡ ts) → ts ≡ us → IfOk r (λ v. map past_row v.items ≡ us)
 if_rows (Ok v) ts us h e = h ∙ e
 if_rows (Err x) ts us h e = tt
 
-pub rows_of : (j old : Journal) (ss : List OpenedSeries) → j ≡ old → ss ≡ j.opening.series → map past_of ss ≡ past_rows (history old)
-rows_of j old ss v e = ap (map past_of) (e ∙ ap (λ (O : Opening). O.series) (sym (opening-history j))) ∙ ap (λ k. past_rows (history k)) v
+pub rows_of : (j old : Journal) (ss : List OpenedSeries) → j ≡ old → ss ≡ j.opening.series
+    → map past_of ss ≡ past_rows (history old)
+rows_of j old ss v e = ap (map past_of)
+    (e ∙ ap (λ (O : Opening). O.series) (sym (opening-history j)))
+    ∙ ap (λ k. past_rows (history k)) v

@@ -27,7 +27,11 @@ body_text sender batch = metric_text sender ++ point_text batch
 -- the head of the request that posts a body of that length for sender j, whose name is `sj`
 unfoldable pub head_text : ℕ → ℕ → List ℕ
 head_text sender size =
-    between (codes "POST /v1/metrics HTTP/1.1\r\nHost: localhost\r\nContent-Type: application/json\r\nX-Sender: s") sender (codes "\r\nContent-Length: ") ++ between [] size (codes "\r\nConnection: close\r\n\r\n")
+    between
+    (codes
+    "POST /v1/metrics HTTP/1.1\r\nHost: localhost\r\nContent-Type: application/json\r\nX-Sender: s")
+    sender (codes "\r\nContent-Length: ")
+    ++ between [] size (codes "\r\nConnection: close\r\n\r\n")
 
 -- the request that posts batch k of sender j
 abbrev pub post_text : ℕ → ℕ → List ℕ

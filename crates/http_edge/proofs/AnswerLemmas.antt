@@ -1,11 +1,15 @@
 -- What an answer about a request rules out.
-use Rattle.std.proofs.Common.{◌≡◌, ◌≢◌, ℕ, List, [], ◌++◌, Option, Some, None, Ok, Err, inl, inr, sym, ap, subst, ◌∙◌}
+use Rattle.std.proofs.Common.{◌≡◌, ◌≢◌, ℕ, List, [], ◌++◌, Option, Some, None, Ok, Err, inl, inr}
+use Rattle.std.proofs.Common.{sym, ap, subst, ◌∙◌}
 use Rattle.std.specs.Prelude.{Result, ◌⊎◌}
 use Rattle.std.proofs.lemmas.List.{append-nil}
 use Rattle.httparse.specs.Grammar.{RequestHead}
 use Rattle.httparse.proofs.GrammarLemmas.{request_unique}
 use Rattle.http_edge.specs.declared.fault.HttpFault.{HttpFault}
-use Rattle.http_edge.specs.declared.fault.HttpFault.TheVariants.{Closed, BadHead, TooManyHeaders, HeadTooLong, BadLength, BodyTooLong, BadChunk, Truncated, Io, NoMemory}
+use Rattle.http_edge.specs.declared.fault.HttpFault.TheVariants.{Closed, BadHead, TooManyHeaders}
+use Rattle.http_edge.specs.declared.fault.HttpFault.TheVariants.{HeadTooLong, BadLength}
+use Rattle.http_edge.specs.declared.fault.HttpFault.TheVariants.{BodyTooLong, BadChunk, Truncated}
+use Rattle.http_edge.specs.declared.fault.HttpFault.TheVariants.{Io, NoMemory}
 use Rattle.http_edge.specs.declared.framing.Framing.{Framing}
 use Rattle.http_edge.specs.declared.request.Request.{Request}
 use Rattle.http_edge.specs.Form.{IsAnswer}
@@ -22,9 +26,11 @@ use Rattle.http_edge.proofs.MachineLemmas.{some_bytes}
 use Rattle.http_edge.proofs.Unique.{one_message, not_both}
 
 headless : (bytes : List ℕ) → NeverHead bytes → NotYet bytes
-headless bytes never k o r = let P : List ℕ → Type 0 = λ s. IsHeadAt s k r.0 in never [] k r.0 (subst P (sym (append-nil bytes)) r.1.at)
+headless bytes never k o r = let P : List ℕ → Type 0 = λ s. IsHeadAt s k r.0 in
+    never [] k r.0 (subst P (sym (append-nil bytes)) r.1.at)
 
-unframed : (bytes after : List ℕ) (k : RequestHead) → IsHeadAt bytes k after → framing_in k ≡ None → NotYet bytes
+unframed : (bytes after : List ℕ) (k : RequestHead) → IsHeadAt bytes k after → framing_in k ≡ None
+    → NotYet bytes
 unframed bytes after k is none j o r =
     let same = request_unique bytes k j after r.0 is.reads r.1.at.reads in
     let P : Option Framing → Type 0 = λ f. HasBody f r.0 o in
@@ -61,25 +67,35 @@ request_laws = record {
 
 -- ---- what is answered
 
-size_or_memory : (e : HttpFault) (bytes : List ℕ) → (e ≡ NoMemory) ⊎ ((e ≡ BodyTooLong) ⊎ IsSilent e) → Explains e bytes → IsTooLong bytes → (e ≡ BodyTooLong) ⊎ (e ≡ NoMemory)
+size_or_memory : (e : HttpFault) (bytes : List ℕ)
+    → (e ≡ NoMemory) ⊎ ((e ≡ BodyTooLong) ⊎ IsSilent e) → Explains e bytes → IsTooLong bytes
+    → (e ≡ BodyTooLong) ⊎ (e ≡ NoMemory)
 size_or_memory e bytes (inl is) x t = inr is
 size_or_memory e bytes (inr (inl is)) x t = inl is
 size_or_memory e bytes (inr (inr is)) x t = absurd (silent e bytes is x t.0 None t.1)
 
-pub reports_too_long : (bytes : List ℕ) (r : Result Request HttpFault) → IsAnswer request_form bytes r → IsTooLong bytes → ReportsTooLong r
+pub reports_too_long : (bytes : List ℕ) (r : Result Request HttpFault)
+    → IsAnswer request_form bytes r → IsTooLong bytes → ReportsTooLong r
 reports_too_long bytes (Ok r) x t = not_both bytes (message_in r) x t
 reports_too_long bytes (Err e) x t = size_or_memory e bytes (form.sort e) x t
 
 -- what is answered of bytes that begin with a message is answered of more bytes
-pub answers_later : (r : Result Request HttpFault) (bytes more : List ℕ) (m : Message) → BeginsWith bytes m → IsAnswer request_form bytes r → IsAnswer request_form (bytes ++ more) r
+pub answers_later : (r : Result Request HttpFault) (bytes more : List ℕ) (m : Message)
+    → BeginsWith bytes m → IsAnswer request_form bytes r → IsAnswer request_form (bytes ++ more) r
 answers_later (Ok r) bytes more m b x = begins-append bytes more (message_in r) x
-answers_later (Err e) bytes more m b x = let P : HttpFault → Type 0 = λ f. Explains f (bytes ++ more) in subst P (sym (form.only_memory request_form request_laws e bytes m x b)) tt
+answers_later (Err e) bytes more m b x = let P : HttpFault → Type 0 =
+    λ f. Explains f (bytes ++ more) in
+    subst P (sym (form.only_memory request_form request_laws e bytes m x b)) tt
 
 -- a fault that lasts leaves no message, whatever follows
-pub fault_lasts : (e : HttpFault) (bytes more : List ℕ) (m : Message) → Fails e bytes → BeginsWith (bytes ++ more) m → e ≡ NoMemory
-fault_lasts e bytes more m f b = form.only_memory request_form request_laws e (bytes ++ more) m (fails_more e bytes more f).1 b
+pub fault_lasts : (e : HttpFault) (bytes more : List ℕ) (m : Message) → Fails e bytes
+    → BeginsWith (bytes ++ more) m → e ≡ NoMemory
+fault_lasts e bytes more m f b =
+    form.only_memory request_form request_laws e (bytes ++ more) m (fails_more e bytes more f).1 b
 
 -- ---- what a reading says
 
-pub reports_size : (bytes : List ℕ) (r : Result Request HttpFault) → Says bytes r → ReportsSize bytes r
-reports_size bytes r x t = elim (form.answer_said request_form request_laws r bytes x) [ inl io ↦ inl io | inr a ↦ inr (reports_too_long bytes r a t) ]
+pub reports_size : (bytes : List ℕ) (r : Result Request HttpFault) → Says bytes r
+    → ReportsSize bytes r
+reports_size bytes r x t = elim (form.answer_said request_form request_laws r bytes x)
+    [ inl io ↦ inl io | inr a ↦ inr (reports_too_long bytes r a t) ]

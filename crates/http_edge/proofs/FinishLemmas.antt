@@ -14,12 +14,18 @@ use Rattle.http_edge.specs.inner.Request.{message_at}
 use Rattle.http_edge.specs.Form.{IsAnswer, Gives}
 use Rattle.http_edge.specs.Answer.{Explains, request_form}
 
-pub message_at_is : (buf : List ℕ) (spans : List HeaderSpan) (r : RequestSpans) (k j : RequestHead) (body : List ℕ) → IsHeadAt buf k [] → FindsHead buf spans r j → message_at buf spans r body ≡ message_of k body
+pub message_at_is : (buf : List ℕ) (spans : List HeaderSpan) (r : RequestSpans) (k j : RequestHead)
+    (body : List ℕ) → IsHeadAt buf k [] → FindsHead buf spans r j
+    → message_at buf spans r body ≡ message_of k body
 message_at_is buf spans r k j body is found =
     let same = request_unique buf j k (drop r.len buf) [] found.at.reads is.reads in
-    let fields : message_at buf spans r body ≡ message_of j body = cc (found.at.method, found.at.path, found.at.fields) in
+    let fields : message_at buf spans r body ≡ message_of j body =
+    cc (found.at.method, found.at.path, found.at.fields) in
     fields ∙ ap (λ (h : RequestHead). message_of h body) same.0
 
-pub answers_of : (r : Result Request HttpFault) (bytes content : List ℕ) (k : RequestHead) → Gives request_form (message_of k content) r → BeginsWith bytes (message_of k content) → IsAnswer request_form bytes r
+pub answers_of : (r : Result Request HttpFault) (bytes content : List ℕ) (k : RequestHead)
+    → Gives request_form (message_of k content) r → BeginsWith bytes (message_of k content)
+    → IsAnswer request_form bytes r
 answers_of (Ok r) bytes content k is begins = subst (BeginsWith bytes) (sym is) begins
-answers_of (Err e) bytes content k is begins = subst (λ (f : HttpFault). Explains f bytes) (sym is) tt
+answers_of (Err e) bytes content k is begins =
+    subst (λ (f : HttpFault). Explains f bytes) (sym is) tt

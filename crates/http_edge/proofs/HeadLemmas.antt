@@ -6,7 +6,8 @@ use Rattle.http_edge.specs.Head.{HasTooManyFields, HasLongHead}
 use Rattle.http_edge.proofs.ListLemmas.{front_of}
 
 -- what is no front that fits is longer
-pub long_or_front : (p buf : List ℕ) → 16384 ≤ length buf → ¬ (length p ≤ length buf) → 16384 < length p
+pub long_or_front : (p buf : List ℕ) → 16384 ≤ length buf → ¬ (length p ≤ length buf)
+    → 16384 < length p
 long_or_front p buf long not = omega (arith, not)
 
 -- where as many bytes as a head may have have no head, a head is longer
@@ -14,14 +15,17 @@ pub has_long_head : (buf : List ℕ) → HasNoRequest buf → 16384 ≤ length b
 has_long_head buf none long = (
   long,
   λ more head after reads.
-      long_or_front (print_request head) buf long (λ short. none head (drop (length (print_request head)) buf) (reads.0, front_of buf more (print_request head) after reads.1 short)),
+      long_or_front (print_request head) buf long
+      (λ short. none head (drop (length (print_request head)) buf)
+      (reads.0, front_of buf more (print_request head) after reads.1 short)),
 )
 
 -- ---- where there is never a head
 
 -- whatever bytes follow, they do not begin with a head within the limits
 abbrev pub NeverHead : List ℕ → Type 0
-NeverHead buf = (more : List ℕ) (head : RequestHead) (after : List ℕ) → ¬ (IsHeadAt (buf ++ more) head after)
+NeverHead buf = (more : List ℕ) (head : RequestHead) (after : List ℕ)
+    → ¬ (IsHeadAt (buf ++ more) head after)
 
 pub never_bad : (buf : List ℕ) → NeverHasRequest buf → NeverHead buf
 never_bad buf never more head after h = never more head after h.reads

@@ -1,5 +1,6 @@
 -- The round after rest begins at rest, and knows the series as before.
-use Rattle.std.proofs.Common.{◌≡◌, ℕ, true, false, cond, not, List, [], ◌∷◌, ◌++◌, map, refl, ap, sym, ◌∙◌, arith, suc, zero}
+use Rattle.std.proofs.Common.{◌≡◌, ℕ, true, false, cond, not, List, [], ◌∷◌, ◌++◌, map, refl, ap}
+use Rattle.std.proofs.Common.{sym, ◌∙◌, arith, suc, zero}
 use Rattle.std.specs.List.{list_all, filter}
 use Rattle.std.proofs.lemmas.List.{append-nil}
 use Rattle.series_id.specs.Identity.{Identity, row_length}
@@ -8,11 +9,13 @@ use Rattle.metric_events.specs.Rows.{add_rows, zeros}
 use Rattle.metric_events.specs.History.{History, Opened, opening, ◌then◌}
 use Rattle.metric_events.specs.Points.{points, is_home, mark, carried, carried_of}
 use Rattle.metric_events.specs.Running.{held_senders}
-use Rattle.metric_events.specs.Series.{is_of, of_series, owner, frontier, hull, row_sum, sum_of, series_in_order}
+use Rattle.metric_events.specs.Series.{is_of, of_series, owner, frontier, hull, row_sum, sum_of}
+use Rattle.metric_events.specs.Series.{series_in_order}
 use Rattle.metric_events.specs.Standing.{stands, series_standing}
 use Rattle.metric_events.specs.Close.{handed_on, close}
 use Rattle.metric_events.specs.Legal.{IsLegal}
-use Rattle.metric_events.specs.Recovery.{IsAtRest, Remembers, FlushesNothing, not_pending, is_not_home, IsAtMost}
+use Rattle.metric_events.specs.Recovery.{IsAtRest, Remembers, FlushesNothing, not_pending}
+use Rattle.metric_events.specs.Recovery.{is_not_home, IsAtMost}
 use Rattle.metric_events.specs.declared.opened_series.OpenedSeries.{OpenedSeries}
 use Rattle.metric_events.specs.declared.accepted.Accepted.{Accepted}
 use Rattle.metric_events.proofs.Lists.{all_filter, filter_none}
@@ -25,15 +28,22 @@ use Rattle.metric_events.proofs.CongruentClose.{closed_alike}
 use Rattle.metric_events.specs.Congruence.{StandAlike}
 
 -- nothing is carried
-nothing_carried : (before : List OpenedSeries) (qs : List Accepted) (held : List (List ℕ)) → list_all (λ a. not (is_home a.place)) qs ≡ true → (xs : List Identity) → carried (handed before qs held xs) ≡ []
+nothing_carried : (before : List OpenedSeries) (qs : List Accepted) (held : List (List ℕ))
+    → list_all (λ a. not (is_home a.place)) qs ≡ true → (xs : List Identity)
+    → carried (handed before qs held xs) ≡ []
 nothing_carried before qs held h [] = refl
 nothing_carried before qs held h (x ∷ xs) =
-    let none : filter (stands is_home) (of_series x qs) ≡ [] = filter_none (stands is_home) (of_series x qs) (all_filter (λ a. not (is_home a.place)) (is_of x) qs h) in
-    ap (λ us. carried_of (handed_on before (series_standing qs held x)) (hull us) ++ carried (handed before qs held xs)) none
+    let none : filter (stands is_home) (of_series x qs) ≡ [] =
+    filter_none (stands is_home) (of_series x qs)
+    (all_filter (λ a. not (is_home a.place)) (is_of x) qs h) in
+    ap (λ us. carried_of (handed_on before (series_standing qs held x)) (hull us)
+    ++ carried (handed before qs held xs)) none
     ∙ nothing_carried before qs held h xs
 
 marks_of : (E : History) → IsAtRest E → points (Opened (close E)) ≡ map mark (close E).series
-marks_of E r = ap (λ us. map mark (close E).series ++ us) (nothing_carried (opening E).series (points E) (held_senders E) r.home (series_in_order (points E))) ∙ append-nil (map mark (close E).series)
+marks_of E r = ap (λ us. map mark (close E).series ++ us)
+    (nothing_carried (opening E).series (points E) (held_senders E) r.home
+    (series_in_order (points E))) ∙ append-nil (map mark (close E).series)
 
 marks_landed : (ss : List OpenedSeries) → list_all (λ a. not (is_home a.place)) (map mark ss) ≡ true
 marks_landed [] = refl
@@ -47,14 +57,20 @@ zeros_more (suc n) [] ys h = row_le_zeros (suc n) ys
 zeros_more (suc n) (z ∷ zs) [] h = (omega (arith, h.0), zeros_more n zs [] h.1)
 zeros_more (suc n) (z ∷ zs) (y ∷ ys) h = (omega (arith, h.0), zeros_more n zs ys h.1)
 
-marks_sum : (x : Identity) (ss : List OpenedSeries) (ys : List ℕ) → IsAtMost (sum_of x (map mark ss)) ys
+marks_sum : (x : Identity) (ss : List OpenedSeries) (ys : List ℕ)
+    → IsAtMost (sum_of x (map mark ss)) ys
 marks_sum x [] ys = row_le_zeros (row_length x.kind) ys
-marks_sum x (s ∷ ss) ys = elim (same_series s.series x) as (λ v. IsAtMost (row_sum (row_length x.kind) (cond v (mark s ∷ of_series x (map mark ss)) (of_series x (map mark ss)))) ys) [
-  | true ↦ zeros_more (row_length s.series.kind) (sum_of x (map mark ss)) ys (marks_sum x ss ys)
-  | false ↦ marks_sum x ss ys
-]
+marks_sum x (s ∷ ss) ys = elim (same_series s.series x)
+    as (λ v. IsAtMost (row_sum (row_length x.kind)
+    (cond v (mark s ∷ of_series x (map mark ss)) (of_series x (map mark ss)))) ys) [
+      | true ↦ zeros_more (row_length s.series.kind) (sum_of x (map mark ss)) ys (marks_sum x ss ys)
+      | false ↦ marks_sum x ss ys
+    ]
 
-pub closed_law : (E R : History) → IsAtRest E → FlushesNothing R → IsLegal (E then R) → Remembers (Opened (close E)) (E then R) × ((x : Identity) → IsAtMost (sum_of x (points (Opened (close E)))) (sum_of x (not_pending (E then R))))
+pub closed_law : (E R : History) → IsAtRest E → FlushesNothing R → IsLegal (E then R)
+    → Remembers (Opened (close E)) (E then R)
+    × ((x : Identity)
+    → IsAtMost (sum_of x (points (Opened (close E)))) (sum_of x (not_pending (E then R))))
 closed_law E R r n l = (
   record {
     live = live_then E R n ∙ r.live;

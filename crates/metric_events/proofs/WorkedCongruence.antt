@@ -9,16 +9,19 @@ use Rattle.metric_events.specs.Series.{owner, frontier, of_series}
 use Rattle.metric_events.specs.Standing.{sum_where}
 use Rattle.metric_events.specs.Close.{close}
 use Rattle.metric_events.specs.Choice.{pick, flush_points}
-use Rattle.metric_events.specs.Recovery.{homes, pending, not_pending, is_not_home, all_points, are_in_turn, readmitted, Numbered}
+use Rattle.metric_events.specs.Recovery.{homes, pending, not_pending, is_not_home, all_points}
+use Rattle.metric_events.specs.Recovery.{are_in_turn, readmitted, Numbered}
 use Rattle.metric_events.specs.Congruence.{home_hull}
 use Rattle.metric_events.specs.Recall.{unfolded}
 use Rattle.metric_events.specs.Unflushed.{unflushed, survived}
 use Rattle.metric_events.specs.declared.event.Event.TheVariants.{Admit, Confirm, Take, Settle}
 use Rattle.metric_events.proofs.WorkedHistories.{of_name, req, point, batch}
 
--- round 1 took two points and was closed before they were flushed; a fresh history takes both batches again
+-- round 1 took two points and was closed before they were flushed; a fresh history takes both
+-- batches again
 abbrev posts : List Numbered
-posts = record { number = 1; body = batch 65 (point req 10 20 5 ∷ []) } ∷ record { number = 2; body = batch 65 (point req 20 30 7 ∷ []) } ∷ []
+posts = record { number = 1; body = batch 65 (point req 10 20 5 ∷ []) }
+    ∷ record { number = 2; body = batch 65 (point req 20 30 7 ∷ []) } ∷ []
 
 abbrev lost_late : History
 lost_late = Opened (close (readmitted Start posts))
@@ -43,18 +46,22 @@ unfolding same_series series_before series_cmp scope_cmp metric_cmp
 same_hull = refl
 
 -- a flush sends the same after both
-sent_late : flush_points (lost_late ▸ Take 9 (req ∷ [])) 9 ≡ flush_points (fresh ▸ Take 3 (req ∷ [])) 3
+sent_late : flush_points (lost_late ▸ Take 9 (req ∷ [])) 9
+    ≡ flush_points (fresh ▸ Take 3 (req ∷ [])) 3
 unfolding same_series series_before series_cmp scope_cmp metric_cmp
 sent_late = refl
 
--- the law of recovery does not speak of it: the points are not the same, nor may they come after the mark
+-- the law of recovery does not speak of it: the points are not the same, nor may they come after
+-- the mark
 not_in_turn : are_in_turn (not_pending lost_late) (pending lost_late) ≡ false
 unfolding same_series series_before series_cmp scope_cmp metric_cmp
 not_in_turn = refl
 
--- the points of both rounds, each for itself, are what the posts bring: they are in turn, and nothing else is known
+-- the points of both rounds, each for itself, are what the posts bring: they are in turn, and
+-- nothing else is known
 abbrev rounds : List History
-rounds = (Start ▸ Admit 1 (batch 65 (point req 10 20 5 ∷ [])) ▸ Confirm 1) ∷ (Start ▸ Admit 2 (batch 65 (point req 20 30 7 ∷ [])) ▸ Confirm 2) ∷ []
+rounds = (Start ▸ Admit 1 (batch 65 (point req 10 20 5 ∷ [])) ▸ Confirm 1)
+    ∷ (Start ▸ Admit 2 (batch 65 (point req 20 30 7 ∷ [])) ▸ Confirm 2) ∷ []
 
 same_posts : homes (unfolded [] rounds) ≡ all_points posts
 same_posts = refl
@@ -66,9 +73,11 @@ rounds_in_turn = refl
 nothing_sent : filter is_not_home (unfolded [] rounds) ≡ []
 nothing_sent = refl
 
--- the same where a flush took the first point, was settled, and a kill came before that was known: what it sent is pending without it
+-- the same where a flush took the first point, was settled, and a kill came before that was known:
+-- what it sent is pending without it
 abbrev flushed : History
-flushed = Start ▸ Take 1 (req ∷ []) ▸ Settle 1 ▸ Admit 2 (batch 65 (point req 20 30 7 ∷ [])) ▸ Confirm 2 ▸ Take 2 (req ∷ [])
+flushed = Start ▸ Take 1 (req ∷ []) ▸ Settle 1 ▸ Admit 2 (batch 65 (point req 20 30 7 ∷ [])) ▸
+    Confirm 2 ▸ Take 2 (req ∷ [])
 
 abbrev before : History
 before = Start ▸ Admit 1 (batch 65 (point req 10 20 5 ∷ [])) ▸ Confirm 1
@@ -98,10 +107,12 @@ two_left = refl
 
 -- two senders' posts in another order: the same points within each series
 abbrev ab : History
-ab = readmitted Start (record { number = 1; body = batch 65 (point (of_name 97) 10 20 5 ∷ []) } ∷ record { number = 2; body = batch 66 (point (of_name 98) 10 20 7 ∷ []) } ∷ [])
+ab = readmitted Start (record { number = 1; body = batch 65 (point (of_name 97) 10 20 5 ∷ []) }
+    ∷ record { number = 2; body = batch 66 (point (of_name 98) 10 20 7 ∷ []) } ∷ [])
 
 abbrev ba : History
-ba = readmitted Start (record { number = 1; body = batch 66 (point (of_name 98) 10 20 7 ∷ []) } ∷ record { number = 2; body = batch 65 (point (of_name 97) 10 20 5 ∷ []) } ∷ [])
+ba = readmitted Start (record { number = 1; body = batch 66 (point (of_name 98) 10 20 7 ∷ []) }
+    ∷ record { number = 2; body = batch 65 (point (of_name 97) 10 20 5 ∷ []) } ∷ [])
 
 within_one : of_series (of_name 97) (pending ba) ≡ of_series (of_name 97) (pending ab)
 unfolding same_series series_cmp scope_cmp metric_cmp

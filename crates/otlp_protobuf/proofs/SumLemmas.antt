@@ -20,25 +20,34 @@ use Rattle.otlp_protobuf.specs.inner.SumViews.{sum_fields_of}
 use Rattle.otlp_protobuf.proofs.PointLemmas.{sum_fields_are}
 
 -- the fields that were read are those of the point
-pub fields_said : (bytes : List ℕ) (p : NumberPoint) (o : Option SumFields) (attributes : List Data) → p ≡ gathered take_number no_number (fields bytes) → o ≡ sum_fields_of p
+pub fields_said : (bytes : List ℕ) (p : NumberPoint) (o : Option SumFields) (attributes : List Data)
+    → p ≡ gathered take_number no_number (fields bytes) → o ≡ sum_fields_of p
     → o ≡ sum_fields (number_point_data (number_point_of bytes) attributes)
-fields_said bytes p o attributes said read = read ∙ ap sum_fields_of said ∙ sym (sum_fields_are (number_point_of bytes) attributes)
+fields_said bytes p o attributes said read =
+    read ∙ ap sum_fields_of said ∙ sym (sum_fields_are (number_point_of bytes) attributes)
 
-attributes_of : (p : NumberPoint) (attributes : List Data) → field (codes "attributes") (number_point_data p attributes) ≡ Some (list_data attributes)
+attributes_of : (p : NumberPoint) (attributes : List Data)
+    → field (codes "attributes") (number_point_data p attributes) ≡ Some (list_data attributes)
 unfolding field number_point_data
 attributes_of p attributes = refl
 
-pub no_fields : (sum : SumStream) (p : NumberPoint) (attributes : List Data) → None ≡ sum_fields (number_point_data p attributes) → None ≡ sum_point sum (number_point_data p attributes)
+pub no_fields : (sum : SumStream) (p : NumberPoint) (attributes : List Data)
+    → None ≡ sum_fields (number_point_data p attributes)
+    → None ≡ sum_point sum (number_point_data p attributes)
 unfolding sum_point
 no_fields sum p attributes read = rw (← read) refl
 
-pub no_series : (sum : SumStream) (p : NumberPoint) (attributes : List Data) (f : SumFields) → Some f ≡ sum_fields (number_point_data p attributes)
-    → series_of sum.stream (Sum sum.monotonic) (Some (list_data attributes)) ≡ None → None ≡ sum_point sum (number_point_data p attributes)
+pub no_series : (sum : SumStream) (p : NumberPoint) (attributes : List Data) (f : SumFields)
+    → Some f ≡ sum_fields (number_point_data p attributes)
+    → series_of sum.stream (Sum sum.monotonic) (Some (list_data attributes)) ≡ None
+    → None ≡ sum_point sum (number_point_data p attributes)
 unfolding sum_point
 no_series sum p attributes f read none = rw (← read, attributes_of p attributes, none) refl
 
-pub has_series : (sum : SumStream) (p : NumberPoint) (attributes : List Data) (f : SumFields) (s : Identity) (r : Option DataPoint) → Some f ≡ sum_fields (number_point_data p attributes)
-    → series_of sum.stream (Sum sum.monotonic) (Some (list_data attributes)) ≡ Some s → r ≡ unless (sum_fault s.kind f.start f.end f.value) (point_of_sum s f.start f.end f.value)
+pub has_series : (sum : SumStream) (p : NumberPoint) (attributes : List Data) (f : SumFields)
+    (s : Identity) (r : Option DataPoint) → Some f ≡ sum_fields (number_point_data p attributes)
+    → series_of sum.stream (Sum sum.monotonic) (Some (list_data attributes)) ≡ Some s
+    → r ≡ unless (sum_fault s.kind f.start f.end f.value) (point_of_sum s f.start f.end f.value)
     → r ≡ sum_point sum (number_point_data p attributes)
 unfolding sum_point
 has_series sum p attributes f s r read known is = rw (← read, attributes_of p attributes, known) is

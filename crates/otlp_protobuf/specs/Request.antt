@@ -23,7 +23,8 @@ other_point bytes = object no_members
 -- a gauge, an exponential histogram or a summary, whose points are only counted
 unfoldable pub other_message : List ℕ → Data
 other_message bytes = object (
-    member (codes "dataPoints") (list_data (map other_point (contents 1 (fields bytes)))) no_members)
+    member (codes "dataPoints") (list_data (map other_point (contents 1 (fields bytes))))
+    no_members)
 
 unfoldable pub sum_message : List ℕ → Data
 sum_message bytes = object (
@@ -71,7 +72,8 @@ resource_message bytes = object (
 unfoldable pub resource_metrics_message : List ℕ → Data
 resource_metrics_message bytes = object (
     member (codes "resource") (or_null (option_map resource_message (whole_at 1 bytes))) (
-    member (codes "scopeMetrics") (list_data (map scope_metrics_message (contents 2 (fields bytes))))
+    member (codes "scopeMetrics")
+    (list_data (map scope_metrics_message (contents 2 (fields bytes))))
     no_members))
 
 unfoldable pub request_message : List ℕ → Data

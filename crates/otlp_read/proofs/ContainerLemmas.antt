@@ -13,7 +13,8 @@ elements_view [] = refl
 elements_view (v ∷ vs) = ap (λ ds. view v ∷ ds) (elements_view vs)
 
 -- a step that failed fails the whole
-pub fails_then : {A B : Type 0} (e : ReadFault) (r : Result A Place) (f : A → Result B Place) → Fails e r → Fails e (r >>= f)
+pub fails_then : {A B : Type 0} (e : ReadFault) (r : Result A Place) (f : A → Result B Place)
+    → Fails e r → Fails e (r >>= f)
 fails_then faults.NoMemory r f h = tt
 fails_then faults.NotJson r f h = h
 fails_then (faults.WrongShape place) r f h = ap (λ q. q >>= f) h

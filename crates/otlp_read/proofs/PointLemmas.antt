@@ -1,5 +1,6 @@
 -- The constructors of series and points, against the definitions.
-use Rattle.std.proofs.Common.{◌≡◌, ◌≢◌, Option, Some, None, ℤ, subst, Result, Ok, Err, IfOk, IfErr, OnOk, unwrap_or, List, true, false, refl, sym, ap, ◌∙◌, cond}
+use Rattle.std.proofs.Common.{◌≡◌, ◌≢◌, Option, Some, None, ℤ, subst, Result, Ok, Err, IfOk, IfErr}
+use Rattle.std.proofs.Common.{OnOk, unwrap_or, List, true, false, refl, sym, ap, ◌∙◌, cond}
 use Rattle.std.specs.Result.{result_ok}
 use Rattle.series_id.specs.Identity.{Identity}
 use Rattle.series_id.specs.Checks.{checked_identity, has_long_text}
@@ -29,46 +30,58 @@ checked_is x s h =
     ] h
 
 -- a series has the kind that it was made of
-pub kind_of_series : (stream : Stream) (kind : Kind) (attributes : List Attribute) (s : Identity) → series_in stream kind attributes ≡ Some s → kind ≡ s.kind
+pub kind_of_series : (stream : Stream) (kind : Kind) (attributes : List Attribute) (s : Identity)
+    → series_in stream kind attributes ≡ Some s → kind ≡ s.kind
 unfolding series_in
-kind_of_series stream kind attributes s h = ap (λ (x : Identity). x.kind) (checked_is (identity_in stream kind attributes) s h)
+kind_of_series stream kind attributes s h =
+    ap (λ (x : Identity). x.kind) (checked_is (identity_in stream kind attributes) s h)
 
 -- so has one of an attribute list
-pub kind_of_known : (stream : Stream) (kind : Kind) (found : Option Data) (s : Identity) → series_of stream kind found ≡ Some s → kind ≡ s.kind
+pub kind_of_known : (stream : Stream) (kind : Kind) (found : Option Data) (s : Identity)
+    → series_of stream kind found ≡ Some s → kind ≡ s.kind
 unfolding series_of
 kind_of_known stream kind found s h = from_set (attributes_in found) h
   where
-    from_set : (attributes : Option (List Attribute)) → option_and_then (series_in stream kind) attributes ≡ Some s → kind ≡ s.kind
+    from_set : (attributes : Option (List Attribute))
+        → option_and_then (series_in stream kind) attributes ≡ Some s → kind ≡ s.kind
     from_set None h = absurd cc
     from_set (Some attributes) h = kind_of_series stream kind attributes s h
 
-made_kind : (fault : Option KindFault) (bounds : List ℤ) (kind : Kind) → result_ok (kind_unless fault (Histogram bounds)) ≡ Some kind → IsHistogram kind
+made_kind : (fault : Option KindFault) (bounds : List ℤ) (kind : Kind)
+    → result_ok (kind_unless fault (Histogram bounds)) ≡ Some kind → IsHistogram kind
 made_kind None bounds kind h = let e : Histogram bounds ≡ kind = cc in subst IsHistogram e tt
 made_kind (Some fault) bounds kind h = absurd cc
 
 -- a histogram's kind is one
-pub kind_of_histogram : (bounds : List ℤ) (kind : Kind) → result_ok (histogram_of bounds) ≡ Some kind → IsHistogram kind
+pub kind_of_histogram : (bounds : List ℤ) (kind : Kind)
+    → result_ok (histogram_of bounds) ≡ Some kind → IsHistogram kind
 unfolding kind_refusal
 kind_of_histogram bounds kind h = made_kind (kind_refusal bounds) bounds kind h
 
 -- what a constructor answers, where memory did not run out
 pub allowed : {A F : Type 0} (r : Result A F) (fault : Option F) (memory : F) (p : A)
-    → IfOk r (λ q. q ≡ p) → OnOk r (fault ≡ None) → IfErr r (λ e. e ≡ unwrap_or fault memory) → r ≢ Err memory → result_ok r ≡ unless fault p
-allowed (Ok q) fault memory p value none refused there = ap (λ x. Some x) value ∙ ap (λ f. unless f p) (sym none)
+    → IfOk r (λ q. q ≡ p) → OnOk r (fault ≡ None) → IfErr r (λ e. e ≡ unwrap_or fault memory)
+    → r ≢ Err memory → result_ok r ≡ unless fault p
+allowed (Ok q) fault memory p value none refused there =
+    ap (λ x. Some x) value ∙ ap (λ f. unless f p) (sym none)
 allowed (Err e) None memory p value none refused there = absurd (there (ap (λ x. Err x) refused))
 allowed (Err e) (Some f) memory p value none refused there = refl
 
 -- what a constructor answers that takes no memory
 pub allowed_always : {A F : Type 0} (r : Result A F) (fault : Option F) (p : A)
-    → IfOk r (λ q. q ≡ p) → OnOk r (fault ≡ None) → IfErr r (λ e. fault ≡ Some e) → result_ok r ≡ unless fault p
-allowed_always (Ok q) fault p value none refused = ap (λ x. Some x) value ∙ ap (λ f. unless f p) (sym none)
+    → IfOk r (λ q. q ≡ p) → OnOk r (fault ≡ None) → IfErr r (λ e. fault ≡ Some e)
+    → result_ok r ≡ unless fault p
+allowed_always (Ok q) fault p value none refused =
+    ap (λ x. Some x) value ∙ ap (λ f. unless f p) (sym none)
 allowed_always (Err e) fault p value none refused = ap (λ f. unless f p) (sym refused)
 
 -- the kind that a point's bounds make
 pub kind_is_histogram : (d : Data) (kind : Kind) → kind_in d ≡ Some kind → IsHistogram kind
 unfolding kind_in
-kind_is_histogram d kind h = from_bounds (list_in (signed_in MAX_BOUND MAX_BOUND) (field (codes "explicitBounds") d)) kind h
+kind_is_histogram d kind h =
+    from_bounds (list_in (signed_in MAX_BOUND MAX_BOUND) (field (codes "explicitBounds") d)) kind h
   where
-    from_bounds : (bounds : Option (List ℤ)) (kind : Kind) → (bounds >>= λ bs. result_ok (histogram_of bs)) ≡ Some kind → IsHistogram kind
+    from_bounds : (bounds : Option (List ℤ)) (kind : Kind)
+        → (bounds >>= λ bs. result_ok (histogram_of bs)) ≡ Some kind → IsHistogram kind
     from_bounds None kind h = absurd cc
     from_bounds (Some bs) kind h = kind_of_histogram bs kind h

@@ -17,14 +17,17 @@ scope_key p = (p.series.scope_name, p.series.scope_version, p.series.scope_attrs
 abbrev pub metric_key : DataPoint → (List ℕ × List ℕ × Kind)
 metric_key p = (p.series.name, p.series.unit, p.series.kind)
 
-pub resource_one : (p q : DataPoint) → same level.Resource p q ≡ true → resource_key p ≡ resource_key q
+pub resource_one : (p q : DataPoint) → same level.Resource p q ≡ true
+    → resource_key p ≡ resource_key q
 unfolding shares
 resource_one p q e = resource_exact p.series q.series (equal_from _ e)
 
 pub scope_one : (p q : DataPoint) → same level.Scope p q ≡ true → scope_key p ≡ scope_key q
 unfolding shares
-scope_one p q e = let one = scope_exact p.series q.series (equal_from _ e) in λ i. (one.name i, one.version i, one.attrs i)
+scope_one p q e = let one = scope_exact p.series q.series (equal_from _ e) in
+    λ i. (one.name i, one.version i, one.attrs i)
 
 pub metric_one : (p q : DataPoint) → same level.Metric p q ≡ true → metric_key p ≡ metric_key q
 unfolding shares
-metric_one p q e = let one = stream_exact p.series q.series (equal_from _ e) in λ i. (one.name i, one.unit i, one.kind i)
+metric_one p q e = let one = stream_exact p.series q.series (equal_from _ e) in
+    λ i. (one.name i, one.unit i, one.kind i)

@@ -1,5 +1,6 @@
 -- What the next round begins with.
-use Rattle.std.proofs.Common.{◌≡◌, ℕ, ◌<◌, ◌^◌, true, List, [], ◌∷◌, ◌++◌, map, length, refl, ap, sym, ◌∙◌, subst, arith, zero, suc, Some, None}
+use Rattle.std.proofs.Common.{◌≡◌, ℕ, ◌<◌, ◌^◌, true, List, [], ◌∷◌, ◌++◌, map, length, refl, ap}
+use Rattle.std.proofs.Common.{sym, ◌∙◌, subst, arith, zero, suc, Some, None}
 use Rattle.std.specs.declared.option.Option.{Option}
 use Rattle.std.specs.List.{list_all}
 use Rattle.std.proofs.lemmas.Option.{none-some, same_Some}
@@ -32,18 +33,24 @@ pub hull_at_home : (c : CellView) (qs : List Accepted) (h : Stands c qs) → hom
 hull_at_home c qs h = ap hull_of (home_spans c qs h) ∙ spans_hull h.home
 
 -- a hull of points is an interval, and there is none only of no points
-hull_is_interval : (s : List ℕ) (x : Identity) (qs : List Accepted) → AllOwn s x qs → (span : Interval) → hull qs ≡ Some span → IsInterval span
+hull_is_interval : (s : List ℕ) (x : Identity) (qs : List Accepted) → AllOwn s x qs
+    → (span : Interval) → hull qs ≡ Some span → IsInterval span
 hull_is_interval s x [] h span e = absurd (none-some span e)
-hull_is_interval s x (a ∷ qs) h span e = subst IsInterval (same_Some (joined_to a.point.span (hull qs)) span e) (joined_is a.point.span (hull qs) h.0.span (λ q f. hull_is_interval s x qs h.1 q f))
+hull_is_interval s x (a ∷ qs) h span e =
+    subst IsInterval (same_Some (joined_to a.point.span (hull qs)) span e)
+    (joined_is a.point.span (hull qs) h.0.span (λ q f. hull_is_interval s x qs h.1 q f))
 
 -- an end is after the first moment, and below 2^64
-ends_below : (s : List ℕ) (x : Identity) (qs : List Accepted) → AllOwn s x qs → greatest_end qs < 2 ^ 64
+ends_below : (s : List ℕ) (x : Identity) (qs : List Accepted) → AllOwn s x qs
+    → greatest_end qs < 2 ^ 64
 ends_below s x [] h = omega arith
 ends_below s x (a ∷ qs) h = omega (arith, h.0.span.fits, ends_below s x qs h.1)
 
-ends_late : (s : List ℕ) (x : Identity) (qs : List Accepted) → AllOwn s x qs → 0 < greatest_end qs → 1 < greatest_end qs
+ends_late : (s : List ℕ) (x : Identity) (qs : List Accepted) → AllOwn s x qs → 0 < greatest_end qs
+    → 1 < greatest_end qs
 ends_late s x [] h l = absurd (omega (arith, l))
-ends_late s x (a ∷ qs) h l = omega (arith, starts a.point.span h.0.span, ends_after a.point.span h.0.span)
+ends_late s x (a ∷ qs) h l =
+    omega (arith, starts a.point.span h.0.span, ends_after a.point.span h.0.span)
 
 -- what is carried, whether or not something is at home
 record Carries (c : CellView) (s : OpenedSeries) (o : Option Interval) : Type 0 where
@@ -53,7 +60,8 @@ record Carries (c : CellView) (s : OpenedSeries) (o : Option Interval) : Type 0 
   pub row : row_sum (row_length c.id.kind) (carried_of s o) ≡ c.stored
   pub spans : map span_of (carried_of s o) ≡ joined_spans o
 
-carries : (c : CellView) (qs : List Accepted) (s : OpenedSeries) → Stands c qs → HandsOn c s → (o : Option Interval) → home_hull c ≡ o → Carries c s o
+carries : (c : CellView) (qs : List Accepted) (s : OpenedSeries) → Stands c qs → HandsOn c s
+    → (o : Option Interval) → home_hull c ≡ o → Carries c s o
 carries c qs s h t None e = record {
   own = tt;
   ordered = tt;
@@ -62,19 +70,43 @@ carries c qs s h t None e = record {
   spans = refl;
 }
 carries c qs s h t (Some span) e = record {
-  own = (record { series = t.series; sender = t.owner; span = hull_is_interval c.owner c.id h.home (home_own c qs h) span (sym (hull_at_home c qs h) ∙ e); long = ap length t.home ∙ (sized c qs h).stored }, tt);
+  own = (
+    record {
+      series = t.series;
+      sender = t.owner;
+      span =
+          hull_is_interval c.owner c.id h.home (home_own c qs h) span
+          (sym (hull_at_home c qs h) ∙ e);
+      long = ap length t.home ∙ (sized c qs h).stored;
+    },
+    tt,
+  );
   ordered = (refl, tt);
   are_home = refl;
   row =
       add_rows-comm s.home (zeros (row_length c.id.kind))
-      ∙ (add_rows-zeros (row_length c.id.kind) s.home (omega (arith, ap length t.home, (sized c qs h).stored)) ∙ t.home);
+      ∙ (add_rows-zeros (row_length c.id.kind) s.home
+      (omega (arith, ap length t.home, (sized c qs h).stored)) ∙ t.home);
   spans = refl;
 }
 
 zeros_first : (m n : ℕ) (row : List ℕ) → m ≡ n → n ≡ length row → add_rows (zeros m) row ≡ row
 zeros_first m n row e l = add_rows-zeros m row (omega arith)
 
-pub stands_carried : (c : CellView) (qs : List Accepted) (s : OpenedSeries) (accepted acknowledged dropped : List ℕ) (spans : List BatchSpan) (last spare : ℕ) → Stands c qs → c.cut ≡ 0 → 0 < end_of c → HandsOn c s → accepted ≡ c.stored → acknowledged ≡ zeros (row_length c.id.kind) → dropped ≡ zeros (row_length c.id.kind) → spans ≡ joined_spans (home_hull c) → last ≡ end_of c → Stands (record c { accepted = accepted; acknowledged = acknowledged; dropped = dropped; spans = spans; landed = last; spare = spare }) (opened_with s)
+pub stands_carried : (c : CellView) (qs : List Accepted) (s : OpenedSeries)
+    (accepted acknowledged dropped : List ℕ) (spans : List BatchSpan) (last spare : ℕ) → Stands c qs
+    → c.cut ≡ 0 → 0 < end_of c → HandsOn c s → accepted ≡ c.stored
+    → acknowledged ≡ zeros (row_length c.id.kind) → dropped ≡ zeros (row_length c.id.kind)
+    → spans ≡ joined_spans (home_hull c) → last ≡ end_of c
+    → Stands (record c {
+      accepted = accepted;
+      acknowledged = acknowledged;
+      dropped =
+          dropped;
+      spans = spans;
+      landed = last;
+      spare = spare;
+    }) (opened_with s)
 stands_carried c qs s accepted acknowledged dropped spans last spare h none some t ea ek ed em el =
     let n = row_length c.id.kind in
     let m : row_length s.series.kind ≡ n = ap (λ (x : Identity). row_length x.kind) t.series in
@@ -82,7 +114,8 @@ stands_carried c qs s accepted acknowledged dropped spans last spare h none some
     let k = carries c qs s h t s.home_span (sym t.home_span) in
     let late = ends_late c.owner c.id qs h.own (omega (arith, some, end_is c qs h)) in
     let below = ends_below c.owner c.id qs h.own in
-    let zero_row : add_rows (zeros (row_length s.series.kind)) (zeros n) ≡ zeros n = zeros_first (row_length s.series.kind) n (zeros n) m (sym (length-zeros n)) in
+    let zero_row : add_rows (zeros (row_length s.series.kind)) (zeros n) ≡ zeros n =
+    zeros_first (row_length s.series.kind) n (zeros n) m (sym (length-zeros n)) in
     record {
       gone = mark s ∷ [];
       away = [];
@@ -95,13 +128,16 @@ stands_carried c qs s accepted acknowledged dropped spans last spare h none some
         record {
           series = t.series;
           sender = t.owner;
-          span = interval_is (up_to_frontier s) (omega arith) (omega (arith, t.frontier, end_is c qs h, late)) (omega (arith, t.frontier, end_is c qs h, below));
+          span = interval_is (up_to_frontier s) (omega arith)
+              (omega (arith, t.frontier, end_is c qs h, late))
+              (omega (arith, t.frontier, end_is c qs h, below));
           long = length-zeros (row_length s.series.kind) ∙ m;
         },
         k.own,
       );
       ordered = k.ordered;
-      accepted = ea ∙ (sym (zeros_first (row_length s.series.kind) n c.stored m (sym z.stored)) ∙ ap (add_rows (zeros (row_length s.series.kind))) (sym k.row));
+      accepted = ea ∙ (sym (zeros_first (row_length s.series.kind) n c.stored m (sym z.stored))
+          ∙ ap (add_rows (zeros (row_length s.series.kind))) (sym k.row));
       stored = sym k.row;
       in_flight = h.in_flight ∙ ap (row_sum n) (none_away c qs h none);
       acknowledged = ek ∙ sym zero_row;
@@ -113,7 +149,16 @@ stands_carried c qs s accepted acknowledged dropped spans last spare h none some
 
 -- what a cell hands on
 pub handed : CellView → OpenedSeries
-handed c = record { series = c.id; owner = c.owner; frontier = end_of c; home = c.stored; home_span = home_hull c; acknowledged = []; dropped = [] }
+handed c = record {
+  series = c.id;
+  owner = c.owner;
+  frontier = end_of c;
+  home =
+      c.stored;
+  home_span = home_hull c;
+  acknowledged = [];
+  dropped = [];
+}
 
 pub hands_on : (c : CellView) → HandsOn c (handed c)
 unfolding handed
@@ -121,16 +166,30 @@ hands_on c = record { series = refl; owner = refl; frontier = refl; home = refl;
 
 -- a cell that stands for no point
 
-no_parts : (gone away home : List Accepted) → [] ≡ gone ++ (away ++ home) → (away ≡ []) × (home ≡ [])
+no_parts : (gone away home : List Accepted) → [] ≡ gone ++ (away ++ home)
+    → (away ≡ []) × (home ≡ [])
 no_parts [] [] home e = (refl, sym e)
 no_parts [] (a ∷ away) home e = cc
 no_parts (a ∷ gone) away home e = cc
 
-no_points : (s : List ℕ) (x : Identity) (qs : List Accepted) → AllOwn s x qs → greatest_end qs ≡ 0 → qs ≡ []
+no_points : (s : List ℕ) (x : Identity) (qs : List Accepted) → AllOwn s x qs → greatest_end qs ≡ 0
+    → qs ≡ []
 no_points s x [] h e = refl
 no_points s x (a ∷ qs) h e = absurd (omega (arith, e, ends_after a.point.span h.0.span))
 
-pub stands_for_none : (c : CellView) (accepted acknowledged dropped : List ℕ) (spans : List BatchSpan) (last spare : ℕ) → Stands c [] → c.cut ≡ 0 → accepted ≡ c.stored → acknowledged ≡ zeros (row_length c.id.kind) → dropped ≡ zeros (row_length c.id.kind) → spans ≡ joined_spans (home_hull c) → last ≡ end_of c → Stands (record c { accepted = accepted; acknowledged = acknowledged; dropped = dropped; spans = spans; landed = last; spare = spare }) []
+pub stands_for_none : (c : CellView) (accepted acknowledged dropped : List ℕ)
+    (spans : List BatchSpan) (last spare : ℕ) → Stands c [] → c.cut ≡ 0 → accepted ≡ c.stored
+    → acknowledged ≡ zeros (row_length c.id.kind) → dropped ≡ zeros (row_length c.id.kind)
+    → spans ≡ joined_spans (home_hull c) → last ≡ end_of c
+    → Stands (record c {
+      accepted = accepted;
+      acknowledged = acknowledged;
+      dropped =
+          dropped;
+      spans = spans;
+      landed = last;
+      spare = spare;
+    }) []
 stands_for_none c accepted acknowledged dropped spans last spare h none ea ek ed em el =
     let n = row_length c.id.kind in
     let p = no_parts h.gone h.away h.home h.parts in
@@ -155,9 +214,41 @@ stands_for_none c accepted acknowledged dropped spans last spare h none ea ek ed
     }
 
 -- what a cell carries is a cell
-pub cell_carried : (c : CellView) (qs : List Accepted) (accepted acknowledged dropped : List ℕ) (spans : List BatchSpan) (last spare : ℕ) → Stands c qs → c.cut ≡ 0 → accepted ≡ c.stored → acknowledged ≡ zeros (row_length c.id.kind) → dropped ≡ zeros (row_length c.id.kind) → spans ≡ joined_spans (home_hull c) → last ≡ end_of c → IsCell (record c { accepted = accepted; acknowledged = acknowledged; dropped = dropped; spans = spans; landed = last; spare = spare })
-cell_carried c qs accepted acknowledged dropped spans last spare h none ea ek ed em el = by (end_of c) refl
+pub cell_carried : (c : CellView) (qs : List Accepted) (accepted acknowledged dropped : List ℕ)
+    (spans : List BatchSpan) (last spare : ℕ) → Stands c qs → c.cut ≡ 0 → accepted ≡ c.stored
+    → acknowledged ≡ zeros (row_length c.id.kind) → dropped ≡ zeros (row_length c.id.kind)
+    → spans ≡ joined_spans (home_hull c) → last ≡ end_of c
+    → IsCell (record c {
+      accepted = accepted;
+      acknowledged = acknowledged;
+      dropped =
+          dropped;
+      spans = spans;
+      landed = last;
+      spare = spare;
+    })
+cell_carried c qs accepted acknowledged dropped spans last spare h none ea ek ed em el =
+    by (end_of c) refl
   where
-    by : (n : ℕ) → end_of c ≡ n → IsCell (record c { accepted = accepted; acknowledged = acknowledged; dropped = dropped; spans = spans; landed = last; spare = spare })
-    by zero e = ([], stands_for_none c accepted acknowledged dropped spans last spare (subst (Stands c) (no_points c.owner c.id qs h.own (sym (end_is c qs h) ∙ e)) h) none ea ek ed em el)
-    by (suc n) e = (opened_with (handed c), stands_carried c qs (handed c) accepted acknowledged dropped spans last spare h none (omega (arith, e)) (hands_on c) ea ek ed em el)
+    by : (n : ℕ) → end_of c ≡ n → IsCell
+        (record c {
+          accepted = accepted;
+          acknowledged = acknowledged;
+          dropped = dropped;
+          spans =
+              spans;
+          landed = last;
+          spare = spare;
+        })
+    by zero e = (
+      [],
+      stands_for_none c accepted acknowledged dropped spans last spare
+          (subst (Stands c) (no_points c.owner c.id qs h.own (sym (end_is c qs h) ∙ e)) h) none ea
+          ek
+          ed em el,
+    )
+    by (suc n) e = (
+      opened_with (handed c),
+      stands_carried c qs (handed c) accepted acknowledged
+          dropped spans last spare h none (omega (arith, e)) (hands_on c) ea ek ed em el,
+    )

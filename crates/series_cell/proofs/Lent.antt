@@ -14,7 +14,8 @@ lent_words e h = subst (λ (w : CellParts). AreWords w.accepted.items) (sym e) h
 pub lent_view : {k boxed : CellParts} {c : CellView} → k ≡ boxed → view_of boxed ≡ c → view_of k ≡ c
 lent_view e h = ap view_of e ∙ h
 
-pub lent : {k boxed : CellParts} {c : CellView} (P : CellView → Type 0) → k ≡ boxed → view_of boxed ≡ c → P c → P (view_of k)
+pub lent : {k boxed : CellParts} {c : CellView} (P : CellView → Type 0) → k ≡ boxed
+    → view_of boxed ≡ c → P c → P (view_of k)
 lent P e is h = subst P (sym (lent_view e is)) h
 
 pub lent_lean : {k boxed : CellParts} → k ≡ boxed → IsKept boxed → IsLean (view_of k)

@@ -1,5 +1,6 @@
 -- How long a cell's rows are, and that no two of them add up to more than was accepted.
-use Rattle.std.proofs.Common.{◌≡◌, ℕ, ◌+◌, ◌-◌, ◌≤◌, List, ◌++◌, filter, length, take, drop, ap, ◌∙◌, subst, arith}
+use Rattle.std.proofs.Common.{◌≡◌, ℕ, ◌+◌, ◌-◌, ◌≤◌, List, ◌++◌, filter, length, take, drop, ap}
+use Rattle.std.proofs.Common.{◌∙◌, subst, arith}
 use Rattle.std.specs.Prelude.{slice_index}
 use Rattle.std.proofs.lemmas.List.{length-drop, take_at}
 use Rattle.series_id.specs.Identity.{row_length}
@@ -27,29 +28,50 @@ sized c qs h =
     let rest = all_own_last c.owner c.id h.gone (h.away ++ h.home) all in
     record {
       accepted = ap length h.accepted ∙ sum_length c.owner c.id qs h.own;
-      stored = ap length h.stored ∙ sum_length c.owner c.id h.home (all_own_last c.owner c.id h.away h.home rest);
-      in_flight = ap length h.in_flight ∙ sum_length c.owner c.id h.away (all_own_first c.owner c.id h.away h.home rest);
-      acknowledged = ap length h.acknowledged ∙ sum_length c.owner c.id (filter (stands is_acknowledged) h.gone) (all_own_filter c.owner c.id (stands is_acknowledged) h.gone gone);
-      dropped = ap length h.dropped ∙ sum_length c.owner c.id (filter (stands is_dropped) h.gone) (all_own_filter c.owner c.id (stands is_dropped) h.gone gone);
+      stored = ap length h.stored
+          ∙ sum_length c.owner c.id h.home (all_own_last c.owner c.id h.away h.home rest);
+      in_flight = ap length h.in_flight
+          ∙ sum_length c.owner c.id h.away (all_own_first c.owner c.id h.away h.home rest);
+      acknowledged = ap length h.acknowledged
+          ∙ sum_length c.owner c.id (filter (stands is_acknowledged) h.gone)
+          (all_own_filter c.owner c.id (stands is_acknowledged) h.gone gone);
+      dropped = ap length h.dropped ∙ sum_length c.owner c.id (filter (stands is_dropped) h.gone)
+          (all_own_filter c.owner c.id (stands is_dropped) h.gone gone);
     }
 
 pub record Within (c : CellView) (k : ℕ) : Type 0 where
   pub stored : slice_index c.stored k + slice_index c.in_flight k ≤ slice_index c.accepted k
-  pub acknowledged : slice_index c.acknowledged k + slice_index c.in_flight k ≤ slice_index c.accepted k
+  pub acknowledged : slice_index c.acknowledged k + slice_index c.in_flight k
+      ≤ slice_index c.accepted k
   pub dropped : slice_index c.dropped k + slice_index c.in_flight k ≤ slice_index c.accepted k
 
 pub within : (c : CellView) (qs : List Accepted) (k : ℕ) → Stands c qs → Within c k
 within c qs k h =
     let n = row_length c.id.kind in
-    let all : slice_index c.accepted k ≡ slice_index (row_sum n h.gone) k + (slice_index (row_sum n h.away) k + slice_index (row_sum n h.home) k) =
-    ap (λ r. slice_index r k) (h.accepted ∙ (ap (row_sum n) h.parts ∙ (row_sum-append n h.gone (h.away ++ h.home) ∙ ap (add_rows (row_sum n h.gone)) (row_sum-append n h.away h.home))))
-    ∙ (added_at (row_sum n h.gone) (add_rows (row_sum n h.away) (row_sum n h.home)) k ∙ ap (λ m. slice_index (row_sum n h.gone) k + m) (added_at (row_sum n h.away) (row_sum n h.home) k)) in
-    let a : slice_index (row_sum n (filter (stands is_acknowledged) h.gone)) k ≤ slice_index (row_sum n h.gone) k = row_le_at _ _ k (row_sum_filter_le n (stands is_acknowledged) h.gone) in
-    let d : slice_index (row_sum n (filter (stands is_dropped) h.gone)) k ≤ slice_index (row_sum n h.gone) k = row_le_at _ _ k (row_sum_filter_le n (stands is_dropped) h.gone) in
-    let es : slice_index c.stored k ≡ slice_index (row_sum n h.home) k = ap (λ r. slice_index r k) h.stored in
-    let ef : slice_index c.in_flight k ≡ slice_index (row_sum n h.away) k = ap (λ r. slice_index r k) h.in_flight in
-    let ea : slice_index c.acknowledged k ≡ slice_index (row_sum n (filter (stands is_acknowledged) h.gone)) k = ap (λ r. slice_index r k) h.acknowledged in
-    let ed : slice_index c.dropped k ≡ slice_index (row_sum n (filter (stands is_dropped) h.gone)) k = ap (λ r. slice_index r k) h.dropped in
+    let all : slice_index c.accepted k
+    ≡ slice_index (row_sum n h.gone) k
+    + (slice_index (row_sum n h.away) k + slice_index (row_sum n h.home) k) =
+    ap (λ r. slice_index r k) (h.accepted
+    ∙ (ap (row_sum n) h.parts ∙ (row_sum-append n h.gone (h.away ++ h.home)
+    ∙ ap (add_rows (row_sum n h.gone)) (row_sum-append n h.away h.home))))
+    ∙ (added_at (row_sum n h.gone) (add_rows (row_sum n h.away) (row_sum n h.home)) k
+    ∙ ap (λ m. slice_index (row_sum n h.gone) k + m)
+    (added_at (row_sum n h.away) (row_sum n h.home) k)) in
+    let a : slice_index (row_sum n (filter (stands is_acknowledged) h.gone)) k
+    ≤ slice_index (row_sum n h.gone) k =
+    row_le_at _ _ k (row_sum_filter_le n (stands is_acknowledged) h.gone) in
+    let d : slice_index (row_sum n (filter (stands is_dropped) h.gone)) k
+    ≤ slice_index (row_sum n h.gone) k =
+    row_le_at _ _ k (row_sum_filter_le n (stands is_dropped) h.gone) in
+    let es : slice_index c.stored k ≡ slice_index (row_sum n h.home) k =
+    ap (λ r. slice_index r k) h.stored in
+    let ef : slice_index c.in_flight k ≡ slice_index (row_sum n h.away) k =
+    ap (λ r. slice_index r k) h.in_flight in
+    let ea : slice_index c.acknowledged k
+    ≡ slice_index (row_sum n (filter (stands is_acknowledged) h.gone)) k =
+    ap (λ r. slice_index r k) h.acknowledged in
+    let ed : slice_index c.dropped k ≡ slice_index (row_sum n (filter (stands is_dropped) h.gone))
+    k = ap (λ r. slice_index r k) h.dropped in
     record {
       stored = omega (arith, all, es, ef);
       acknowledged = omega (arith, all, ef, ea, a);
@@ -57,5 +79,7 @@ within c qs k h =
     }
 
 -- the first spans taken out
-pub cut_off : (ms rs ts : List BatchSpan) (k n : ℕ) → rs ≡ drop k ms ++ take k ms → ts ≡ take n rs → n ≡ length ms - k → ts ≡ drop k ms
-cut_off ms rs ts k n er et en = et ∙ (ap (take n) er ∙ take_at (drop k ms) (take k ms) n (omega (arith, en, length-drop k ms)))
+pub cut_off : (ms rs ts : List BatchSpan) (k n : ℕ) → rs ≡ drop k ms ++ take k ms → ts ≡ take n rs
+    → n ≡ length ms - k → ts ≡ drop k ms
+cut_off ms rs ts k n er et en =
+    et ∙ (ap (take n) er ∙ take_at (drop k ms) (take k ms) n (omega (arith, en, length-drop k ms)))

@@ -13,19 +13,50 @@ pub words_none : (n : ℕ) (zs : List ℕ) → zs ≡ zeros n → AreWords zs
 words_none n zs e = λ k b. omega (arith, ap (λ rs. slice_index rs k) e, zeros_at n k)
 
 -- a row was added
-pub words_added : (xs ys zs : List ℕ) → length ys ≡ length xs → Fits (2 ^ 64 - 1) xs ys → zs ≡ add_rows xs ys → AreWords zs
-words_added xs ys zs l h e = λ k b. omega (arith, h k (omega (arith, b, ap length e, length-add_rows xs ys (length xs) refl l)), ap (λ rs. slice_index rs k) e, added_at xs ys k)
+pub words_added : (xs ys zs : List ℕ) → length ys ≡ length xs → Fits (2 ^ 64 - 1) xs ys
+    → zs ≡ add_rows xs ys → AreWords zs
+words_added xs ys zs l h e = λ k b. omega (
+  arith,
+  h k (omega (arith, b, ap length e, length-add_rows xs ys (length xs) refl l)),
+  ap
+      (λ rs. slice_index rs k) e,
+  added_at xs ys k,
+)
 
 -- a row was taken away
-pub words_left : (xs ys rest zs : List ℕ) → AreWords xs → xs ≡ add_rows ys rest → length rest ≡ length xs → zs ≡ rest → AreWords zs
-words_left xs ys rest zs h e l f = λ k b. omega (arith, h k (omega (arith, b, ap length f, l)), ap (λ rs. slice_index rs k) f, ap (λ rs. slice_index rs k) e, added_at ys rest k)
+pub words_left : (xs ys rest zs : List ℕ) → AreWords xs → xs ≡ add_rows ys rest
+    → length rest ≡ length xs → zs ≡ rest → AreWords zs
+words_left xs ys rest zs h e l f =
+    λ k b. omega (
+      arith,
+      h k (omega (arith, b, ap length f, l)),
+      ap (λ rs. slice_index rs k) f,
+      ap
+          (λ rs. slice_index rs k) e,
+      added_at ys rest k,
+    )
 
 -- what is pending is part of it
-pub words_stored : (c : CellView) (qs : List Accepted) (zs : List ℕ) → Stands c qs → AreWords c.accepted → zs ≡ c.stored → AreWords zs
+pub words_stored : (c : CellView) (qs : List Accepted) (zs : List ℕ) → Stands c qs
+    → AreWords c.accepted → zs ≡ c.stored → AreWords zs
 words_stored c qs zs h w e = λ k b.
     let s = sized c qs h in
-    omega (arith, w k (omega (arith, b, ap length e, s.stored, s.accepted)), (within c qs k h).stored, ap (λ rs. slice_index rs k) e)
+    omega (
+      arith,
+      w k (omega (arith, b, ap length e, s.stored, s.accepted)),
+      (within c qs k h).stored,
+      ap (λ rs. slice_index rs k) e,
+    )
 
 -- rows of different points fit into one
-pub rows_fit : {xs ys ds ss : List ℕ} (zs : List ℕ) → ds ≡ xs → ss ≡ ys → ((k : ℕ) → slice_index xs k + slice_index ys k ≤ slice_index zs k) → length xs ≡ length zs → AreWords zs → Fits (2 ^ 64 - 1) ds ss
-rows_fit zs ed es le l h = λ k b. omega (arith, h k (omega (arith, b, ap length ed, l)), le k, ap (λ rs. slice_index rs k) ed, ap (λ rs. slice_index rs k) es)
+pub rows_fit : {xs ys ds ss : List ℕ} (zs : List ℕ) → ds ≡ xs → ss ≡ ys
+    → ((k : ℕ) → slice_index xs k + slice_index ys k ≤ slice_index zs k) → length xs ≡ length zs
+    → AreWords zs → Fits (2 ^ 64 - 1) ds ss
+rows_fit zs ed es le l h = λ k b. omega (
+  arith,
+  h k (omega (arith, b, ap length ed, l)),
+  le k,
+  ap (λ rs. slice_index rs k) ed,
+  ap
+      (λ rs. slice_index rs k) es,
+)

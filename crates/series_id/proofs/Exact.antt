@@ -2,7 +2,8 @@
 use Rattle.std.proofs.Common.{◌≡◌, true, false, refl, sym, ap, ◌∙◌}
 use Rattle.std.specs.Ordering.{ordering_then, bool_cmp}
 use Rattle.std.specs.Cmp.{IsTotalOrder, tied_itself}
-use Rattle.std.specs.FinMap.{IsAntisymmetric, nat_cmp-IsAntisymmetric, int_cmp-IsAntisymmetric, slice_cmp-IsAntisymmetric}
+use Rattle.std.specs.FinMap.{IsAntisymmetric, nat_cmp-IsAntisymmetric, int_cmp-IsAntisymmetric}
+use Rattle.std.specs.FinMap.{slice_cmp-IsAntisymmetric}
 use Rattle.std.specs.declared.cmp.Ordering.{Ordering}
 use Rattle.std.specs.declared.cmp.Ordering.TheVariants.{Equal}
 use Rattle.series_id.specs.declared.scalars.Scalar.TheVariants.{Empty, Truth, Int, Text}
@@ -56,7 +57,8 @@ attrs_exact = slice_cmp-IsAntisymmetric attribute_exact
 
 pub kind_exact : IsAntisymmetric kind_cmp
 kind_exact (Sum a) (Sum b) e = ap Sum (bool_exact a b e)
-kind_exact (Histogram xs) (Histogram ys) e = ap Histogram (slice_cmp-IsAntisymmetric int_cmp-IsAntisymmetric xs ys e)
+kind_exact (Histogram xs) (Histogram ys) e =
+    ap Histogram (slice_cmp-IsAntisymmetric int_cmp-IsAntisymmetric xs ys e)
 kind_exact j k e = cc e
 
 -- ---- what series share
@@ -117,9 +119,22 @@ series_exact x y e =
     let scope = scope_exact x y (then_first _ _ rest) in
     let stream = stream_exact x y (then_first _ _ metric) in
     let attrs = attrs_exact x.attrs y.attrs (then_second _ _ metric) in
-    λ i. record { resource = resource i; scope_name = scope.name i; scope_version = scope.version i; scope_attrs = scope.attrs i; name = stream.name i; unit = stream.unit i; kind = stream.kind i; attrs = attrs i }
+    λ i. record {
+      resource = resource i;
+      scope_name = scope.name i;
+      scope_version =
+          scope.version i;
+      scope_attrs = scope.attrs i;
+      name = stream.name i;
+      unit =
+          stream.unit i;
+      kind = stream.kind i;
+      attrs = attrs i;
+    }
 
 -- series go by resource, scope, stream and the point's attributes
-pub series_levels : (x y : Identity) → series_cmp x y ≡ ordering_then (resource_cmp x y) (ordering_then (scope_cmp x y) (ordering_then (stream_cmp x y) (attrs_cmp x.attrs y.attrs)))
+pub series_levels : (x y : Identity)
+    → series_cmp x y ≡ ordering_then (resource_cmp x y)
+    (ordering_then (scope_cmp x y) (ordering_then (stream_cmp x y) (attrs_cmp x.attrs y.attrs)))
 unfolding series_cmp metric_cmp
 series_levels x y = refl

@@ -8,12 +8,23 @@ loop-left-preserved c =
     let i = c.loop-left.invariant.read in
     let s = c.in-Ok.ensures.read (i.0) (i.2) in
     record {
-      read = (s.0, i.1 ∙ (s.1 ∙ ap (λ (xs : List ℕ). said c.args.names.now 0 xs (s.0)) (sym c.split_at.ensures.back)), s.2);
+      read = (
+        s.0,
+        i.1 ∙ (s.1 ∙ ap (λ (xs : List ℕ). said c.args.names.now 0 xs (s.0))
+            (sym c.split_at.ensures.back)),
+        s.2,
+      );
       from = c.in-Ok.ensures.from;
       sender = c.in-Ok.ensures.sender ∙ c.loop-left.invariant.sender;
       window = c.in-Ok.ensures.window ∙ c.loop-left.invariant.window;
       books = c.in-Ok.ensures.books ∙ c.loop-left.invariant.books;
-      few = omega (arith, c.in-Ok.ensures.more, c.in-Ok.ensures.many, c.split_at.ensures.back_len, c.loop-left.invariant.few);
+      few = omega (
+        arith,
+        c.in-Ok.ensures.more,
+        c.in-Ok.ensures.many,
+        c.split_at.ensures.back_len,
+        c.loop-left.invariant.few,
+      );
     }
 
 pub returns-clause-read : goal.returns-clause-read

@@ -8,7 +8,8 @@ use Rattle.book_desk.proofs.by_number.draft_said.Given as goal
 
 abbrev pub invariant-loop-left : goal.invariant-loop-left
 invariant-loop-left l = record {
-  read : (t : Tally) × (said l.names 0 l.words nothing ≡ said l.names 0 l.left t) × HasRead l.draft t;
+  read : (t : Tally) × (said l.names 0 l.words nothing ≡ said l.names 0 l.left t)
+      × HasRead l.draft t;
   from : All (IsFrom l.draft.sender) l.draft.parts.items;
   sender : l.draft.sender ≡ l.fn.sender;
   window : l.draft.window ≡ l.fn.window;

@@ -18,9 +18,11 @@ returns-clause-held t c =
 pub returns-clause-released : goal.returns-clause-released
 returns-clause-released t c =
     let l : 0 < length c.args.books.now = grind arith in
-    book_rest (Releases c.args.sender.now) _ _ _ _ l c.lift-is_first.ensures.released c.lift_each-are_others.ensures.released
+    book_rest (Releases c.args.sender.now) _ _ _ _ l c.lift-is_first.ensures.released
+    c.lift_each-are_others.ensures.released
 
 pub returns-clause-same : goal.returns-clause-same
 returns-clause-same t c = λ r.
     let l : 0 < length c.args.books.now = grind arith in
-    not_lifted _ _ _ _ _ _ l (or_first _ _ r) c.lift-is_first.ensures.held c.lift-is_first.ensures.released (c.lift_each-are_others.ensures.same (or_second _ _ r))
+    not_lifted _ _ _ _ _ _ l (or_first _ _ r) c.lift-is_first.ensures.held
+    c.lift-is_first.ensures.released (c.lift_each-are_others.ensures.same (or_second _ _ r))

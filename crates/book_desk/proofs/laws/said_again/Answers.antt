@@ -8,5 +8,6 @@ pub returns : goal.returns
 returns c = record {
   same = λ books sender another window t counts again parts made names words kept said put.
       let same : put.0.points ≡ flat_map points_in parts = cc in
-      parts_again books sender another window t.points put.0.points parts made same kept.split put.2.split;
+      parts_again books sender another window t.points put.0.points parts made same kept.split
+      put.2.split;
 }

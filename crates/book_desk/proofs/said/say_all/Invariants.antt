@@ -6,6 +6,7 @@ use Rattle.book_desk.proofs.said.say_all.Given as goal
 
 abbrev pub invariant-loop-i : goal.invariant-loop-i
 invariant-loop-i l = record {
-  said : (ps : List DataPoint) → AreSaid l.fn.names l.fn.words.items ps → AreSaid l.names l.words.items (ps ++ take l.i l.points);
+  said : (ps : List DataPoint) → AreSaid l.fn.names l.fn.words.items ps
+      → AreSaid l.names l.words.items (ps ++ take l.i l.points);
   more : Extends l.fn.names l.names;
 }

@@ -15,7 +15,9 @@ loop-i-init c = record {
 pub loop-i-preserved : goal.loop-i-preserved
 loop-i-preserved c = record {
   said = subst (λ (qs : List DataPoint). AreSaid c.say_part.new.names c.say_part.new.words.items qs)
-      (part_more c.args.parts.now c.loop-i.i c.index-parts-i.result (omega arith) c.index-parts-i.is)
-      (c.in_ok-say_part.ensures.said (flat_map points_in (take c.loop-i.i c.args.parts.now)) c.loop-i.invariant.said);
+      (part_more c.args.parts.now c.loop-i.i c.index-parts-i.result (omega arith)
+      c.index-parts-i.is)
+      (c.in_ok-say_part.ensures.said (flat_map points_in (take c.loop-i.i c.args.parts.now))
+      c.loop-i.invariant.said);
   more = extends_more _ _ _ c.loop-i.invariant.more c.say_part.ensures.more;
 }

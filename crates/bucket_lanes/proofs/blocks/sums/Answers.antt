@@ -5,7 +5,8 @@ use Rattle.bucket_lanes.proofs.blocks.sums.Goals as goal
 
 pub overflow_add-result : goal.overflow_add-result
 overflow_add-result c =
-    Each2-by_index _ c.args.a c.args.b (omega arith) (λ k lt. record { fits = c.requires.fits k (omega arith) })
+    Each2-by_index _ c.args.a c.args.b (omega arith)
+    (λ k lt. record { fits = c.requires.fits k (omega arith) })
 
 pub returns-clause-long : goal.returns-clause-long
 returns-clause-long c =

@@ -10,4 +10,8 @@ use Rattle.delta_book.specs.inner.Tables.{on_series}
 use Rattle.delta_book.proofs.cells.end_in_cells.Given as goal
 
 abbrev pub invariant-loop-x : goal.invariant-loop-x
-invariant-loop-x l = (f : ℕ) (qs : List Accepted) → AreCells l.fn.cells qs → are_distinct l.series ≡ true → list_all (λ x. list_any (stands (is_in_flight f)) (of_series x qs)) l.series ≡ true → is_flying l.place ≡ false → AreCells l.cells (map (on_series (landed f l.place) (take l.x-index l.series)) qs)
+invariant-loop-x l = (f : ℕ) (qs : List Accepted) → AreCells l.fn.cells qs
+    → are_distinct l.series ≡ true → list_all
+    (λ x. list_any (stands (is_in_flight f)) (of_series x qs)) l.series ≡ true
+    → is_flying l.place ≡ false → AreCells l.cells
+    (map (on_series (landed f l.place) (take l.x-index l.series)) qs)

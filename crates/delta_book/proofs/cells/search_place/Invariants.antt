@@ -9,8 +9,10 @@ abbrev pub invariant-loop-low : goal.invariant-loop-low
 invariant-loop-low l = record {
   ends : l.high ≤ length l.cells;
   order : l.low ≤ l.high;
-  below : is_ascending (map id_of l.cells) ≡ true → list_all (λ c. series_before c.id l.series) (take l.low l.cells) ≡ true;
-  above : is_ascending (map id_of l.cells) ≡ true → list_all (λ c. series_before l.series c.id) (drop l.high l.cells) ≡ true;
+  below : is_ascending (map id_of l.cells) ≡ true
+      → list_all (λ c. series_before c.id l.series) (take l.low l.cells) ≡ true;
+  above : is_ascending (map id_of l.cells) ≡ true
+      → list_all (λ c. series_before l.series c.id) (drop l.high l.cells) ≡ true;
 }
 
 abbrev pub decreases-loop-low : goal.decreases-loop-low

@@ -6,15 +6,20 @@ use Rattle.delta_book.proofs.Sweeping.{swept}
 use Rattle.delta_book.proofs.cells.sweep_cells.Goals as goal
 
 pub loop-k-init : goal.loop-k-init
-loop-k-init c = λ qs h. subst (AreCellsFor c.args.cells.now.items qs) (sym (take_all (length c.args.batch.now - 0) c.args.batch.now (omega arith))) h
+loop-k-init c = λ qs h. subst (AreCellsFor c.args.cells.now.items qs)
+    (sym (take_all (length c.args.batch.now - 0) c.args.batch.now (omega arith))) h
 
 pub loop-k-preserved : goal.loop-k-preserved
 loop-k-preserved c = λ qs h.
     let ps = c.args.batch.now in
-    c.sweep_cell.ensures qs (take (length ps - (c.loop-k.k + 1)) ps) (subst (AreCellsFor c.loop-k.cells.items qs) (last_point ps c.loop-k.k c.index-batch-i.result c.loop-k-test.true c.index-batch-i.is) (c.loop-k.invariant qs h))
+    c.sweep_cell.ensures qs (take (length ps - (c.loop-k.k + 1)) ps)
+    (subst (AreCellsFor c.loop-k.cells.items qs)
+    (last_point ps c.loop-k.k c.index-batch-i.result c.loop-k-test.true c.index-batch-i.is)
+    (c.loop-k.invariant qs h))
 
 pub returns : goal.returns
 returns c = λ qs h.
     let ps = c.args.batch.now in
     let none : length ps - c.loop-k.k ≡ 0 = omega (arith, c.loop-k-test.false) in
-    swept c.loop-k.cells.items qs (subst (λ n. AreCellsFor c.loop-k.cells.items qs (take n ps)) none (c.loop-k.invariant qs h))
+    swept c.loop-k.cells.items qs (subst (λ n. AreCellsFor c.loop-k.cells.items qs (take n ps)) none
+    (c.loop-k.invariant qs h))

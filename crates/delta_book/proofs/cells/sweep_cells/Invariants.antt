@@ -4,4 +4,5 @@ use Rattle.delta_book.specs.inner.Removals.{AreCellsFor}
 use Rattle.delta_book.proofs.cells.sweep_cells.Given as goal
 
 abbrev pub invariant-loop-k : goal.invariant-loop-k
-invariant-loop-k l = (qs : List Accepted) → AreCellsFor l.fn.cells.items qs l.batch → AreCellsFor l.cells.items qs (take (length l.batch - l.k) l.batch)
+invariant-loop-k l = (qs : List Accepted) → AreCellsFor l.fn.cells.items qs l.batch
+    → AreCellsFor l.cells.items qs (take (length l.batch - l.k) l.batch)

@@ -7,4 +7,5 @@ use Rattle.delta_book.specs.Tables.{AreCells}
 use Rattle.delta_book.proofs.limits.has_large_word.Given as goal
 
 abbrev pub invariant-loop-k : goal.invariant-loop-k
-invariant-loop-k l = (b : ℕ) (s : List ℕ) (qs : List Accepted) → AreCells l.cells qs → (j : ℕ) → j < l.k → slice_index (sum_with b s l.series qs l.batch) j ≤ word_limit l.series.kind j
+invariant-loop-k l = (b : ℕ) (s : List ℕ) (qs : List Accepted) → AreCells l.cells qs → (j : ℕ)
+    → j < l.k → slice_index (sum_with b s l.series qs l.batch) j ≤ word_limit l.series.kind j

@@ -6,7 +6,8 @@ use Rattle.delta_book.proofs.Within.{rest_is, histogram_split}
 use Rattle.delta_book.proofs.limits.is_histogram_within.Goals as goal
 
 abbrev buckets : List ℕ → List ℕ → Bool
-buckets xs ys = are_within (λ k. MAX_BUCKET) (add_rows xs ys) && nat_le (sum (add_rows xs ys)) MAX_COUNT
+buckets xs ys =
+    are_within (λ k. MAX_BUCKET) (add_rows xs ys) && nat_le (sum (add_rows xs ys)) MAX_COUNT
 
 pub returns-then-is_head_within : goal.returns-then-is_head_within
 returns-then-is_head_within c = λ bounds.
@@ -15,7 +16,8 @@ returns-then-is_head_within c = λ bounds.
     c.are_buckets_within.ensures
     ∙ (ap (λ xs. buckets xs (take (length more - 3) (drop 3 more))) (rest_is 3 row)
     ∙ (ap (λ ys. buckets (drop 3 row) ys) (rest_is 3 more)
-    ∙ (ap (λ v. v && buckets (drop 3 row) (drop 3 more)) (sym c.if-is_head_within.true ∙ c.is_head_within.ensures bounds)
+    ∙ (ap (λ v. v && buckets (drop 3 row) (drop 3 more))
+    (sym c.if-is_head_within.true ∙ c.is_head_within.ensures bounds)
     ∙ histogram_split bounds row more c.requires.row c.requires.same)))
 
 pub returns-else-is_head_within : goal.returns-else-is_head_within
@@ -23,5 +25,6 @@ returns-else-is_head_within c = λ bounds.
     let row = c.args.row.now in
     let more = c.args.more.now in
     c.if-is_head_within.false
-    ∙ (ap (λ v. v && buckets (drop 3 row) (drop 3 more)) (sym c.if-is_head_within.false ∙ c.is_head_within.ensures bounds)
+    ∙ (ap (λ v. v && buckets (drop 3 row) (drop 3 more))
+    (sym c.if-is_head_within.false ∙ c.is_head_within.ensures bounds)
     ∙ histogram_split bounds row more c.requires.row c.requires.same)

@@ -16,16 +16,23 @@ pub remove_parts-requires : goal.remove_parts-requires
 remove_parts-requires c =
     let r = c.requires.some in
     let ps = c.args.points.now in
-    let le : length ps ≤ c.in_default.field-0 = all_spans c.in_default.field-0 (length ps) _ c.in_default.ensures.over in
+    let le : length ps ≤ c.in_default.field-0 =
+    all_spans c.in_default.field-0 (length ps) _ c.in_default.ensures.over in
     let parts = parts_of SpanOnly ps in
-    has_pending c.put_points.new.cells.items c.args.number c.args.sender.now r.0 parts parts refl (all_put c.put_points.new.cells.items r.0 c.args.number c.args.sender.now SpanOnly ps c.in_default.field-0 le (c.in_default.ensures.put r.0 r.1))
+    has_pending c.put_points.new.cells.items c.args.number c.args.sender.now r.0 parts parts refl
+    (all_put c.put_points.new.cells.items r.0 c.args.number c.args.sender.now SpanOnly ps
+    c.in_default.field-0 le (c.in_default.ensures.put r.0 r.1))
 
 pub returns-clause-kept : goal.returns-clause-kept
 returns-clause-kept c = λ qs h.
     let ps = c.args.points.now in
-    let le : length ps ≤ c.in_default.field-0 = all_spans c.in_default.field-0 (length ps) _ c.in_default.ensures.over in
+    let le : length ps ≤ c.in_default.field-0 =
+    all_spans c.in_default.field-0 (length ps) _ c.in_default.ensures.over in
     let parts = parts_of SpanOnly ps in
-    cells_without c.put_points.new.cells.items c.remove_parts.new.cells.items c.args.number c.args.sender.now qs parts parts refl c.remove_parts.ensures (all_put c.put_points.new.cells.items qs c.args.number c.args.sender.now SpanOnly ps c.in_default.field-0 le (c.in_default.ensures.put qs h))
+    cells_without c.put_points.new.cells.items c.remove_parts.new.cells.items c.args.number
+    c.args.sender.now qs parts parts refl c.remove_parts.ensures
+    (all_put c.put_points.new.cells.items qs c.args.number c.args.sender.now SpanOnly ps
+    c.in_default.field-0 le (c.in_default.ensures.put qs h))
 
 pub returns-clause-fault : goal.returns-clause-fault
 returns-clause-fault c = λ qs h.
@@ -34,7 +41,12 @@ returns-clause-fault c = λ qs h.
     let ps = c.args.points.now in
     let n = c.in_default.field-0 in
     let le : length ps ≤ n = all_spans n (length ps) _ c.in_default.ensures.over in
-    let there = all_put c.put_points.new.cells.items qs b s SpanOnly ps n le (c.in_default.ensures.put qs h) in
-    c.limit_of_large-fault.ensures (qs ++ map (admitted b s) (parts_of SpanOnly ps)) (subst (λ ks. AreCells ks (qs ++ map (admitted b s) (parts_of SpanOnly ps))) (sym c.deref.ensures.value) there)
+    let there = all_put c.put_points.new.cells.items qs b s SpanOnly ps n le
+    (c.in_default.ensures.put qs h) in
+    c.limit_of_large-fault.ensures (qs ++ map (admitted b s) (parts_of SpanOnly ps))
+    (subst (λ ks. AreCells ks (qs ++ map (admitted b s) (parts_of SpanOnly ps)))
+    (sym c.deref.ensures.value) there)
     ∙ (ap (λ m. cond (nat_lt MAX_SERIES m) TooManySeries TooLarge) (count-parts SpanOnly b s qs ps)
-    ∙ ap (λ o. unwrap_or o (cond (nat_lt MAX_SERIES (series_count (qs ++ map (admitted b s) ps))) TooManySeries TooLarge)) (sym (fault_none c.args.first s qs ps n le) ∙ c.in_default.ensures.faults qs h))
+    ∙ ap (λ o. unwrap_or o (cond (nat_lt MAX_SERIES (series_count (qs ++ map (admitted b s) ps)))
+    TooManySeries TooLarge))
+    (sym (fault_none c.args.first s qs ps n le) ∙ c.in_default.ensures.faults qs h))

@@ -11,7 +11,9 @@ returns-in-Ok-clause-put c =
     let new = c.put_at.new.cells in
     let part = part_of c.args.fill c.args.point.now in
     then_ok c.put_at.result _ _
-    (λ k. subst (λ ks. Puts c.args.cells.now.items ks c.args.number c.args.sender.now (part ∷ [])) (sym (written_back c.args.cells.now.items new c.args.cells.now.len (c.put_at.auto.cells ∙ ap length v) c.args.cells.now.ok.0))
+    (λ k. subst (λ ks. Puts c.args.cells.now.items ks c.args.number c.args.sender.now (part ∷ []))
+    (sym (written_back c.args.cells.now.items new c.args.cells.now.len
+    (c.put_at.auto.cells ∙ ap length v) c.args.cells.now.ok.0))
     (subst (λ ks. Puts ks new c.args.number c.args.sender.now (part ∷ [])) v k))
     c.put_at.ensures.put
 

@@ -11,7 +11,8 @@ put-requires-clause-fits c = λ k l.
     let more = c.row.result.now in
     omega (
       arith,
-      word_fits c.kind.result.now (add_rows row more) k (sym c.is_within.ensures ∙ c.if-not-is_within.false),
+      word_fits c.kind.result.now (add_rows row more) k
+          (sym c.is_within.ensures ∙ c.if-not-is_within.false),
       added_at row more k,
       ap (λ (r : List ℕ). slice_index r k) c.accepted.ensures,
       ap (λ (r : List ℕ). slice_index r k) c.row.ensures.value,

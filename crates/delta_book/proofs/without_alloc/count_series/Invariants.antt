@@ -8,5 +8,6 @@ use Rattle.delta_book.proofs.without_alloc.count_series.Given as goal
 abbrev pub invariant-loop-j : goal.invariant-loop-j
 invariant-loop-j l = record {
   few : l.n ≤ length l.cells + l.j;
-  value : (b : ℕ) (s : List ℕ) (qs : List Accepted) → AreCells l.cells qs → l.n ≡ length (series_in_order (qs ++ map (admitted b s) (take l.j l.batch)));
+  value : (b : ℕ) (s : List ℕ) (qs : List Accepted) → AreCells l.cells qs
+      → l.n ≡ length (series_in_order (qs ++ map (admitted b s) (take l.j l.batch)));
 }

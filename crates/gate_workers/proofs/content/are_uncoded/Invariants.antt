@@ -5,4 +5,5 @@ use Rattle.gate_workers.specs.Requested.{is_uncoded}
 use Rattle.gate_workers.proofs.content.are_uncoded.Given as goal
 
 abbrev pub invariant-loop-header : goal.invariant-loop-header
-invariant-loop-header l = list_all is_uncoded (headers_in (drop l.header-index l.headers)) ≡ list_all is_uncoded (headers_in l.headers)
+invariant-loop-header l = list_all is_uncoded (headers_in (drop l.header-index l.headers))
+    ≡ list_all is_uncoded (headers_in l.headers)

@@ -8,5 +8,6 @@ use Rattle.gateway_options.proofs.command_line.with_numbers.Given as goal
 abbrev pub invariant-loop-number : goal.invariant-loop-number
 invariant-loop-number l = record {
   own : IsOwn l.command;
-  rest : with_numbers (app_of l.command) (map described (drop l.number-index l.numbers)) ≡ with_numbers (app_of l.fn.command) (map described l.numbers);
+  rest : with_numbers (app_of l.command) (map described (drop l.number-index l.numbers))
+      ≡ with_numbers (app_of l.fn.command) (map described l.numbers);
 }

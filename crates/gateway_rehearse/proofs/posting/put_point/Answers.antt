@@ -7,4 +7,8 @@ pub returns : goal.returns
 unfolding point_text
 returns c =
     let k = c.args.batch in
-    put_three c.put_between-3.result c.args.out.now.items (between [] (k + 1) (codes "\",\"startTimeUnixNano\":\"")) (between [] (10 * k + 10) (codes "\",\"timeUnixNano\":\"")) (between [] (10 * k + 20) (codes "\"}]}}]}]}]}")) _ _ _ c.in_ok-put_between.ensures c.in_ok-put_between-2.ensures c.put_between-3.ensures
+    put_three c.put_between-3.result c.args.out.now.items
+    (between [] (k + 1) (codes "\",\"startTimeUnixNano\":\""))
+    (between [] (10 * k + 10) (codes "\",\"timeUnixNano\":\""))
+    (between [] (10 * k + 20) (codes
+    "\"}]}}]}]}]}")) _ _ _ c.in_ok-put_between.ensures c.in_ok-put_between-2.ensures c.put_between-3.ensures

@@ -5,4 +5,5 @@ use Rattle.gateway_serve.proofs.sums.put_acknowledged.Goals as goal
 
 pub returns : goal.returns
 unfolding acknowledged_text
-returns c = put_two c.put_total.result c.args.out.now.items (codes " acknowledged ") _ _ _ c.in_ok-extend_from_slice.ensures.items c.put_total.ensures
+returns c = put_two c.put_total.result c.args.out.now.items (codes " acknowledged ")
+    _ _ _ c.in_ok-extend_from_slice.ensures.items c.put_total.ensures

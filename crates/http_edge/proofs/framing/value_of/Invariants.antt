@@ -5,4 +5,5 @@ use Rattle.http_edge.specs.Framing.{values_of}
 use Rattle.http_edge.proofs.framing.value_of.Given as goal
 
 abbrev pub invariant-loop-header : goal.invariant-loop-header
-invariant-loop-header l = option_to_list (option_copied l.found) ≡ values_of l.name (map (header_bytes l.buf) (take l.header-index l.headers))
+invariant-loop-header l = option_to_list (option_copied l.found)
+    ≡ values_of l.name (map (header_bytes l.buf) (take l.header-index l.headers))

@@ -4,4 +4,9 @@ use Rattle.http_edge.proofs.FormLemmas.{delivers, closed_at_no_byte}
 use Rattle.http_edge.proofs.laws.one_reading.Goals as goal
 
 pub returns : goal.returns
-returns c = record { message = delivers request_form request_laws; too_long = reports_size; closed = closed_at_no_byte request_form request_laws }
+returns c = record {
+  message = delivers request_form request_laws;
+  too_long = reports_size;
+  closed =
+      closed_at_no_byte request_form request_laws;
+}

@@ -7,5 +7,8 @@ pub returns-then-is_whole-clause-ok : goal.returns-then-is_whole-clause-ok
 returns-then-is_whole-clause-ok c =
     let b = c.args.body.now in
     let done = sym c.is_whole.ensures ∙ c.if-is_whole.true in
-    let whole = whole_is b.phase done in
-    (rw whole (whole_reaches b.content.items b.part.items c.args.piece.now (rw whole at c.requires)), sym done)
+    let whole = whole_is b.phase done in (
+      rw whole (whole_reaches b.content.items b.part.items c.args.piece.now
+          (rw whole at c.requires)),
+      sym done,
+    )

@@ -11,4 +11,6 @@ request_of-requires-clause-method c =
 pub returns-in_ok-request_of-in-Ok-Some : goal.returns-in_ok-request_of-in-Ok-Some
 returns-in_ok-request_of-in-Ok-Some c = λ k is.
     let found = rw c.in-Ok-Some.field-0-is at c.in-Ok-Some.ensures in
-    c.in_ok-request_of-in-Ok-Some.ensures ∙ message_at_is c.args.head.now c.look_for_head.new.spans c.in-Ok-Some.found k found.0 c.args.content.items is found.1
+    c.in_ok-request_of-in-Ok-Some.ensures
+    ∙ message_at_is c.args.head.now c.look_for_head.new.spans c.in-Ok-Some.found k found.0
+    c.args.content.items is found.1

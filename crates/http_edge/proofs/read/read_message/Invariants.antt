@@ -5,7 +5,8 @@ use Rattle.http_edge.proofs.read.read_message.Given as goal
 
 abbrev pub invariant-pieces : goal.invariant-pieces
 invariant-pieces g l = record {
-  so_far : (fed : List ℕ) × Fed (g.S.Source.remaining l.fn.source) (g.S.Source.remaining l.source) l.decoder fed;
+  so_far : (fed : List ℕ)
+      × Fed (g.S.Source.remaining l.fn.source) (g.S.Source.remaining l.source) l.decoder fed;
   well : g.S.Source.failures l.source ≡ g.S.Source.failures l.fn.source;
 }
 

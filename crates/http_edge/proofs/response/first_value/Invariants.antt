@@ -4,4 +4,5 @@ use Rattle.http_edge.specs.Framing.{values_of}
 use Rattle.http_edge.proofs.response.first_value.Given as goal
 
 abbrev pub invariant-loop-header : goal.invariant-loop-header
-invariant-loop-header l = values_of l.name (map (header_bytes l.buf) (take l.header-index l.headers)) ≡ []
+invariant-loop-header l =
+    values_of l.name (map (header_bytes l.buf) (take l.header-index l.headers)) ≡ []

@@ -11,4 +11,6 @@ pub returns-in-Ok-Complete : goal.returns-in-Ok-Complete
 returns-in-Ok-Complete c =
     let found = rw c.in-Ok-Complete.field-0-is at c.in-Ok-Complete.ensures.complete in
     let within = rw c.in-Ok-Complete.field-0-is at c.in-Ok-Complete.ensures.within in
-    begins_with_reply c.args.buf.now c.parse_response.new.headers c.in-Ok-Complete.head found.0 _ found.1 within.section c.requires (omega (arith, c.parse_response.auto.headers)) c.first_value-retry_after.ensures
+    begins_with_reply c.args.buf.now c.parse_response.new.headers c.in-Ok-Complete.head found.0
+    _ found.1 within.section c.requires (omega (arith, c.parse_response.auto.headers))
+    c.first_value-retry_after.ensures

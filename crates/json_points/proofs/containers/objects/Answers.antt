@@ -7,7 +7,8 @@ use Rattle.json_points.proofs.WalkLemmas.{objects_ok, no_objects}
 use Rattle.json_points.proofs.containers.objects.Goals as goal
 
 pub returns-in_default : goal.returns-in_default
-returns-in_default c = ([], refl, λ place. ap (λ o. objects place (slot_data o)) c.in_default.is ∙ no_objects place)
+returns-in_default c =
+    ([], refl, λ place. ap (λ o. objects place (slot_data o)) c.in_default.is ∙ no_objects place)
 
 pub returns-then-are_objects : goal.returns-then-are_objects
 returns-then-are_objects c =
@@ -18,5 +19,7 @@ returns-then-are_objects c =
       h.2,
       λ place.
           ap (λ o. objects place (slot_data o)) c.in-Some.is
-          ∙ objects_ok place (data_at c.in-Some.node) h.0 h.1 (subst (λ ds. list_all is_object ds ≡ true) same (c.are_objects.ensures c.if-are_objects.true f.0 f.2)),
+          ∙ objects_ok place (data_at c.in-Some.node) h.0 h.1
+          (subst (λ ds. list_all is_object ds ≡ true) same
+          (c.are_objects.ensures c.if-are_objects.true f.0 f.2)),
     )

@@ -11,8 +11,14 @@ pub loop-node-preserved : goal.loop-node-preserved
 loop-node-preserved c = record {
   pairs = λ ds has.
       let now = c.loop-node.invariant.pairs ds has in
-      let f = c.in-Some.ensures.value now.0 now.1 in
-      (f.0, f.2, said_more c.args.its.now c.loop-node.count c.index-its-count.result (pair_data c.in-Some-pair_ref.pair) now.0 (data_at c.in-Some.node) f.0 _ (omega arith) c.index-its-count.is f.1 c.in-Some-pair_ref.ensures (c.is_pair.ensures.only c.if-not-is_pair.false) now.2);
+      let f = c.in-Some.ensures.value now.0 now.1 in (
+        f.0,
+        f.2,
+        said_more c.args.its.now c.loop-node.count c.index-its-count.result
+            (pair_data c.in-Some-pair_ref.pair) now.0 (data_at c.in-Some.node) f.0 _ (omega arith)
+            c.index-its-count.is f.1 c.in-Some-pair_ref.ensures
+            (c.is_pair.ensures.only c.if-not-is_pair.false) now.2,
+      );
   within = omega arith;
 }
 
@@ -20,5 +26,6 @@ pub returns : goal.returns
 returns c = record {
   only = λ same ds has.
       let now = c.loop-node.invariant.pairs ds has in
-      said_all c.args.its.now c.loop-node.count now.0 _ (as_long _ _ same) (over _ c.next.result now.0 (c.next.ensures.value now.0 now.1) c.in_default.is) now.2;
+      said_all c.args.its.now c.loop-node.count now.0 _ (as_long _ _ same)
+      (over _ c.next.result now.0 (c.next.ensures.value now.0 now.1) c.in_default.is) now.2;
 }

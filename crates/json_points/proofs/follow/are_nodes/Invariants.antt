@@ -10,7 +10,9 @@ use Rattle.json_points.proofs.follow.are_nodes.Given as goal
 abbrev pub invariant-loop-node : goal.invariant-loop-node
 invariant-loop-node l = record {
   pairs : (ds : List Data) → AreItems l.fn.nodes ds
-      → (rest : List Data) × AreItems l.rest rest × (with_front (map pair_in (take l.count l.its)) (all_of pair_of rest) ≡ all_of pair_of ds);
+      → (rest : List Data) × AreItems l.rest rest
+      × (with_front (map pair_in (take l.count l.its)) (all_of pair_of rest)
+      ≡ all_of pair_of ds);
   within : l.count ≤ length l.its;
 }
 

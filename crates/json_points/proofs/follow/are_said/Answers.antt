@@ -12,7 +12,8 @@ pub returns-in_default : goal.returns-in_default
 returns-in_default c = record {
   only = λ empty.
       let none = no_length c.args.its.now _ c.is_empty.ensures empty in
-      ap (λ o. list_in pair_of (slot_data o)) c.in_default.is ∙ no_list pair_of ∙ ap (λ xs. Some (map pair_in xs)) (sym none);
+      ap (λ o. list_in pair_of (slot_data o)) c.in_default.is ∙ no_list pair_of
+      ∙ ap (λ xs. Some (map pair_in xs)) (sym none);
 }
 
 pub returns : goal.returns
@@ -20,5 +21,7 @@ returns c =
     let f = c.in-Some-items.ensures.found in
     record {
       only = λ same.
-          ap (λ o. list_in pair_of (slot_data o)) c.in-Some.is ∙ list_there pair_of (data_at c.in-Some.node) f.0 _ f.1 (c.are_nodes.ensures.only same f.0 f.2);
+          ap (λ o. list_in pair_of (slot_data o)) c.in-Some.is
+          ∙ list_there pair_of (data_at c.in-Some.node) f.0 _ f.1
+          (c.are_nodes.ensures.only same f.0 f.2);
     }

@@ -11,6 +11,9 @@ returns c =
     let said = c.are_said.ensures.only c.if-not-are_said.false in
     record {
       only = λ limits same.
-          series_said (stream_of c.args.series.now) c.args.kind.now (slot_data c.args.found.now) _ c.args.series.now said
-          (series_is (stream_of c.args.series.now) c.args.kind.now _ c.args.series.now limits refl (sym c.kind.ensures ∙ c.is_same.ensures.0 same) (ap (map pair_in) (c.pairs.ensures ∙ c.attrs.ensures)));
+          series_said (stream_of c.args.series.now) c.args.kind.now (slot_data c.args.found.now)
+          _ c.args.series.now said
+          (series_is (stream_of c.args.series.now) c.args.kind.now _ c.args.series.now limits refl
+          (sym c.kind.ensures ∙ c.is_same.ensures.0 same)
+          (ap (map pair_in) (c.pairs.ensures ∙ c.attrs.ensures)));
     }

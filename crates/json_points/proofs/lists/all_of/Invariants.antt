@@ -8,7 +8,8 @@ use Rattle.json_points.proofs.lists.all_of.Given as goal
 abbrev pub invariant-loop-node : goal.invariant-loop-node
 invariant-loop-node g l =
     (ds : List Data) → AreItems l.fn.nodes ds
-    → (rest : List Data) × AreItems l.rest rest × (with_front l.found.items (all_of g.T.Element.reads rest) ≡ all_of g.T.Element.reads ds)
+    → (rest : List Data) × AreItems l.rest rest
+    × (with_front l.found.items (all_of g.T.Element.reads rest) ≡ all_of g.T.Element.reads ds)
 
 abbrev pub decreases-loop-node : goal.decreases-loop-node
 decreases-loop-node g l = length l.rest

@@ -4,4 +4,5 @@ use Rattle.json_points.specs.inner.RefViews.{pair_data}
 use Rattle.json_points.proofs.lookup.are_pairs.Given as goal
 
 abbrev pub invariant-loop-i : goal.invariant-loop-i
-invariant-loop-i l = map pair_data (drop l.i l.pairs) ≡ map pair_in (drop l.i l.its) → map pair_data l.pairs ≡ map pair_in l.its
+invariant-loop-i l = map pair_data (drop l.i l.pairs) ≡ map pair_in (drop l.i l.its)
+    → map pair_data l.pairs ≡ map pair_in l.its

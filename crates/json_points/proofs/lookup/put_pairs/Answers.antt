@@ -13,8 +13,12 @@ pub loop-node-preserved : goal.loop-node-preserved
 loop-node-preserved c = record {
   pairs = λ ds has.
       let now = c.loop-node.invariant.pairs ds has in
-      let f = c.in-Some.ensures.value now.0 now.1 in
-      (f.0, f.2, pairs_more c.loop-node.room c.loop-node.count c.in_ok-room.field-0 now.0 (data_at c.in-Some.node) f.0 _ c.if-count-room.false f.1 c.in_ok-room.ensures now.2);
+      let f = c.in-Some.ensures.value now.0 now.1 in (
+        f.0,
+        f.2,
+        pairs_more c.loop-node.room c.loop-node.count c.in_ok-room.field-0 now.0
+            (data_at c.in-Some.node) f.0 _ c.if-count-room.false f.1 c.in_ok-room.ensures now.2,
+      );
   within = omega (arith, length-set {A = PairRef});
   same = omega (arith, length-set {A = PairRef});
 }
@@ -22,4 +26,5 @@ loop-node-preserved c = record {
 pub returns-clause-pairs : goal.returns-clause-pairs
 returns-clause-pairs c ds has =
     let now = c.loop-node.invariant.pairs ds has in
-    all_read pair_of (map pair_data (take c.loop-node.count c.loop-node.room)) now.0 _ (over _ c.next.result now.0 (c.next.ensures.value now.0 now.1) c.in_default.is) now.2
+    all_read pair_of (map pair_data (take c.loop-node.count c.loop-node.room)) now.0
+    _ (over _ c.next.result now.0 (c.next.ensures.value now.0 now.1) c.in_default.is) now.2

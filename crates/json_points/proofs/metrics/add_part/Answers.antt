@@ -10,7 +10,8 @@ pub returns-in_default : goal.returns-in_default
 returns-in_default c = (
   None,
   no_part c.args.name.now (data_at c.args.node.now)
-      (subst (λ o. object_in DataField o ≡ Ok None) c.field.ensures (c.in_ok-whole.ensures DataField ∙ ap (λ o. Ok (slot_data o)) c.in_default.is)),
+      (subst (λ o. object_in DataField o ≡ Ok None) c.field.ensures
+      (c.in_ok-whole.ensures DataField ∙ ap (λ o. Ok (slot_data o)) c.in_default.is)),
   refl,
 )
 
@@ -19,7 +20,8 @@ returns c =
     let list = c.in_ok-list.ensures in (
       Some (record { whole = data_at c.in-Some.whole; points = list.0 }),
       part_found c.args.name.now (data_at c.args.node.now) (data_at c.in-Some.whole) list.0
-          (subst (λ o. object_in DataField o ≡ Ok (Some (data_at c.in-Some.whole))) c.field.ensures (c.in_ok-whole.ensures DataField ∙ ap (λ o. Ok (slot_data o)) c.in-Some.is))
+          (subst (λ o. object_in DataField o ≡ Ok (Some (data_at c.in-Some.whole))) c.field.ensures
+          (c.in_ok-whole.ensures DataField ∙ ap (λ o. Ok (slot_data o)) c.in-Some.is))
           (subst (λ o. objects DataPoints o ≡ Ok list.0) c.field-2.ensures (list.2 DataPoints)),
       c.add_foreign.ensures list.0 list.1,
     )

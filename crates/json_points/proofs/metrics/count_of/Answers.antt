@@ -11,11 +11,16 @@ loop-found-preserved c = record {
   few = omega arith;
   same = λ ds has.
       let now = c.loop-found.invariant.same ds has in
-      let f = c.in-Some.ensures.value now.0 now.1 in
-      (f.0, f.2, count_more c.loop-found.found _ now.0 _ f.0 _ c.saturating_add-found.ensures f.1 now.2);
+      let f = c.in-Some.ensures.value now.0 now.1 in (
+        f.0,
+        f.2,
+        count_more c.loop-found.found _ now.0 _ f.0 _ c.saturating_add-found.ensures f.1
+            now.2,
+      );
 }
 
 pub returns : goal.returns
 returns c ds has =
     let now = c.loop-found.invariant.same ds has in
-    count_done c.loop-found.found now.0 _ c.loop-found.invariant.few (over _ c.next.result now.0 (c.next.ensures.value now.0 now.1) c.in_default.is) now.2
+    count_done c.loop-found.found now.0 _ c.loop-found.invariant.few
+    (over _ c.next.result now.0 (c.next.ensures.value now.0 now.1) c.in_default.is) now.2

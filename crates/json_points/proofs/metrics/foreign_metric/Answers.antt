@@ -11,5 +11,9 @@ returns c =
     let gauge = c.in_ok-add_part.ensures in
     let exponential = c.in_ok-add_part-2.ensures in
     on_ok_weaker c.add_part-3.result (λ summary scope.
-    foreign_alone scope (data_at c.args.node.now) gauge.0 exponential.0 summary.0 (tally c.args.out.now) c.requires.sum c.requires.histogram gauge.1 exponential.1 summary.1
-    ∙ ap (λ (t : Tally). Ok t) (sym (summary.2 ∙ ap (add_all summary.0) (exponential.2 ∙ ap (add_all exponential.0) (gauge.2 ∙ ap (add_all gauge.0) c.add_metric.ensures))))) c.add_part-3.ensures
+    foreign_alone scope (data_at c.args.node.now) gauge.0 exponential.0 summary.0
+    (tally c.args.out.now) c.requires.sum c.requires.histogram gauge.1 exponential.1 summary.1
+    ∙ ap (λ (t : Tally). Ok t) (sym (summary.2
+    ∙ ap (add_all summary.0) (exponential.2
+    ∙ ap (add_all exponential.0) (gauge.2 ∙ ap (add_all gauge.0) c.add_metric.ensures)))))
+    c.add_part-3.ensures

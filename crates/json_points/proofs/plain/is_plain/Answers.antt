@@ -7,4 +7,6 @@ use Rattle.json_points.proofs.plain.is_plain.Goals as goal
 pub returns : goal.returns
 unfolding Plain
 returns c _ =
-    c.loop-node.invariant.rest (subst (λ ts. Plain c.loop-node.depth ts) (sym (at_drop_all (map node_token) c.args.nodes.now c.loop-node.node-index (omega arith))) tt)
+    c.loop-node.invariant.rest (subst (λ ts. Plain c.loop-node.depth ts)
+    (sym (at_drop_all (map node_token) c.args.nodes.now c.loop-node.node-index (omega arith)))
+    tt)

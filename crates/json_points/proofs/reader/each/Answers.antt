@@ -4,4 +4,5 @@ use Rattle.json_points.proofs.WalkLemmas.{each_done}
 use Rattle.json_points.proofs.reader.each.Goals as goal
 
 pub returns-in-None : goal.returns-in-None
-returns-in-None g c ds has = each_done (g.O.Object.adds c.args.above) ds _ _ (subst (λ o. IsList o ds) c.in-None.is has) refl
+returns-in-None g c ds has = each_done (g.O.Object.adds c.args.above) ds
+    _ _ (subst (λ o. IsList o ds) c.in-None.is has) refl

@@ -8,4 +8,11 @@ pub returns-then-is_whole_value : goal.returns-then-is_whole_value
 unfolding said_by
 returns-then-is_whole_value c =
     let f : FitsSigned w64 c.in_ok-value.value = search rules in
-    rw (← c.in_ok-start.ensures, ← c.in_ok-end.ensures, ← c.in_ok-value.ensures, ← c.if-is_whole_value.ensures, to_z-of_z) refl
+    rw (
+      ← c.in_ok-start.ensures,
+      ← c.in_ok-end.ensures,
+      ← c.in_ok-value.ensures,
+      ←
+          c.if-is_whole_value.ensures,
+      to_z-of_z,
+    ) refl

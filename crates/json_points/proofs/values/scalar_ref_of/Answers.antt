@@ -9,4 +9,11 @@ returns-then-is_no_scalar c = rw (← c.is_no_scalar.ensures, c.if-is_no_scalar.
 pub returns : goal.returns
 unfolding scalar_of fields_of
 returns c =
-    rw (← c.field-text.ensures, ← c.field-truth.ensures, ← c.field-int.ensures, ← c.is_no_scalar.ensures, c.if-is_no_scalar.false) c.only_of.ensures
+    rw (
+      ← c.field-text.ensures,
+      ← c.field-truth.ensures,
+      ← c.field-int.ensures,
+      ←
+          c.is_no_scalar.ensures,
+      c.if-is_no_scalar.false,
+    ) c.only_of.ensures

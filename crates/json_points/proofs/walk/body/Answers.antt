@@ -11,4 +11,6 @@ pub returns : goal.returns
 returns c =
     let list = c.in_ok-list.ensures in
     on_ok_weaker c.each.result (λ h.
-    body_read (data_at c.args.node.now) list.0 _ _ (subst (λ o. objects place.ResourceMetrics o ≡ Ok list.0) c.field.ensures (list.2 place.ResourceMetrics)) (h list.0 list.1)) c.each.ensures
+    body_read (data_at c.args.node.now) list.0
+    _ _ (subst (λ o. objects place.ResourceMetrics o ≡ Ok list.0) c.field.ensures
+    (list.2 place.ResourceMetrics)) (h list.0 list.1)) c.each.ensures

@@ -13,6 +13,14 @@ returns c =
     let resource = c.in_ok-resource.resource in
     on_ok_weaker c.each.result (λ h.
     resource_read (data_at c.args.node.now) (slot_data resource) list.0 _ _
-    (subst (λ o. object_in place.Resource o ≡ Ok (slot_data resource)) c.field.ensures (c.in_ok-resource.ensures place.Resource))
-    (subst (λ o. objects place.ScopeMetrics o ≡ Ok list.0) c.field-2.ensures (list.2 place.ScopeMetrics))
-    (rw (← c.inner.ensures, ← c.in_ok-attributes.ensures, ← c.as_ref.ensures.value, ← c.resource_in.ensures) (h list.0 list.1))) c.each.ensures
+    (subst (λ o. object_in place.Resource o ≡ Ok (slot_data resource)) c.field.ensures
+    (c.in_ok-resource.ensures place.Resource))
+    (subst (λ o. objects place.ScopeMetrics o ≡ Ok list.0) c.field-2.ensures
+    (list.2 place.ScopeMetrics))
+    (rw (
+      ← c.inner.ensures,
+      ← c.in_ok-attributes.ensures,
+      ← c.as_ref.ensures.value,
+      ←
+          c.resource_in.ensures,
+    ) (h list.0 list.1))) c.each.ensures

@@ -13,6 +13,13 @@ returns c =
     let scope = c.in_ok-scope.scope in
     on_ok_weaker c.each.result (λ h.
     scope_read _ (data_at c.args.node.now) (slot_data scope) list.0 _ _
-    (subst (λ o. object_in place.Scope o ≡ Ok (slot_data scope)) c.field.ensures (c.in_ok-scope.ensures place.Scope))
+    (subst (λ o. object_in place.Scope o ≡ Ok (slot_data scope)) c.field.ensures
+    (c.in_ok-scope.ensures place.Scope))
     (subst (λ o. objects place.Metrics o ≡ Ok list.0) c.field-2.ensures (list.2 place.Metrics))
-    (rw (← c.inner.ensures, ← c.in_ok-attributes.ensures, ← c.as_ref.ensures.value, ← c.scope_in-scope.ensures) (h list.0 list.1))) c.each.ensures
+    (rw (
+      ← c.inner.ensures,
+      ← c.in_ok-attributes.ensures,
+      ← c.as_ref.ensures.value,
+      ←
+          c.scope_in-scope.ensures,
+    ) (h list.0 list.1))) c.each.ensures

@@ -5,4 +5,5 @@ use Rattle.metric_events.proofs.Balance.{all_add_up}
 use Rattle.metric_events.proofs.laws.balancing.Goals as goal
 
 pub returns : goal.returns
-returns c = record { balanced = λ E. all_add_up (points E) (held_senders E) (series_in_order (points E)) }
+returns c =
+    record { balanced = λ E. all_add_up (points E) (held_senders E) (series_in_order (points E)) }

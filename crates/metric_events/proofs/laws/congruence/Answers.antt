@@ -9,4 +9,16 @@ use Rattle.metric_events.proofs.BothWays.{both_ways_law}
 use Rattle.metric_events.proofs.laws.congruence.Goals as goal
 
 pub returns : goal.returns
-returns c = record { congruence = congruence_law; lighter = lighter_law; closed = closed_alike; rounds = lives_law; replayed = replayed_law; interleaved = interleaved_law; recalled = recalled_law; agreed = agree_alike; both_ways = both_ways_law }
+returns c = record {
+  congruence = congruence_law;
+  lighter = lighter_law;
+  closed =
+      closed_alike;
+  rounds = lives_law;
+  replayed = replayed_law;
+  interleaved =
+      interleaved_law;
+  recalled = recalled_law;
+  agreed = agree_alike;
+  both_ways = both_ways_law;
+}

@@ -3,4 +3,11 @@ use Rattle.metric_events.proofs.Reopening.{closed_law}
 use Rattle.metric_events.proofs.laws.priming.Goals as goal
 
 pub returns : goal.returns
-returns c = record { primed = primed_law; primable = primable_law; spared = spared_law; slack = slack_law; closed = closed_law }
+returns c = record {
+  primed = primed_law;
+  primable = primable_law;
+  spared = spared_law;
+  slack =
+      slack_law;
+  closed = closed_law;
+}

@@ -10,5 +10,7 @@ returns c = λ number other.
     let size = c.run_at-size.result.0 in
     let count = c.run_at-size.result.1 in
     let after = drop size c.args.bytes.now in
-    let whole = ap (λ n. take n after) (sym (length-drop size c.args.bytes.now)) ∙ take-length after in
-    ap (λ xs. gathered (newer number) None (fields_from (length c.args.bytes.now - count) xs)) whole ∙ last_after 1 number size count c.args.bytes.now c.run_at-size.ensures other
+    let whole =
+    ap (λ n. take n after) (sym (length-drop size c.args.bytes.now)) ∙ take-length after in
+    ap (λ xs. gathered (newer number) None (fields_from (length c.args.bytes.now - count) xs)) whole
+    ∙ last_after 1 number size count c.args.bytes.now c.run_at-size.ensures other

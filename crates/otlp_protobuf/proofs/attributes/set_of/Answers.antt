@@ -6,4 +6,5 @@ use Rattle.otlp_protobuf.proofs.attributes.set_of.Goals as goal
 pub returns : goal.returns
 unfolding set_of
 returns c =
-    c.in_ok-set.ensures.set ∙ allowed c.from_pairs.result _ _ _ c.from_pairs.ensures.set c.from_pairs.ensures.none c.from_pairs.ensures.fault c.in_ok-set.ensures.ok
+    c.in_ok-set.ensures.set ∙ allowed c.from_pairs.result _ _ _ c.from_pairs.ensures.set
+    c.from_pairs.ensures.none c.from_pairs.ensures.fault c.in_ok-set.ensures.ok

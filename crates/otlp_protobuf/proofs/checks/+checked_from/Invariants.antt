@@ -6,7 +6,8 @@ abbrev pub decreases-checked_from : goal.decreases-checked_from
 decreases-checked_from l = l.levels
 
 abbrev pub invariant-loop-left : goal.invariant-loop-left
-invariant-loop-left l = checked_from l.left l.levels l.message l.rest ≡ checked_from l.fn.left l.levels l.message l.fn.bytes
+invariant-loop-left l = checked_from l.left l.levels l.message l.rest
+    ≡ checked_from l.fn.left l.levels l.message l.fn.bytes
 
 abbrev pub decreases-loop-left : goal.decreases-loop-left
 decreases-loop-left l = l.left

@@ -3,7 +3,8 @@ use Rattle.otlp_protobuf.specs.Checks.{checked_from}
 use Rattle.otlp_protobuf.proofs.checks.after_numbers.Given as goal
 
 abbrev pub invariant-loop-left : goal.invariant-loop-left
-invariant-loop-left l = checked_from l.left l.levels l.message l.rest ≡ checked_from l.fn.left l.levels l.message l.fn.bytes
+invariant-loop-left l = checked_from l.left l.levels l.message l.rest
+    ≡ checked_from l.fn.left l.levels l.message l.fn.bytes
 
 abbrev pub decreases-loop-left : goal.decreases-loop-left
 decreases-loop-left l = l.left

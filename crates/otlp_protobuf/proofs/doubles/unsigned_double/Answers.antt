@@ -1,5 +1,6 @@
 use Rattle.std.proofs.Common.{inl, inr, arith}
-use Rattle.otlp_protobuf.proofs.DoubleLemmas.{unsigned_none, unsigned_above, unsigned_zero, unsigned_below}
+use Rattle.otlp_protobuf.proofs.DoubleLemmas.{unsigned_none, unsigned_above, unsigned_zero}
+use Rattle.otlp_protobuf.proofs.DoubleLemmas.{unsigned_below}
 use Rattle.otlp_protobuf.proofs.doubles.unsigned_double.Goals as goal
 
 pub returns-in_err-size : goal.returns-in_err-size
@@ -15,4 +16,5 @@ returns-then-size-eq0 c =
 
 pub returns-else-size-eq0 : goal.returns-else-size-eq0
 returns-else-size-eq0 c =
-    unsigned_below c.args.bits c.in_ok-size.size c.in_ok-size.ensures c.if-size-eq0.false.1 c.if-size-eq0.false.0
+    unsigned_below c.args.bits c.in_ok-size.size c.in_ok-size.ensures c.if-size-eq0.false.1
+    c.if-size-eq0.false.0

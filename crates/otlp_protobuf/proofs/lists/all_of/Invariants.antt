@@ -8,7 +8,8 @@ use Rattle.otlp_protobuf.proofs.lists.all_of.Given as goal
 
 abbrev pub invariant-loop-content : goal.invariant-loop-content
 invariant-loop-content g l =
-    with_front l.found.items (all_of g.T.Element.reads (map g.T.Element.shows (contents l.number (fields_data l.rest))))
+    with_front l.found.items
+    (all_of g.T.Element.reads (map g.T.Element.shows (contents l.number (fields_data l.rest))))
     ≡ all_of g.T.Element.reads (map g.T.Element.shows (contents l.number (fields l.bytes)))
 
 abbrev pub decreases-loop-content : goal.decreases-loop-content

@@ -10,4 +10,5 @@ returns-in_default c whole point = rw (← c.in_default.ensures) refl
 
 pub returns : goal.returns
 returns c whole point =
-    rw (← c.in-Some.ensures) (foreign_counted point (contents 1 (fields c.in-Some.bytes.now)) _ _ (tally c.args.out.now) c.count-points.ensures c.saturating_add-out.ensures)
+    rw (← c.in-Some.ensures) (foreign_counted point (contents 1 (fields c.in-Some.bytes.now))
+    _ _ (tally c.args.out.now) c.count-points.ensures c.saturating_add-out.ensures)

@@ -15,4 +15,5 @@ returns c =
     on_ok_weaker c.add_parts.result (λ h.
     metric_read scope c.args.bytes.now (tally c.args.reader.now.out) _
     (h ∙ ap (add_parts scope shown (parts_data c.in_ok-parts.parts)) c.add_metric.ensures
-    ∙ ap (λ ps. add_parts scope shown ps (add_metric (tally c.args.reader.now.out))) c.in_ok-parts.ensures)) c.add_parts.ensures
+    ∙ ap (λ ps. add_parts scope shown ps (add_metric (tally c.args.reader.now.out)))
+    c.in_ok-parts.ensures)) c.add_parts.ensures

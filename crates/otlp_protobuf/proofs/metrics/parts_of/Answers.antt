@@ -4,11 +4,15 @@ use Rattle.otlp_protobuf.proofs.metrics.parts_of.Goals as goal
 
 pub loop-field-preserved : goal.loop-field-preserved
 loop-field-preserved c = record {
-  gauge = part_more 5 _ _ _ _ _ _ c.in-Some.ensures c.in_ok-gauge.ensures c.loop-field.invariant.gauge;
+  gauge =
+      part_more 5 _ _ _ _ _ _ c.in-Some.ensures c.in_ok-gauge.ensures c.loop-field.invariant.gauge;
   sum = part_more 7 _ _ _ _ _ _ c.in-Some.ensures c.in_ok-sum.ensures c.loop-field.invariant.sum;
-  histogram = part_more 9 _ _ _ _ _ _ c.in-Some.ensures c.in_ok-histogram.ensures c.loop-field.invariant.histogram;
-  exponential = part_more 10 _ _ _ _ _ _ c.in-Some.ensures c.in_ok-exponential.ensures c.loop-field.invariant.exponential;
-  summary = part_more 11 _ _ _ _ _ _ c.in-Some.ensures c.in_ok-summary.ensures c.loop-field.invariant.summary;
+  histogram = part_more 9 _ _ _ _ _ _ c.in-Some.ensures c.in_ok-histogram.ensures
+      c.loop-field.invariant.histogram;
+  exponential = part_more 10 _ _ _ _ _ _ c.in-Some.ensures c.in_ok-exponential.ensures
+      c.loop-field.invariant.exponential;
+  summary = part_more 11 _ _ _ _ _ _ c.in-Some.ensures c.in_ok-summary.ensures
+      c.loop-field.invariant.summary;
 }
 
 pub returns : goal.returns

@@ -7,8 +7,10 @@ abbrev pub invariant-loop-field : goal.invariant-loop-field
 invariant-loop-field l = record {
   gauge : joined (whole_data l.gauge) (contents 5 (fields_data l.rest)) ≡ whole_at 5 l.metric;
   sum : joined (whole_data l.sum) (contents 7 (fields_data l.rest)) ≡ whole_at 7 l.metric;
-  histogram : joined (whole_data l.histogram) (contents 9 (fields_data l.rest)) ≡ whole_at 9 l.metric;
-  exponential : joined (whole_data l.exponential) (contents 10 (fields_data l.rest)) ≡ whole_at 10 l.metric;
+  histogram : joined (whole_data l.histogram) (contents 9 (fields_data l.rest))
+      ≡ whole_at 9 l.metric;
+  exponential : joined (whole_data l.exponential) (contents 10 (fields_data l.rest))
+      ≡ whole_at 10 l.metric;
   summary : joined (whole_data l.summary) (contents 11 (fields_data l.rest)) ≡ whole_at 11 l.metric;
 }
 

@@ -9,8 +9,10 @@ use Rattle.otlp_protobuf.proofs.numbers.are_bounds.Given as goal
 abbrev pub invariant-loop-bits : goal.invariant-loop-bits
 invariant-loop-bits l = record {
   within : l.count ≤ length l.bounds;
-  same : all_of (signed_in MAX_BOUND MAX_BOUND) (map double_data (numbers_data l.rest)) ≡ Some (drop l.count l.bounds)
-      → all_of (signed_in MAX_BOUND MAX_BOUND) (map double_data (numbers_data l.numbers)) ≡ Some l.bounds;
+  same : all_of (signed_in MAX_BOUND MAX_BOUND) (map double_data (numbers_data l.rest))
+      ≡ Some (drop l.count l.bounds)
+      → all_of (signed_in MAX_BOUND MAX_BOUND) (map double_data (numbers_data l.numbers))
+      ≡ Some l.bounds;
 }
 
 abbrev pub decreases-loop-bits : goal.decreases-loop-bits

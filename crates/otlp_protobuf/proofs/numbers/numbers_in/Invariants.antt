@@ -9,7 +9,8 @@ use Rattle.otlp_protobuf.proofs.numbers.numbers_in.Given as goal
 abbrev pub invariant-loop-bits : goal.invariant-loop-bits
 invariant-loop-bits g l =
     with_front l.found.items (all_of g.T.Number.reads (map g.T.Number.shows (numbers_data l.rest)))
-    ≡ all_of g.T.Number.reads (map g.T.Number.shows (numbers l.list.number (fields l.list.bytes.now)))
+    ≡ all_of g.T.Number.reads
+    (map g.T.Number.shows (numbers l.list.number (fields l.list.bytes.now)))
 
 abbrev pub decreases-loop-bits : goal.decreases-loop-bits
 decreases-loop-bits g l = length (numbers_data l.rest)

@@ -7,7 +7,8 @@ use Rattle.otlp_protobuf.specs.inner.Views.{fields_data}
 use Rattle.otlp_protobuf.proofs.others.are_known.Given as goal
 
 abbrev pub invariant-loop : goal.invariant-loop
-invariant-loop l = Sees (run_messages l.known) l.seen (contents l.known.number (fields_data l.rest)) (contents l.known.number (fields l.bytes))
+invariant-loop l = Sees (run_messages l.known) l.seen (contents l.known.number (fields_data l.rest))
+    (contents l.known.number (fields l.bytes))
 
 abbrev pub decreases-loop : goal.decreases-loop
 decreases-loop l = length (others l.known.number (fields_data l.rest))

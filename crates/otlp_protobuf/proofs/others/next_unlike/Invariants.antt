@@ -8,7 +8,9 @@ use Rattle.otlp_protobuf.proofs.others.next_unlike.Given as goal
 abbrev pub invariant-loop-field : goal.invariant-loop-field
 invariant-loop-field l = record {
   field : others l.number (fields_data l.rest) ≡ others l.number (fields_data l.fn.rest);
-  seen : (known all : List (List ℕ)) → Sees known l.fn.seen (contents l.number (fields_data l.fn.rest)) all → Sees known l.seen (contents l.number (fields_data l.rest)) all;
+  seen : (known all : List (List ℕ))
+      → Sees known l.fn.seen (contents l.number (fields_data l.fn.rest)) all
+      → Sees known l.seen (contents l.number (fields_data l.rest)) all;
 }
 
 abbrev pub decreases-loop-field : goal.decreases-loop-field

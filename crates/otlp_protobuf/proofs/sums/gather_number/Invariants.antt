@@ -9,8 +9,10 @@ use Rattle.otlp_protobuf.proofs.sums.gather_number.Given as goal
 
 abbrev pub invariant-loop-field : goal.invariant-loop-field
 invariant-loop-field l = record {
-  said : gathered take_number l.point (others 7 (fields_data l.rest)) ≡ gathered take_number no_number (others 7 (fields l.bytes));
-  seen : Sees (messages_of l.known) l.seen (contents 7 (fields_data l.rest)) (contents 7 (fields l.bytes));
+  said : gathered take_number l.point (others 7 (fields_data l.rest))
+      ≡ gathered take_number no_number (others 7 (fields l.bytes));
+  seen : Sees (messages_of l.known) l.seen (contents 7 (fields_data l.rest))
+      (contents 7 (fields l.bytes));
 }
 
 abbrev pub decreases-loop-field : goal.decreases-loop-field

@@ -16,25 +16,37 @@ use Rattle.otlp_protobuf.proofs.sums.sum_point.Goals as goal
 
 pub series_of-requires : goal.series_of-requires
 series_of-requires c =
-    share_known c.share_if-known.result (stream_data c.args.sum.now.stream) (Some (Sum c.args.sum.now.monotonic)) c.gather_number-is_known.result.1 (kept_messages c.next-next.result)
-    (contents 7 (fields c.args.bytes.now)) c.share_if-known.ensures (λ t. sym c.run_of.ensures ∙ c.gather_number-is_known.ensures.known t)
+    share_known c.share_if-known.result (stream_data c.args.sum.now.stream)
+    (Some (Sum c.args.sum.now.monotonic)) c.gather_number-is_known.result.1
+    (kept_messages c.next-next.result)
+    (contents 7 (fields c.args.bytes.now)) c.share_if-known.ensures
+    (λ t. sym c.run_of.ensures ∙ c.gather_number-is_known.ensures.known t)
 
 pub shared_sum-point-requires : goal.shared_sum-point-requires
-shared_sum-point-requires c = subst IsSum (kind_of_known _ _ _ _ (sym c.in_ok-series.ensures ∙ c.in-Some-2.is)) tt
+shared_sum-point-requires c =
+    subst IsSum (kind_of_known _ _ _ _ (sym c.in_ok-series.ensures ∙ c.in-Some-2.is)) tt
 
 pub returns-in_default : goal.returns-in_default
 returns-in_default c =
-    no_fields _ _ _ (fields_said c.args.bytes.now _ _ (map key_value (contents 7 (fields c.args.bytes.now))) c.gather_number-is_known.ensures.said c.in_default.ensures)
+    no_fields _ _ _ (fields_said c.args.bytes.now
+    _ _ (map key_value (contents 7 (fields c.args.bytes.now)))
+    c.gather_number-is_known.ensures.said c.in_default.ensures)
 
 pub returns-in_default-2 : goal.returns-in_default-2
 returns-in_default-2 c =
     no_series _ _ _ (sum_fields_data c.in-Some.fields)
-    (fields_said c.args.bytes.now _ _ (map key_value (contents 7 (fields c.args.bytes.now))) c.gather_number-is_known.ensures.said c.in-Some.ensures) (sym c.in_ok-series.ensures ∙ c.in_default-2.is)
+    (fields_said c.args.bytes.now _ _ (map key_value (contents 7 (fields c.args.bytes.now)))
+    c.gather_number-is_known.ensures.said c.in-Some.ensures)
+    (sym c.in_ok-series.ensures ∙ c.in_default-2.is)
 
 pub returns : goal.returns
 returns c =
     let f : FitsSigned w64 c.in-Some.fields.value = search rules in
-    let e = simp to_z-of_z at (allowed_always c.shared_sum-point.result _ _ c.shared_sum-point.ensures.value c.shared_sum-point.ensures.none c.shared_sum-point.ensures.fault) in
+    let e = simp to_z-of_z at (allowed_always c.shared_sum-point.result
+    _ _ c.shared_sum-point.ensures.value c.shared_sum-point.ensures.none
+    c.shared_sum-point.ensures.fault) in
     has_series _ _ _ (sum_fields_data c.in-Some.fields) _ _
-    (fields_said c.args.bytes.now _ _ (map key_value (contents 7 (fields c.args.bytes.now))) c.gather_number-is_known.ensures.said c.in-Some.ensures) (sym c.in_ok-series.ensures ∙ c.in-Some-2.is)
+    (fields_said c.args.bytes.now _ _ (map key_value (contents 7 (fields c.args.bytes.now)))
+    c.gather_number-is_known.ensures.said c.in-Some.ensures)
+    (sym c.in_ok-series.ensures ∙ c.in-Some-2.is)
     (c.ok.ensures.value ∙ e)

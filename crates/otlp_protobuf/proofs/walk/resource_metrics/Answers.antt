@@ -7,4 +7,10 @@ pub returns : goal.returns
 returns c =
     on_ok_weaker c.each.result (λ h.
     resource_read c.args.bytes.now _ _
-    (rw (← c.in_ok-whole.ensures, ← c.bytes_or_none-resource.ensures, ← c.in_ok-attributes.ensures, ← sets_of _ _ c.as_ref.ensures.value, ← c.resource_in.ensures) h)) c.each.ensures
+    (rw (
+      ← c.in_ok-whole.ensures,
+      ← c.bytes_or_none-resource.ensures,
+      ← c.in_ok-attributes.ensures,
+      ← sets_of _ _ c.as_ref.ensures.value,
+      ← c.resource_in.ensures,
+    ) h)) c.each.ensures

@@ -7,4 +7,11 @@ pub returns : goal.returns
 returns c =
     on_ok_weaker c.each.result (λ h.
     scope_read _ c.args.bytes.now _ _
-    (rw (← c.in_ok-whole.ensures, ← c.bytes_or_none-scope.ensures, ← c.in_ok-attributes.ensures, ← sets_of _ _ c.as_ref.ensures.value, ← c.scope_in-scope.ensures) h)) c.each.ensures
+    (rw (
+      ← c.in_ok-whole.ensures,
+      ← c.bytes_or_none-scope.ensures,
+      ← c.in_ok-attributes.ensures,
+      ←
+          sets_of _ _ c.as_ref.ensures.value,
+      ← c.scope_in-scope.ensures,
+    ) h)) c.each.ensures

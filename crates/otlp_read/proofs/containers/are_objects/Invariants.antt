@@ -5,4 +5,5 @@ use Rattle.otlp_read.specs.Containers.{is_object}
 use Rattle.otlp_read.proofs.containers.are_objects.Given as goal
 
 abbrev pub invariant-loop-value : goal.invariant-loop-value
-invariant-loop-value l = list_all is_object (map view (drop l.value-index l.list)) ≡ list_all is_object (map view l.list)
+invariant-loop-value l = list_all is_object (map view (drop l.value-index l.list))
+    ≡ list_all is_object (map view l.list)

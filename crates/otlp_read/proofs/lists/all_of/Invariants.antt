@@ -5,4 +5,6 @@ use Rattle.otlp_read.proofs.ListLemmas.{with_front}
 use Rattle.otlp_read.proofs.lists.all_of.Given as goal
 
 abbrev pub invariant-loop-value : goal.invariant-loop-value
-invariant-loop-value g l = with_front l.found.items (all_of g.T.Element.reads (map view (drop l.value-index l.values))) ≡ all_of g.T.Element.reads (map view l.values)
+invariant-loop-value g l = with_front l.found.items
+    (all_of g.T.Element.reads (map view (drop l.value-index l.values)))
+    ≡ all_of g.T.Element.reads (map view l.values)

@@ -10,5 +10,7 @@ returns c =
     let kind = c.is_same.ensures.0 c.if-not-is_same.false in
     record {
       only = λ limits same.
-          series_is (stream_data c.args.stream) c.args.kind.now _ c.args.series.now limits within (sym c.kind.ensures ∙ kind) (c.are_pairs.ensures.only same ∙ ap (map pair_in) (c.pairs.ensures ∙ c.attrs.ensures));
+          series_is (stream_data c.args.stream) c.args.kind.now _ c.args.series.now limits within
+          (sym c.kind.ensures ∙ kind) (c.are_pairs.ensures.only same
+          ∙ ap (map pair_in) (c.pairs.ensures ∙ c.attrs.ensures));
     }

@@ -10,14 +10,29 @@ use Rattle.otlp_read.proofs.sums.sum_fields.Goals as goal
 pub returns-in_err-as_object-clause-fields : goal.returns-in_err-as_object-clause-fields
 unfolding sum_fields nanos_in
 returns-in_err-as_object-clause-fields c =
-    rw (c.from_residual.ensures, no_field (codes "startTimeUnixNano") (view c.args.value.now) (sym c.in_err-as_object.ensures)) refl
+    rw (
+      c.from_residual.ensures,
+      no_field (codes "startTimeUnixNano") (view c.args.value.now)
+          (sym c.in_err-as_object.ensures),
+    ) refl
 
 pub returns-else-is_whole_value-clause-fields : goal.returns-else-is_whole_value-clause-fields
 unfolding sum_fields is_whole_value
 returns-else-is_whole_value-clause-fields c =
     let is = object_is (view c.args.value.now) _ (sym c.in_ok-as_object.ensures) in
     let read = c.point_members-members.ensures in
-    rw (is, ← read.start, ← c.in_ok-start.ensures, ← read.end, ← c.in_ok-end.ensures, ← read.number, ← c.in_ok-number.ensures, ← read.flags, ← read.double, ← c.if-is_whole_value.ensures) refl
+    rw (
+      is,
+      ← read.start,
+      ← c.in_ok-start.ensures,
+      ← read.end,
+      ← c.in_ok-end.ensures,
+      ← read.number,
+      ← c.in_ok-number.ensures,
+      ← read.flags,
+      ← read.double,
+      ← c.if-is_whole_value.ensures,
+    ) refl
 
 pub returns-then-is_whole_value-clause-fields : goal.returns-then-is_whole_value-clause-fields
 unfolding sum_fields is_whole_value
@@ -25,4 +40,16 @@ returns-then-is_whole_value-clause-fields c =
     let f : FitsSigned w64 c.in_ok-number.number = search rules in
     let is = object_is (view c.args.value.now) _ (sym c.in_ok-as_object.ensures) in
     let read = c.point_members-members.ensures in
-    rw (is, ← read.start, ← c.in_ok-start.ensures, ← read.end, ← c.in_ok-end.ensures, ← read.number, ← c.in_ok-number.ensures, ← read.flags, ← read.double, ← c.if-is_whole_value.ensures, to_z-of_z) refl
+    rw (
+      is,
+      ← read.start,
+      ← c.in_ok-start.ensures,
+      ← read.end,
+      ← c.in_ok-end.ensures,
+      ← read.number,
+      ← c.in_ok-number.ensures,
+      ← read.flags,
+      ← read.double,
+      ← c.if-is_whole_value.ensures,
+      to_z-of_z,
+    ) refl

@@ -7,11 +7,19 @@ use Rattle.otlp_read.proofs.PointLemmas.{kind_of_known, allowed_always}
 use Rattle.otlp_read.proofs.sums.sum_point.Goals as goal
 
 pub shared_sum-point-requires : goal.shared_sum-point-requires
-shared_sum-point-requires c = subst IsSum (kind_of_known _ _ _ _ (sym c.in_ok-series.ensures ∙ c.in-Some-2.is)) tt
+shared_sum-point-requires c =
+    subst IsSum (kind_of_known _ _ _ _ (sym c.in_ok-series.ensures ∙ c.in-Some-2.is)) tt
 
 pub returns : goal.returns
 unfolding sum_point
 returns c =
     let f : FitsSigned w64 c.in-Some.fields.value = search rules in
-    let e = simp to_z-of_z at (allowed_always c.shared_sum-point.result _ _ c.shared_sum-point.ensures.value c.shared_sum-point.ensures.none c.shared_sum-point.ensures.fault) in
-    rw (← c.in-Some.ensures.fields, ← c.in-Some.ensures.attributes, ← c.in_ok-series.ensures, c.in-Some-2.is) (c.ok.ensures.value ∙ e)
+    let e = simp to_z-of_z at (allowed_always c.shared_sum-point.result
+    _ _ c.shared_sum-point.ensures.value c.shared_sum-point.ensures.none
+    c.shared_sum-point.ensures.fault) in
+    rw (
+      ← c.in-Some.ensures.fields,
+      ← c.in-Some.ensures.attributes,
+      ← c.in_ok-series.ensures,
+      c.in-Some-2.is,
+    ) (c.ok.ensures.value ∙ e)

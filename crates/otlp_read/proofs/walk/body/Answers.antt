@@ -13,4 +13,6 @@ pub returns-in_err-values : goal.returns-in_err-values
 unfolding body
 returns-in_err-values c =
     let p = err_from_is_err_and c.from_residual.result c.from_residual.ensures.1 in
-    rw (p.1, p.2, sym c.field.ensures) (fails_then _ _ (λ resources. each resource_metrics resources (tally c.args.reader.now.out)) c.in_err-values.ensures)
+    rw (p.1, p.2, sym c.field.ensures)
+    (fails_then _ _ (λ resources. each resource_metrics resources (tally c.args.reader.now.out))
+    c.in_err-values.ensures)

@@ -4,4 +4,5 @@ use Rattle.out_texts.specs.Report.{series_line}
 use Rattle.out_texts.proofs.report.put_report.Given as goal
 
 abbrev pub invariant-loop-totals : goal.invariant-loop-totals
-invariant-loop-totals l = l.out.items ≡ l.fn.out.items ++ flat_map series_line (take l.totals-index l.rows)
+invariant-loop-totals l =
+    l.out.items ≡ l.fn.out.items ++ flat_map series_line (take l.totals-index l.rows)

@@ -18,10 +18,13 @@ text_of-requires c = rw c.in_ok-value.ensures (request_whole _).0
 pub returns-clause-back : goal.returns-clause-back
 returns-clause-back c =
     let ps = c.as_slice-points.result.now in
-    let merged = recursion_from_All IsMerged ps (subst (All IsMerged) (sym c.as_slice-points.ensures.value) c.as_slice-points.ensures.made) in
+    let merged = recursion_from_All IsMerged ps
+    (subst (All IsMerged) (sym c.as_slice-points.ensures.value) c.as_slice-points.ensures.made)
+    in
     let shallow : depth (request_value ps) ≤ max_depth = omega (arith, (request_whole ps).1) in
     let json = (rw c.in_ok-value.ensures at c.text_of.ensures.back) shallow in
-    IfOk-weaker c.text_of.result _ _ (λ text is. subst (ReadsBack text.items) c.as_slice-points.ensures.value (text_again ps text.items merged is)) json
+    IfOk-weaker c.text_of.result _ _ (λ text is. subst (ReadsBack text.items)
+    c.as_slice-points.ensures.value (text_again ps text.items merged is)) json
 
 pub returns-clause-once : goal.returns-clause-once
 returns-clause-once c = each_once _

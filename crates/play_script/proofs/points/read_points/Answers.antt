@@ -19,9 +19,14 @@ loop-next-preserved c =
       some_after p left rest first ∙ c.loop-next.invariant.0,
       elim c.if-not-refused.branch [
         | then-not-refused w ↦ λ e.
-            let went : is_ok w.push.result ≡ true = w.is_err-refused.ensures.negation ∙ ap not (sym w.refused-is ∙ e) in
+            let went : is_ok w.push.result ≡ true =
+            w.is_err-refused.ensures.negation ∙ ap not (sym w.refused-is ∙ e) in
             let grown = rw went at w.push.ensures.items in
-            one_read read _ p left rest all (ap (λ v. words_of_each v.items) w.points-is ∙ ap words_of_each grown ∙ map-append words_of c.loop-next.points.items (c.in-Some.next.point ∷ [])) first (c.loop-next.invariant.1 w.if-not-refused.true)
-        | else-not-refused w ↦ λ e. let was = w.if-not-refused.false in let now = sym w.refused-is ∙ e in cc
+            one_read read _ p left rest all
+            (ap (λ v. words_of_each v.items) w.points-is ∙ ap words_of_each grown
+            ∙ map-append words_of c.loop-next.points.items (c.in-Some.next.point ∷ []))
+            first (c.loop-next.invariant.1 w.if-not-refused.true)
+        | else-not-refused w ↦ λ e. let was = w.if-not-refused.false in
+            let now = sym w.refused-is ∙ e in cc
       ],
     )

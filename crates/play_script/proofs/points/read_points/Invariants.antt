@@ -7,7 +7,10 @@ use Rattle.play_script.proofs.PointSteps.{ReadSoFar}
 use Rattle.play_script.proofs.points.read_points.Given as goal
 
 abbrev pub invariant-loop-next : goal.invariant-loop-next
-invariant-loop-next l = (is_some (point_words (words l.left)) ≡ is_some (point_words (words l.text))) × (l.refused ≡ false → ReadSoFar (words_of_each l.points.items) (point_words (words l.left)) (point_words (words l.text)))
+invariant-loop-next l = (is_some (point_words (words l.left))
+    ≡ is_some (point_words (words l.text)))
+    × (l.refused ≡ false → ReadSoFar (words_of_each l.points.items) (point_words (words l.left))
+    (point_words (words l.text)))
 
 abbrev pub decreases-loop-next : goal.decreases-loop-next
 decreases-loop-next l = length l.left

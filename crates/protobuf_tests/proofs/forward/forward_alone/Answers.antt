@@ -4,4 +4,6 @@ use Rattle.protobuf_tests.proofs.forward.forward_alone.Goals as goal
 
 pub returns : goal.returns
 returns c =
-    IfSome_then c.forward.result c.forward.ensures (λ text h. forwarded_alone c.in-Ok.book _ c.args.sender c.args.bytes.now text.items c.in-Ok.ensures h)
+    IfSome_then c.forward.result c.forward.ensures
+    (λ text h. forwarded_alone c.in-Ok.book _ c.args.sender c.args.bytes.now text.items
+    c.in-Ok.ensures h)

@@ -7,6 +7,9 @@ use Rattle.series_cell.proofs.batch_span.find_start.Goals as goal
 
 pub returns-clause-value : goal.returns-clause-value
 returns-clause-value c = λ sorted.
-    let parted = IsPartitionedBy-leb (λ (m : BatchSpan). m.span.end) c.args.spans.now c.args.start sorted in
-    let point = IsPartitionPoint-from_clause (ends_by c.args.start) c.args.spans.now _ c.partition_point.ensures.partitioned parted (λ a r q k. search rules) in
-    place_is c.args.start c.args.spans.now c.partition_point.result c.partition_point.ensures.bound point
+    let parted =
+    IsPartitionedBy-leb (λ (m : BatchSpan). m.span.end) c.args.spans.now c.args.start sorted in
+    let point = IsPartitionPoint-from_clause (ends_by c.args.start) c.args.spans.now
+    _ c.partition_point.ensures.partitioned parted (λ a r q k. search rules) in
+    place_is c.args.start c.args.spans.now c.partition_point.result c.partition_point.ensures.bound
+    point

@@ -1,5 +1,6 @@
 use Rattle.series_id.specs.Totals.{resource_total, scope_total, stream_total, series_total}
-use Rattle.series_id.proofs.Exact.{resource_exact, resource_tied, scope_exact, scope_tied, stream_exact, stream_tied, series_exact, series_levels}
+use Rattle.series_id.proofs.Exact.{resource_exact, resource_tied, scope_exact, scope_tied}
+use Rattle.series_id.proofs.Exact.{stream_exact, stream_tied, series_exact, series_levels}
 use Rattle.series_id.proofs.laws.levels.Goals as goal
 
 pub returns : goal.returns

@@ -9,6 +9,9 @@ abbrev pub invariant-loop-seat : goal.invariant-loop-seat
 invariant-loop-seat g l =
     record {
       long : AllWithin (λ s. ¬ (IsShort l.book.entries s)) l.seats 0 l.seat-index;
-      alike : l.same ≡ true → (l.tally.same ≡ true) × AllWithin (λ s. (s.number < MAX_SEATS) × (length s.receipts ≡ length (receipts_of s.number 0 l.book.entries))) l.seats 0 l.seat-index;
+      alike : l.same ≡ true → (l.tally.same ≡ true)
+          × AllWithin (λ s. (s.number < MAX_SEATS)
+          × (length s.receipts ≡ length (receipts_of s.number 0 l.book.entries))) l.seats 0
+          l.seat-index;
       stray : l.same ≡ false → Any (λ s. ¬ (IsMatched l.book.entries s)) l.seats;
     }

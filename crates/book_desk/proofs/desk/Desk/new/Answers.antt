@@ -9,7 +9,9 @@ use Rattle.book_desk.proofs.desk.Desk.new.Goals as goal
 pub loop-preserved : goal.loop-preserved
 loop-preserved c =
     record {
-      count = ap length c.in_ok-push.ensures.items ∙ (length_push c.loop.books.items _ ∙ ap (λ n. n + 1) c.loop.invariant.count);
+      count = ap length c.in_ok-push.ensures.items
+          ∙ (length_push c.loop.books.items _ ∙ ap (λ n. n + 1) c.loop.invariant.count);
       books = subst (All (λ b. b ≡ journal_of first_opening [])) (sym c.in_ok-push.ensures.items)
-          (All-push (λ b. b ≡ journal_of first_opening []) c.loop.books.items _ c.loop.invariant.books c.in_ok-new.ensures);
+          (All-push (λ b. b ≡ journal_of first_opening []) c.loop.books.items
+          _ c.loop.invariant.books c.in_ok-new.ensures);
     }

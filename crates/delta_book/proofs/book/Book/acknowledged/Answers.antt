@@ -12,7 +12,12 @@ use Rattle.delta_book.proofs.book.Book.acknowledged.Goals as goal
 pub acknowledged_words-requires : goal.acknowledged_words-requires
 acknowledged_words-requires c =
     let b = c.self.inside in
-    omega (arith, ap length c.deref.ensures.value, few_cells b.cells.items (booked_cells b c.self.invariant))
+    omega (
+      arith,
+      ap length c.deref.ensures.value,
+      few_cells b.cells.items
+          (booked_cells b c.self.invariant),
+    )
 
 pub returns : goal.returns
 returns c =

@@ -11,5 +11,7 @@ pub returns : goal.returns
 returns c =
     let b = c.self.inside in
     ap (map cell_totals) c.as_slice.ensures.value
-    ∙ (totals_of_all b.cells.items (points (history (journal_of b.opening b.entries.items))) (held_senders (history (journal_of b.opening b.entries.items))) c.self.invariant.cells
-    ∙ ap (λ xs. map standing_totals (all_series (points (history xs)) (held_senders (history xs)))) c.self.view_is)
+    ∙ (totals_of_all b.cells.items (points (history (journal_of b.opening b.entries.items)))
+    (held_senders (history (journal_of b.opening b.entries.items))) c.self.invariant.cells
+    ∙ ap (λ xs. map standing_totals (all_series (points (history xs)) (held_senders (history xs))))
+    c.self.view_is)

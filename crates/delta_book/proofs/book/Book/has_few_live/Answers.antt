@@ -9,5 +9,14 @@ use Rattle.delta_book.proofs.book.Book.has_few_live.Goals as goal
 pub returns : goal.returns
 returns c =
     let b = c.self.inside in
-    let n : c.len.result ≡ length (live_flushes (history (journal_of b.opening b.entries.items))) = omega (arith, c.len.ensures, b.live.ok.0, flights_length b.entries.items b.live.items (live_flushes (history (journal_of b.opening b.entries.items))) c.self.invariant.live) in
-    ap (λ k. nat_lt k MAX_LIVE) n ∙ ap (λ xs. nat_lt (length (live_flushes (history xs))) MAX_LIVE) c.self.view_is
+    let n : c.len.result ≡ length (live_flushes (history (journal_of b.opening b.entries.items))) =
+    omega (
+      arith,
+      c.len.ensures,
+      b.live.ok.0,
+      flights_length b.entries.items b.live.items
+          (live_flushes (history (journal_of b.opening b.entries.items))) c.self.invariant.live,
+    )
+    in
+    ap (λ k. nat_lt k MAX_LIVE) n
+    ∙ ap (λ xs. nat_lt (length (live_flushes (history xs))) MAX_LIVE) c.self.view_is

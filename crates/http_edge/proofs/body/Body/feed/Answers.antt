@@ -7,7 +7,8 @@ use Rattle.http_edge.proofs.BodyLemmas.{goes_on, stays, refused_later}
 use Rattle.http_edge.proofs.body.Body.feed.Goals as goal
 
 pub steps-init : goal.steps-init
-steps-init c = record { within = omega arith; reaches = stays (body_state c.args.self.now) c.requires }
+steps-init c =
+    record { within = omega arith; reaches = stays (body_state c.args.self.now) c.requires }
 
 pub steps-preserved : goal.steps-preserved
 steps-preserved c =
@@ -15,10 +16,14 @@ steps-preserved c =
     let at = c.steps.at in
     let n = c.in_ok-at.field-0 in
     let within : n ≤ length (drop at piece) = simp take_rest at c.in_ok-at.ensures.1 in
-    let P : List ℕ → Type 0 = λ s. Reaches (body_state c.args.self.now) (body_state c.step.new.self) s in
+    let P : List ℕ → Type 0 =
+    λ s. Reaches (body_state c.args.self.now) (body_state c.step.new.self) s in
     record {
       within = omega (arith, within, length-drop at piece);
-      reaches = subst P (sym (take-add at n piece)) (goes_on (body_state c.args.self.now) (body_state c.steps.self) (body_state c.step.new.self) (take at piece) (take n (drop at piece)) c.steps.invariant.reaches (simp take_rest at c.in_ok-at.ensures.2));
+      reaches = subst P (sym (take-add at n piece))
+          (goes_on (body_state c.args.self.now) (body_state c.steps.self)
+          (body_state c.step.new.self) (take at piece) (take n (drop at piece))
+          c.steps.invariant.reaches (simp take_rest at c.in_ok-at.ensures.2));
     }
 
 pub returns-in_err-at-clause-fault : goal.returns-in_err-at-clause-fault
@@ -27,4 +32,7 @@ returns-in_err-at-clause-fault c =
     let piece = c.args.piece.now in
     let at = c.steps.at in
     let Q : List ℕ → Type 0 = λ s. Refuses c.in_err-at.field-0.0 (body_state c.args.self.now) s in
-    rw (p.1, p.2) (subst Q (take-append-drop at piece) (refused_later (body_state c.args.self.now) (body_state c.steps.self) (take at piece) (drop at piece) c.in_err-at.field-0.0 c.steps.invariant.reaches (simp take_rest at c.in_err-at.ensures)))
+    rw (p.1, p.2) (subst Q (take-append-drop at piece)
+    (refused_later (body_state c.args.self.now) (body_state c.steps.self) (take at piece)
+    (drop at piece) c.in_err-at.field-0.0 c.steps.invariant.reaches
+    (simp take_rest at c.in_err-at.ensures)))

@@ -6,12 +6,19 @@ use Rattle.json_points.proofs.NodeLemmas.{members_found, object_found}
 use Rattle.json_points.proofs.node.Node.fields.Goals as goal
 
 pub invariant_of-result : goal.invariant_of-result
-invariant_of-result c = (no_members, data_at _, members_found _ c.members.result c.in-Some.members c.self.invariant c.members.ensures c.in-Some.is)
+invariant_of-result c = (
+  no_members,
+  data_at _,
+  members_found _ c.members.result c.in-Some.members
+      c.self.invariant c.members.ensures c.in-Some.is,
+)
 
 pub returns-in-Some-clause-found : goal.returns-in-Some-clause-found
 returns-in-Some-clause-found c =
-    rw (← c.self.view_is) (members_found _ c.members.result c.in-Some.members c.self.invariant c.members.ensures c.in-Some.is)
+    rw (← c.self.view_is) (members_found _ c.members.result c.in-Some.members c.self.invariant
+    c.members.ensures c.in-Some.is)
 
 pub returns-in-None-clause-none : goal.returns-in-None-clause-none
 returns-in-None-clause-none c _ =
-    rw (← c.self.view_is) (sym (object_found _ c.members.result c.self.invariant c.members.ensures) ∙ ap (λ r. is_some r) c.in-None.is)
+    rw (← c.self.view_is) (sym (object_found _ c.members.result c.self.invariant c.members.ensures)
+    ∙ ap (λ r. is_some r) c.in-None.is)

@@ -7,11 +7,15 @@ use Rattle.json_points.proofs.node.Node.present.Goals as goal
 pub returns-then-is_null : goal.returns-then-is_null
 returns-then-is_null c =
     let node = c.self.invariant in
-    let is : find.is_null node.json ≡ true = sym (c.is_null.ensures node.json node.begins) ∙ c.if-is_null.true in
-    rw (← c.self.view_is) (sym (ap (λ b. cond b None (Some (data_at c.self.inside.element))) is) ∙ present_same node.json _ (same node.json _ node.says))
+    let is : find.is_null node.json ≡ true =
+    sym (c.is_null.ensures node.json node.begins) ∙ c.if-is_null.true in
+    rw (← c.self.view_is) (sym (ap (λ b. cond b None (Some (data_at c.self.inside.element))) is)
+    ∙ present_same node.json _ (same node.json _ node.says))
 
 pub returns-else-is_null : goal.returns-else-is_null
 returns-else-is_null c =
     let node = c.self.invariant in
-    let is : find.is_null node.json ≡ false = sym (c.is_null.ensures node.json node.begins) ∙ c.if-is_null.false in
-    rw (← c.self.view_is) (sym (ap (λ b. cond b None (Some (data_at c.self.inside.element))) is) ∙ present_same node.json _ (same node.json _ node.says))
+    let is : find.is_null node.json ≡ false =
+    sym (c.is_null.ensures node.json node.begins) ∙ c.if-is_null.false in
+    rw (← c.self.view_is) (sym (ap (λ b. cond b None (Some (data_at c.self.inside.element))) is)
+    ∙ present_same node.json _ (same node.json _ node.says))

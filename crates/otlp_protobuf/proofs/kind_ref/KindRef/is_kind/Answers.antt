@@ -12,5 +12,6 @@ returns-in-Histogram-Histogram c = record {
   only = λ within same.
       rw (c.in-Histogram-Histogram.is-0, c.in-Histogram-Histogram.is-1)
       (kind_again _ c.in-Histogram-Histogram.its (subst IsKind c.in-Histogram-Histogram.is-1 within)
-      (ap (λ ns. all_of (signed_in MAX_BOUND MAX_BOUND) (map double_data ns)) (sym c.of.ensures) ∙ c.are_bounds.ensures.only same ∙ ap (λ bs. Some bs) c.as_slice.ensures));
+      (ap (λ ns. all_of (signed_in MAX_BOUND MAX_BOUND) (map double_data ns)) (sym c.of.ensures)
+      ∙ c.are_bounds.ensures.only same ∙ ap (λ bs. Some bs) c.as_slice.ensures));
 }

@@ -7,4 +7,5 @@ pub returns-in-Some : goal.returns-in-Some
 returns-in-Some c = packed_step _ _ _ _ c.in-Some.ensures
 
 pub returns-in-None : goal.returns-in-None
-returns-in-None c = packed_end c.next_field.result _ _ (λ n. n ∷ numbers_data c.next_field.new.self) c.in-None.ensures c.next_field.ensures
+returns-in-None c = packed_end c.next_field.result _ _ (λ n. n ∷ numbers_data c.next_field.new.self)
+    c.in-None.ensures c.next_field.ensures

@@ -31,11 +31,17 @@ invariant_of-self c =
       cell =
           cell_carried v own.0 _ _ _ _ _ _ h none
           (c.copy_from_slice.ensures.items ∙ c.as_slice.ensures.value)
-          (cleared_row i.acknowledged.items _ _ i.acknowledged.len c.deref_mut.ensures.value c.clear.auto.words c.clear.ensures i.acknowledged.ok.0 ∙ ap zeros s.acknowledged)
-          (cleared_row i.dropped.items _ _ i.dropped.len c.deref_mut-2.ensures.value c.clear-2.auto.words c.clear-2.ensures i.dropped.ok.0 ∙ ap zeros s.dropped)
-          (c.give_back_room.ensures.items ∙ (c.join_all.ensures.items (home_in_order v own.0 h i.spans.items (ap (λ n. drop n i.spans.items) (sym none))) ∙ ap (λ n. joined_spans (hull_of (drop n i.spans.items))) (sym none)))
+          (cleared_row i.acknowledged.items _ _ i.acknowledged.len c.deref_mut.ensures.value
+          c.clear.auto.words c.clear.ensures i.acknowledged.ok.0 ∙ ap zeros s.acknowledged)
+          (cleared_row i.dropped.items _ _ i.dropped.len c.deref_mut-2.ensures.value
+          c.clear-2.auto.words c.clear-2.ensures i.dropped.ok.0 ∙ ap zeros s.dropped)
+          (c.give_back_room.ensures.items
+          ∙ (c.join_all.ensures.items (home_in_order v own.0 h i.spans.items
+          (ap (λ n. drop n i.spans.items) (sym none)))
+          ∙ ap (λ n. joined_spans (hull_of (drop n i.spans.items))) (sym none)))
           (c.frontier-frontier.ensures ∙ ap end_of (sym is));
-      words = words_stored v own.0 _ h (lent_words c.as_mut-kept.ensures.value c.self.invariant) (c.copy_from_slice.ensures.items ∙ c.as_slice.ensures.value);
+      words = words_stored v own.0 _ h (lent_words c.as_mut-kept.ensures.value c.self.invariant)
+          (c.copy_from_slice.ensures.items ∙ c.as_slice.ensures.value);
       lean = c.give_back_room.ensures.lean;
     }
 
@@ -52,9 +58,13 @@ returns-clause-stands c = λ t k l.
     let some : 0 < end_of v = subst (λ (w : CellView). 0 < end_of w) (sym is) l in
     stands_carried v own.0 t _ _ _ _ _ _ h none some hands
     (c.copy_from_slice.ensures.items ∙ c.as_slice.ensures.value)
-    (cleared_row i.acknowledged.items _ _ i.acknowledged.len c.deref_mut.ensures.value c.clear.auto.words c.clear.ensures i.acknowledged.ok.0 ∙ ap zeros s.acknowledged)
-    (cleared_row i.dropped.items _ _ i.dropped.len c.deref_mut-2.ensures.value c.clear-2.auto.words c.clear-2.ensures i.dropped.ok.0 ∙ ap zeros s.dropped)
-    (c.give_back_room.ensures.items ∙ (c.join_all.ensures.items (home_in_order v own.0 h i.spans.items (ap (λ n. drop n i.spans.items) (sym none))) ∙ ap (λ n. joined_spans (hull_of (drop n i.spans.items))) (sym none)))
+    (cleared_row i.acknowledged.items _ _ i.acknowledged.len c.deref_mut.ensures.value
+    c.clear.auto.words c.clear.ensures i.acknowledged.ok.0 ∙ ap zeros s.acknowledged)
+    (cleared_row i.dropped.items _ _ i.dropped.len c.deref_mut-2.ensures.value c.clear-2.auto.words
+    c.clear-2.ensures i.dropped.ok.0 ∙ ap zeros s.dropped)
+    (c.give_back_room.ensures.items ∙ (c.join_all.ensures.items
+    (home_in_order v own.0 h i.spans.items (ap (λ n. drop n i.spans.items) (sym none)))
+    ∙ ap (λ n. joined_spans (hull_of (drop n i.spans.items))) (sym none)))
     (c.frontier-frontier.ensures ∙ ap end_of (sym is))
 
 pub returns-clause-none : goal.returns-clause-none
@@ -68,7 +78,11 @@ returns-clause-none c k =
     let none : i.cut ≡ 0 = ap (λ (w : CellView). w.cut) is ∙ c.requires in
     stands_for_none v _ _ _ _ _ _ h none
     (c.copy_from_slice.ensures.items ∙ c.as_slice.ensures.value)
-    (cleared_row i.acknowledged.items _ _ i.acknowledged.len c.deref_mut.ensures.value c.clear.auto.words c.clear.ensures i.acknowledged.ok.0 ∙ ap zeros s.acknowledged)
-    (cleared_row i.dropped.items _ _ i.dropped.len c.deref_mut-2.ensures.value c.clear-2.auto.words c.clear-2.ensures i.dropped.ok.0 ∙ ap zeros s.dropped)
-    (c.give_back_room.ensures.items ∙ (c.join_all.ensures.items (home_in_order v [] h i.spans.items (ap (λ n. drop n i.spans.items) (sym none))) ∙ ap (λ n. joined_spans (hull_of (drop n i.spans.items))) (sym none)))
+    (cleared_row i.acknowledged.items _ _ i.acknowledged.len c.deref_mut.ensures.value
+    c.clear.auto.words c.clear.ensures i.acknowledged.ok.0 ∙ ap zeros s.acknowledged)
+    (cleared_row i.dropped.items _ _ i.dropped.len c.deref_mut-2.ensures.value c.clear-2.auto.words
+    c.clear-2.ensures i.dropped.ok.0 ∙ ap zeros s.dropped)
+    (c.give_back_room.ensures.items ∙ (c.join_all.ensures.items
+    (home_in_order v [] h i.spans.items (ap (λ n. drop n i.spans.items) (sym none)))
+    ∙ ap (λ n. joined_spans (hull_of (drop n i.spans.items))) (sym none)))
     (c.frontier-frontier.ensures ∙ ap end_of (sym is))

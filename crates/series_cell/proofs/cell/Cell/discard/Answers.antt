@@ -17,8 +17,11 @@ move_into-requires c =
     let own = lent_cell c.as_mut-kept.ensures.value c.self.invariant in
     let s = sized _ own.0 own.1 in
     record {
-      same = ap length c.deref_mut.ensures.value ∙ (s.dropped ∙ sym (ap length c.deref_mut-2.ensures.value ∙ s.in_flight));
-      fits = rows_fit _ c.deref_mut.ensures.value c.deref_mut-2.ensures.value (λ k. (within _ own.0 k own.1).dropped) (s.dropped ∙ sym s.accepted) (lent_words c.as_mut-kept.ensures.value c.self.invariant);
+      same = ap length c.deref_mut.ensures.value
+          ∙ (s.dropped ∙ sym (ap length c.deref_mut-2.ensures.value ∙ s.in_flight));
+      fits = rows_fit _ c.deref_mut.ensures.value c.deref_mut-2.ensures.value
+          (λ k. (within _ own.0 k own.1).dropped) (s.dropped ∙ sym s.accepted)
+          (lent_words c.as_mut-kept.ensures.value c.self.invariant);
     }
 
 pub invariant_of-self : goal.invariant_of-self
@@ -27,13 +30,18 @@ invariant_of-self c =
     let own = lent_cell c.as_mut-kept.ensures.value c.self.invariant in
     let h = own.1 in
     let s = sized _ own.0 h in
-    let m = moved i.dropped.items i.in_flight.items _ _ _ _ i.dropped.len i.in_flight.len c.deref_mut.ensures.value c.deref_mut-2.ensures.value (s.dropped ∙ sym s.in_flight) c.move_into.auto.dst c.move_into.auto.src c.move_into.ensures.sums c.move_into.ensures.none i.dropped.ok.0 i.in_flight.ok.0 in
+    let m = moved i.dropped.items i.in_flight.items _ _ _ _ i.dropped.len i.in_flight.len
+    c.deref_mut.ensures.value c.deref_mut-2.ensures.value (s.dropped ∙ sym s.in_flight)
+    c.move_into.auto.dst c.move_into.auto.src c.move_into.ensures.sums
+    c.move_into.ensures.none i.dropped.ok.0 i.in_flight.ok.0 in
     record {
       cell = (
         map (landed i.flush Dropped) own.0,
         stands_dropped _ i.flush own.0 _ _ _ _ _ refl h m.0 (m.1 ∙ ap zeros s.in_flight)
             (c.give_back_room.ensures.items ∙ c.drop_first.ensures.items)
-            (c.max-kept.ensures ∙ ap (λ n. max i.landed n) (c.end_or.ensures ∙ ap (end_of_spans 0) (c.spans_to.ensures ∙ ap (take i.cut) c.deref.ensures.value))),
+            (c.max-kept.ensures ∙ ap (λ n. max i.landed n)
+            (c.end_or.ensures ∙ ap (end_of_spans 0)
+            (c.spans_to.ensures ∙ ap (take i.cut) c.deref.ensures.value))),
       );
       words = lent_words c.as_mut-kept.ensures.value c.self.invariant;
       lean = c.give_back_room.ensures.lean;
@@ -46,7 +54,13 @@ returns-clause-stands c = λ qs g.
     let v : CellView = view_of i in
     let h : Stands v qs = subst (λ (w : CellView). Stands w qs) (sym is) g in
     let s = sized v qs h in
-    let m = moved i.dropped.items i.in_flight.items _ _ _ _ i.dropped.len i.in_flight.len c.deref_mut.ensures.value c.deref_mut-2.ensures.value (s.dropped ∙ sym s.in_flight) c.move_into.auto.dst c.move_into.auto.src c.move_into.ensures.sums c.move_into.ensures.none i.dropped.ok.0 i.in_flight.ok.0 in
-    stands_dropped v c.args.self.now.flush qs _ _ _ _ _ (sym (ap (λ (w : CellView). w.flush) is)) h m.0 (m.1 ∙ ap zeros s.in_flight)
+    let m = moved i.dropped.items i.in_flight.items _ _ _ _ i.dropped.len i.in_flight.len
+    c.deref_mut.ensures.value c.deref_mut-2.ensures.value (s.dropped ∙ sym s.in_flight)
+    c.move_into.auto.dst c.move_into.auto.src c.move_into.ensures.sums
+    c.move_into.ensures.none i.dropped.ok.0 i.in_flight.ok.0 in
+    stands_dropped v c.args.self.now.flush qs _ _ _ _ _ (sym (ap (λ (w : CellView). w.flush) is)) h
+    m.0 (m.1 ∙ ap zeros s.in_flight)
     (c.give_back_room.ensures.items ∙ c.drop_first.ensures.items)
-    (c.max-kept.ensures ∙ ap (λ n. max i.landed n) (c.end_or.ensures ∙ ap (end_of_spans 0) (c.spans_to.ensures ∙ ap (take i.cut) c.deref.ensures.value)))
+    (c.max-kept.ensures ∙ ap (λ n. max i.landed n)
+    (c.end_or.ensures
+    ∙ ap (end_of_spans 0) (c.spans_to.ensures ∙ ap (take i.cut) c.deref.ensures.value)))

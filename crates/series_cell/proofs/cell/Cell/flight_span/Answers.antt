@@ -10,5 +10,7 @@ pub returns : goal.returns
 returns c =
     let i = c.as_ref-kept.result.now in
     let own = lent_cell c.as_ref-kept.ensures c.self.invariant in
-    let away : c.spans_to.result.now ≡ take i.cut i.spans.items = c.spans_to.ensures ∙ ap (take i.cut) c.deref.ensures.value in
-    c.hull.ensures (away_in_order (view_of i) own.0 own.1 c.spans_to.result.now away) ∙ (ap hull_of away ∙ ap flight_hull (lent_view c.as_ref-kept.ensures c.self.view_is))
+    let away : c.spans_to.result.now ≡ take i.cut i.spans.items =
+    c.spans_to.ensures ∙ ap (take i.cut) c.deref.ensures.value in
+    c.hull.ensures (away_in_order (view_of i) own.0 own.1 c.spans_to.result.now away)
+    ∙ (ap hull_of away ∙ ap flight_hull (lent_view c.as_ref-kept.ensures c.self.view_is))

@@ -15,8 +15,12 @@ move_into-requires c =
     let own = lent_cell c.as_mut-kept.ensures.value c.self.invariant in
     let s = sized _ own.0 own.1 in
     record {
-      same = ap length c.deref_mut.ensures.value ∙ (s.in_flight ∙ sym (ap length c.deref_mut-2.ensures.value ∙ s.stored));
-      fits = rows_fit _ c.deref_mut.ensures.value c.deref_mut-2.ensures.value (λ k. let w = within (view_of i) own.0 k own.1 in omega (arith, w.stored)) (s.in_flight ∙ sym s.accepted) (lent_words c.as_mut-kept.ensures.value c.self.invariant);
+      same = ap length c.deref_mut.ensures.value
+          ∙ (s.in_flight ∙ sym (ap length c.deref_mut-2.ensures.value ∙ s.stored));
+      fits = rows_fit _ c.deref_mut.ensures.value c.deref_mut-2.ensures.value
+          (λ k. let w = within (view_of i) own.0 k own.1 in omega (arith, w.stored))
+          (s.in_flight ∙ sym s.accepted)
+          (lent_words c.as_mut-kept.ensures.value c.self.invariant);
     }
 
 pub invariant_of-self : goal.invariant_of-self
@@ -26,9 +30,17 @@ invariant_of-self c =
     let is = lent_view c.as_mut-kept.ensures.value c.self.view_is in
     let h = own.1 in
     let s = sized _ own.0 h in
-    let m = moved i.in_flight.items i.stored.items _ _ _ _ i.in_flight.len i.stored.len c.deref_mut.ensures.value c.deref_mut-2.ensures.value (s.in_flight ∙ sym s.stored) c.move_into.auto.dst c.move_into.auto.src c.move_into.ensures.sums c.move_into.ensures.none i.in_flight.ok.0 i.stored.ok.0 in
+    let m = moved i.in_flight.items i.stored.items _ _ _ _ i.in_flight.len i.stored.len
+    c.deref_mut.ensures.value c.deref_mut-2.ensures.value (s.in_flight ∙ sym s.stored)
+    c.move_into.auto.dst c.move_into.auto.src c.move_into.ensures.sums
+    c.move_into.ensures.none i.in_flight.ok.0 i.stored.ok.0 in
     record {
-      cell = (map (lifted c.args.flush) own.0, stands_lift _ c.args.flush own.0 _ _ _ h (ap (λ (w : CellView). w.cut) is ∙ c.requires) m.0 (m.1 ∙ ap zeros s.stored) (c.len-kept.ensures ∙ i.spans.ok.0));
+      cell = (
+        map (lifted c.args.flush) own.0,
+        stands_lift _ c.args.flush own.0 _ _ _ h
+            (ap (λ (w : CellView). w.cut) is ∙ c.requires) m.0 (m.1 ∙ ap zeros s.stored)
+            (c.len-kept.ensures ∙ i.spans.ok.0),
+      );
       words = lent_words c.as_mut-kept.ensures.value c.self.invariant;
       lean = lent_lean c.as_mut-kept.ensures.value c.self.invariant;
     }
@@ -40,5 +52,9 @@ returns-clause-stands c = λ qs g.
     let v : CellView = view_of i in
     let h : Stands v qs = subst (λ (w : CellView). Stands w qs) (sym is) g in
     let s = sized v qs h in
-    let m = moved i.in_flight.items i.stored.items _ _ _ _ i.in_flight.len i.stored.len c.deref_mut.ensures.value c.deref_mut-2.ensures.value (s.in_flight ∙ sym s.stored) c.move_into.auto.dst c.move_into.auto.src c.move_into.ensures.sums c.move_into.ensures.none i.in_flight.ok.0 i.stored.ok.0 in
-    stands_lift v c.args.flush qs _ _ _ h (ap (λ (w : CellView). w.cut) is ∙ c.requires) m.0 (m.1 ∙ ap zeros s.stored) (c.len-kept.ensures ∙ i.spans.ok.0)
+    let m = moved i.in_flight.items i.stored.items _ _ _ _ i.in_flight.len i.stored.len
+    c.deref_mut.ensures.value c.deref_mut-2.ensures.value (s.in_flight ∙ sym s.stored)
+    c.move_into.auto.dst c.move_into.auto.src c.move_into.ensures.sums
+    c.move_into.ensures.none i.in_flight.ok.0 i.stored.ok.0 in
+    stands_lift v c.args.flush qs _ _ _ h (ap (λ (w : CellView). w.cut) is ∙ c.requires) m.0
+    (m.1 ∙ ap zeros s.stored) (c.len-kept.ensures ∙ i.spans.ok.0)

@@ -9,5 +9,12 @@ invariant_of-self c = record {
   lean = λ n.
       let i = c.deref_mut.result.now in
       let none = sym c.make_room.ensures.items ∙ n in
-      omega (arith, lent_lean c.deref_mut.ensures.value c.self.invariant none, ap length none, i.spans.ok.0, c.make_room.ensures.len, c.make_room.ensures.most);
+      omega (
+        arith,
+        lent_lean c.deref_mut.ensures.value c.self.invariant none,
+        ap length none,
+        i.spans.ok.0,
+        c.make_room.ensures.len,
+        c.make_room.ensures.most,
+      );
 }

@@ -1,4 +1,5 @@
-use Rattle.std.proofs.Common.{ℕ, ◌+◌, sym, ap, ◌∙◌, arith, drop, length, refl, List, ◌∷◌, ◌++◌, remove}
+use Rattle.std.proofs.Common.{ℕ, ◌+◌, sym, ap, ◌∙◌, arith, drop, length, refl, List, ◌∷◌, ◌++◌}
+use Rattle.std.proofs.Common.{remove}
 use Rattle.std.specs.Prelude.{slice_index}
 use Rattle.metric_events.specs.Points.{admitted}
 use Rattle.metric_events.specs.Interval.{Interval}
@@ -15,50 +16,79 @@ pub sub_from-requires : goal.sub_from-requires
 sub_from-requires c =
     let i = c.as_mut-kept.result.now in
     let v : CellView = view_of i in
-    let g : HasHome v c.args.batch c.args.point.now = lent (λ (w : CellView). HasHome w c.args.batch c.args.point.now) c.as_mut-kept.ensures.value c.self.view_is c.requires in
+    let g : HasHome v c.args.batch c.args.point.now =
+    lent (λ (w : CellView). HasHome w c.args.batch c.args.point.now) c.as_mut-kept.ensures.value
+    c.self.view_is c.requires in
     let t = taken_from v c.args.batch c.args.point.now g.0 g.1.0 g.1.1 in
     let s = sized v _ g.1.1 in
     record {
-      same = ap length c.deref_mut.ensures.value ∙ (s.accepted ∙ sym (ap length c.row.ensures.value ∙ t.long));
-      within = λ k l. omega (arith, part_le c.args.point.now.row _ i.accepted.items k t.accepted, ap (λ (r : List ℕ). slice_index r k) c.deref_mut.ensures.value, ap (λ (r : List ℕ). slice_index r k) c.row.ensures.value);
+      same = ap length c.deref_mut.ensures.value
+          ∙ (s.accepted ∙ sym (ap length c.row.ensures.value ∙ t.long));
+      within = λ k l. omega (
+        arith,
+        part_le c.args.point.now.row _ i.accepted.items k t.accepted,
+        ap
+            (λ (r : List ℕ). slice_index r k) c.deref_mut.ensures.value,
+        ap
+            (λ (r : List ℕ). slice_index r k) c.row.ensures.value,
+      );
     }
 
 pub sub_from-requires-2 : goal.sub_from-requires-2
 sub_from-requires-2 c =
     let i = c.as_mut-kept.result.now in
     let v : CellView = view_of i in
-    let g : HasHome v c.args.batch c.args.point.now = lent (λ (w : CellView). HasHome w c.args.batch c.args.point.now) c.as_mut-kept.ensures.value c.self.view_is c.requires in
+    let g : HasHome v c.args.batch c.args.point.now =
+    lent (λ (w : CellView). HasHome w c.args.batch c.args.point.now) c.as_mut-kept.ensures.value
+    c.self.view_is c.requires in
     let t = taken_from v c.args.batch c.args.point.now g.0 g.1.0 g.1.1 in
     let s = sized v _ g.1.1 in
     record {
-      same = ap length c.deref_mut-2.ensures.value ∙ (s.stored ∙ sym (ap length c.row-2.ensures.value ∙ t.long));
-      within = λ k l. omega (arith, part_le c.args.point.now.row _ i.stored.items k t.stored, ap (λ (r : List ℕ). slice_index r k) c.deref_mut-2.ensures.value, ap (λ (r : List ℕ). slice_index r k) c.row-2.ensures.value);
+      same = ap length c.deref_mut-2.ensures.value
+          ∙ (s.stored ∙ sym (ap length c.row-2.ensures.value ∙ t.long));
+      within = λ k l. omega (
+        arith,
+        part_le c.args.point.now.row _ i.stored.items k t.stored,
+        ap
+            (λ (r : List ℕ). slice_index r k) c.deref_mut-2.ensures.value,
+        ap
+            (λ (r : List ℕ). slice_index r k) c.row-2.ensures.value,
+      );
     }
 
 pub remove-requires : goal.remove-requires
 remove-requires c =
     let i = c.as_mut-kept.result.now in
     let v : CellView = view_of i in
-    let g : HasHome v c.args.batch c.args.point.now = lent (λ (w : CellView). HasHome w c.args.batch c.args.point.now) c.as_mut-kept.ensures.value c.self.view_is c.requires in
+    let g : HasHome v c.args.batch c.args.point.now =
+    lent (λ (w : CellView). HasHome w c.args.batch c.args.point.now) c.as_mut-kept.ensures.value
+    c.self.view_is c.requires in
     let h = g.1.1 in
     let at =
-    found v _ c.spans_from.result.now c.args.point.now.span.start c.start.result c.find_start.result h
+    found v _ c.spans_from.result.now c.args.point.now.span.start c.start.result c.find_start.result
+    h
     (c.spans_from.ensures ∙ ap (drop i.cut) c.deref.ensures.value)
     (c.start.ensures ∙ ap (λ (t : Interval). t.start) c.span.ensures) c.find_start.ensures.value in
-    let inside = span_inside v g.0 g.1.0 (admitted c.args.batch i.owner c.args.point.now) h (parted v g.0 g.1.0 (admitted c.args.batch i.owner c.args.point.now) h refl) in
+    let inside = span_inside v g.0 g.1.0 (admitted c.args.batch i.owner c.args.point.now) h
+    (parted v g.0 g.1.0 (admitted c.args.batch i.owner c.args.point.now) h refl) in
     omega (arith, inside, at, i.spans.ok.0)
 
 pub invariant_of-self : goal.invariant_of-self
 invariant_of-self c =
     let i = c.as_mut-kept.result.now in
     let v : CellView = view_of i in
-    let g : HasHome v c.args.batch c.args.point.now = lent (λ (w : CellView). HasHome w c.args.batch c.args.point.now) c.as_mut-kept.ensures.value c.self.view_is c.requires in
+    let g : HasHome v c.args.batch c.args.point.now =
+    lent (λ (w : CellView). HasHome w c.args.batch c.args.point.now) c.as_mut-kept.ensures.value
+    c.self.view_is c.requires in
     let h = g.1.1 in
     let t = taken_from v c.args.batch c.args.point.now g.0 g.1.0 h in
     let s = sized v _ h in
-    let left = taken_row i.accepted.items c.args.point.now.row _ _ _ _ i.accepted.len c.deref_mut.ensures.value c.row.ensures.value t.accepted (t.accepted_long ∙ sym s.accepted) c.sub_from.auto.dst c.sub_from.ensures i.accepted.ok.0 in
+    let left = taken_row i.accepted.items c.args.point.now.row _ _ _ _ i.accepted.len
+    c.deref_mut.ensures.value c.row.ensures.value t.accepted (t.accepted_long ∙ sym s.accepted)
+    c.sub_from.auto.dst c.sub_from.ensures i.accepted.ok.0 in
     let at =
-    found v _ c.spans_from.result.now c.args.point.now.span.start c.start.result c.find_start.result h
+    found v _ c.spans_from.result.now c.args.point.now.span.start c.start.result c.find_start.result
+    h
     (c.spans_from.ensures ∙ ap (drop i.cut) c.deref.ensures.value)
     (c.start.ensures ∙ ap (λ (t : Interval). t.start) c.span.ensures) c.find_start.ensures.value in
     record {
@@ -66,10 +96,16 @@ invariant_of-self c =
         g.0 ++ g.1.0,
         stands_remove v c.args.batch c.args.point.now g.0 g.1.0 _ _ _ _ h
             left
-            (taken_row i.stored.items c.args.point.now.row _ _ _ _ i.stored.len c.deref_mut-2.ensures.value c.row-2.ensures.value t.stored (t.stored_long ∙ sym s.stored) c.sub_from-2.auto.dst c.sub_from-2.ensures i.stored.ok.0)
-            (c.give_back_room.ensures.items ∙ (c.remove.ensures.items ∙ ap (λ n. remove i.spans.items (i.cut + n)) at)),
+            (taken_row i.stored.items c.args.point.now.row _ _ _ _ i.stored.len
+            c.deref_mut-2.ensures.value c.row-2.ensures.value t.stored
+            (t.stored_long ∙ sym s.stored) c.sub_from-2.auto.dst c.sub_from-2.ensures
+            i.stored.ok.0)
+            (c.give_back_room.ensures.items
+            ∙ (c.remove.ensures.items ∙ ap (λ n. remove i.spans.items (i.cut + n)) at)),
       );
-      words = words_left i.accepted.items c.args.point.now.row _ _ (lent_words c.as_mut-kept.ensures.value c.self.invariant) t.accepted (t.accepted_long ∙ sym s.accepted) left;
+      words = words_left i.accepted.items c.args.point.now.row
+          _ _ (lent_words c.as_mut-kept.ensures.value c.self.invariant) t.accepted
+          (t.accepted_long ∙ sym s.accepted) left;
       lean = c.give_back_room.ensures.lean;
     }
 
@@ -77,14 +113,23 @@ pub returns-clause-stands : goal.returns-clause-stands
 returns-clause-stands c = λ before after k.
     let i = c.as_mut-kept.result.now in
     let v : CellView = view_of i in
-    let h : Stands v (before ++ admitted c.args.batch v.owner c.args.point.now ∷ after) = lent (λ (w : CellView). Stands w (before ++ admitted c.args.batch w.owner c.args.point.now ∷ after)) c.as_mut-kept.ensures.value c.self.view_is k in
+    let h : Stands v (before ++ admitted c.args.batch v.owner c.args.point.now ∷ after) =
+    lent (λ (w : CellView). Stands w
+    (before ++ admitted c.args.batch w.owner c.args.point.now ∷ after))
+    c.as_mut-kept.ensures.value c.self.view_is k in
     let t = taken_from v c.args.batch c.args.point.now before after h in
     let s = sized v _ h in
     let at =
-    found v _ c.spans_from.result.now c.args.point.now.span.start c.start.result c.find_start.result h
+    found v _ c.spans_from.result.now c.args.point.now.span.start c.start.result c.find_start.result
+    h
     (c.spans_from.ensures ∙ ap (drop i.cut) c.deref.ensures.value)
     (c.start.ensures ∙ ap (λ (t : Interval). t.start) c.span.ensures) c.find_start.ensures.value in
     stands_remove v c.args.batch c.args.point.now before after _ _ _ _ h
-    (taken_row i.accepted.items c.args.point.now.row _ _ _ _ i.accepted.len c.deref_mut.ensures.value c.row.ensures.value t.accepted (t.accepted_long ∙ sym s.accepted) c.sub_from.auto.dst c.sub_from.ensures i.accepted.ok.0)
-    (taken_row i.stored.items c.args.point.now.row _ _ _ _ i.stored.len c.deref_mut-2.ensures.value c.row-2.ensures.value t.stored (t.stored_long ∙ sym s.stored) c.sub_from-2.auto.dst c.sub_from-2.ensures i.stored.ok.0)
-    (c.give_back_room.ensures.items ∙ (c.remove.ensures.items ∙ ap (λ n. remove i.spans.items (i.cut + n)) at))
+    (taken_row i.accepted.items c.args.point.now.row _ _ _ _ i.accepted.len
+    c.deref_mut.ensures.value c.row.ensures.value t.accepted (t.accepted_long ∙ sym s.accepted)
+    c.sub_from.auto.dst c.sub_from.ensures i.accepted.ok.0)
+    (taken_row i.stored.items c.args.point.now.row _ _ _ _ i.stored.len c.deref_mut-2.ensures.value
+    c.row-2.ensures.value t.stored (t.stored_long ∙ sym s.stored) c.sub_from-2.auto.dst
+    c.sub_from-2.ensures i.stored.ok.0)
+    (c.give_back_room.ensures.items
+    ∙ (c.remove.ensures.items ∙ ap (λ n. remove i.spans.items (i.cut + n)) at))

@@ -16,8 +16,11 @@ move_into-requires c =
     let own = lent_cell c.as_mut-kept.ensures.value c.self.invariant in
     let s = sized _ own.0 own.1 in
     record {
-      same = ap length c.deref_mut.ensures.value ∙ (s.stored ∙ sym (ap length c.deref_mut-2.ensures.value ∙ s.in_flight));
-      fits = rows_fit _ c.deref_mut.ensures.value c.deref_mut-2.ensures.value (λ k. (within _ own.0 k own.1).stored) (s.stored ∙ sym s.accepted) (lent_words c.as_mut-kept.ensures.value c.self.invariant);
+      same = ap length c.deref_mut.ensures.value
+          ∙ (s.stored ∙ sym (ap length c.deref_mut-2.ensures.value ∙ s.in_flight));
+      fits = rows_fit _ c.deref_mut.ensures.value c.deref_mut-2.ensures.value
+          (λ k. (within _ own.0 k own.1).stored) (s.stored ∙ sym s.accepted)
+          (lent_words c.as_mut-kept.ensures.value c.self.invariant);
     }
 
 pub invariant_of-self : goal.invariant_of-self
@@ -26,9 +29,16 @@ invariant_of-self c =
     let own = lent_cell c.as_mut-kept.ensures.value c.self.invariant in
     let h = own.1 in
     let s = sized _ own.0 h in
-    let m = moved i.stored.items i.in_flight.items _ _ _ _ i.stored.len i.in_flight.len c.deref_mut.ensures.value c.deref_mut-2.ensures.value (s.stored ∙ sym s.in_flight) c.move_into.auto.dst c.move_into.auto.src c.move_into.ensures.sums c.move_into.ensures.none i.stored.ok.0 i.in_flight.ok.0 in
+    let m = moved i.stored.items i.in_flight.items _ _ _ _ i.stored.len i.in_flight.len
+    c.deref_mut.ensures.value c.deref_mut-2.ensures.value (s.stored ∙ sym s.in_flight)
+    c.move_into.auto.dst c.move_into.auto.src c.move_into.ensures.sums
+    c.move_into.ensures.none i.stored.ok.0 i.in_flight.ok.0 in
     record {
-      cell = (map (landed i.flush Home) own.0, stands_down _ i.flush own.0 _ _ refl h m.0 (m.1 ∙ ap zeros s.in_flight));
+      cell = (
+        map (landed i.flush Home) own.0,
+        stands_down _ i.flush own.0 _ _ refl h m.0
+            (m.1 ∙ ap zeros s.in_flight),
+      );
       words = lent_words c.as_mut-kept.ensures.value c.self.invariant;
       lean = lent_lean c.as_mut-kept.ensures.value c.self.invariant;
     }
@@ -40,5 +50,9 @@ returns-clause-stands c = λ qs g.
     let v : CellView = view_of i in
     let h : Stands v qs = subst (λ (w : CellView). Stands w qs) (sym is) g in
     let s = sized v qs h in
-    let m = moved i.stored.items i.in_flight.items _ _ _ _ i.stored.len i.in_flight.len c.deref_mut.ensures.value c.deref_mut-2.ensures.value (s.stored ∙ sym s.in_flight) c.move_into.auto.dst c.move_into.auto.src c.move_into.ensures.sums c.move_into.ensures.none i.stored.ok.0 i.in_flight.ok.0 in
-    stands_down v c.args.self.now.flush qs _ _ (sym (ap (λ (w : CellView). w.flush) is)) h m.0 (m.1 ∙ ap zeros s.in_flight)
+    let m = moved i.stored.items i.in_flight.items _ _ _ _ i.stored.len i.in_flight.len
+    c.deref_mut.ensures.value c.deref_mut-2.ensures.value (s.stored ∙ sym s.in_flight)
+    c.move_into.auto.dst c.move_into.auto.src c.move_into.ensures.sums
+    c.move_into.ensures.none i.stored.ok.0 i.in_flight.ok.0 in
+    stands_down v c.args.self.now.flush qs _ _ (sym (ap (λ (w : CellView). w.flush) is)) h m.0
+    (m.1 ∙ ap zeros s.in_flight)

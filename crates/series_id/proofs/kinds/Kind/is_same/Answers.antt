@@ -7,4 +7,5 @@ use Rattle.series_id.proofs.Order.{tied-decides}
 use Rattle.series_id.proofs.kinds.Kind.is_same.Goals as goal
 
 pub returns : goal.returns
-returns c = tied-decides kind_cmp kind_total kind_exact c.args.self.now c.args.other.now c.is_eq.result (c.is_eq.ensures ∙ ap is_eq c.compare.ensures)
+returns c = tied-decides kind_cmp kind_total kind_exact c.args.self.now c.args.other.now
+    c.is_eq.result (c.is_eq.ensures ∙ ap is_eq c.compare.ensures)

@@ -4,4 +4,5 @@ use Rattle.series_id.proofs.Order.{shares_resource-decides}
 use Rattle.series_id.proofs.series.SeriesId.shares_resource.Goals as goal
 
 pub returns-clause-exact : goal.returns-clause-exact
-returns-clause-exact c = shares_resource-decides c.args.self.now c.args.other.now c.is_eq.result (c.is_eq.ensures ∙ ap is_eq c.compare_resource.ensures)
+returns-clause-exact c = shares_resource-decides c.args.self.now c.args.other.now c.is_eq.result
+    (c.is_eq.ensures ∙ ap is_eq c.compare_resource.ensures)
