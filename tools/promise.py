@@ -29,7 +29,7 @@ TIERS = (
     ("the store", (
         ("delta_book", ["specs/Calls", "admit", "undo", "confirm", "take", "settle", "drop_flush", "give_back", "quarantine",
                         "lift", "totals"]),
-        ("metric_events", ["striking"]),
+        ("metric_events", ["striking", "balancing"]),
     )),
     ("texts and messages", (
         ("gate_workers", ["serve_with", "serve_book", "flush_turn", "book_turn"]),
@@ -50,7 +50,7 @@ TIERS = (
 )
 # The contracts that do nothing, each a law: a crate, and where the answers to its goals are.
 LAWS = (
-    ("metric_events", "laws", ["striking", "closing", "marking", "limiting", "recovery", "priming", "congruence"]),
+    ("metric_events", "laws", ["striking", "balancing", "closing", "marking", "limiting", "recovery", "priming", "congruence"]),
     ("service_law", "counting", ["counting"]), ("service_law", "books", ["booking"]), ("service_law", "runs", ["running"]),
 )
 PROOFS = f"{ROOT}/docs/PROOFS.md"
@@ -361,7 +361,7 @@ def show_list(promise: Promise, found: set[Definition]) -> None:
 
 
 def laws() -> set[tuple[str, str]]:
-    """Which law rests on which: its proofs, all the way down, cite what proves a clause of the other. Each by its nearest."""
+    """Which law rests on which: its proofs, all the way down, cite a lemma that proves a clause of the other. Each by its nearest."""
     promise = Promise(("specs", "proofs"))
     clauses: dict[str, set[Definition]] = {}
     reached: dict[str, set[Definition]] = {}
@@ -369,7 +369,7 @@ def laws() -> set[tuple[str, str]]:
         for name in names:
             answers = promise.files[f"{crate}.proofs.{module}.{name}.Answers"]
             cited = promise.needed(answers.names, "\n".join(it.code for it in answers.definitions.values()))
-            clauses[name], reached[name] = cited, promise.below(cited)
+            clauses[name], reached[name] = {it for it in cited if ".proofs." in it.file.module}, promise.below(cited)
     rests = {(one, other) for one in clauses for other in clauses if one != other and reached[one] & clauses[other]}
     return {(a, c) for a, c in rests if not any((a, b) in rests and (b, c) in rests for b in clauses)}
 
