@@ -37,11 +37,11 @@ use Rattle.service_law.proofs.Bookkeeping.{one_owner}
 
 -- points in other places
 
-any_kept : (g : Accepted → Accepted) → Keeps g → (x : Identity) (qs : List Accepted)
+pub any_kept : (g : Accepted → Accepted) → Keeps g → (x : Identity) (qs : List Accepted)
     → list_any (is_of x) (map g qs) ≡ list_any (is_of x) qs
 any_kept g k x qs = any_map (is_of x) g (λ a. ap (λ p. same_series p.series x) (k.point a)) qs
 
-owner_kept : (g : Accepted → Accepted) → Keeps g → (x : Identity) (qs : List Accepted)
+pub owner_kept : (g : Accepted → Accepted) → Keeps g → (x : Identity) (qs : List Accepted)
     → owner x (map g qs) ≡ owner x qs
 owner_kept g k x [] = refl
 owner_kept g k x (a ∷ qs) = ap (λ p. cond (same_series p.series x) (g a).sender
@@ -49,7 +49,7 @@ owner_kept g k x (a ∷ qs) = ap (λ p. cond (same_series p.series x) (g a).send
     ∙ (ap (λ s. cond (is_of x a) s (owner x (map g qs))) (k.sender a)
     ∙ ap (λ s. cond (is_of x a) a.sender s) (owner_kept g k x qs))
 
-frontier_kept : (g : Accepted → Accepted) → Keeps g → (x : Identity) (qs : List Accepted)
+pub frontier_kept : (g : Accepted → Accepted) → Keeps g → (x : Identity) (qs : List Accepted)
     → frontier x (map g qs) ≡ frontier x qs
 frontier_kept g k x [] = refl
 frontier_kept g k x (a ∷ qs) = ap (λ p. cond (same_series p.series x)
@@ -105,7 +105,7 @@ not_taken f series x a e m = by (is_home a.place) refl
     by true h = rw (h, apart) refl
     by false h = rw h refl
 
-all_left : (f : ℕ) (series : List Identity) (x : Identity) (qs : List Accepted)
+pub all_left : (f : ℕ) (series : List Identity) (x : Identity) (qs : List Accepted)
     → is_among x series ≡ false → of_series x (map (taken f series) qs) ≡ of_series x qs
 all_left f series x [] m = refl
 all_left f series x (a ∷ qs) m = both (is_of x a) refl (all_left f series x qs m)
@@ -126,7 +126,7 @@ all_left f series x (a ∷ qs) m = both (is_of x a) refl (all_left f series x qs
 
 -- what is pending of a series in the machine's books, of quarantined senders
 
-held_of : (t : List ℕ → Bool) (x : Identity) (s : List ℕ) (qs : List Accepted)
+pub held_of : (t : List ℕ → Bool) (x : Identity) (s : List ℕ) (qs : List Accepted)
     → list_all (is_by_or_other x s) qs ≡ true
     → of_series x (filter (λ (a : Accepted). t a.sender) qs) ≡ cond (t s) (of_series x qs) []
 held_of t x s [] h =
@@ -163,7 +163,7 @@ held_of t x s (a ∷ qs) h = both (is_of x a) (t a.sender) refl refl l.0 (held_o
         last true r = ap (λ v. cond v (a ∷ of_series x us) (of_series x us)) e ∙ ap (λ vs. a ∷ vs) r
         last false r = r
 
-own_pending : (r : Run) (x : Identity) → are_in_turn [] (book r) ≡ true
+pub own_pending : (r : Run) (x : Identity) → are_in_turn [] (book r) ≡ true
     → list_all (is_by_or_other x (owner x (book r))) r.pending ≡ true
 own_pending r x t = all_last (is_by_or_other x (owner x (book r))) (group_of r.checkpoint) r.pending
     (all_last (is_by_or_other x (owner x (book r))) r.known (group_of r.checkpoint ++ r.pending)
@@ -177,7 +177,7 @@ own_pending r x t = all_last (is_by_or_other x (owner x (book r))) (group_of r.c
         (any_none (is_of x) (book r) e)
 
 -- a series that a flush may take has no quarantined owner, if it has a point
-freed : (series : List Identity) (held : List (List ℕ)) (x : Identity) (qs : List Accepted)
+pub freed : (series : List Identity) (held : List (List ℕ)) (x : Identity) (qs : List Accepted)
     → list_all (λ a. not (is_among a.point.series series && is_held a.sender held)) qs ≡ true
     → is_among x series ≡ true → is_held (owner x qs) held ≡ true
     → list_any (is_of x) qs ≡ false
@@ -202,17 +202,22 @@ freed series held x (b ∷ qs) l a o = both (is_of x b) refl (freed series held 
     both false e r = ap (λ v. v || list_any (is_of x) qs) e
         ∙ r (sym (ap (λ v. is_held (cond v b.sender (owner x qs)) held) e) ∙ o)
 
-nothing_pending : (r : Run) (x : Identity) → list_any (is_of x) (book r) ≡ false
+pub nothing_pending : (r : Run) (x : Identity) → list_any (is_of x) (book r) ≡ false
     → of_series x r.pending ≡ []
 nothing_pending r x e = filter_none (is_of x) r.pending
     (all_last (λ a. not (is_of x a)) (group_of r.checkpoint) r.pending
     (all_last (λ a. not (is_of x a)) r.known (group_of r.checkpoint ++ r.pending)
     (any_none (is_of x) (book r) e)))
 
-pub taken_law : (E : History) (r : Run) (w : World) (f : ℕ) (series : List Identity) → Knows E r
+-- the owner of a series is quarantined in both, or in none
+pub owned : (E : History) (r : Run) → Knows E r → (x : Identity)
+    → is_held (owner x (book r)) r.held ≡ is_held (owner x (points E)) (held_senders E)
+owned E r k x = k.held (owner x (book r)) ∙ ap (λ s. is_held s (held_senders E)) (k.owners x)
+
+pub taken_known : (E : History) (r : Run) (w : World) (f : ℕ) (series : List Identity) → Knows E r
     → are_in_turn [] (book r) ≡ true → r.checkpoint ≡ None → MayTake E f series → TakesAll E series
     → Knows (E ▸ Take f series) (begun all_rules w r None)
-taken_law E r w f series k t e m h = record {
+taken_known E r w f series k t e m h = record {
   any = λ x. any_interleaved (book r) after same x
       ∙ (k.any x ∙ sym (any_kept (taken f series) (keeps_taken f series) x (points E)));
   owners = λ x. owner_interleaved (book r) after same x
@@ -238,10 +243,6 @@ taken_law E r w f series k t e m h = record {
         (turn_bare r.known r.pending
         (turn_last [] r.known r.pending (ap (are_in_turn []) (sym bare) ∙ t)))))
 
-    owned : (x : Identity)
-        → is_held (owner x (book r)) r.held ≡ is_held (owner x (points E)) (held_senders E)
-    owned x = k.held (owner x (book r)) ∙ ap (λ s. is_held s (held_senders E)) (k.owners x)
-
     chosen : (x : Identity) (g : Bool) → is_held (owner x (book r)) r.held ≡ g
         → row_sum (row_length x.kind) (cond (is_held (owner x (book r)) r.held)
         (of_series x r.pending) [])
@@ -265,13 +266,13 @@ taken_law E r w f series k t e m h = record {
     sums x true a true o = chosen x true o
         ∙ (ap (row_sum (row_length x.kind))
         (nothing_pending r x (k.any x ∙ freed series (held_senders E) x (points E) m.free a
-        (sym (owned x) ∙ o))) ∙ gone x a)
+        (sym (owned E r k x) ∙ o))) ∙ gone x a)
     sums x false a true o = chosen x true o ∙ (k.sums x ∙ stays x a)
     sums x false a false o = chosen x false o
-        ∙ (⊎_elim (λ y. absurd (both_ways _ (sym (owned x) ∙ o) y)) (λ z. sym z) (h.each x a)
+        ∙ (⊎_elim (λ y. absurd (both_ways _ (sym (owned E r k x) ∙ o) y)) (λ z. sym z) (h.each x a)
         ∙ stays x a)
 
-flies : (f : ℕ) (p : Place) → is_in_flight f p ≡ true → is_home p ≡ false
+pub flies : (f : ℕ) (p : Place) → is_in_flight f p ≡ true → is_home p ≡ false
 flies f Home h = absurd (let q : false ≡ true = h in cc q)
 flies f place h = refl
 

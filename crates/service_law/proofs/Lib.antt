@@ -15,3 +15,5 @@ pub mod Happening
 pub mod Totals
 pub mod Bookkeeping
 pub mod Flushing
+pub mod Flying
+pub mod Starting

@@ -237,6 +237,10 @@ request points = record { points = points; fate = Waiting; has = [] }
 abbrev pub may_commit : Rules → World → Checkpoint → Bool
 may_commit R w c = c.turned && (not R.journal_first || nat_le c.turn (length w.journal))
 
+-- the process behind a commit: it knows what was sent
+abbrev pub has_committed : Checkpoint → Run → Run
+has_committed c r = record r { known = r.known ++ c.group; checkpoint = None }
+
 abbrev pub committed : Rules → World → Run → Option Checkpoint → World
 committed R w r None = w
 committed R w r (Some c) =
@@ -244,7 +248,7 @@ committed R w r (Some c) =
       first = c.turn;
       kept = c.held;
       requests = w.requests ++ request c.group ∷ [];
-      run = Some (record r { known = r.known ++ c.group; checkpoint = None });
+      run = Some (has_committed c r);
     }
     else w
 
