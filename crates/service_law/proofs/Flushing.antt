@@ -1,6 +1,6 @@
 -- The machine's books beside a history: a checkpoint's flush, a quarantine and a release.
-use Rattle.std.proofs.Common.{◌≡◌, ℕ, Bool, true, false, cond, not, ◌&&◌, ◌||◌, ⊎_elim, Option}
-use Rattle.std.proofs.Common.{None, List, [], ◌∷◌, ◌++◌, map, max, refl, ap, sym, ◌∙◌, subst}
+use Rattle.std.proofs.Common.{◌≡◌, ℕ, Bool, true, false, cond, not, ◌&&◌, ◌||◌, ⊎_elim}
+use Rattle.std.proofs.Common.{List, [], ◌∷◌, ◌++◌, map, max, refl, ap, sym, ◌∙◌, subst}
 use Rattle.std.specs.List.{list_any, list_all, filter}
 use Rattle.std.proofs.lemmas.Bool.{and_parts, and_from, cases_Bool, not-true, both_ways}
 use Rattle.series_id.specs.Identity.{Identity, row_length}
@@ -8,31 +8,25 @@ use Rattle.series_id.specs.Order.{same_series}
 use Rattle.series_id.proofs.Order.{same_series-exact}
 use Rattle.metric_events.specs.History.{History, ◌▸◌}
 use Rattle.metric_events.specs.Points.{points, is_among, is_home, is_in_flight, landed, taken}
-use Rattle.metric_events.specs.Rows.{zeros}
 use Rattle.metric_events.specs.Running.{held_senders, is_other_sender}
 use Rattle.metric_events.specs.Senders.{same_sender}
 use Rattle.metric_events.specs.Series.{is_of, of_series, owner, frontier, row_sum}
-use Rattle.metric_events.specs.Standing.{stands, sum_where}
-use Rattle.metric_events.specs.Legal.{MayTake, is_held}
+use Rattle.metric_events.specs.Standing.{stands}
+use Rattle.metric_events.specs.Legal.{is_held}
 use Rattle.metric_events.specs.Recovery.{are_in_turn}
-use Rattle.metric_events.specs.Congruence.{AreInterleaved}
 use Rattle.metric_events.specs.declared.accepted.Accepted.{Accepted}
 use Rattle.metric_events.specs.declared.place.Place.{Place}
 use Rattle.metric_events.specs.declared.place.Place.TheVariants.{Home, Acknowledged}
-use Rattle.metric_events.specs.declared.event.Event.TheVariants.{Take, Settle, Quarantine, Lift}
+use Rattle.metric_events.specs.declared.event.Event.TheVariants.{Settle, Quarantine, Lift}
 use Rattle.metric_events.proofs.Lists.{all_last, any_none, any_map, all_weaker, filter_none}
 use Rattle.metric_events.proofs.Senders.{same_sender-exact}
 use Rattle.metric_events.proofs.Fits.{taken_point, landed_point}
 use Rattle.metric_events.proofs.Owners.{is_by_or_other}
-use Rattle.metric_events.proofs.Recovering.{all_own, turn_last}
-use Rattle.metric_events.proofs.Turns.{Keeps, keeps_taken, keeps_landed}
+use Rattle.metric_events.proofs.Recovering.{all_own}
+use Rattle.metric_events.proofs.Turns.{Keeps, keeps_landed}
 use Rattle.metric_events.proofs.Congruence.{held_next}
-use Rattle.metric_events.proofs.Interleaving.{any_interleaved, owner_interleaved}
-use Rattle.metric_events.proofs.Interleaving.{frontier_interleaved}
-use Rattle.service_law.specs.Machine.{Run, World, begun, book, free_points, group_of, held_points}
-use Rattle.service_law.specs.Counted.{all_rules}
-use Rattle.service_law.specs.Known.{Knows, TakesAll}
-use Rattle.service_law.proofs.Same.{same_itself, same_both, parted, turn_bare}
+use Rattle.service_law.specs.Machine.{Run, book, group_of}
+use Rattle.service_law.specs.Known.{Knows}
 use Rattle.service_law.proofs.Bookkeeping.{one_owner}
 
 -- points in other places
@@ -56,42 +50,10 @@ frontier_kept g k x (a ∷ qs) = ap (λ p. cond (same_series p.series x)
     (max p.span.end (frontier x (map g qs))) (frontier x (map g qs))) (k.point a)
     ∙ ap (λ n. cond (is_of x a) (max a.point.span.end n) n) (frontier_kept g k x qs)
 
--- what is pending of a series behind a flush that takes it, and behind one that does not
+-- what is pending of a series behind a flush that does not take it
 
 abbrev home_of : Identity → List Accepted → List Accepted
 home_of x qs = filter (stands is_home) (of_series x qs)
-
-one_taken : (f : ℕ) (series : List Identity) (x : Identity) (a : Accepted) (us vs : List Accepted)
-    → is_of x a ≡ true → is_among x series ≡ true → us ≡ []
-    → filter (stands is_home) (taken f series a ∷ vs) ≡ filter (stands is_home) vs
-one_taken f series x a us vs e m u = by (is_home a.place) refl
-  where
-    among : is_among a.point.series series ≡ true
-    among = subst (λ (y : Identity). is_among y series ≡ true)
-        (sym (same_series-exact a.point.series x e)) m
-
-    by : (v : Bool) → is_home a.place ≡ v
-        → filter (stands is_home) (taken f series a ∷ vs) ≡ filter (stands is_home) vs
-    by true h = rw (h, among) refl
-    by false h = rw h (rw h refl)
-
-none_left : (f : ℕ) (series : List Identity) (x : Identity) (qs : List Accepted)
-    → is_among x series ≡ true → home_of x (map (taken f series) qs) ≡ []
-none_left f series x [] m = refl
-none_left f series x (a ∷ qs) m = both (is_of x a) refl (none_left f series x qs m)
-  where
-    same : is_of x (taken f series a) ≡ is_of x a
-    same = ap (λ p. same_series p.series x) (taken_point f series a)
-
-    both : (v : Bool) → is_of x a ≡ v → home_of x (map (taken f series) qs) ≡ []
-        → home_of x (map (taken f series) (a ∷ qs)) ≡ []
-    both true e r = ap (λ v. filter (stands is_home)
-        (cond v (taken f series a ∷ of_series x (map (taken f series) qs))
-        (of_series x (map (taken f series) qs)))) (same ∙ e)
-        ∙ (one_taken f series x a [] (of_series x (map (taken f series) qs)) e m refl ∙ r)
-    both false e r = ap (λ v. filter (stands is_home)
-        (cond v (taken f series a ∷ of_series x (map (taken f series) qs))
-        (of_series x (map (taken f series) qs)))) (same ∙ e) ∙ r
 
 not_taken : (f : ℕ) (series : List Identity) (x : Identity) (a : Accepted) → is_of x a ≡ true
     → is_among x series ≡ false → taken f series a ≡ a
@@ -213,64 +175,6 @@ nothing_pending r x e = filter_none (is_of x) r.pending
 pub owned : (E : History) (r : Run) → Knows E r → (x : Identity)
     → is_held (owner x (book r)) r.held ≡ is_held (owner x (points E)) (held_senders E)
 owned E r k x = k.held (owner x (book r)) ∙ ap (λ s. is_held s (held_senders E)) (k.owners x)
-
-pub taken_known : (E : History) (r : Run) (w : World) (f : ℕ) (series : List Identity) → Knows E r
-    → are_in_turn [] (book r) ≡ true → r.checkpoint ≡ None → MayTake E f series → TakesAll E series
-    → Knows (E ▸ Take f series) (begun all_rules w r None)
-taken_known E r w f series k t e m h = record {
-  any = λ x. any_interleaved (book r) after same x
-      ∙ (k.any x ∙ sym (any_kept (taken f series) (keeps_taken f series) x (points E)));
-  owners = λ x. owner_interleaved (book r) after same x
-      ∙ (k.owners x ∙ sym (owner_kept (taken f series) (keeps_taken f series) x (points E)));
-  frontiers = λ x. frontier_interleaved (book r) after same x
-      ∙ (k.frontiers x ∙ sym (frontier_kept (taken f series) (keeps_taken f series) x (points E)));
-  sums = λ x. ap (row_sum (row_length x.kind))
-      (held_of (λ s. is_held s r.held) x (owner x (book r)) r.pending (own_pending r x t))
-      ∙ sums x (is_among x series) refl (is_held (owner x (book r)) r.held) refl;
-  held = k.held;
-}
-  where
-    after : List Accepted
-    after = r.known ++ (free_points r.held r.pending ++ held_points r.held r.pending)
-
-    bare : book r ≡ r.known ++ r.pending
-    bare = ap (λ (o : Option _). r.known ++ (group_of o ++ r.pending)) e
-
-    same : AreInterleaved (book r) after
-    same = subst (λ (us : List Accepted). AreInterleaved us after) (sym bare)
-        (same_both (same_itself r.known)
-        (parted (λ s. is_held s r.held) r.pending
-        (turn_bare r.known r.pending
-        (turn_last [] r.known r.pending (ap (are_in_turn []) (sym bare) ∙ t)))))
-
-    chosen : (x : Identity) (g : Bool) → is_held (owner x (book r)) r.held ≡ g
-        → row_sum (row_length x.kind) (cond (is_held (owner x (book r)) r.held)
-        (of_series x r.pending) [])
-        ≡ row_sum (row_length x.kind) (cond g (of_series x r.pending) [])
-    chosen x g o = ap (λ v. row_sum (row_length x.kind) (cond v (of_series x r.pending) [])) o
-
-    gone : (x : Identity) → is_among x series ≡ true
-        → zeros (row_length x.kind) ≡ sum_where is_home x (map (taken f series) (points E))
-    gone x a = sym (ap (row_sum (row_length x.kind)) (none_left f series x (points E) a))
-
-    stays : (x : Identity) → is_among x series ≡ false
-        → sum_where is_home x (points E) ≡ sum_where is_home x (map (taken f series) (points E))
-    stays x a = sym (ap (λ us. row_sum (row_length x.kind) (filter (stands is_home) us))
-        (all_left f series x (points E) a))
-
-    sums : (x : Identity) (v : Bool) → is_among x series ≡ v → (g : Bool)
-        → is_held (owner x (book r)) r.held ≡ g
-        → row_sum (row_length x.kind) (cond (is_held (owner x (book r)) r.held)
-        (of_series x r.pending) []) ≡ sum_where is_home x (map (taken f series) (points E))
-    sums x true a false o = chosen x false o ∙ gone x a
-    sums x true a true o = chosen x true o
-        ∙ (ap (row_sum (row_length x.kind))
-        (nothing_pending r x (k.any x ∙ freed series (held_senders E) x (points E) m.free a
-        (sym (owned E r k x) ∙ o))) ∙ gone x a)
-    sums x false a true o = chosen x true o ∙ (k.sums x ∙ stays x a)
-    sums x false a false o = chosen x false o
-        ∙ (⊎_elim (λ y. absurd (both_ways _ (sym (owned E r k x) ∙ o) y)) (λ z. sym z) (h.each x a)
-        ∙ stays x a)
 
 pub flies : (f : ℕ) (p : Place) → is_in_flight f p ≡ true → is_home p ≡ false
 flies f Home h = absurd (let q : false ≡ true = h in cc q)

@@ -15,5 +15,6 @@ pub mod Happening
 pub mod Totals
 pub mod Bookkeeping
 pub mod Flushing
+pub mod Taking
 pub mod Flying
 pub mod Starting

@@ -1,17 +1,21 @@
 -- What the books of the machine are of a history.
-use Rattle.std.specs.Prelude.{◌≡◌, ◌⊎◌, ℕ, true, false, List, [], map, None}
+use Rattle.std.specs.Prelude.{◌≡◌, ◌⊎◌, ℕ, Bool, true, false, ◌&&◌, List, [], ◌∷◌, ◌++◌, map}
+use Rattle.std.specs.Prelude.{filter, None}
 use Rattle.std.specs.List.{list_any, AllByRecursion}
 use Rattle.series_id.specs.Identity.{Identity}
 use Rattle.metric_events.specs.declared.opened_series.OpenedSeries.{OpenedSeries}
 use Rattle.metric_events.specs.declared.opening.Opening.{Opening}
-use Rattle.metric_events.specs.History.{History}
+use Rattle.metric_events.specs.History.{History, ◌▸◌}
 use Rattle.metric_events.specs.Points.{points, is_among, is_home, is_in_flight}
-use Rattle.metric_events.specs.Running.{held_senders, live_flushes}
+use Rattle.metric_events.specs.Running.{held_senders, is_other_flight, live_flushes}
 use Rattle.metric_events.specs.Series.{is_of, owner, frontier, sum_of}
 use Rattle.metric_events.specs.Standing.{nothing_of, sum_where}
-use Rattle.metric_events.specs.Legal.{is_held, is_live}
+use Rattle.metric_events.specs.Legal.{MayTake, is_held, is_live}
 use Rattle.metric_events.specs.Priming.{Known, all_known}
 use Rattle.metric_events.specs.declared.accepted.Accepted.{Accepted}
+use Rattle.metric_events.specs.declared.flight.Flight.{Flight}
+use Rattle.metric_events.specs.declared.place.Place.{Place}
+use Rattle.metric_events.specs.declared.event.Event.TheVariants.{Take, GiveBack}
 use Rattle.service_law.specs.Machine.{Run, book, group_of}
 
 -- a process's books know the same series as a history, with the same owners and frontiers, and have
@@ -30,12 +34,41 @@ pub record TakesAll (E : History) (series : List Identity) : Type 0 where
       → (is_held (owner x (points E)) (held_senders E) ≡ true)
       ⊎ (sum_where is_home x (points E) ≡ nothing_of x)
 
--- what a checkpoint took of the books is in flight with flush f, and nothing else is; f is live, so
--- that it may be settled or given back
-pub record Flies (E : History) (f : ℕ) (r : Run) : Type 0 where
-  pub live : is_live f (live_flushes E) ≡ true
+-- E, and then each of these flushes taken, if each may be taken then; and the series that they take
+abbrev pub taking : History → List Flight → History
+taking E [] = E
+taking E (l ∷ ls) = taking (E ▸ Take l.number l.series) ls
+
+abbrev pub MayTakeAll : History → List Flight → Type 0
+MayTakeAll E [] = Unit {0}
+MayTakeAll E (l ∷ ls) =
+    MayTake E l.number l.series × MayTakeAll (E ▸ Take l.number l.series) ls
+
+abbrev pub series_of_all : List Flight → List Identity
+series_of_all [] = []
+series_of_all (l ∷ ls) = l.series ++ series_of_all ls
+
+abbrev pub flush_numbers : List Flight → List ℕ
+flush_numbers ls = map (λ (l : Flight). l.number) ls
+
+-- E, and then each of these flushes given back; each is live then
+abbrev pub giving_back : History → List ℕ → History
+giving_back E [] = E
+giving_back E (f ∷ fs) = giving_back (E ▸ GiveBack f) fs
+
+abbrev pub are_live : List ℕ → List Flight → Bool
+are_live [] live = true
+are_live (f ∷ fs) live = is_live f live && are_live fs (filter (is_other_flight f) live)
+
+-- in flight with one of these flushes
+abbrev pub is_in_one : List ℕ → Place → Bool
+is_in_one fs place = list_any (λ f. is_in_flight f place) fs
+
+-- what a checkpoint took of the books is what is in flight with these flushes, which are live
+pub record Flies (E : History) (fs : List ℕ) (r : Run) : Type 0 where
+  pub live : are_live fs (live_flushes E) ≡ true
   pub sums :
-      (x : Identity) → sum_of x (group_of r.checkpoint) ≡ sum_where (is_in_flight f) x (points E)
+      (x : Identity) → sum_of x (group_of r.checkpoint) ≡ sum_where (is_in_one fs) x (points E)
 
 -- fresh books that know these points, before they get a post
 abbrev pub fresh_books : List Accepted → Run
