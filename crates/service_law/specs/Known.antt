@@ -34,16 +34,18 @@ pub record TakesAll (E : History) (series : List Identity) : Type 0 where
       → (is_held (owner x (points E)) (held_senders E) ≡ true)
       ⊎ (sum_where is_home x (points E) ≡ nothing_of x)
 
--- E, and then each of these flushes taken, if each may be taken then; and the series that they take
+-- E, and then each of these flushes taken
 abbrev pub taking : History → List Flight → History
 taking E [] = E
 taking E (l ∷ ls) = taking (E ▸ Take l.number l.series) ls
 
+-- each may be taken then
 abbrev pub MayTakeAll : History → List Flight → Type 0
 MayTakeAll E [] = Unit {0}
 MayTakeAll E (l ∷ ls) =
     MayTake E l.number l.series × MayTakeAll (E ▸ Take l.number l.series) ls
 
+-- the series that they take, and their numbers
 abbrev pub series_of_all : List Flight → List Identity
 series_of_all [] = []
 series_of_all (l ∷ ls) = l.series ++ series_of_all ls
@@ -51,11 +53,12 @@ series_of_all (l ∷ ls) = l.series ++ series_of_all ls
 abbrev pub flush_numbers : List Flight → List ℕ
 flush_numbers ls = map (λ (l : Flight). l.number) ls
 
--- E, and then each of these flushes given back; each is live then
+-- E, and then each of these flushes given back
 abbrev pub giving_back : History → List ℕ → History
 giving_back E [] = E
 giving_back E (f ∷ fs) = giving_back (E ▸ GiveBack f) fs
 
+-- each of these flushes is live, also where those before it are not any more
 abbrev pub are_live : List ℕ → List Flight → Bool
 are_live [] live = true
 are_live (f ∷ fs) live = is_live f live && are_live fs (filter (is_other_flight f) live)

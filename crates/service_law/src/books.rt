@@ -30,9 +30,9 @@ ghost use Rattle.service_law.specs.Known.{taking};
 /// - `opened`, `primed`: fresh books that know what was sent, and have no post yet, are those of a
 ///   history that opens so, with these series, their owners and frontiers, and nothing pending; and
 ///   of one that was primed with them (`metric_events::laws::priming`) and is at rest.
-/// - `started`: and a start's are those of a history that knows what was sent, admits and confirms
-///   the posts that are replayed, one by one, and then quarantines the senders. Where it may admit
-///   them the machine leaves out none. Without a quarantine it is `opened`, then `posted` for each.
+/// - `started`: and a start's are those of such a history that admits and confirms the posts that
+///   are replayed, one by one in the machine's order, and then quarantines the senders, in whatever
+///   order. Where it may admit them, the machine leaves out none.
 /// - `posted`: a post that a history may admit is one that the machine's books take, if they know
 ///   what the history does; and then they know it too. Each run of the machine is in turn.
 /// - `written`: so it is behind records of posts that are written.
