@@ -10,6 +10,7 @@ use crate::files::Held;
 use crate::metrics::RoundedSeries;
 use crate::shares::Used;
 use serde::{Deserialize, Serialize};
+use std::collections::BTreeSet;
 use std::sync::PoisonError;
 use std::time::{SystemTime, UNIX_EPOCH};
 
@@ -266,8 +267,7 @@ impl Desk {
         levels.outbox_bytes.set(sum(|slot| slot.outbox.bytes));
         levels.outbox_age_seconds.set(oldest(|slot| &slot.outbox));
         levels.dead_requests.set(self.units.dead() as i64);
-        let quarantined = sum(|slot| slot.quarantined.len() as u64);
-        levels.quarantined_senders.set(quarantined);
+        levels.quarantined_senders.set(quarantined(&slots).len() as i64);
         levels.held_posts.set(sum(|slot| slot.held.posts));
         levels.held_bytes.set(sum(|slot| slot.held.bytes));
         let is_stuck = slots.iter().any(|slot| slot.stuck.is_some());
@@ -340,6 +340,11 @@ impl SlotStatus {
     }
 }
 
+/// Who is quarantined: a sender is in each slot, and counts once.
+pub(super) fn quarantined(slots: &[SlotStatus]) -> BTreeSet<&str> {
+    slots.iter().flat_map(|slot| &slot.quarantined).map(String::as_str).collect()
+}
+
 /// What a file system has left for this process. It is asked as `files` asks before each post: some microseconds.
 fn free_bytes(folder: &str) -> Option<u64> {
     let disk = nix::sys::statvfs::statvfs(folder).ok()?;
@@ -358,6 +363,16 @@ mod tests {
     fn a_folder_is_on_a_disk() {
         assert!(free_bytes("/").is_some());
         assert_eq!(free_bytes("/no/such/folder"), None);
+    }
+
+    #[test]
+    fn who_is_quarantined_in_several_slots_is_one_sender() {
+        let slot = |names: &[&str]| SlotStatus {
+            quarantined: names.iter().map(ToString::to_string).collect(),
+            ..SlotStatus::default()
+        };
+        let slots = [slot(&["a", "b"]), slot(&["a"]), slot(&[])];
+        assert_eq!(Vec::from_iter(quarantined(&slots)), ["a", "b"]);
     }
 
     #[test]

@@ -7,10 +7,9 @@ use super::{cluster, frame, Desk, Place};
 use crate::command::values::{bytes_shown, seconds_shown};
 use crate::files::dead::Letter;
 use crate::metrics::to_do;
-use crate::operate::status::{SlotStatus, Status, Stock};
+use crate::operate::status::{quarantined, SlotStatus, Status, Stock};
 use crate::otlp::{Cause, NO_NAME};
 use crate::post_reports::{OfReason, OfSender};
-use std::collections::BTreeSet;
 use std::sync::Arc;
 use std::time::{SystemTime, UNIX_EPOCH};
 
@@ -110,9 +109,7 @@ impl Seen<'_> {
         if let Some(trouble) = self.trouble() {
             html.markup("<p class=\"note bad\">The sink: ").text(trouble).markup("</p>");
         }
-        let quarantined = self.status.slots.iter().flat_map(|slot| &slot.quarantined);
-        let names: BTreeSet<&str> = quarantined.map(String::as_str).collect();
-        let names: Vec<&str> = names.into_iter().take(ROWS).collect();
+        let names: Vec<&str> = quarantined(&self.status.slots).into_iter().take(ROWS).collect();
         if !names.is_empty() {
             html.markup("<p class=note>Quarantined: ").text(names.join(", "));
             html.markup("; <code>totxegun lift NAME</code> once it is repaired</p>");
