@@ -280,6 +280,8 @@ impl Desk {
         levels.book_memory_bytes.set(used as i64);
         levels.book_memory_most_bytes.set(most as i64);
         if let Some(others) = &self.others {
+            let most = self.units.most_series().unwrap_or(self.most_series);
+            levels.most_series.set(most as i64);
             self.read_cluster(others);
         }
     }

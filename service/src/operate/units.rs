@@ -91,6 +91,13 @@ impl Units {
         self.all().iter().map(|unit| of(unit)).sum()
     }
 
+    /// How many series fit for sure in the slots here, where each has a place of its own; none where no slot is here.
+    pub fn most_series(&self) -> Option<usize> {
+        let slots = self.all().into_iter();
+        let slots = slots.map(|unit| (unit.slot.outbox.series_count(), unit.slot.core().most_series()));
+        fit_for_sure(&slots.collect::<Vec<_>>())
+    }
+
     /// The slot that has the dead letter of this key: the first also has those of slots that there were, as a move brings
     /// them (`store/moving.rs`).
     pub fn slot_of_key(&self, key: &str) -> u16 {
@@ -112,6 +119,13 @@ impl Units {
     pub fn disk_answers(&self) -> bool {
         self.all().iter().all(|unit| unit.slot.disk_answers())
     }
+}
+
+/// Of slots with so many series, and room for so many: new ones may all be of the slot that is full first.
+fn fit_for_sure(slots: &[(usize, usize)]) -> Option<usize> {
+    let known: usize = slots.iter().map(|(known, _)| known).sum();
+    let free = slots.iter().map(|(known, room)| room.saturating_sub(*known));
+    Some(known + free.min()?)
 }
 
 /// Whose the series of the slots here are.
@@ -145,6 +159,15 @@ impl Owned for Arc<Units> {
 #[cfg(test)]
 mod tests {
     use super::*;
+
+    /// Else the alert on series would not fire before a slot is full.
+    #[test]
+    fn so_many_series_fit_until_the_first_slot_is_full() {
+        assert_eq!(fit_for_sure(&[]), None);
+        assert_eq!(fit_for_sure(&[(5, 40)]), Some(40));
+        assert_eq!(fit_for_sure(&[(39, 40), (1, 40), (0, 80)]), Some(41));
+        assert_eq!(fit_for_sure(&[(41, 40), (1, 40)]), Some(42));
+    }
 
     /// As `store move` brings letters there: else they are listed, and nobody can show, send or drop them.
     #[test]

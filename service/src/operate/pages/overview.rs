@@ -202,11 +202,12 @@ impl Seen<'_> {
 
     fn limits(&self, html: &mut Html) {
         let (levels, books, budget) = (&self.desk.metrics.levels, &self.status.books, &self.desk.budget);
-        let series = levels.series.get().max(0) as u64;
+        let [series, most_series] =
+            [&levels.series, &levels.most_series].map(|level| level.get().max(0) as u64);
         let (used, most) = (budget.used() as u64, budget.most() as u64);
         let (memory, most_memory) = (books.memory_bytes, books.most_memory_bytes);
         let rows = vec![
-            limit("series", series, books.most_series, grouped, "--most-series"),
+            limit("series", series, most_series, grouped, "--most-series"),
             limit("memory of the book", memory, most_memory, bytes_shown, "--book-memory"),
             limit("memory of posts under way", used, most, bytes_shown, "--most-bytes"),
         ];
