@@ -54,9 +54,9 @@ const CONNECT: Duration = Duration::from_secs(3);
 const IDLE: Duration = Duration::from_secs(20);
 
 /// Why a post is 503 that may have been taken.
-const BROKEN: &str = "the instance that has the slot of this post has given no answer";
+pub const BROKEN: &str = "the instance that has the slot of this post has given no answer";
 /// Why one is that was not.
-const MOVED: &str = "the slot of this post is being moved";
+pub const MOVED: &str = "the slot of this post is being moved";
 
 static TOLD: RateLimit = RateLimit::every(Duration::from_secs(10));
 

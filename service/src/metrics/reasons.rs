@@ -7,7 +7,7 @@ use crate::otlp::Outcome;
 const UNREADABLE: &str = "unreadable";
 
 /// What an answer's text begins with, and what is to be done.
-const REASONS: [(&str, &str); 39] = [
+const REASONS: [(&str, &str); 41] = [
     (
         "out of order",
         "right for a repeat: it was taken before. If each post of a sender gets it, its clock was set back",
@@ -101,6 +101,14 @@ const REASONS: [(&str, &str); 39] = [
         "no instance has the slot",
         "wait: another instance takes it over; if this stays, look at the log of each instance",
     ),
+    (
+        "the slot of this post is being moved",
+        "this ends by itself once another instance has it",
+    ),
+    (
+        "the instance that has the slot of this post has given no answer",
+        "wait: it answers again, or another takes its slots; if this stays, look at its log, and the network to its --peer",
+    ),
     ("no room for the journal", "make room on the disk"),
     (
         "the disk does not answer",
@@ -165,6 +173,7 @@ pub fn to_do(reason: &str) -> &'static str {
 #[cfg(test)]
 mod tests {
     use super::*;
+    use crate::cluster::forward;
     use crate::core::Refused;
     use crate::identity::Stranger;
     use crate::intake::refusal::Refusal;
@@ -205,6 +214,7 @@ mod tests {
             Refusal::TooManyBytes,
         ];
         let of_slot = [NO_ANSWER, NO_STORE, NO_OWNER, NO_ROOM, MOVED, "recovering", "stopping"];
+        let of_others = [forward::BROKEN, forward::MOVED];
         let other = |name: &str| Stranger::OtherName { name: name.into(), other: "shop-2".into() };
         let of_strangers = [
             Stranger::NoToken,
@@ -216,7 +226,8 @@ mod tests {
         let texts = of_book.iter().map(ToString::to_string);
         let texts = texts.chain(of_intake.iter().map(ToString::to_string));
         let texts = texts.chain(of_strangers.iter().map(ToString::to_string));
-        let texts: Vec<String> = texts.chain(of_slot.map(String::from)).collect();
+        let texts: Vec<String> =
+            texts.chain(of_slot.into_iter().chain(of_others).map(String::from)).collect();
         let reasons: std::collections::BTreeSet<_> = texts.iter().map(said).collect();
         assert_eq!(reasons.len(), texts.len(), "{reasons:?}");
         assert!(!reasons.contains(&Some(UNREADABLE)), "{reasons:?}");
