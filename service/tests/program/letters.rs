@@ -149,3 +149,15 @@ fn all_letters_are_sent_until_the_sink_fails() {
     });
     assert!(service.said(&["dead", "list"]).contains("0-a-4-partial"));
 }
+
+/// Else who looks at the page takes those that it shows for all.
+#[test]
+fn the_page_says_how_many_letters_it_leaves_out() {
+    let (place, sink) = (Place::new(), Sink::new());
+    let service = service(&place, &sink);
+    (0..60).for_each(|number| put_letter(&place, &format!("0-a-{number}"), b"{}"));
+    assert!(service.said(&["dead", "list"]).contains("0-a-59"));
+    let (status, page) = service.at_socket("GET", "/").unwrap();
+    assert_eq!((status, page.matches(">0-a-").count()), (200, 50), "{page}");
+    assert!(page.contains("<p class=note>10 more</p>"), "{page}");
+}

@@ -236,6 +236,7 @@ impl Seen<'_> {
             true => html.markup("<p class=note><code>totxegun dead list</code> has them.</p>"),
             false => html.table(&["key", "since#", "bytes#", "the sink's reason"], rows.collect()),
         };
+        left_out(html, self.letters.len());
         html.markup("</section>\n");
     }
 
