@@ -15,7 +15,7 @@ pub use connections::Grpc;
 
 use crate::identity::Who;
 use crate::intake::head::{Head, Packing};
-use crate::intake::refusal::{Refusal, Turned};
+use crate::intake::refusal::{Refusal, Turned, DEADLINE};
 use crate::intake::sender::sender;
 use crate::intake::{Intake, Taker};
 use crate::otlp::{Encoding, Outcome};
@@ -28,9 +28,6 @@ use std::sync::Arc;
 
 const METHOD: &str = "/opentelemetry.proto.collector.metrics.v1.MetricsService/Export";
 static ENCODING: HeaderName = HeaderName::from_static("grpc-encoding");
-
-/// As the status of a gateway that waited too long.
-const LATE: u16 = 504;
 
 /// Answers one call.
 async fn answer<T: Taker>(intake: Arc<Intake<T>>, who: &Who, request: Request<Body>) -> Response<Reply> {
@@ -47,24 +44,21 @@ async fn answer<T: Taker>(intake: Arc<Intake<T>>, who: &Who, request: Request<Bo
     let outcome = match call {
         Err(Turned { sender, refusal }) => intake.refused(&sender, &refusal),
         Ok(head) => {
+            let sender = head.sender.clone();
             let taking = take(&intake, head, &mut body);
             match tokio::time::timeout(limit, taking).await {
                 Ok(outcome) => outcome,
                 // What was taken stays; the sender's repeat is refused where it was taken.
-                Err(_) => refused(LATE, "the deadline has passed"),
+                Err(_) => intake.refused(&sender, &Refusal::Deadline),
             }
         }
     };
     // An answer before the end of a body is followed by a reset, and some clients see that alone.
-    if outcome.status() != LATE && !body.is_end_stream() {
+    if outcome.status() != DEADLINE && !body.is_end_stream() {
         message::throw_away(&mut body).await;
     }
     intake.ended(&outcome);
     reply::response(&outcome)
-}
-
-fn refused(status: u16, message: &str) -> Outcome {
-    Outcome::Refused { status, message: message.into() }
 }
 
 /// `application/grpc`, with or without `+proto`.

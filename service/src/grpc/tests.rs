@@ -181,7 +181,8 @@ async fn what_a_slot_says_is_said_as_grpc_does() {
     let answer = partial.export(&[], frame(0, b"")).await;
     assert_eq!(answer.data, frame(0, &Outcome::taken(7).body(Encoding::Protobuf)));
     let later = Outcome::Later { seconds: 7, message: "50% \u{fc}ber".into() };
-    let refused = [400, 403, 503].map(|status| refused(status, "50% \u{fc}ber"));
+    let refused = |status| Outcome::Refused { status, message: "50% \u{fc}ber".into() };
+    let refused = [400, 403, 503].map(refused);
     for (outcome, wanted) in refused.into_iter().chain([later]).zip([3, 7, 14, 8]) {
         let again = outcome.again_in();
         let served = Served::with(Some(outcome), 1 << 20).await;
@@ -274,6 +275,7 @@ async fn a_deadline_ends_the_call_and_not_the_post() {
     let answer = served.export(&[("grpc-timeout", "50m")], frame(0, b"")).await;
     assert_eq!((answer.code(), answer.text("grpc-message")), (4, "the deadline has passed"));
     assert_eq!(served.kept.posts.lock().unwrap().len(), 1);
+    assert_eq!(*served.kept.turned.lock().unwrap(), ["-"], "no operator would see it");
 }
 
 /// They may be long, and no budget counts them.

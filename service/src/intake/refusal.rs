@@ -5,6 +5,9 @@ use super::MOST;
 use crate::identity::Stranger;
 use crate::otlp::{Outcome, Refused};
 
+/// As the status of a gateway that waited too long.
+pub const DEADLINE: u16 = 504;
+
 /// Its text is the answer's message.
 #[derive(Debug, thiserror::Error)]
 pub enum Refusal {
@@ -30,6 +33,9 @@ pub enum Refusal {
     /// what is 408.
     #[error("the request did not come whole")]
     Late,
+    /// Of gRPC: the call is over, and its post may be taken.
+    #[error("the deadline has passed")]
+    Deadline,
     /// Its framing is wrong, or its connection ended within it.
     #[error("malformed request")]
     Malformed,
@@ -81,13 +87,14 @@ impl Refusal {
             Refusal::BadSender | Refusal::Malformed | Refusal::BadGzip | Refusal::Unreadable(_) => 400,
             Refusal::TooLong | Refusal::TooLongForMemory => 413,
             Refusal::HeadTooLong => 431,
+            Refusal::Deadline => DEADLINE,
             Refusal::Late | Refusal::TooManyBytes | Refusal::NoMemory | Refusal::Unavailable(_) => 503,
         }
     }
 
     /// Whether more of the body may come: it is read and thrown away, so that the sender can read its answer.
     pub fn leaves_a_body(&self) -> bool {
-        !matches!(self, Refusal::Late | Refusal::Malformed | Refusal::HeadTooLong)
+        !matches!(self, Refusal::Late | Refusal::Deadline | Refusal::Malformed | Refusal::HeadTooLong)
     }
 }
 

@@ -207,6 +207,7 @@ mod tests {
             Refusal::ContentEncoding,
             Refusal::NoLength,
             Refusal::Late,
+            Refusal::Deadline,
             Refusal::Malformed,
             Refusal::HeadTooLong,
             Refusal::BadGzip,
