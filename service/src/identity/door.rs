@@ -44,17 +44,14 @@ impl Door {
         };
         let tls = options.tls.as_ref();
         let tls = tls.map(|files| Tls::open(files, without, metrics.clone())).transpose()?;
+        let by_certificate = options.tls.as_ref().is_some_and(|files| files.client_ca.is_some());
         let reader = || Reader {
             read: Box::new(|contents: &[Vec<u8>]| Tokens::read(&contents.concat())),
-            shut: Tokens::shut,
+            shut: if by_certificate { Tokens::shut_beside_certificates } else { Tokens::shut },
         };
         let tokens = options.tokens.as_ref();
         let tokens = tokens.map(|path| Reloaded::open(vec![("--tokens", path.clone())], reader(), metrics));
-        Ok(Door {
-            tls: tls.map(Arc::new),
-            by_certificate: options.tls.as_ref().is_some_and(|files| files.client_ca.is_some()),
-            tokens: tokens.transpose()?,
-        })
+        Ok(Door { tls: tls.map(Arc::new), by_certificate, tokens: tokens.transpose()? })
     }
 
     /// By whom the requests of a connection are, which may be behind a handshake, and comes from `peer`.

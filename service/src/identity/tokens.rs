@@ -121,11 +121,17 @@ impl Tokens {
         }
     }
 
-    /// Why nobody has a token, and what to do, where it has no line.
+    /// Why nobody has a token, and what to do, where no line has one.
     pub fn shut(&self) -> Option<&'static str> {
         let is_empty = self.tokens.is_empty() && self.certified.is_empty();
-        is_empty
-            .then_some("it has no line, so nobody gets in by a token: add what `totxegun token NAME` prints")
+        is_empty.then_some(
+            "it has no line of a token, so nobody gets in by one: add what `totxegun token NAME` prints",
+        )
+    }
+
+    /// The same where certificates let senders in: lines may say no more than what these may have.
+    pub fn shut_beside_certificates(&self) -> Option<&'static str> {
+        self.shut().filter(|_| self.shares.is_empty())
     }
 
     /// Whose a token is. It is compared with all, each time for as long.
@@ -319,5 +325,15 @@ mod tests {
         for text in [format!("a {OF_ABC}"), "a/* certificate".to_string()] {
             assert_eq!(Tokens::read(text.as_bytes()).unwrap().shut(), None, "{text}");
         }
+    }
+
+    /// Who has a certificate needs no token to be there.
+    #[test]
+    fn a_file_of_shares_alone_is_one_beside_certificates() {
+        for text in ["a certificate series=7", "a - points=9"] {
+            let tokens = Tokens::read(text.as_bytes()).unwrap();
+            assert_eq!((tokens.shut().is_some(), tokens.shut_beside_certificates()), (true, None), "{text}");
+        }
+        assert!(Tokens::default().shut_beside_certificates().is_some());
     }
 }

@@ -119,6 +119,17 @@ async fn a_certificate_names_its_sender() {
     assert_eq!(senders(&served), ["shop-1", "shop-1", "shop-1", "shop-7", "shop-2"]);
 }
 
+/// Its lines say what those may have who show one: nobody needs a token.
+#[tokio::test]
+async fn a_file_of_shares_alone_lets_certificates_in() {
+    let at = folder();
+    signed(at.path(), "ca", "shop-1", "20");
+    tokens(at.path(), "shop-1 certificate series=7\n");
+    let served = Served::behind(door(at.path(), Some("ca.pem"), Some("tokens"))).await;
+    let mut shop = served.secure(client(at.path(), "ca", Some("shop-1"))).await.unwrap();
+    assert_eq!(asked(&mut shop, "").await.status, 200);
+}
+
 /// Else an operator is told of nobody, or of the first one alone.
 #[tokio::test]
 async fn who_is_refused_is_told_by_the_name_that_is_known() {
