@@ -261,6 +261,11 @@ impl Options {
         }
         let mut operate = operate(&self.operate, &data).map_err(Failure::Line)?;
         let tokens = self.operate_tokens;
+        if tokens.is_some() && operate.tcp.is_none() {
+            return Err(Failure::Line(anyhow!(
+                "--operate-tokens is for orders over TCP: give --operate HOST:PORT too, or leave it out"
+            )));
+        }
         operate.tokens = tokens.map(|path| identity::operators(path, &metrics)).transpose()?;
         let (behind_proxy, of_each) = (self.of_senders.behind_proxy, self.of_senders.of_each());
         let pass = self.pass.map(|address| Pass::to(&address, metrics.clone()));

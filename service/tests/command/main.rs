@@ -131,6 +131,7 @@ fn a_faulty_line_has_status_2() {
         (&[&serve[..], &["--whole", "s=us,s=ms"]].concat(), "two rules for the unit `s`"),
         (&[&serve[..], &["--whole", "auto,off"]].concat(), "both auto and off"),
         (&[&serve[..], &["--pass", "h:4318"]].concat(), "--pass takes http://HOST:PORT"),
+        (&[&serve[..], &["--operate", "unix:o", "--operate-tokens", "t"]].concat(), "for orders over TCP"),
         (&[&serve[..], &["--pass", "http://127.0.0.1:4318"]].concat(), "points would come again for ever"),
         (&["explain", "-", "--whole", "s=us,s=ms"], "two rules for the unit `s`"),
     ] {
