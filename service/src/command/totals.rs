@@ -56,7 +56,9 @@ impl Options {
             Some(_) => bail!("only a SQLite sink has totals here: ask the sink itself"),
             None => {}
         }
-        let body = client::ask(&self.at, Method::GET, "/status")?;
+        let body = client::ask(&self.at, Method::GET, "/status").context(
+            "give the sink's file by --sink sqlite:PATH: without it the running service is asked where it is",
+        )?;
         let status: Status = serde_json::from_slice(&body).context(client::OTHER_VERSION)?;
         if status.sink.starts_with("postgres ") {
             bail!(IN_POSTGRES);

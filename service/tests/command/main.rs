@@ -287,6 +287,7 @@ fn what_is_not_possible_has_status_1_and_is_named() {
     }
     refused(&["check", data], 1, "no folder of totxegun");
     refused(&["totals", "--sink", "http://h/"], 1, "SQLite");
+    refused(&["totals", "--data", "/nowhere"], 1, "give the sink's file by --sink sqlite:PATH");
     refused(&["export", "--month", "2026-01", "--json", "--sink", "http://h/"], 1, "ask the sink itself");
     refused(&["totals", "--sink", "postgres://u@h/d"], 1, "PostgreSQL");
 }
