@@ -73,12 +73,13 @@ pub struct Closed {
 }
 
 impl Closed {
-    /// In which hour counts what belongs to this one: in itself while it is open, else in the first open one from now on.
+    /// In which hour counts what belongs to this one: in itself while it is open, else in the first open one from now on; by a
+    /// clock that was set back from its own on, since what is before that may be billed.
     pub(super) fn counted_in(&self, hour: i64) -> i64 {
         match self.end(hour) {
             None => hour,
             Some(_) => {
-                let mut open = self.now;
+                let mut open = self.now.max(hour);
                 while let Some(end) = self.end(open) {
                     open = end;
                 }
@@ -230,9 +231,11 @@ mod tests {
         ] {
             assert_eq!(closed.counted_in(period(hour).from), period(counted).from, "{hour}");
         }
-        // By a clock that was set back.
-        let back = Closed { now: period("2026-10-31T23").from, ..closed };
-        assert_eq!(back.counted_in(period("2026-10-01T00").from), period("2026-12-02T00").from);
+        // By a clock that was set back, also to before all that is closed.
+        for now in ["2026-10-31T23", "2026-09-15T07", "1970-01-01T00"] {
+            let back = Closed { now: period(now).from, ..closed.clone() };
+            assert_eq!(back.counted_in(period("2026-10-01T00").from), period("2026-12-02T00").from, "{now}");
+        }
     }
 
     #[test]
