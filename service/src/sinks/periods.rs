@@ -151,6 +151,15 @@ pub(super) fn closed(period: &Period) -> String {
 pub(super) const NOT_FILLED: &str =
     "hours of an older version are being filled in by the service: wait until its log says that all are";
 
+/// Why a month or a day can't be exported of which hours were deleted, those before this one: a bill of what is left would say
+/// nothing of that.
+pub(super) fn deleted(period: &Period, from: i64) -> String {
+    format!(
+        "hours before {} were deleted (--keep-hours), so there is no whole {period} any more",
+        hour_shown(from)
+    )
+}
+
 /// Of corrections together, without their signs: so sums of any of them fit 64 bits.
 pub(super) const MOST_CORRECTED: i64 = 1 << 62;
 

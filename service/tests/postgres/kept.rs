@@ -4,7 +4,8 @@ use crate::points::HOUR;
 use crate::server::{sum, sums, Server};
 use crate::{open, open_with, refused, taken};
 use std::time::Duration;
-use totxegun::sinks::{Fate, Retention};
+use totxegun::sinks::postgres::export;
+use totxegun::sinks::{Address, Fate, Retention};
 
 const DAY: u64 = 24 * HOUR;
 
@@ -125,6 +126,48 @@ async fn old_hours_are_deleted_and_not_counted_again() {
     taken(&*sink, 14, sum("b", old + 9, old + 19, 8)).await;
     assert_eq!(server.ask("select name, total from totxegun.totals order by 1"), "a|3\nb|12");
     assert_eq!(server.ask("select count(*) from totxegun.span"), "4");
+}
+
+/// How many points of a period, or why it is not exported.
+async fn exported(address: &str, period: &str) -> Result<i64, String> {
+    let (address, period) = (address.parse(), period.parse().unwrap());
+    let read = move || {
+        let Ok(Address::Postgres(server)) = address else { panic!("no server") };
+        let mut points = 0;
+        let read = export::read(&server, &period, &mut |line| {
+            points += line.points;
+            Ok(())
+        });
+        read.map(|_| points).map_err(|why| why.to_string())
+    };
+    tokio::task::spawn_blocking(read).await.unwrap()
+}
+
+/// Else a bill that is made again says that nothing was counted, with the status of a whole one.
+#[tokio::test(flavor = "multi_thread")]
+async fn a_month_or_a_day_of_which_hours_were_deleted_is_not_exported_as_one_without_points() {
+    let Some(server) = Server::start() else { return };
+    let address = server.by_socket("postgres");
+    let before = open(&address);
+    let (old, new) = (now() - 3 * DAY, now());
+    taken(&*before, 1, sum("a", old, old + 9, 1)).await;
+    taken(&*before, 2, sum("a", new, new + 9, 2)).await;
+    let day = |ns: u64| {
+        let seconds = ns / 1_000_000_000;
+        server.ask(&format!("select to_char(to_timestamp({seconds}) at time zone 'UTC', 'YYYY-MM-DD')"))
+    };
+    let (old, new) = (day(old), day(new));
+    for gone in [&old[..], &old[..7]] {
+        assert!(exported(&address, gone).await.unwrap() > 0);
+    }
+    drop(before);
+    let _sink = open_with(&address, Retention { hours: days(2), ..Retention::default() });
+    until(&server, "select hours_from > 0 from totxegun.horizon", "t").await;
+    for gone in [&old[..], &old[..7]] {
+        let why = exported(&address, gone).await.unwrap_err();
+        assert!(why.contains(&format!("so there is no whole {gone} any more")), "{why}");
+    }
+    assert_eq!(exported(&address, &new).await, Ok(1));
 }
 
 #[tokio::test(flavor = "multi_thread")]

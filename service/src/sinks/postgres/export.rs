@@ -5,7 +5,7 @@ use super::totals::parts_of;
 use super::Server;
 use super::{periods, schema, session, statements};
 use crate::sinks::export::{view_of, Each, Line};
-use crate::sinks::periods::{Closed, Period};
+use crate::sinks::periods::{deleted, Closed, Period};
 use anyhow::{bail, Result};
 use serde_json::value::{to_raw_value, RawValue};
 use tokio_postgres::{Row, Transaction};
@@ -16,6 +16,7 @@ const ROWS: i32 = 1000;
 /// It lasts as long as whoever reads it takes.
 const SETTINGS: &str = "set statement_timeout = '1h'; set idle_in_transaction_session_timeout = '1h'";
 const ONE_MOMENT: &str = "set transaction isolation level repeatable read, read only";
+const HOURS_FROM: &str = "select hours_from from totxegun.horizon";
 
 /// Each line; and what of it is closed.
 pub fn read(server: &Server, period: &Period, each: Each<'_>) -> Result<Closed> {
@@ -33,6 +34,10 @@ async fn lines(server: &Server, period: &Period, each: Each<'_>) -> Result<Close
     client.batch_execute(SETTINGS).await.map_err(fault)?;
     let transaction = client.transaction().await.map_err(fault)?;
     transaction.batch_execute(ONE_MOMENT).await.map_err(fault)?;
+    let hours_from: i32 = transaction.query_one(HOURS_FROM, &[]).await.map_err(fault)?.get(0);
+    if period.from < hours_from.into() {
+        bail!("{name}: {}", deleted(period, hours_from.into())); // the views leave it out, also where a part is there
+    }
     each_line(&transaction, &name, period, each).await?;
     let closed = transaction.query(statements::CLOSED, &[]).await;
     Ok(periods::closed_of(&closed.map_err(fault)?))

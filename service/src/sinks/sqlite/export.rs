@@ -5,7 +5,7 @@ use super::horizon::Horizon;
 use super::schema::{self, STEPS};
 use super::totals::{open, Kind};
 use crate::sinks::export::{view_of, Each, Line};
-use crate::sinks::periods::{Closed, Period, NOT_FILLED};
+use crate::sinks::periods::{deleted, Closed, Period, NOT_FILLED};
 use rusqlite::{Row, Transaction};
 use serde_json::value::RawValue;
 use std::path::Path;
@@ -24,8 +24,12 @@ pub fn read(path: &Path, period: &Period, each: Each<'_>) -> anyhow::Result<Clos
     }
     let transaction = connection.transaction().map_err(fault)?;
     // The views lack what is not moved yet, and nobody would see it by the rows.
-    if !Horizon::read(&transaction).map_err(fault)?.is_filled() {
+    let horizon = Horizon::read(&transaction).map_err(fault)?;
+    if !horizon.is_filled() {
         return Err(SqliteFault::told(path, NOT_FILLED).into());
+    }
+    if !horizon.has(period) {
+        return Err(SqliteFault::told(path, deleted(period, horizon.hours_from)).into());
     }
     lines(&transaction, period, each, &fault)?;
     Ok(super::periods::read(&transaction).map_err(fault)?)

@@ -1,6 +1,8 @@
 //! How far back the file goes.
 
+use super::store::utc::{day_of, month_of};
 use super::wide_integers::Unsigned;
+use crate::sinks::periods::Period;
 use rusqlite::{params, Transaction};
 
 #[derive(Clone, Copy, Debug, PartialEq, Eq)]
@@ -32,6 +34,15 @@ impl Horizon {
     /// Whether all that an older file had is in hours and in its place.
     pub(super) fn is_filled(&self) -> bool {
         self.filled >= self.fill_to
+    }
+
+    /// Whether the views have a month or a day still: each goes as a whole, once the last of its hours does.
+    pub(super) fn has(&self, period: &Period) -> bool {
+        let (day, first) = (day_of(period.from), day_of(self.hours_from));
+        match period.is_month() {
+            true => month_of(day) >= month_of(first),
+            false => day >= first,
+        }
     }
 
     pub(super) fn write(&self, transaction: &Transaction) -> rusqlite::Result<()> {

@@ -1,5 +1,6 @@
 //! What is deleted, and what of it may come again.
 
+use super::super::export;
 use super::hours::view;
 use super::*;
 
@@ -120,6 +121,34 @@ fn hours_that_are_too_old_are_deleted_and_stay_away() {
     assert_eq!(rows(&trial, "month"), "2026-11-01|3\n2026-11-01|10");
     assert_eq!(trial.totals()[1], ("b".into(), 20, 2));
     assert_eq!(trial.ask("select count(*) from span"), "8");
+}
+
+/// Else a bill that is made again says that nothing was counted, with the status of a whole one.
+#[test]
+fn a_month_or_a_day_that_is_deleted_is_not_exported_as_one_without_points() {
+    let mut trial = Trial::new();
+    for (number, start) in [(1, NOVEMBER - DAY), (2, NOVEMBER), (3, NOVEMBER + 2 * DAY)] {
+        trial.taken(number, sum("a", start, start + HOUR, 1));
+    }
+    trial.keep(Retention { hours: days(1), ..Retention::default() });
+    trial.keep_up(NOVEMBER + 2 * DAY + 5 * HOUR);
+    let exported = |text: &str| {
+        let (period, mut points) = (text.parse().expect(text), 0);
+        let read = export::read(&trial.path(), &period, &mut |line| {
+            points += line.points;
+            Ok(())
+        });
+        read.map(|_| points).map_err(|why| why.to_string())
+    };
+    for gone in ["2026-10", "2026-10-31", "2026-11-01"] {
+        let why = exported(gone).expect_err(gone);
+        let part =
+            format!("hours before 2026-11-02 05:00 were deleted (--keep-hours), so there is no whole {gone}");
+        assert!(why.contains(&part), "{why}");
+    }
+    // These went as a whole, or not at all.
+    let whole = ["2026-11", "2026-11-02", "2026-11-03"].map(exported);
+    assert_eq!(whole, [Ok(2), Ok(0), Ok(1)]);
 }
 
 #[test]
