@@ -170,6 +170,25 @@ async fn a_month_or_a_day_of_which_hours_were_deleted_is_not_exported_as_one_wit
     assert_eq!(exported(&address, &new).await, Ok(1));
 }
 
+/// What is there goes by the clock; what comes behind the last hour of it is not left out.
+#[tokio::test(flavor = "multi_thread")]
+async fn a_clock_that_was_ahead_leaves_out_nothing_that_comes() {
+    let Some(server) = Server::start() else { return };
+    let address = server.by_socket("postgres");
+    let before = open(&address);
+    let old = (now() / DAY - 400) * DAY; // so this clock is 400 days ahead
+    taken(&*before, 1, sum("a", old, old + 9, 1)).await;
+    taken(&*before, 2, sum("a", old + HOUR, old + HOUR + 9, 2)).await;
+    drop(before);
+    let sink = open_with(&address, Retention { hours: days(2), ..Retention::default() });
+    let last = (old / HOUR + 1).to_string();
+    until(&server, "select hours_from from totxegun.horizon", &last).await;
+    until(&server, "select total from totxegun.by_hour", "2").await;
+    taken(&*sink, 3, sum("a", old + 40 * DAY, old + 40 * DAY + 9, 4)).await;
+    assert_eq!(server.ask("select total from totxegun.by_hour order by hour"), "2\n4");
+    assert_eq!(server.ask("select total from totxegun.by_day"), "4");
+}
+
 #[tokio::test(flavor = "multi_thread")]
 async fn a_series_out_of_use_loses_its_spans_alone() {
     let Some(server) = Server::start() else { return };
@@ -290,6 +309,39 @@ async fn days_are_made_ahead() {
     assert_eq!(server.ask(&format!("select count(*) from totxegun.{today}")), "2");
     refused(&*sink, 30, sum("b", day, day + 1, 1), "overlaps").await;
     assert_eq!(server.ask("select sum(points) from totxegun.hour"), "5");
+}
+
+/// As it was written down then: what comes later was not deleted.
+#[tokio::test(flavor = "multi_thread")]
+async fn the_horizon_of_a_clock_that_was_ahead_comes_back() {
+    let Some(server) = Server::start() else { return };
+    let address = server.by_socket("postgres");
+    let before = open(&address);
+    let hour = now() / HOUR * HOUR;
+    taken(&*before, 1, sums(&[("a", hour, hour + 10, 1), ("a", hour + 20, hour + 30, 2)])).await;
+    drop(before);
+    server.ask(&format!("update totxegun.horizon set spans_from_ns = {}", now() + 4000 * DAY));
+    let sink = open_with(&address, Retention { spans: days(2), ..Retention::default() });
+    until(&server, "select spans_from_ns from totxegun.horizon", &(hour + 30).to_string()).await;
+    refused(&*sink, 2, sum("a", hour + 10, hour + 20, 4), "spans were deleted").await;
+    taken(&*sink, 3, sum("a", hour + 40, hour + 50, 8)).await;
+    taken(&*sink, 4, sum("a", hour + 30, hour + 40, 16)).await;
+    refused(&*sink, 5, sum("a", hour + 40, hour + 50, 8), "overlaps").await;
+    assert_eq!(server.ask("select points, total from totxegun.totals"), "4|27");
+}
+
+/// What was made ahead of it then is no reason to make none of the days that come.
+#[tokio::test(flavor = "multi_thread")]
+async fn days_are_made_behind_a_clock_that_was_ahead() {
+    let Some(server) = Server::start() else { return };
+    let address = server.by_socket("postgres");
+    drop(open(&address));
+    let last =
+        server.ask("select to_char(now() at time zone 'UTC' + interval '3 days', '\"span_\"YYYYMMDD')");
+    server.ask(&format!("drop table totxegun.{last}"));
+    make_day(&server, now() + 4000 * DAY);
+    let _sink = open(&address);
+    until(&server, &format!("select count(*) from pg_class where relname = '{last}'"), "1").await;
 }
 
 #[tokio::test(flavor = "multi_thread")]

@@ -2,11 +2,13 @@
 
 use tokio_postgres::{Client, Error, GenericClient};
 
-/// The days without one: behind the last that has one, but for those that are long ago, until three days ahead.
+/// The days without one: behind the last that has one, but for those that are long ago, until three days ahead. What a clock
+/// that was ahead has made beyond is no such last one.
 const MISSING: &str = "with known as (
         select max(to_date(right(relname, 8), 'YYYYMMDD')) as last, (now() at time zone 'UTC')::date as today
         from pg_class join pg_namespace on pg_namespace.oid = relnamespace
         where nspname = 'totxegun' and relkind = 'r' and relname ~ '^span_[0-9]{8}$'
+            and relname <= 'span_' || to_char((now() at time zone 'UTC')::date + 3, 'YYYYMMDD')
     )
     select to_char(day, 'YYYYMMDD'), extract(epoch from day)::int8 * 1000000000 + 1 from known,
         generate_series(greatest(coalesce(last + 1, today - 1), today - 40)::timestamp, today + 3, '1 day') as day";

@@ -19,6 +19,12 @@ const IS_FIRST: &str = "select spans_from_ns = 0
 const HORIZON: &str =
     "update totxegun.horizon set spans_from_ns = $1::int8::numeric where spans_from_ns < $1::int8::numeric";
 
+/// By a clock that was ahead once it is in the time to come, and right points would be left out until then. Nothing was deleted
+/// that ended behind the last span that came.
+const NOT_AHEAD: &str = "update totxegun.horizon set spans_from_ns =
+        least(spans_from_ns, (select coalesce(max(last_end_ns), 0) from totxegun.series_total))
+    where spans_from_ns > extract(epoch from now()) * 1000000000";
+
 const OLD_DAYS: &str =
     "select relname::text from pg_class join pg_namespace on pg_namespace.oid = relnamespace
     where nspname = 'totxegun' and relkind = 'r' and relname ~ '^span_[0-9]{8}$'
@@ -43,6 +49,7 @@ pub(super) async fn delete(client: &mut Client, kept: Option<Duration>) -> Resul
         tell_of_spans(kept);
     }
     client.execute(HORIZON, &[&from]).await?;
+    client.execute(NOT_AHEAD, &[]).await?;
     for row in client.query(OLD_DAYS, &[&from]).await? {
         let day: &str = row.get(0);
         client.batch_execute(&format!("drop table totxegun.{day}")).await?;
