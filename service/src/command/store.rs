@@ -119,7 +119,7 @@ impl Check {
         let standing = store.standing()?;
         let databases = shown(&self.databases);
         Ok(line(match standing.refusal() {
-            None if standing.id.is_empty() => format!("the store in {databases} counts"),
+            None if standing.folder.is_empty() => format!("the store in {databases} counts"),
             None => format!("the store in {databases} counts: it has all of the folder {}", standing.folder),
             Some(why) => format!("no service starts on the store in {databases}: {why}"),
         }))

@@ -105,7 +105,20 @@ impl Place {
     }
 }
 
+/// So many digits of a move's name are drawn.
+const DRAWN: usize = 16;
+
 impl Place {
+    /// What is known of moves that came to their end, without one that has not.
+    fn ended<'s>(&self, seen: &'s Standing) -> &'s str {
+        match seen.state {
+            State::Counts | State::Gone => &seen.id,
+            State::Filling | State::Leaving => {
+                seen.id.get(self.store.cluster.id.len() + DRAWN..).unwrap_or_default()
+            }
+        }
+    }
+
     /// A name of a move that no other has: that of the store, and a number.
     fn draw(&self) -> Result<String, MoveFault> {
         let mut drawn = [0; 8];
@@ -164,10 +177,14 @@ pub fn from_folder(folder: &Path, servers: &[Server], copies: Copies) -> Result<
         }
     };
     let seen = place.store.standing()?;
-    if seen.state == State::Counts && seen.id == id {
+    if seen.has_had(&id) {
         place.store.follow(&seen)?;
         folder.set_mark(Some(place.mark(Way::Left, &id)))?;
-        return Ok(None);
+        // It may have been moved on since.
+        return match seen.refusal() {
+            None => Ok(None),
+            Some(why) => refused(why),
+        };
     }
     let filling = match seen.state == State::Filling && seen.id == id {
         true => seen,
@@ -281,7 +298,8 @@ pub fn to_folder(folder: &Path, servers: &[Server], copies: Copies) -> Result<Op
             return refused(format!("{} has something already: give a folder that is new", path.display()));
         }
         None => {
-            let id = place.draw()?;
+            // Else nobody could tell any more whether a folder whose move was killed at its end counts.
+            let id = place.draw()? + place.ended(&seen);
             folder.set_mark(Some(place.mark(Way::Coming, &id)))?;
             id
         }

@@ -3,6 +3,9 @@
 use super::server::Server;
 use super::work::wait;
 use super::{make, open};
+use std::path::Path;
+use totxegun::files::{Durability, Folder, Mark, Way};
+use totxegun::store::moving::{from_folder, give_up, to_folder};
 use totxegun::store::postgres::{address, Copies, PostgresStore, Standing, State};
 
 fn refused(addresses: &[&str], part: &str) {
@@ -62,4 +65,44 @@ fn databases_that_were_not_told_of_the_decision_are_told_at_a_start() {
     let next = open(&[&one, &other], Copies::One);
     assert!(next.all_say(&standing(State::Counts)).unwrap());
     assert_eq!(wait(next.take(1, 0, "a")).unwrap(), Some(1));
+}
+
+fn folder(path: &Path) -> Folder {
+    Folder::open(path, Durability::Disk).unwrap()
+}
+
+/// Else a folder whose move was killed at its very end could be given up once the store was moved on, and both would count.
+#[test]
+fn a_folder_that_a_store_has_had_counts_no_more_whatever_was_moved_since() {
+    let Some(server) = Server::start("") else { return };
+    make(&[&server.address()]);
+    let servers = [address(&server.address()).unwrap()];
+    let place = tempfile::tempdir().unwrap();
+    let (one, other) = (place.path().join("one"), place.path().join("other"));
+    drop(folder(&one).slot(0).unwrap());
+    assert!(from_folder(&one, &servers, Copies::One).unwrap().is_some());
+    let mark = folder(&one).mark().unwrap();
+    assert_eq!(mark.way, Way::Left);
+    folder(&one).set_mark(Some(Mark { way: Way::Leaving, ..mark.clone() })).unwrap(); // as it was before the kill
+    let is_refused = || {
+        let why = give_up(Some(&one), &servers, Copies::One).unwrap_err().to_string();
+        assert!(why.contains("the store has had all of"), "{why}");
+    };
+    is_refused();
+    // A move out of it that was given up.
+    let store = open(&[&server.address()], Copies::One);
+    let seen = store.standing().unwrap();
+    let id = format!("{}0123456789abcdef{}", store.cluster.id, seen.id);
+    let folder_of = "/data".to_string();
+    store.change(&seen, &Standing { state: State::Leaving, id, folder: folder_of }).unwrap();
+    is_refused();
+    give_up(None, &servers, Copies::One).unwrap();
+    is_refused();
+    // And one that was not.
+    assert!(to_folder(&other, &servers, Copies::One).unwrap().is_some());
+    is_refused();
+    let why = from_folder(&one, &servers, Copies::One).unwrap_err().to_string();
+    assert!(why.contains("was moved into the folder") && why.contains("other"), "{why}");
+    assert_eq!(folder(&one).mark(), Some(mark), "it is noted");
+    assert_eq!(folder(&other).mark(), None);
 }

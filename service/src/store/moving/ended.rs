@@ -9,7 +9,7 @@ use std::path::Path;
 pub fn give_up(folder: Option<&Path>, servers: &[Server], copies: Copies) -> Result<(), MoveFault> {
     let place = Place::open(servers, copies)?;
     let seen = place.store.standing()?;
-    let none = Standing { state: State::Counts, id: String::new(), folder: String::new() };
+    let none = Standing { state: State::Counts, id: place.ended(&seen).into(), folder: String::new() };
     let Some(folder) = folder else {
         return match seen.state {
             State::Leaving => place.go(&seen, none).map(drop),
@@ -25,8 +25,13 @@ pub fn give_up(folder: Option<&Path>, servers: &[Server], copies: Copies) -> Res
         return refused(format!("{} is on its way into no store", path.display()));
     };
     place.check_is_its(&path, &mark)?;
-    if seen.id == mark.id && seen.state == State::Counts {
-        return refused(format!("the store has all of {} already, and counts", path.display()));
+    if seen.has_had(&mark.id) {
+        return refused(format!(
+            "the store has had all of {} already, so the folder counts no more: call `totxegun store move --from {}` again, which \
+             notes that",
+            path.display(),
+            path.display()
+        ));
     }
     if seen.id == mark.id && seen.state == State::Filling {
         place.check_idle()?;
@@ -51,10 +56,9 @@ pub fn folder_counts(mark: &Mark, servers: &[Server]) -> Result<bool, MoveFault>
         return Ok(false);
     }
     let standing = PostgresStore::look_into(servers, Copies::One)?.standing()?;
-    let is_its = standing.id == mark.id;
     Ok(match mark.way {
-        Way::Leaving => !(is_its && matches!(standing.state, State::Counts | State::Leaving | State::Gone)),
+        Way::Leaving => !standing.has_had(&mark.id),
         Way::Left => false, // whatever became of the store
-        Way::Coming => is_its && standing.state == State::Gone,
+        Way::Coming => standing.id == mark.id && standing.state == State::Gone,
     })
 }

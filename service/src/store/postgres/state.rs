@@ -40,7 +40,7 @@ const STATES: [(State, &str); 4] = [
 #[derive(Clone, Debug, PartialEq, Eq)]
 pub struct Standing {
     pub state: State,
-    /// The last move, where there was one, and the folder of it.
+    /// The last move, where there was one, and behind it the one before that came to its end; and the folder of the last.
     pub id: String,
     pub folder: String,
 }
@@ -62,6 +62,11 @@ fn name_of(state: State) -> &'static str {
 }
 
 impl Standing {
+    /// Whether a folder's move into this store, of this id, has come to its end: also where more was moved since.
+    pub fn has_had(&self, id: &str) -> bool {
+        self.state != State::Filling && self.id.ends_with(id)
+    }
+
     /// Why no service starts on the store; none where one may.
     pub fn refusal(&self) -> Option<String> {
         let folder = &self.folder;
