@@ -42,14 +42,16 @@ impl Keeper {
         Ok(Done::Answered(Outcome::taken(0)))
     }
 
+    /// Durable first, and then in the book: a start that quarantines the sender still would put what it posts now in with what
+    /// is kept back, over hours.
     async fn lift(&mut self, sender: String) -> Result<Done, Trouble> {
+        let (outbox, of) = (self.slot.outbox.clone(), sender.clone());
+        blocking(move || outbox.lift(&of)).await?;
         let done = self.slot.core.lock().lift(&sender);
         if let Err(refused) = done {
             return Ok(not_now(refused));
         }
         self.released = true;
-        let outbox = self.slot.outbox.clone();
-        blocking(move || outbox.lift(&sender)).await?;
         Ok(Done::Answered(Outcome::taken(0)))
     }
 }

@@ -13,9 +13,9 @@ use crate::files::{Call, Disk, Durability, Folder, Journal, Outbox};
 use crate::metrics::Metrics;
 use std::path::{Path, PathBuf};
 use std::sync::atomic::{AtomicBool, Ordering::SeqCst};
-use std::sync::Mutex;
+use std::sync::{Mutex, OnceLock};
 use std::time::Instant;
-use tokio::runtime::Handle;
+use tokio::runtime::{Builder, Handle};
 use tokio::sync::watch;
 use tokio::task::JoinHandle;
 
@@ -54,7 +54,7 @@ impl Run {
 
     /// A point of a series after those before.
     async fn post(&self, number: u64) -> Outcome {
-        self.slot.post("A".into(), point("a", number).into()).await
+        post_of(&self.slot, number).await
     }
 
     /// A post of each of many senders, and a thread for each. None is in the journal before all others but so many were
@@ -86,6 +86,10 @@ impl Run {
         self.stop.send(true).unwrap();
         self.running.await.unwrap().unwrap();
     }
+}
+
+async fn post_of(slot: &Arc<Slot>, number: u64) -> Outcome {
+    slot.post("A".into(), point("a", number).into()).await
 }
 
 fn point(name: &str, number: u64) -> String {
@@ -141,6 +145,32 @@ async fn a_group_is_committed_once_its_posts_are_on_the_disk_also_where_posts_ar
         syncs.iter().position(|path| is_in(part, path)).unwrap()
     };
     assert!(first("journal/000000000001.seg") < first("outbox"), "{syncs:?}");
+    run.end().await;
+}
+
+/// Else a start that quarantines it still puts what came meanwhile in with what is kept back: as one point, over all its hours.
+#[tokio::test(flavor = "multi_thread")]
+async fn nothing_of_a_sender_is_taken_before_it_is_noted_that_it_is_released() {
+    let place = tempfile::tempdir().unwrap();
+    let (slot, said) = (Arc::new(OnceLock::<Arc<Slot>>::new()), Arc::new(OnceLock::new()));
+    let (of, told) = (slot.clone(), said.clone());
+    let disk = Disk::failing(move |call, path| {
+        if let Some(slot) = of.get().filter(|_| call == Call::Write && is_in("outbox", path)) {
+            let post = || Builder::new_current_thread().build().unwrap().block_on(post_of(slot, 3));
+            let outcome = std::thread::scope(|scope| scope.spawn(post).join().unwrap());
+            let _ = told.set(outcome);
+        }
+        Ok(())
+    });
+    let run = Run::begin(place.path(), disk).await;
+    assert_eq!(run.post(1).await, Outcome::taken(0));
+    let done = Some(Done::Answered(Outcome::taken(0)));
+    assert_eq!(run.orders.order(Order::Quarantine("A".into())).await, done);
+    assert!(slot.set(run.slot.clone()).is_ok());
+    assert_eq!(run.orders.order(Order::Lift("A".into())).await, done);
+    assert_eq!(said.get().map(Outcome::status), Some(403), "{said:?}");
+    assert_eq!(run.post(5).await, Outcome::taken(0));
+    assert_eq!(run.flush().await, 1);
     run.end().await;
 }
 
