@@ -1,6 +1,7 @@
 //! A database that is not the one that is remembered.
 
 use super::server::{sum, Server};
+use super::versions::make;
 use super::{again, open, taken};
 use std::sync::{Arc, Mutex};
 use totxegun::sinks::{self, Memory, Retention};
@@ -50,6 +51,23 @@ async fn a_database_is_known_by_its_id_once_it_is_reached() {
     server.ask("alter database three rename to late");
     taken(&*late, 3, sum("a", 300, 400, 5)).await;
     assert_eq!(server.ask_of("late", "select total from totxegun.totals"), "15");
+}
+
+/// As one that is put back from a copy that an earlier version has made.
+#[tokio::test(flavor = "multi_thread")]
+async fn a_database_of_an_earlier_version_is_known_by_its_id_too() {
+    let Some(server) = Server::start() else { return };
+    make(&server, "earlier", 4);
+    make(&server, "without", 3);
+    let id = server.ask_of("earlier", "select id from totxegun.sink");
+    let first = Arc::new(First(Mutex::new(Some(id.clone()))));
+    let open = |database: &str| {
+        let address = server.by_socket(database).parse().unwrap();
+        sinks::open(&address, Retention::default(), first.clone()).map_err(|error| error.to_string())
+    };
+    taken(&*open("earlier").ok().unwrap(), 1, sum("a", 100, 200, 5)).await;
+    assert_eq!(server.ask_of("earlier", "select id from totxegun.sink"), id);
+    assert_eq!(open("without").err().as_deref(), Some("another sink"));
 }
 
 /// What is too old by our options stays in a database that is not ours.

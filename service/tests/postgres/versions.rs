@@ -26,7 +26,7 @@ const WRITTEN: &str = r#"
     insert into totxegun.span (series, start_ns, end_ns, request, value) values (1, 100, 200, 1, 5)"#;
 
 /// A database of an earlier version.
-fn make(server: &Server, database: &str, version: usize) {
+pub fn make(server: &Server, database: &str, version: usize) {
     server.ask(&format!("create database {database}"));
     let ask = |query: &str| server.ask_of(database, query);
     ask("create schema totxegun");

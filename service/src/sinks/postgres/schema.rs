@@ -22,6 +22,9 @@ const WITHOUT_HOURS: i32 = 4;
 const FILLING: &str = include_str!("filling.sql");
 const NOTHING_BEFORE: &str = "drop table totxegun.span_before";
 
+/// From this version on a schema has an id.
+const WITH_ID: i32 = 4;
+
 /// The version that this program writes.
 pub(super) const KNOWN: i32 = STEPS.len() as i32;
 
@@ -46,12 +49,20 @@ pub(super) async fn migrate(
     // One that is gone in this run is told of, and made again.
     let is_replaced = found == 0 && was_there;
     if found != KNOWN {
-        memory.admit(None, is_replaced).map_err(PostgresFault::Another)?;
+        let id = match found >= WITH_ID {
+            true => Some(id(client, server).await?),
+            false => None,
+        };
+        memory.admit(id.as_deref(), is_replaced).map_err(PostgresFault::Another)?;
         bring_up(client, server, was_there).await?;
     }
+    let id = id(client, server).await?;
+    memory.admit(Some(&id), is_replaced).map_err(PostgresFault::Another)
+}
+
+async fn id(client: &Client, server: &str) -> Result<String, PostgresFault> {
     let row = client.query_one("select id from totxegun.sink", &[]).await;
-    let row = row.map_err(|error| PostgresFault::of(server, &error))?;
-    memory.admit(Some(row.get(0)), is_replaced).map_err(PostgresFault::Another)
+    row.map(|row| row.get(0)).map_err(|error| PostgresFault::of(server, &error))
 }
 
 async fn bring_up(client: &mut Client, server: &str, was_there: bool) -> Result<(), PostgresFault> {

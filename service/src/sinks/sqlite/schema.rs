@@ -43,7 +43,22 @@ pub(super) fn migrate(
     Ok(())
 }
 
-/// What the last version keeps of a file.
+/// From this version on a file has an id.
+const WITH_ID: i64 = 2;
+
+/// The id of a file of this version, where it has one.
+pub(super) fn id_of(
+    connection: &Connection,
+    path: &Path,
+    version: i64,
+) -> Result<Option<String>, SqliteFault> {
+    match version >= WITH_ID {
+        true => id(connection, path).map(Some),
+        false => Ok(None),
+    }
+}
+
+/// By which a file is told from others.
 pub(super) fn id(connection: &Connection, path: &Path) -> Result<String, SqliteFault> {
     connection
         .query_row("select id from sink", [], |row| row.get(0))

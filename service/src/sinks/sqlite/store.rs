@@ -51,7 +51,7 @@ pub(super) struct Store {
 }
 
 impl Store {
-    /// `admit` is asked with the file's id, and before one is made that has none.
+    /// `admit` is asked with the file's id, also of one that an older version wrote, and before one is made that has none.
     pub(super) fn open(
         path: &Path,
         admit: &dyn Fn(Option<&str>) -> Result<(), String>,
@@ -68,12 +68,9 @@ impl Store {
         connection.busy_timeout(PATIENCE).map_err(fault)?;
         connection.set_prepared_statement_cache_capacity(STATEMENTS);
         // Before anything is changed: the file may be another program's.
-        let known = STEPS.len() as i64;
-        match schema::check(&connection, path, known)? == known {
-            true => admit(Some(&schema::id(&connection, path)?)),
-            false => admit(None),
-        }
-        .map_err(SqliteFault::Another)?;
+        let version = schema::check(&connection, path, STEPS.len() as i64)?;
+        let id = schema::id_of(&connection, path, version)?;
+        admit(id.as_deref()).map_err(SqliteFault::Another)?;
         let mode: String =
             connection.query_row("pragma journal_mode = wal", [], |row| row.get(0)).map_err(fault)?;
         if mode != "wal" {

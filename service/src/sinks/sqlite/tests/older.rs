@@ -85,6 +85,20 @@ fn hours_of_an_older_file_are_filled_in() {
     );
 }
 
+/// As one that is put back from a copy that an older version has made.
+#[test]
+fn an_older_file_is_known_by_its_id() {
+    let trial = Trial::new();
+    older(&trial.path());
+    let id = trial.ask("select id from sink");
+    let admit = |found: Option<&str>| match found == Some(&id) {
+        true => Ok(()),
+        false => Err(format!("{found:?} is another")),
+    };
+    assert!(Store::open(&trial.path(), &admit).is_ok());
+    assert_eq!(trial.ask("select id from sink"), id);
+}
+
 /// Else a bill lacks what is not moved yet, with the status of a whole one.
 #[test]
 fn nothing_is_exported_of_a_file_whose_hours_are_being_filled_in() {
