@@ -270,7 +270,9 @@ impl Cause {
             Cause::Span => "each point has to say where it starts, and end after it",
             Cause::ClockAhead => "set the sender's clock, by NTP; or the service's, where that is wrong; or give a greater --most-ahead",
             Cause::ClockBehind => "set the sender's clock, by NTP, or give a greater --most-behind",
-            Cause::EarlierRun => "two processes send the same series: give each its own service.instance.id",
+            Cause::EarlierRun => {
+                "two processes send the same series, or two instruments of one name: give each its own service.instance.id, or name"
+            }
             Cause::WentDown => "a counter may not go down while its start stays: mend the sender, or serve with --reset count",
             Cause::Mixed => "send a series with one temporality: it goes on once its sender starts anew, or after totxegun forget SERIES",
             Cause::Forgotten => "it may have been counted: see --forget-series",

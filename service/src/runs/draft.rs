@@ -37,6 +37,17 @@ pub struct Draft<'r> {
     /// Of series that are not here, and of which no point was taken so far, by their numbers, what a point needs of them. Their
     /// texts are long, and are read once for it.
     untaken: HashMap<u64, (Kind, u64)>,
+    ended: Ended,
+}
+
+/// Where runs ended ahead of a post that has gone on with them. It is looked up only for points that are late.
+#[derive(Default)]
+struct Ended {
+    /// By the place of the series.
+    times: HashMap<u32, u64>,
+    /// How much of `before` and of `was` is here.
+    seen: usize,
+    seen_words: usize,
 }
 
 /// Sound points that are not taken.
@@ -84,6 +95,7 @@ impl Runs {
             places: Vec::with_capacity(points.count()),
             deltas: HashMap::new(),
             untaken: HashMap::new(),
+            ended: Ended::default(),
         };
         let mut cumulative = posted.cumulative.iter().copied().peekable();
         for (place, point) in (0..).zip(points.each()) {
@@ -153,10 +165,42 @@ impl Draft<'_> {
             return;
         }
         match series.entry(options, self.runs.since, run, deltas) {
-            Ok(None) => self.late.push((place, series.key.clone())),
+            Ok(None) => {
+                let key = series.key.clone();
+                match self.is_of_another(&found, run) {
+                    true => self.turned.add(Refused::EarlierRun, &key),
+                    false => self.late.push((place, key)),
+                }
+            }
             Ok(Some(entry)) => self.take(found, number, entry, run),
             Err(refused) => self.turned.add(refused, &series.key),
         }
+    }
+
+    /// Whether a point that is late is so by this post alone, and says what the one before does not: it is no repeat, and
+    /// what it counts is nowhere. Two processes, or two instruments, have one series.
+    fn is_of_another(&mut self, found: &SeriesPlace, point: &Run) -> bool {
+        let SeriesPlace::At(place) = found else {
+            return false;
+        };
+        if self.ended_before(*place).is_none_or(|ended| ended >= point.time) {
+            return false;
+        }
+        let run = self.runs.series[*place as usize].run.as_ref();
+        run.is_some_and(|run| {
+            run.start != point.start || run.time == point.time && !counts_alike(&run.words, &point.words)
+        })
+    }
+
+    /// Where the run of a series ended ahead of this post, 0 where there was none; none where this post has not gone on with it.
+    fn ended_before(&mut self, place: u32) -> Option<u64> {
+        while let Some((place, words)) = self.before.get(self.ended.seen) {
+            let time = words.map_or(0, |_| self.was[self.ended.seen_words + 1]);
+            self.ended.times.entry(*place).or_insert(time);
+            self.ended.seen += 1;
+            self.ended.seen_words += words.map_or(0, |words| words + 2);
+        }
+        self.ended.times.get(&place).copied()
     }
 
     fn take(&mut self, found: SeriesPlace, number: u64, entry: Entry, run: &Run) {
@@ -244,6 +288,16 @@ impl Drop for Draft<'_> {
         }
         let first_new = self.first_new;
         self.runs.truncate(first_new);
+    }
+}
+
+/// Of a histogram without its sum, which its run may have lost.
+fn counts_alike(one: &[u64], other: &[u64]) -> bool {
+    match (one, other) {
+        ([count, _, _, buckets @ ..], [other_count, _, _, others @ ..]) => {
+            count == other_count && buckets == others
+        }
+        _ => one == other,
     }
 }
 

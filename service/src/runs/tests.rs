@@ -189,20 +189,22 @@ fn what_was_added_is_the_sum_of_the_last_values_of_the_runs() {
     }
 }
 
+/// The number of a series.
+fn number(names: &Names, name: &str) -> u64 {
+    let sum = r#""aggregationTemporality":1,"isMonotonic":true,"dataPoints":[{"startTimeUnixNano":"1","timeUnixNano":"2","asInt":"0"}]"#;
+    let text = format!(
+        r#"{{"resourceMetrics":[{{"scopeMetrics":[{{"metrics":[{{"name":"{name}","sum":{{{sum}}}}}]}}]}}]}}"#
+    );
+    names.learn(text.into()).unwrap()
+}
+
 /// Who reads the post for a place does not count what is not sound.
 #[test]
 fn a_place_is_told_among_the_points_of_the_profile() {
     let names = Names::new().unwrap();
-    let number = |name: &str| {
-        let sum = r#""aggregationTemporality":1,"isMonotonic":true,"dataPoints":[{"startTimeUnixNano":"1","timeUnixNano":"2","asInt":"0"}]"#;
-        let text = format!(
-            r#"{{"resourceMetrics":[{{"scopeMetrics":[{{"metrics":[{{"name":"{name}","sum":{{{sum}}}}}]}}]}}]}}"#
-        );
-        names.learn(text.into()).unwrap()
-    };
     let mut points = Points::default();
     for (name, value) in [("a", -5i64), ("b", 5), ("c", -7), ("d", 7)] {
-        points.push(number(name), 10, 20, [value as u64]);
+        points.push(number(&names, name), 10, 20, [value as u64]);
     }
     let runs = Runs::default();
     let posted = Posted { points: &points, cumulative: &[0, 1, 2, 3], names: &names };
@@ -220,11 +222,7 @@ fn a_place_is_told_among_the_points_of_the_profile() {
 #[test]
 fn a_series_is_looked_up_once_however_many_of_its_points_are_not_taken() {
     let names = Names::new().unwrap();
-    let sum = r#""aggregationTemporality":1,"isMonotonic":true,"dataPoints":[{"startTimeUnixNano":"1","timeUnixNano":"2","asInt":"0"}]"#;
-    let text = format!(
-        r#"{{"resourceMetrics":[{{"scopeMetrics":[{{"metrics":[{{"name":"a","sum":{{{sum}}}}}]}}]}}]}}"#
-    );
-    let number = names.learn(text.into()).unwrap();
+    let number = number(&names, "a");
     let mut points = Points::default();
     for _ in 0..50 {
         points.push(number, 10, 20, [-5i64 as u64]); // it is not sound
@@ -244,6 +242,32 @@ fn a_series_is_looked_up_once_however_many_of_its_points_are_not_taken() {
     assert_eq!((draft.foreign(), draft.turned.count(), draft.points.count()), (50, 50, 2));
     assert_eq!(draft.turned.by, [(Refused::Delta, 50)].into());
     assert_eq!(asked.get(), 3, "once of each kind");
+}
+
+/// Else what one of two processes, or of two instruments of a name, has counted would be lost, and nobody told.
+#[test]
+fn of_two_points_over_one_time_in_a_post_the_second_is_refused_by_name() {
+    let (names, runs) = (Names::new().unwrap(), Runs::default());
+    let number = number(&names, "a");
+    // How many points of a post add nothing, and how many are refused.
+    let taken = |said: &[(u64, u64, u64)]| {
+        let mut points = Points::default();
+        said.iter().for_each(|(start, time, value)| points.push(number, *start, *time, [*value]));
+        let cumulative: Vec<u32> = (0..points.count() as u32).collect();
+        let posted = Posted { points: &points, cumulative: &cumulative, names: &names };
+        let draft = runs.draft(posted, |_| 0);
+        let (late, refused) = (draft.late.len(), draft.turned.by.get(&Refused::EarlierRun).copied());
+        draft.keep();
+        (late, refused.unwrap_or(0))
+    };
+    assert_eq!(taken(&[(10, 20, 5)]), (0, 0));
+    assert_eq!(taken(&[(10, 30, 9), (10, 30, 9)]), (1, 0), "twice the same");
+    assert_eq!(taken(&[(10, 40, 11), (10, 40, 3)]), (0, 1), "of one start and time, and another value");
+    assert_eq!(taken(&[(10, 50, 13), (12, 45, 4), (12, 50, 4)]), (0, 2), "of another start");
+    assert_eq!(taken(&[(10, 60, 15), (10, 55, 14)]), (1, 0), "the later one has it");
+    assert_eq!(taken(&[(10, 60, 15), (10, 55, 14), (12, 50, 4)]), (3, 0), "it comes again");
+    assert_eq!(taken(&[(10, 70, 17), (12, 60, 5)]), (1, 0), "an earlier post may have had it");
+    assert_eq!(taken(&[(70, 80, 1), (10, 75, 18)]), (0, 1), "what a run came to before the next one began");
 }
 
 /// A start finds entries that a commit has already, and others.
