@@ -10,7 +10,7 @@ const UNREADABLE: &str = "unreadable";
 const REASONS: [(&str, &str); 41] = [
     (
         "out of order",
-        "right for a repeat: it was taken before. If each post of a sender gets it, its clock was set back",
+        "right for a repeat: it was taken before. If each post of a sender gets it, its clock was set back, or it sends a series twice",
     ),
     (
         "other writer",

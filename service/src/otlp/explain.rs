@@ -84,6 +84,20 @@ pub fn point_at(body: &[u8], profile: Profile, place: u64) -> Option<(Explained,
     series
 }
 
+/// The same of a point whose series has another one ahead of it in the body, which ends then.
+pub fn second_at(body: &[u8], profile: Profile, place: u64, end: u64) -> Option<Explained> {
+    let (second, series) = point_at(body, profile, place)?;
+    let document = Document::parse(body).ok()?;
+    let (mut taken, mut has_first) = (0, false);
+    visit_with(&document, profile, |seen| {
+        if seen.found.is_ok() {
+            has_first |= taken < place && seen.end() == end && *seen.key == *series.0;
+            taken += 1;
+        }
+    })?;
+    has_first.then_some(second)
+}
+
 fn of(seen: &Seen<'_, '_>) -> Explained {
     let name = seen.metric.name.and_then(Value::text);
     Explained {

@@ -26,7 +26,7 @@ use bytes::Bytes;
 use logged::Logged;
 use std::sync::atomic::{AtomicBool, Ordering::Relaxed};
 use std::sync::{Arc, Mutex, PoisonError};
-use texts::{of_late, of_other_writer, other_writer, place_of, reason};
+use texts::{late_at, of_late, of_other_writer, of_twice, other_writer, place_of, reason};
 use tokio::sync::Semaphore;
 
 /// How many senders, series and refusals are remembered as told.
@@ -162,17 +162,22 @@ impl Reporter {
                 Outcome::taken_but(rejected, off).with_causes(&causes)
             }
             Outcome::Refused { status, message } => {
-                let Some(place) = place_of(&message) else {
-                    let message = of_late(&message).map_or(message.clone(), |more| message + &more);
-                    return Outcome::Refused { status, message };
-                };
-                let profile = self.options.profile;
-                let said = self.read(source, move |body| of_other_writer(body, profile, place)).await;
-                let message = message + &said.flatten().unwrap_or_default();
-                Outcome::Refused { status, message }
+                let more = self.more(source, &message).await;
+                Outcome::Refused { status, message: message + &more.unwrap_or_default() }
             }
             Outcome::Later { .. } => outcome,
         }
+    }
+
+    /// What a refusal says beside its own words.
+    async fn more(&self, source: &Source, message: &str) -> Option<String> {
+        let profile = self.options.profile;
+        if let Some(place) = place_of(message) {
+            return self.read(source, move |body| of_other_writer(body, profile, place)).await?;
+        }
+        let late = late_at(message)?;
+        let twice = self.read(source, move |body| of_twice(body, profile, late)).await;
+        twice.flatten().or_else(|| Some(of_late(late.1)))
     }
 
     /// Why so many points were not taken, without those that are handed on.

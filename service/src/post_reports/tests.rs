@@ -202,6 +202,30 @@ async fn who_posts_to_another_s_series_is_told_which_it_is() {
     assert!(answer.len() < 700 && !answer.contains(char::is_control), "{answer}");
 }
 
+/// Else it is told that what nobody has was taken before.
+#[tokio::test]
+async fn a_post_with_a_series_twice_over_one_time_is_told_so() {
+    let point = |more: &str| format!(r#"{{{SPAN},"asInt":"1"{more}}}"#);
+    let route = r#","attributes":[{"key":"route","value":{"stringValue":"/"}}]"#;
+    let points = [point(""), "{}".into(), point(route), point(route)].join(",");
+    let metric = format!(r#"{{"name":"m","sum":{{"aggregationTemporality":1,"dataPoints":[{points}]}}}}"#);
+    let refused = |message: &str| Outcome::Refused { status: 400, message: message.into() };
+    let twice = "out of order: point 2, frontier 2";
+    let said = answered(&reported(refused(twice), None, ReportOptions::default()), &metric).await;
+    assert_eq!(
+        said,
+        format!(
+            "{twice}: the post has `m` {{route=/}} twice over one time: give each process its own service.instance.id, each \
+             instrument its own name"
+        )
+    );
+    // The first one, or where another post has come further.
+    for late in ["out of order: point 1, frontier 2", "out of order: point 2, frontier 3"] {
+        let said = answered(&reported(refused(late), None, ReportOptions::default()), &metric).await;
+        assert!(said.starts_with(&format!("{late}: the point begins before 1970-01-01T")), "{said}");
+    }
+}
+
 /// Nobody reads nanoseconds.
 #[tokio::test]
 async fn a_late_sender_is_told_the_time() {

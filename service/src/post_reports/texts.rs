@@ -2,7 +2,7 @@
 
 use crate::log::{all_shown, cut, of_nanoseconds, shown};
 use crate::otlp::series::SeriesKey;
-use crate::otlp::{point_at, Explained, Profile};
+use crate::otlp::{point_at, second_at, Explained, Profile};
 
 /// What an answer begins with to a post to another's series; the place of its point follows.
 const OTHER_WRITER: &str = "other writer: point ";
@@ -29,24 +29,40 @@ pub(super) fn place_of(message: &str) -> Option<u64> {
     message.strip_prefix(OTHER_WRITER)?.parse().ok()
 }
 
-/// What the answer to a post out of order says beside the place and the frontier: when that was, and what it means.
-pub(super) fn of_late(message: &str) -> Option<String> {
-    let (_, frontier) = message.strip_prefix(OUT_OF_ORDER)?.split_once(FRONTIER)?;
-    let time = of_nanoseconds(frontier.parse().ok()?);
-    Some(format!(
+/// The place of a point that is too late, and where its series ended.
+pub(super) fn late_at(message: &str) -> Option<(u64, u64)> {
+    let (place, frontier) = message.strip_prefix(OUT_OF_ORDER)?.split_once(FRONTIER)?;
+    Some((place.parse().ok()?, frontier.parse().ok()?))
+}
+
+/// What the answer to a post out of order says beside them: when that was, and what it means.
+pub(super) fn of_late(frontier: u64) -> String {
+    let time = of_nanoseconds(frontier);
+    format!(
         ": the point begins before {time}, up to where its series was taken: a repeat was taken before, so drop it; else the \
          sender's clock was set back"
+    )
+}
+
+/// The same where the post itself has its series up to there: nothing of it was taken, nor will be.
+pub(super) fn of_twice(body: &[u8], profile: Profile, (place, frontier): (u64, u64)) -> Option<String> {
+    let named = named(&second_at(body, profile, place, frontier)?);
+    Some(format!(
+        ": the post has {named} twice over one time: give each process its own service.instance.id, each instrument its own name"
     ))
 }
 
 /// What the answer to a post to another's series says beside the place: that series and what to do.
 pub(super) fn of_other_writer(body: &[u8], profile: Profile, place: u64) -> Option<String> {
-    let (point, _) = point_at(body, profile, place)?;
+    let named = named(&point_at(body, profile, place)?.0);
+    Some(format!(": {named} is another sender's: give each process its own service.instance.id"))
+}
+
+/// A point by its metric and its attributes.
+fn named(point: &Explained) -> String {
     let name = shown(&point.metric, NAME_SHOWN);
     let attributes = shown(&point.attributes, ATTRIBUTES_SHOWN);
-    Some(format!(
-        ": `{name}` {{{attributes}}} is another sender's: give each process its own service.instance.id"
-    ))
+    format!("`{name}` {{{attributes}}}")
 }
 
 /// That a sender posts to another's series: one line as well.
