@@ -217,7 +217,7 @@ impl<'r> Reader<'r> {
             otlp::prepare_with(self.encoding, body, reading, room)?;
         let numbered = match is_cumulative && reading.cumulative == Cumulative::On {
             true => taker.numbered_text(&body).map_err(|refused| match refused {
-                core::Refused::LongSeries => Refusal::TooLong,
+                core::Refused::LongSeries => Refusal::LongSeries,
                 _ => Refusal::NoMemory,
             })?,
             false => None,

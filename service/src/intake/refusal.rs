@@ -2,6 +2,7 @@
 
 use super::wire::{HEADERS, READ_AHEAD};
 use super::MOST;
+use crate::core;
 use crate::identity::Stranger;
 use crate::otlp::{Outcome, Refused};
 
@@ -49,6 +50,9 @@ pub enum Refusal {
     /// It would be refused again, since all posts together may not have what it takes to read it.
     #[error("body too long for the memory that posts may take: --most-bytes")]
     TooLongForMemory,
+    /// As the book refuses it.
+    #[error("{}", core::Refused::LongSeries)]
+    LongSeries,
     /// It can be sent again: what others sent takes all memory that posts may have.
     #[error("too many bytes in flight")]
     TooManyBytes,
@@ -85,7 +89,7 @@ impl Refusal {
             Refusal::ContentType | Refusal::ContentEncoding => 415,
             Refusal::NoLength => 411,
             Refusal::BadSender | Refusal::Malformed | Refusal::BadGzip | Refusal::Unreadable(_) => 400,
-            Refusal::TooLong | Refusal::TooLongForMemory => 413,
+            Refusal::TooLong | Refusal::TooLongForMemory | Refusal::LongSeries => 413,
             Refusal::HeadTooLong => 431,
             Refusal::Deadline => DEADLINE,
             Refusal::Late | Refusal::TooManyBytes | Refusal::NoMemory | Refusal::Unavailable(_) => 503,

@@ -4,7 +4,7 @@ use super::*;
 use crate::intake::head::Packing;
 use crate::intake::{Budget, Intake};
 use crate::otlp::{slot_of, Resources};
-use crate::slot::{Elsewhere, Place, NO_OWNER};
+use crate::slot::{ByNumber, Elsewhere, Place, NO_OWNER};
 use std::future::Future;
 use std::pin::Pin;
 use std::sync::Mutex;
@@ -201,4 +201,31 @@ async fn a_part_that_another_instance_got_is_taken_where_its_slot_is() {
     let wrong = served.intake.forwarded(1, "B", part(&Bytes::from_static(b"{"))).await;
     assert_eq!(wrong.map(|said| said.status()), Some(400));
     assert_eq!((served.kept().len(), served.budget.used()), (0, 0));
+}
+
+/// Has no room for the names of a post's series.
+struct WithoutRoom;
+
+impl Taker for WithoutRoom {
+    fn numbered_text(&self, _: &Bytes) -> Result<Option<ByNumber>, core::Refused> {
+        Err(core::Refused::LongSeries)
+    }
+
+    async fn post(self: &Arc<Self>, _: String, _: Request) -> Outcome {
+        panic!("it was not read")
+    }
+}
+
+/// It is not the body that is too long.
+#[tokio::test]
+async fn what_has_too_long_series_is_told_so() {
+    let budget = Budget::new(64 << 20);
+    let reading = Reading { cumulative: Cumulative::On, ..Reading::default() };
+    let metrics = Arc::new(Metrics::new().unwrap());
+    let intake = Intake::new(Arc::new(WithoutRoom), reading, budget.clone(), metrics);
+    let metric = r#"{"name":"m","sum":{"aggregationTemporality":2,"dataPoints":[]}}"#;
+    let body = format!(r#"{{"resourceMetrics":[{{"scopeMetrics":[{{"metrics":[{metric}]}}]}}]}}"#);
+    let head = Head { sender: "A".into(), encoding: Encoding::Json, packing: Packing::Plain };
+    let said = intake.put(head, body.into(), budget.hold()).await;
+    assert_eq!((said.status(), said.refusal()), (413, Some(&*core::Refused::LongSeries.to_string())));
 }
