@@ -10,8 +10,9 @@ use std::time::{Duration, Instant};
 pub const BURST: u64 = 60;
 const ALL: Duration = Duration::from_secs(BURST);
 
-/// So many senders have one; where there are more, those that are full are forgotten, which changes nothing.
-const MOST: usize = 10_000;
+/// So many senders have one. Where another one comes those that are full are forgotten, which changes nothing; and of the others
+/// those that are full first, up to half of all: so there is a bound whatever names are made up, and it is seldom looked for them.
+const MOST: usize = 100_000;
 
 /// When each sender's is full again.
 #[derive(Default)]
@@ -55,8 +56,14 @@ impl Buckets {
     }
 
     fn make_room(&mut self, now: Instant) {
-        if self.0.len() >= MOST {
-            self.0.retain(|_, full| *full > now);
+        if self.0.len() < MOST {
+            return;
+        }
+        self.0.retain(|_, full| *full > now);
+        let mut times: Vec<Instant> = self.0.values().copied().collect();
+        if let Some(many) = times.len().checked_sub(MOST / 2 + 1) {
+            let (_, last, _) = times.select_nth_unstable(many);
+            self.0.retain(|_, full| *full > *last);
         }
     }
 }
@@ -104,11 +111,15 @@ mod tests {
 
     #[test]
     fn senders_that_are_made_up_take_no_memory_for_ever() {
-        let (mut buckets, begun) = (Buckets::default(), Instant::now());
-        for number in 0..3 * MOST as u32 {
-            let now = begun + Duration::from_millis(u64::from(number));
-            assert_eq!(buckets.take(&number.to_string(), SECOND, now), Ok(()));
+        for cost in [SECOND, 1000 * SECOND] {
+            let (mut buckets, begun) = (Buckets::default(), Instant::now());
+            for number in 0..3 * MOST as u32 {
+                let now = begun + Duration::from_micros(100) * number;
+                assert_eq!(buckets.take(&number.to_string(), cost, now), Ok(()));
+            }
+            assert!(buckets.0.len() <= MOST, "{}", buckets.0.len());
+            let last = (3 * MOST - 1).to_string();
+            assert!(buckets.used(begun).contains_key(&last), "who posted last has used some");
         }
-        assert!(buckets.0.len() <= MOST, "{}", buckets.0.len());
     }
 }
