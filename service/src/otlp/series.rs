@@ -13,7 +13,7 @@ pub use forwarded::forwarded;
 pub(super) use forwarded::protobuf_of_forwarded;
 pub(super) use point::Temporality;
 pub use posted::Profile;
-pub use posted::{all_are, only, posted, posted_with, words_of};
+pub use posted::{all_are, has_more, only, posted, posted_with, words_of};
 pub(super) use posted::{first_resource, points_by_resource, visit, visit_with, Seen};
 pub(super) use why::What;
 pub use zeros::zeros;

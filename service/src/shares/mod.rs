@@ -121,7 +121,7 @@ impl Shares {
             return Ok(claim);
         };
         let share = rules.of(sender);
-        self.may_have_series(rules, share, sender, text)?;
+        self.may_have_series(rules, sender, (share, points), text)?;
         if let Some(most) = share.points {
             let cost = bucket::cost(points, most);
             let waits = self.buckets().take(sender, cost, Instant::now());
@@ -135,11 +135,13 @@ impl Shares {
         Ok(claim)
     }
 
+    /// Who has all of its share gets no new series, and nobody more by one post than a whole share: that is looked at only where
+    /// the post has more points.
     fn may_have_series(
         &self,
         rules: &Rules,
-        share: Share,
         sender: &str,
+        (share, points): (Share, u64),
         text: impl FnOnce() -> Option<Bytes>,
     ) -> Result<(), Over> {
         if share.series.is_none() && self.counted.all() < rules.kept_for_others() {
@@ -148,10 +150,12 @@ impl Shares {
         let series = self.counted.of(sender);
         let has_others = self.counted.all() > series;
         let most = share.series.or(has_others.then(|| rules.kept_for_others()));
+        let is_over = |most| match series >= most {
+            true => !rules.knows_all(text()),
+            false => points > most && rules.has_more(text(), most),
+        };
         match most {
-            Some(most) if series >= most && !rules.knows_all(text()) => {
-                Err(Over::Series { sender: sender.to_string(), series, most })
-            }
+            Some(most) if is_over(most) => Err(Over::Series { sender: sender.to_string(), series, most }),
             _ => Ok(()),
         }
     }

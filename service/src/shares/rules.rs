@@ -1,7 +1,7 @@
 //! How much each sender may have.
 
 use crate::identity::Tokens;
-use crate::otlp::series::{all_are, Profile, SeriesKey};
+use crate::otlp::series::{all_are, has_more, Profile, SeriesKey};
 use crate::reloaded::Reloaded;
 use bytes::Bytes;
 use std::collections::HashMap;
@@ -61,5 +61,10 @@ impl Rules {
     /// Whether a post has no series but those of an earlier flush.
     pub fn knows_all(&self, text: Option<Bytes>) -> bool {
         text.is_some_and(|text| all_are(&text, self.profile, |key| self.owned.has(key)))
+    }
+
+    /// Whether it has more new ones than so many.
+    pub fn has_more(&self, text: Option<Bytes>, most: u64) -> bool {
+        text.is_some_and(|text| has_more(&text, self.profile, most, |key| self.owned.has(key)))
     }
 }

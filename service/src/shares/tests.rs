@@ -122,6 +122,23 @@ fn a_share_of_series_is_kept_to_between_two_flushes_too() {
     ));
 }
 
+/// Else the first post of a sender that makes very many would take the room of all others.
+#[test]
+fn no_post_has_more_new_series_than_a_share() {
+    let flushed = Flushed::default();
+    let shares = shares(Share { series: Some(5), points: None }, &flushed);
+    let over = post(&shares, "A", &names("a", 6)).unwrap_err();
+    assert_eq!(over, Over::Series { sender: "A".into(), series: 0, most: 5 });
+    let many_points = shares.claim("A", 50, || Some(body(&names("a", 5))));
+    assert!(many_points.is_ok(), "they are of few series");
+    assert_eq!(post(&shares, "A", &names("a", 3)), Ok(()));
+    flushed.add("A", &names("a", 3));
+    shares.counted.count(&flushed);
+    let with = |new| post(&shares, "A", &[names("a", 3), names("b", new)].concat());
+    assert!(with(6).is_err());
+    assert_eq!(with(3), Ok(()), "as for who has one left");
+}
+
 /// Else a sender that is refused for another reason would use up what it has.
 #[test]
 fn points_of_what_is_not_taken_are_given_back() {

@@ -6,7 +6,9 @@ use super::why::{What, Why};
 use super::{Posted, SeriesKey};
 use crate::otlp::exponential::why_not;
 use crate::otlp::json::{write_text, Document, Elements, Value};
-use std::collections::HashMap;
+use ahash::RandomState;
+use std::collections::{HashMap, HashSet};
+use std::hash::BuildHasher;
 use std::sync::Arc;
 
 /// A point where it is in its body.
@@ -76,6 +78,28 @@ pub fn all_are(body: &[u8], profile: Profile, mut is_such: impl FnMut(&SeriesKey
         }
     });
     all && whole.is_some()
+}
+
+/// Whether more series of a body than so many are not such. No key is kept here either, and of a long one both ends count, so
+/// that the time for a point is bounded: of keys that are alike in these no more than one does.
+pub fn has_more(body: &[u8], profile: Profile, most: u64, is_such: impl Fn(&SeriesKey) -> bool) -> bool {
+    const END: usize = 4 << 10;
+    let Ok(document) = Document::parse(body) else {
+        return false;
+    };
+    let (mut looked_at, mut others) = (HashSet::new(), 0);
+    let hasher = RandomState::new();
+    let _ = visit_with(&document, profile, |seen| {
+        if others > most || seen.found.is_err() {
+            return;
+        }
+        let key = seen.key.as_bytes();
+        let (first, last) = (&key[..key.len().min(END)], &key[key.len().saturating_sub(END)..]);
+        if looked_at.insert(hasher.hash_one((first, last, key.len()))) {
+            others += u64::from(!is_such(&SeriesKey(seen.key.into())));
+        }
+    });
+    others > most
 }
 
 /// The series of a request of one point, by which a number has its name.
