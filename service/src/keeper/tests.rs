@@ -5,6 +5,7 @@ mod cumulative;
 mod forget;
 mod moved;
 mod runs;
+mod shares;
 mod stall;
 
 use super::*;

@@ -15,6 +15,7 @@ use bucket::{Buckets, BURST};
 use bytes::Bytes;
 use count::Counted;
 use serde::{Deserialize, Serialize};
+use std::future::Future;
 use std::sync::{Arc, Mutex, MutexGuard, OnceLock, PoisonError, Weak};
 use std::time::{Duration, Instant};
 
@@ -195,6 +196,14 @@ impl Shares {
 }
 
 impl Claim<'_> {
+    /// Waits for what goes on also where nobody waits for it any more: so the points are kept then.
+    pub async fn during<T>(&mut self, work: impl Future<Output = T>) -> T {
+        let points = self.points.take();
+        let done = work.await;
+        self.points = points;
+        done
+    }
+
     /// The post is in the book, with so many series that were not there.
     pub fn keep(&mut self, sender: &str, new_series: usize) {
         self.points = None;

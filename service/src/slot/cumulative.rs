@@ -65,7 +65,7 @@ impl Slot {
         loop {
             let landed = self.landed.notified(); // from here on none is missed
             let put;
-            (making, put) = self.made(making).await;
+            (making, put) = self.made(making, &mut claim).await;
             match put? {
                 Some(put) => {
                     if let Some(new_series) = put.new_series {
@@ -78,18 +78,22 @@ impl Slot {
         }
     }
 
-    async fn made(self: &Arc<Slot>, mut making: Making) -> (Making, Result<Option<Put>, &'static str>) {
+    async fn made(
+        self: &Arc<Slot>,
+        mut making: Making,
+        claim: &mut Claim<'_>,
+    ) -> (Making, Result<Option<Put>, &'static str>) {
         if making.by.bytes() <= SHORT {
             let put = self.put_made(&mut making);
             return (making, put);
         }
         let _turn = self.readers.acquire().await; // it is never closed
         let slot = self.clone();
-        blocking(move || {
+        let making = blocking(move || {
             let put = slot.put_made(&mut making);
             (making, put)
-        })
-        .await
+        });
+        claim.during(making).await
     }
 
     /// None where what is in flight has to land first: nobody waits with the lock of the runs.
@@ -141,7 +145,7 @@ impl Slot {
         if draft.points.count() == 0 {
             return Ok(Tried::Put(Put {
                 journalled: said(Journalled::again(&self.journal), &draft),
-                new_series: Some(0),
+                new_series: None,
             }));
         }
         let mut read = match self.read_made(making, &mut draft, foreign) {
