@@ -34,9 +34,6 @@ pub struct Draft<'r> {
     places: Vec<u32>,
     /// Of the delta points so far: by the number of their series where the last one ends.
     deltas: HashMap<u64, u64>,
-    /// Of series that are not here, and of which no point was taken so far, by their numbers, what a point needs of them. Their
-    /// texts are long, and are read once for it.
-    untaken: HashMap<u64, (Kind, u64)>,
     ended: Ended,
 }
 
@@ -76,7 +73,8 @@ pub struct Posted<'p> {
 impl Runs {
     /// What the points of a post come to. `frontier` is where a series ends that has no run.
     pub fn draft(&self, posted: Posted<'_>, frontier: impl Fn(&SeriesKey) -> u64) -> Draft<'_> {
-        let runs = self.lock();
+        let mut runs = self.lock();
+        runs.go_by(posted.names);
         let (points, cumulative) = (posted.points, posted.cumulative.len());
         let mut draft = Draft {
             of: self,
@@ -94,7 +92,6 @@ impl Runs {
             made: Vec::with_capacity(cumulative),
             places: Vec::with_capacity(points.count()),
             deltas: HashMap::new(),
-            untaken: HashMap::new(),
             ended: Ended::default(),
         };
         let mut cumulative = posted.cumulative.iter().copied().peekable();
@@ -138,7 +135,7 @@ impl Draft<'_> {
         frontier: impl Fn(&SeriesKey) -> u64,
     ) {
         let deltas = self.deltas.get(&number).copied().unwrap_or(0);
-        if let Some((kind, frontier)) = self.untaken.get(&number).copied() {
+        if let Some((kind, frontier)) = self.runs.untaken.get(&number).copied() {
             if !run.is_sound(kind) {
                 self.unsound.push(place);
                 return;
@@ -153,13 +150,13 @@ impl Draft<'_> {
             self.unsound.push(place);
             return;
         };
+        if let SeriesPlace::New(series) = &found {
+            self.runs.untaken.insert(number, (series.kind, series.frontier));
+        }
         let series = match &found {
             SeriesPlace::At(place) => &self.runs.series[*place as usize],
             SeriesPlace::New(series) => series,
         };
-        if let SeriesPlace::New(series) = &found {
-            self.untaken.insert(number, (series.kind, series.frontier));
-        }
         if !run.is_sound(series.kind) {
             self.unsound.push(place);
             return;
@@ -204,7 +201,9 @@ impl Draft<'_> {
     }
 
     fn take(&mut self, found: SeriesPlace, number: u64, entry: Entry, run: &Run) {
-        self.untaken.remove(&number);
+        if let SeriesPlace::New(_) = &found {
+            self.runs.untaken.remove(&number);
+        }
         let place = self.runs.place(found, number);
         let series = &self.runs.series[place as usize];
         if let Entry::Noted(run) = &entry {

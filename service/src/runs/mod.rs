@@ -44,6 +44,9 @@ pub struct State {
     places: HashMap<SeriesKey, u32>,
     /// By the number of a series in the names that were used last.
     by_number: Vec<u32>,
+    /// By the same numbers, of series that are not here, since no point of theirs was taken yet, what a point needs of them. Their
+    /// texts are long: who posts such points again and again would have all others wait while they are read.
+    untaken: HashMap<u64, (Kind, u64)>,
     generation: u64,
     /// The places of series whose runs are in no commit as they are.
     changed: Vec<u32>,
@@ -155,6 +158,16 @@ impl State {
         self.changed.retain(|place| series[*place as usize].is_changed);
     }
 
+    /// Numbers are of these names from now on.
+    fn go_by(&mut self, names: &Names) {
+        let generation = files::Names::generation(names);
+        if self.generation != generation {
+            self.generation = generation;
+            self.by_number.clear();
+            self.untaken.clear();
+        }
+    }
+
     /// The series of a number; none where its name is that of none. `frontier` is asked of one that is new here.
     fn find(
         &mut self,
@@ -162,11 +175,7 @@ impl State {
         number: u64,
         frontier: impl Fn(&SeriesKey) -> u64,
     ) -> Option<SeriesPlace> {
-        let generation = files::Names::generation(names);
-        if self.generation != generation {
-            self.generation = generation;
-            self.by_number.clear();
-        }
+        self.go_by(names);
         let known = self.by_number.get(number as usize);
         if let Some(place) = known.filter(|place| **place != UNKNOWN) {
             return Some(SeriesPlace::At(*place));

@@ -235,13 +235,31 @@ fn a_series_is_looked_up_once_however_many_of_its_points_are_not_taken() {
     let cumulative: Vec<u32> = (0..points.count() as u32).collect();
     let posted = Posted { points: &points, cumulative: &cumulative, names: &names };
     let (runs, asked) = (Runs::default(), std::cell::Cell::new(0));
-    let draft = runs.draft(posted, |_| {
-        asked.set(asked.get() + 1);
-        50
-    });
+    let drafted = |posted| {
+        asked.set(0);
+        runs.draft(posted, |_| {
+            asked.set(asked.get() + 1);
+            50
+        })
+    };
+    let draft = drafted(posted);
     assert_eq!((draft.foreign(), draft.turned.count(), draft.points.count()), (50, 50, 2));
     assert_eq!(draft.turned.by, [(Refused::Delta, 50)].into());
     assert_eq!(asked.get(), 3, "once of each kind");
+    drop(draft);
+    // And once of each post, for its name.
+    let untaken = Posted { points: &points_before(&points, 100), cumulative: &cumulative[..100], ..posted };
+    for wanted in [2, 1, 1] {
+        let draft = drafted(untaken);
+        assert_eq!((draft.foreign(), draft.turned.count(), draft.points.count()), (50, 50, 0));
+        assert_eq!(asked.get(), wanted);
+    }
+}
+
+fn points_before(points: &Points, place: usize) -> Points {
+    let mut before = Points::default();
+    points.each().take(place).for_each(|point| before.push_words(point[0], &point[1..]));
+    before
 }
 
 /// Else what one of two processes, or of two instruments of a name, has counted would be lost, and nobody told.
