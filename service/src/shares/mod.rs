@@ -45,10 +45,17 @@ pub enum Over {
     Series { sender: String, series: u64, most: u64 },
 }
 
-impl Over {
-    /// Whether it is over once others of its series are forgotten.
-    pub fn is_of_series(&self) -> bool {
-        matches!(self, Over::Series { .. })
+/// How many series a sender has, and may have.
+#[derive(Clone, Copy, Debug)]
+pub struct Limit {
+    series: u64,
+    most: u64,
+}
+
+impl Limit {
+    pub fn over(self, sender: &str) -> Over {
+        let Limit { series, most } = self;
+        Over::Series { sender: sender.to_string(), series, most }
     }
 }
 
@@ -110,20 +117,35 @@ impl Shares {
         }
     }
 
-    /// Asks for a post's points. `text` is what it says, for who may have no new series.
-    pub fn claim(
-        &self,
-        sender: &str,
-        points: u64,
-        text: impl FnOnce() -> Option<Bytes>,
-    ) -> Result<Claim<'_>, Over> {
-        let mut claim = Claim { shares: self, points: None };
-        let Some(rules) = self.rules.get() else {
-            return Ok(claim);
-        };
+    /// Whether the series of a post have to be looked at, which it takes its text for; none where all may be new. Who has all of
+    /// its share gets no new series, and nobody more by one post than a whole share: that is looked at only where the post has
+    /// more points.
+    pub fn limit(&self, sender: &str, points: u64) -> Option<Limit> {
+        let rules = self.rules.get()?;
         let share = rules.of(sender);
-        self.may_have_series(rules, sender, (share, points), text)?;
-        if let Some(most) = share.points {
+        if share.series.is_none() && self.counted.all() < rules.kept_for_others() {
+            return None; // nobody can be over what is left to all
+        }
+        let series = self.counted.of(sender);
+        let has_others = self.counted.all() > series;
+        let most = share.series.or(has_others.then(|| rules.kept_for_others()))?;
+        (series >= most || points > most).then_some(Limit { series, most })
+    }
+
+    /// Whether a post that says this is within it.
+    pub fn is_within(&self, limit: Limit, text: Option<Bytes>) -> bool {
+        let Limit { series, most } = limit;
+        self.rules.get().is_none_or(|rules| match series >= most {
+            true => rules.knows_all(text),
+            false => !rules.has_more(text, most),
+        })
+    }
+
+    /// Asks for a post's points.
+    pub fn claim(&self, sender: &str, points: u64) -> Result<Claim<'_>, Over> {
+        let mut claim = Claim { shares: self, points: None };
+        let most = self.rules.get().and_then(|rules| rules.of(sender).points);
+        if let Some(most) = most {
             let cost = bucket::cost(points, most);
             let waits = self.buckets().take(sender, cost, Instant::now());
             waits.map_err(|wait| Over::Points {
@@ -134,31 +156,6 @@ impl Shares {
             claim.points = Some((sender.to_string(), cost));
         }
         Ok(claim)
-    }
-
-    /// Who has all of its share gets no new series, and nobody more by one post than a whole share: that is looked at only where
-    /// the post has more points.
-    fn may_have_series(
-        &self,
-        rules: &Rules,
-        sender: &str,
-        (share, points): (Share, u64),
-        text: impl FnOnce() -> Option<Bytes>,
-    ) -> Result<(), Over> {
-        if share.series.is_none() && self.counted.all() < rules.kept_for_others() {
-            return Ok(()); // nobody can be over what is left to all
-        }
-        let series = self.counted.of(sender);
-        let has_others = self.counted.all() > series;
-        let most = share.series.or(has_others.then(|| rules.kept_for_others()));
-        let is_over = |most| match series >= most {
-            true => !rules.knows_all(text()),
-            false => points > most && rules.has_more(text(), most),
-        };
-        match most {
-            Some(most) if is_over(most) => Err(Over::Series { sender: sender.to_string(), series, most }),
-            _ => Ok(()),
-        }
     }
 
     /// Those that are nearest to their share, the nearest first.

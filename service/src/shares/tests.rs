@@ -73,16 +73,22 @@ fn shares(of_each: Share, flushed: &Flushed) -> Arc<Shares> {
 fn post(shares: &Shares, sender: &str, names: &[String]) -> Result<(), Over> {
     let known = |key: &SeriesKey| shares.rules.get().is_some_and(|rules| rules.owned.has(key));
     let new = posted(names).iter().filter(|key| !known(key)).count();
-    let mut claim = shares.claim(sender, names.len() as u64, || Some(body(names)))?;
-    claim.keep(sender, new);
-    Ok(())
+    let points = names.len() as u64;
+    match shares.limit(sender, points) {
+        Some(limit) if !shares.is_within(limit, Some(body(names))) => Err(limit.over(sender)),
+        _ => {
+            shares.claim(sender, points)?.keep(sender, new);
+            Ok(())
+        }
+    }
 }
 
 #[test]
 fn without_rules_each_has_all() {
     let shares = Shares::default();
     for _ in 0..10 {
-        shares.claim("A", u64::MAX, || None).unwrap().keep("A", 1_000_000);
+        assert!(shares.limit("A", u64::MAX).is_none());
+        shares.claim("A", u64::MAX).unwrap().keep("A", 1_000_000);
     }
     assert!(shares.nearest().is_empty());
 }
@@ -129,8 +135,8 @@ fn no_post_has_more_new_series_than_a_share() {
     let shares = shares(Share { series: Some(5), points: None }, &flushed);
     let over = post(&shares, "A", &names("a", 6)).unwrap_err();
     assert_eq!(over, Over::Series { sender: "A".into(), series: 0, most: 5 });
-    let many_points = shares.claim("A", 50, || Some(body(&names("a", 5))));
-    assert!(many_points.is_ok(), "they are of few series");
+    let many_points = shares.limit("A", 50).unwrap();
+    assert!(shares.is_within(many_points, Some(body(&names("a", 5)))), "they are of few series");
     assert_eq!(post(&shares, "A", &names("a", 3)), Ok(()));
     flushed.add("A", &names("a", 3));
     shares.counted.count(&flushed);
@@ -145,10 +151,10 @@ fn points_of_what_is_not_taken_are_given_back() {
     let share = Share { series: None, points: Some(1) };
     let shares = shares(share, &Flushed::default());
     for _ in 0..100 {
-        drop(shares.claim("A", 60, || None).unwrap());
+        drop(shares.claim("A", 60).unwrap());
     }
-    shares.claim("A", 60, || None).unwrap().keep("A", 0);
-    let over = shares.claim("A", 1, || None).err().unwrap();
+    shares.claim("A", 60).unwrap().keep("A", 0);
+    let over = shares.claim("A", 1).err().unwrap();
     assert_eq!(over.to_string(), "over its share: A may post 1 points a second, 60 at once: again in 1 s");
     assert_eq!(Outcome::from(over).again_in(), Some(1));
 }
@@ -159,7 +165,7 @@ fn those_that_are_nearest_come_first() {
     let shares = shares(share, &Flushed::default());
     for number in 0..15 {
         let sender = format!("s{number:02}");
-        shares.claim(&sender, number, || None).unwrap().keep(&sender, 15 - number as usize);
+        shares.claim(&sender, number).unwrap().keep(&sender, 15 - number as usize);
     }
     let nearest = shares.nearest();
     assert_eq!(nearest.len(), SHOWN);

@@ -38,7 +38,7 @@ impl Slot {
         }
         let said = match request {
             Request::Numbered(by) if !by.cumulative.is_empty() => {
-                match self.claim(&sender, by.points.count() as u64, by.source.clone()) {
+                match self.claim(&sender, by.points.count() as u64, by.source.clone()).await {
                     Ok(claim) => self.put_cumulative(sender, by, claim).await,
                     Err(over) => return over.into(),
                 }
@@ -46,10 +46,13 @@ impl Slot {
             request => {
                 let source = request.source();
                 match self.read(sender, request).await {
-                    Ok(posted) => match self.claim(&posted.read.post.sender, posted.read.points(), source) {
-                        Ok(claim) => self.put_in_turn(posted, claim).await,
-                        Err(over) => return over.into(),
-                    },
+                    Ok(posted) => {
+                        let claim = self.claim(&posted.read.post.sender, posted.read.points(), source);
+                        match claim.await {
+                            Ok(claim) => self.put_in_turn(posted, claim).await,
+                            Err(over) => return over.into(),
+                        }
+                    }
                     Err(refused) => Ok(Journalled::refused(refused, &self.journal)),
                 }
             }
@@ -71,12 +74,23 @@ impl Slot {
     }
 
     /// Asks for what the sender may have of points and series.
-    fn claim(&self, sender: &str, points: u64, source: Source) -> Result<Claim<'_>, Over> {
-        let claim = self.shares.claim(sender, points, || source.text());
-        if claim.as_ref().is_err_and(Over::is_of_series) {
-            self.crowded.notify_one();
+    async fn claim(&self, sender: &str, points: u64, source: Source) -> Result<Claim<'_>, Over> {
+        if let Some(limit) = self.shares.limit(sender, points) {
+            let (shares, length) = (self.shares.clone(), source.length());
+            let look = move || shares.is_within(limit, source.text());
+            let is_within = match length {
+                0..=SHORT => look(),
+                _ => {
+                    let _turn = self.readers.acquire().await; // it is never closed
+                    blocking(look).await
+                }
+            };
+            if !is_within {
+                self.crowded.notify_one();
+                return Err(limit.over(sender));
+            }
         }
-        claim
+        self.shares.claim(sender, points)
     }
 
     /// Puts a post into the book and into the journal; behind what is in flight, where that is of an hour before. The error
@@ -176,8 +190,13 @@ mod tests {
     use crate::core::Core;
     use crate::files::drive::{self, memory::Store};
     use crate::metrics::Metrics;
-    use crate::otlp::Clock;
+    use crate::otlp::series::SeriesKey;
+    use crate::otlp::{Clock, Profile};
+    use crate::shares::{Owned, Rules, Share};
     use crate::slot::Shared;
+    use std::collections::HashMap;
+    use std::sync::mpsc::Receiver;
+    use std::sync::Mutex;
     use std::time::Duration;
 
     /// As where there is no memory to write it: what is in flight never lands, and the slot ends.
@@ -201,6 +220,46 @@ mod tests {
         slot.lose();
         let told = tokio::time::timeout(Duration::from_secs(5), waiting).await.expect("it waits for ever");
         assert!(matches!(told.unwrap(), Outcome::Refused { status: 503, .. }));
+    }
+
+    /// Who looks for a series for as long as nobody else has done something.
+    struct Slow(Mutex<Receiver<()>>);
+
+    impl Owned for Slow {
+        fn seen(&self) -> (u64, usize) {
+            (0, 1)
+        }
+
+        fn by_owner(&self) -> HashMap<String, u64> {
+            [("A".to_string(), 1)].into()
+        }
+
+        fn has(&self, _: &SeriesKey) -> bool {
+            self.0.lock().unwrap().recv_timeout(Duration::from_secs(5)).is_ok()
+        }
+    }
+
+    /// Else all others of its thread would wait while its text is read, which may take long.
+    #[tokio::test]
+    async fn a_long_post_of_who_has_all_of_its_share_is_looked_at_beside_others() {
+        let (journal, outbox, _dead) =
+            drive::open(Arc::<Store>::default().take(), "00000000000000aa").unwrap();
+        let shared = Shared::new(Arc::new(Metrics::new().unwrap()), Clock::default());
+        let (other, done) = std::sync::mpsc::channel();
+        shared.shares.begin(Rules {
+            most_series: 10,
+            of_each: Share { series: Some(1), points: None },
+            tokens: None,
+            profile: Profile::Deltas,
+            owned: Box::new(Slow(Mutex::new(done))),
+        });
+        let slot = Slot::of(0, journal, Arc::new(outbox), Core::new(10).unwrap(), &shared);
+        slot.open();
+        let long = point(10) + &" ".repeat(SHORT);
+        let posting = tokio::spawn(async move { slot.post("A".into(), long.into()).await });
+        tokio::time::sleep(Duration::from_millis(200)).await;
+        other.send(()).unwrap();
+        assert_eq!(posting.await.unwrap(), Outcome::taken(0));
     }
 
     const HOUR: u64 = 3_600_000_000_000;
