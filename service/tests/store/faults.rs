@@ -190,6 +190,39 @@ fn what_a_server_shows_after_a_restart_is_not_believed_without_its_standby() {
     println!("{} takers waited for the standby", rounds(2));
 }
 
+/// Else a start would go by what is lost with the server.
+#[test]
+fn what_a_start_writes_or_reads_is_not_believed_without_its_standby() {
+    let Some(mut pair) = Pair::start() else { return };
+    let store = Arc::new(pair.store());
+    pair.standby().kill();
+    let asks = |ask: fn(&PostgresStore) -> String| {
+        let store = store.clone();
+        thread::spawn(move || ask(&store))
+    };
+    let first = asks(|store| store.set_sink("", "one").unwrap());
+    let waits = format!("select count(*) from {WAITS}");
+    wait_until("it waits for the standby", || pair.primary().ask(&waits) == "1" || first.is_finished());
+    pair.primary().ask(&format!("select pg_cancel_backend(pid) from {WAITS}"));
+    sleep(Duration::from_millis(300));
+    assert!(!first.is_finished(), "a commit without its standby was believed");
+    pair.primary().kill();
+    pair.primary().run();
+    assert_eq!(pair.primary().ask("select sink from totxegun_store.cluster"), "one", "it shows what may go");
+    let reads: [fn(&PostgresStore) -> String; 3] = [
+        |store| store.sink().unwrap(),
+        |store| store.set_sink("", "other").unwrap(),
+        |store| store.agree("whole=auto").map(|()| "one".into()).unwrap(),
+    ];
+    let reads = reads.map(asks);
+    sleep(Duration::from_secs(1));
+    assert!(reads.iter().all(|one| !one.is_finished()), "what may go was believed");
+    pair.standby().run();
+    for one in [first].into_iter().chain(reads) {
+        assert_eq!(one.join().unwrap(), "one");
+    }
+}
+
 /// It takes writes, and ends none: whoever is there is left for the one that was promoted, and not read any more.
 #[test]
 fn a_primary_on_the_wrong_side_answers_nobody_and_is_left() {

@@ -146,12 +146,16 @@ impl PostgresStore {
         Ok(store)
     }
 
+    /// Passes where it reads posts as the instance that started first.
     pub fn agree(&self, reading: &str) -> Result<(), StoreFault> {
-        let server = &self.databases[0].taker.server;
-        self.waited(|| {
-            let (server, reading) = (server.clone(), reading.to_string());
-            async move { schema::agree(&server, &reading).await }
-        })
+        let there = self.told(|taker| {
+            let reading = reading.to_string();
+            async move { taker.agree(&reading).await }
+        })?;
+        match there == reading {
+            true => Ok(()),
+            false => Err(StoreFault::Reading { here: reading.into(), there }),
+        }
     }
 
     /// The same where nothing is served, whether it counts or not.
@@ -201,21 +205,27 @@ impl PostgresStore {
         }
     }
 
+    /// What the first database says of the store.
+    fn told<W>(&self, ask: impl Fn(Arc<Shared>) -> W) -> Result<String, StoreFault>
+    where
+        W: Future<Output = Result<String, Doubt>> + Send + 'static,
+    {
+        self.waited(|| {
+            let asking = ask(self.databases[0].taker.clone());
+            async move { Ok(asking.await?) }
+        })
+    }
+
     /// Where instances deliver to, as the first that started has said; empty before.
     pub fn sink(&self) -> Result<String, StoreFault> {
-        let server = &self.beater(0).server;
-        self.waited(|| {
-            let server = server.clone();
-            async move { schema::sink(&server).await }
-        })
+        self.told(|taker| async move { taker.sink().await })
     }
 
     /// Writes it where it is as before: what it is then.
     pub fn set_sink(&self, before: &str, now: &str) -> Result<String, StoreFault> {
-        let server = &self.beater(0).server;
-        self.waited(|| {
-            let (server, before, now) = (server.clone(), before.to_string(), now.to_string());
-            async move { schema::set_sink(&server, &before, &now).await }
+        self.told(|taker| {
+            let (before, now) = (before.to_string(), now.to_string());
+            async move { taker.set_sink(&before, &now).await }
         })
     }
 

@@ -3,6 +3,7 @@
 use super::doubt::Doubt;
 use super::fault::StoreFault;
 use super::session::{connect, within, SILENT};
+use super::shared::Shared;
 use crate::postgres::Server;
 use std::fs::File;
 use std::io::{self, Read};
@@ -55,8 +56,7 @@ struct ClusterRow {
 
 const IS_THERE: &str = "select count(*) from information_schema.tables
     where table_schema = 'totxegun_store' and table_name = 'cluster'";
-const FIND: &str =
-    "select id, version, slots, databases, place, epoch, reading, secret from totxegun_store.cluster";
+const FIND: &str = "select id, version, slots, databases, place, epoch, secret from totxegun_store.cluster";
 
 async fn find(client: &Client) -> Result<Option<ClusterRow>, Doubt> {
     let finding = async {
@@ -74,7 +74,7 @@ async fn find(client: &Client) -> Result<Option<ClusterRow>, Doubt> {
             slots: row.get::<_, i32>(2) as u16,
             databases: row.get(3),
             epoch: row.get(5),
-            secret: row.get(7),
+            secret: row.get(6),
         },
     }))
 }
@@ -172,33 +172,28 @@ fn check_one(
     Ok(())
 }
 
-const SINK: &str = "select sink from totxegun_store.cluster";
-const SET_SINK: &str = "update totxegun_store.cluster set sink = $2 where sink = $1";
+/// Each of these writes, whether it changes something or not: so what it says is there for good. A server shows what its
+/// standby has not got, as after a restart.
+const AGREE: &str =
+    "update totxegun_store.cluster set reading = case reading when '' then $1 else reading end
+    returning reading";
+const SINK: &str = "update totxegun_store.cluster set sink = sink returning sink";
+const SET_SINK: &str = "update totxegun_store.cluster set sink = case sink when $1 then $2 else sink end
+    returning sink";
 
-/// Where instances deliver to; empty before the first has started.
-pub(super) async fn sink(server: &Server) -> Result<String, StoreFault> {
-    let (client, _driver) = connect(server).await?;
-    Ok(within(SILENT, client.query_one(SINK, &[])).await?.get(0))
-}
+impl Shared {
+    /// How posts are read, as the first instance that started has said.
+    pub(super) async fn agree(&self, reading: &str) -> Result<String, Doubt> {
+        Ok(self.told(AGREE, &[&reading]).await?.get(0))
+    }
 
-/// The same, once it is written where it still was as before.
-pub(super) async fn set_sink(server: &Server, before: &str, now: &str) -> Result<String, StoreFault> {
-    let (client, _driver) = connect(server).await?;
-    within(SILENT, client.execute(SET_SINK, &[&before, &now])).await?;
-    Ok(within(SILENT, client.query_one(SINK, &[])).await?.get(0))
-}
+    /// Where instances deliver to; empty before the first has started.
+    pub(super) async fn sink(&self) -> Result<String, Doubt> {
+        Ok(self.told(SINK, &[]).await?.get(0))
+    }
 
-/// The first instance that starts says how posts are read, and the others as it does.
-pub(super) async fn agree(server: &Server, reading: &str) -> Result<(), StoreFault> {
-    let first = "update totxegun_store.cluster set reading = $1 where reading = ''";
-    let (client, _driver) = connect(server).await?;
-    let agreeing = async {
-        client.execute(first, &[&reading]).await?;
-        client.query_one(FIND, &[]).await
-    };
-    let there: String = within(SILENT, agreeing).await?.get(6);
-    match there == reading {
-        true => Ok(()),
-        false => Err(StoreFault::Reading { here: reading.into(), there }),
+    /// The same, once it is written where it still was as before.
+    pub(super) async fn set_sink(&self, before: &str, now: &str) -> Result<String, Doubt> {
+        Ok(self.told(SET_SINK, &[&before, &now]).await?.get(0))
     }
 }

@@ -90,9 +90,7 @@ impl Standing {
 
 impl Shared {
     async fn standing(&self) -> Result<Standing, Doubt> {
-        let session = self.session().await?;
-        let row = session.written(session.client.query_one(STANDING, &[])).await;
-        let row = self.heard(&session, row).await?;
+        let row = self.told(STANDING, &[]).await?;
         let name: &str = row.get(0);
         let state = STATES.iter().find(|(_, known)| *known == name);
         Ok(Standing {

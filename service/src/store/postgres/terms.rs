@@ -34,6 +34,17 @@ impl Shared {
         self.heard(&session, written).await
     }
 
+    /// The same of one that says something: its row.
+    pub(super) async fn told(
+        &self,
+        text: &str,
+        values: &[&(dyn ToSql + Sync)],
+    ) -> Result<DatabaseRow, Doubt> {
+        let session = self.session().await?;
+        let told = session.written(session.client.query_one(text, values)).await;
+        self.heard(&session, told).await
+    }
+
     async fn read<T>(&self, text: &str, each: impl Fn(&DatabaseRow) -> T) -> Result<Vec<T>, Doubt> {
         let session = self.session().await?;
         let rows = within(READ, session.client.query(text, &[])).await;
