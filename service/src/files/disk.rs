@@ -15,7 +15,7 @@ pub use file::{Cursor, File};
 use nix::errno::Errno;
 use nix::fcntl::{fallocate, FallocateFlags, OFlag};
 use nix::sys::uio::pwritev;
-use owned::Owned;
+use owned::{Aboard, Owned};
 use std::fs::{DirBuilder, OpenOptions};
 use std::io::{self, IoSlice};
 use std::os::fd::AsRawFd;
@@ -295,10 +295,11 @@ impl Disk {
         })
     }
 
-    /// Of a drive, once a sync may begin, which follows at once.
-    pub fn board(&self) {
-        if let Place::Drive(owned) = &self.place {
-            owned.board();
+    /// Of a drive, once a sync may begin, which follows at once: what this returns is kept until then.
+    pub fn board(&self) -> Option<Aboard> {
+        match &self.place {
+            Place::Folder { .. } => None,
+            Place::Drive(owned) => Some(owned.board()),
         }
     }
 

@@ -36,6 +36,8 @@ pub trait Drive: Send + Sync {
     fn remove(&self, name: &Path) -> io::Result<()>;
     /// Returns once a sync may begin, where it waits for others: what is done meanwhile is in it too. The sync follows at once.
     fn board(&self) {}
+    /// No sync follows, where none has: others wait for it no more.
+    fn leave(&self) {}
     /// Waits until all is durable that was done before the call, and the slot was still this owner's: also where nothing
     /// was done, a commit under its term has come that began after the call. It fails by `Lost` alone.
     fn sync(&self) -> io::Result<()>;

@@ -21,6 +21,15 @@ pub struct Owned {
     failure: OnceLock<String>,
 }
 
+/// A sync is to follow. Where none does, as behind a write that failed, others wait for it no longer than this is there.
+pub struct Aboard(Arc<Owned>);
+
+impl Drop for Aboard {
+    fn drop(&mut self) {
+        self.0.drive.leave(); // also where it is lost
+    }
+}
+
 impl Owned {
     /// Of a drive that was taken just now.
     pub fn new(drive: Arc<dyn Drive>) -> Owned {
@@ -53,10 +62,11 @@ impl Owned {
         Ok(done)
     }
 
-    pub fn board(&self) {
+    pub fn board(self: &Arc<Self>) -> Aboard {
         if !self.is_lost() {
             self.drive.board();
         }
+        Aboard(self.clone())
     }
 
     pub fn sync(&self) -> io::Result<()> {

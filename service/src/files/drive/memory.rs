@@ -6,6 +6,7 @@ use std::collections::{BTreeMap, HashMap};
 use std::ffi::OsString;
 use std::io::{self, ErrorKind};
 use std::path::{Path, PathBuf};
+use std::sync::atomic::{AtomicBool, Ordering::SeqCst};
 use std::sync::{Arc, Mutex};
 use std::time::{Duration, Instant};
 
@@ -50,6 +51,7 @@ pub(crate) struct Owner {
     /// One at a time: an older view must not take the place of a later one.
     syncing: Mutex<()>,
     waiting: Mutex<Vec<Instant>>,
+    aboard: AtomicBool,
 }
 
 /// The files as this owner has left them.
@@ -82,6 +84,7 @@ impl Store {
             view: Mutex::new(view),
             syncing: Mutex::new(()),
             waiting: Mutex::new(Vec::new()),
+            aboard: AtomicBool::new(false),
         })
     }
 
@@ -189,7 +192,16 @@ impl Drive for Owner {
         lock(&self.view).remove(name)
     }
 
+    fn board(&self) {
+        self.aboard.store(true, SeqCst);
+    }
+
+    fn leave(&self) {
+        self.aboard.store(false, SeqCst);
+    }
+
     fn sync(&self) -> io::Result<()> {
+        self.leave();
         let began = Instant::now();
         lock(&self.waiting).push(began);
         let synced = self.commit();
@@ -206,6 +218,11 @@ impl Drive for Owner {
 }
 
 impl Owner {
+    /// Whether others wait for a sync of it.
+    pub fn is_aboard(&self) -> bool {
+        self.aboard.load(SeqCst)
+    }
+
     fn commit(&self) -> io::Result<()> {
         let _one = lock(&self.syncing);
         (self.hook)(Step::Sync)?;

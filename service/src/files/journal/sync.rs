@@ -90,7 +90,7 @@ impl Shared {
 
     /// The same, for who has the journal alone.
     pub(super) fn try_sync(&self) -> Result<(), Fault> {
-        self.disk.board();
+        let _aboard = self.disk.board();
         let brought = self.written(|place| {
             let segment = &place.segment;
             (

@@ -94,11 +94,6 @@ impl PostgresDrive {
         self.leave();
     }
 
-    /// Others that write together wait for nothing of this slot: it has one seat at a time, and none while it waits.
-    fn leave(&self) {
-        drop(lock(&self.seat).take());
-    }
-
     fn check(&self) -> io::Result<()> {
         self.turns.check().map_err(|Lost| lost())
     }
@@ -266,6 +261,11 @@ impl Drive for PostgresDrive {
         if self.turns.check().is_err() {
             self.leave();
         }
+    }
+
+    /// Others that write together wait for nothing of this slot: it has one seat at a time, and none while it waits.
+    fn leave(&self) {
+        drop(lock(&self.seat).take());
     }
 
     fn sync(&self) -> io::Result<()> {
