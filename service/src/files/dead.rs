@@ -3,8 +3,11 @@
 //! One file a letter, `KEY.json`: its head as JSON on the first line, then the body as it was sent. Another request that
 //! comes under the key of one is kept beside it, as `KEY_2.json`.
 
+mod gone;
+
 use super::disk::{io_fault, Cursor, Disk};
 use super::{lock, seconds, Fault};
+pub use gone::Became;
 use std::io::{self, BufRead, BufReader, Read};
 use std::path::{Path, PathBuf};
 use std::sync::atomic::{AtomicU64, Ordering::Relaxed};
@@ -129,7 +132,7 @@ impl Dead {
         let _one = lock(&self.changing);
         for name in self.names(key)? {
             if self.has(&name, body) {
-                self.remove(&self.folder.join(format!("{name}.json")))?;
+                self.remove(&name, Became::Taken)?;
             }
         }
         Ok(())
@@ -196,8 +199,13 @@ impl Dead {
         Ok(Some((letter, file)))
     }
 
-    /// Whether there was one.
+    /// An operator throws it away. Whether there was one.
     pub fn drop_letter(&self, key: &str) -> Result<bool, Fault> {
+        self.end(key, Became::Dropped)
+    }
+
+    /// Removes it, of which this has become. Whether there was one.
+    pub fn end(&self, key: &str, became: Became) -> Result<bool, Fault> {
         let Some(path) = self.path(key) else {
             return Ok(false);
         };
@@ -205,13 +213,14 @@ impl Dead {
         if !self.disk.has(&path)? {
             return Ok(false);
         }
-        self.remove(&path)?;
+        self.remove(key, became)?;
         Ok(true)
     }
 
     /// By who holds `changing`.
-    fn remove(&self, path: &Path) -> Result<(), Fault> {
-        self.disk.remove(path)?;
+    fn remove(&self, name: &str, became: Became) -> Result<(), Fault> {
+        self.note_gone(name, became)?;
+        self.disk.remove(&self.folder.join(format!("{name}.json")))?;
         self.disk.sync_folder(&self.folder)?;
         self.keys().map(drop)
     }

@@ -6,7 +6,7 @@
 
 use super::reach::{Answer, Command};
 use super::{reply, Actor, Desk, Unit, JSON};
-use crate::files::dead::{sent_as, Letter};
+use crate::files::dead::{sent_as, Became, Letter};
 use crate::files::{Dead, Fault};
 use crate::sinks::{of_part, Fate, Forwarded};
 use crate::work::blocking;
@@ -78,15 +78,19 @@ impl Desk {
     pub(super) async fn letter_of(&self, unit: &Unit, key: &str) -> Answer {
         match body_of(unit, key).await {
             Ok(Some(body)) => Answer::new(200, String::from_utf8_lossy(&body)),
-            Ok(None) => no_such(),
+            Ok(None) => gone(&became(unit, key).await),
             Err(fault) => faulty(&fault),
         }
     }
 
+    /// One that was dropped already is as if it were now: who asks had no answer.
     pub(super) async fn drop_letter(&self, unit: &Unit, key: &str) -> Answer {
-        match throw_away(unit, key).await {
+        match end(unit, key, Became::Dropped).await {
             Ok(true) => Answer::new(200, "{}"),
-            Ok(false) => no_such(),
+            Ok(false) => match became(unit, key).await {
+                Ok(Some(Became::Dropped)) => Answer::new(200, "{}"),
+                other => gone(&other),
+            },
             Err(fault) => faulty(&fault),
         }
     }
@@ -95,7 +99,7 @@ impl Desk {
         let _held = self.sink.keys().hold(sent_as(key)).await;
         let body = match body_of(unit, key).await {
             Ok(Some(body)) => body,
-            Ok(None) => return no_such(),
+            Ok(None) => return sent_before(unit, key).await,
             Err(fault) => return faulty(&fault),
         };
         let Some(request) = forwarded(key, body) else {
@@ -113,7 +117,7 @@ impl Desk {
             }
         };
         if reason.is_none() {
-            if let Err(fault) = throw_away(unit, key).await {
+            if let Err(fault) = end(unit, key, Became::Taken).await {
                 return faulty(&fault);
             }
             tracing::info!(key, "the sink has taken {key}, which was put aside");
@@ -151,8 +155,34 @@ async fn body_of(unit: &Unit, key: &str) -> Result<Option<Vec<u8>>, Fault> {
     of_dead(unit, key, |dead, key| dead.body(key)).await
 }
 
-async fn throw_away(unit: &Unit, key: &str) -> Result<bool, Fault> {
-    of_dead(unit, key, |dead, key| dead.drop_letter(key)).await
+async fn end(unit: &Unit, key: &str, as_what: Became) -> Result<bool, Fault> {
+    of_dead(unit, key, |dead, key| dead.end(key, as_what)).await
+}
+
+async fn became(unit: &Unit, key: &str) -> Result<Option<Became>, Fault> {
+    of_dead(unit, key, Dead::became).await
+}
+
+/// One that the sink has taken already is answered as it was then.
+async fn sent_before(unit: &Unit, key: &str) -> Answer {
+    let reason = match became(unit, key).await {
+        Ok(Some(Became::Taken)) => None,
+        Ok(Some(Became::TakenPartly(reason))) => Some(reason),
+        other => return gone(&other),
+    };
+    told(Resent { key: key.into(), taken: true, reason, later: false })
+}
+
+/// There is no letter of this key, of which this has become.
+fn gone(became: &Result<Option<Became>, Fault>) -> Answer {
+    match became {
+        Ok(Some(Became::Dropped)) => Answer::told(404, "no such request: it was thrown away"),
+        Ok(Some(Became::Taken | Became::TakenPartly(_))) => {
+            Answer::told(404, "no such request: the sink has it")
+        }
+        Ok(None) => no_such(),
+        Err(fault) => faulty(fault),
+    }
 }
 
 /// What stands under no key of a request is of one that the sink has taken, and says why.
@@ -174,7 +204,7 @@ async fn keep_part(unit: &Unit, key: &str, left: Vec<u8>, reason: String) -> Ans
     let why = reason.clone();
     let keep = move |dead: &Dead, whole: &str| {
         dead.keep(&format!("{whole}-partial"), &why, &left)?;
-        dead.drop_letter(whole)
+        dead.end(whole, Became::TakenPartly(why))
     };
     if let Err(fault) = of_dead(unit, key, keep).await {
         return faulty(&fault);
@@ -187,7 +217,7 @@ fn told(resent: Resent) -> Answer {
 }
 
 fn no_such() -> Answer {
-    Answer::told(404, "no such request")
+    Answer::told(404, "no such request: it was never put aside, or is gone, taken by the sink or thrown away")
 }
 
 /// A letter as it was sent first.

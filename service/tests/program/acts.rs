@@ -30,12 +30,14 @@ fn who_did_what_and_what_came_of_it() {
     let acts: Vec<serde_json::Value> = text.lines().map(|line| serde_json::from_str(line).unwrap()).collect();
     let found: Vec<_> = acts.iter().map(|act| (&act["act"], &act["of"], act.get("outcome"))).collect();
     let mut wanted = Vec::new();
+    let no_such =
+        "404: no such request: it was never put aside, or is gone, taken by the sink or thrown away";
     let told: [[serde_json::Value; 3]; 5] = [
         ["quarantine".into(), "A".into(), "done".into()],
         ["lift".into(), "A".into(), "done".into()],
         ["lift".into(), "B".into(), "400: not quarantined".into()],
-        ["dead drop".into(), "0-a-1".into(), "404: no such request".into()],
-        ["dead resend".into(), "0-a-1".into(), "404: no such request".into()],
+        ["dead drop".into(), "0-a-1".into(), no_such.into()],
+        ["dead resend".into(), "0-a-1".into(), no_such.into()],
     ];
     for [act, of, outcome] in &told {
         wanted.extend([(act, of, None), (act, of, Some(outcome))]);

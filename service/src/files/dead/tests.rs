@@ -2,6 +2,8 @@
 
 use super::*;
 use crate::files::disk::Call;
+use crate::files::drive::memory::{Step, Store};
+use std::sync::Arc;
 
 fn open(path: &Path) -> Dead {
     Dead::open(&Disk::default(), path).unwrap()
@@ -155,4 +157,76 @@ fn letters_that_are_moved_by_hand_are_counted_as_they_are() {
     dead.keep("k", "400", b"body").unwrap();
     std::fs::rename(&inside, &outside).unwrap();
     assert_eq!((dead.list().unwrap(), dead.count()), (vec![], 0));
+}
+
+/// Where an order is given again, since the instance that carried it out was lost before it answered.
+#[test]
+fn what_became_of_letters_is_known_to_the_next_owner_of_a_slot() {
+    let store = Arc::<Store>::default();
+    let open = || Dead::open(&Disk::of_drive(store.take()), Path::new("dead")).unwrap();
+    let dead = open();
+    for key in ["0-e-1", "0-e-2", "0-e-3"] {
+        dead.keep(key, "400", b"body").unwrap();
+    }
+    assert_eq!(dead.became("0-e-1").unwrap(), None);
+    assert!(dead.drop_letter("0-e-1").unwrap());
+    dead.let_go("0-e-2", b"body").unwrap();
+    let part = Became::TakenPartly("one was late".into());
+    assert!(dead.end("0-e-3", part.clone()).unwrap());
+    let dead = open();
+    assert_eq!((dead.count(), dead.list().unwrap()), (0, vec![]));
+    for (key, wanted) in [
+        ("0-e-1", Some(Became::Dropped)),
+        ("0-e-2", Some(Became::Taken)),
+        ("0-e-3", Some(part)),
+        ("0-e-4", None),
+    ] {
+        assert_eq!(dead.became(key).unwrap(), wanted, "{key}");
+        assert!(!dead.drop_letter(key).unwrap());
+    }
+    // It comes again, and goes otherwise; and the last ones alone are remembered.
+    dead.keep("0-e-1", "400", b"body").unwrap();
+    assert!(dead.end("0-e-1", Became::Taken).unwrap());
+    assert_eq!(dead.became("0-e-1").unwrap(), Some(Became::Taken));
+    for number in 10..10 + gone::MOST {
+        let key = format!("0-e-{number}");
+        dead.keep(&key, "400", b"body").unwrap();
+        assert!(dead.drop_letter(&key).unwrap());
+    }
+    let dead = open();
+    assert_eq!(
+        (dead.became("0-e-1").unwrap(), dead.became("0-e-10").unwrap()),
+        (None, Some(Became::Dropped))
+    );
+}
+
+/// Killed between them, it is there and may be thrown away again.
+#[test]
+fn no_letter_of_a_slot_is_gone_without_what_became_of_it() {
+    let (store, fails) = (Arc::<Store>::default(), Arc::new(AtomicU64::new(0)));
+    for number in 0.. {
+        let failing = fails.clone();
+        let owner = store.take_with(move |step| {
+            let is_change =
+                matches!(step, Step::Create | Step::Write | Step::Rename | Step::Remove | Step::Sync);
+            match is_change && failing.fetch_sub(1, Relaxed) == 1 {
+                true => Err(crate::files::drive::lost()),
+                false => Ok(()),
+            }
+        });
+        let dead = Dead::open(&Disk::of_drive(owner), Path::new("dead")).unwrap();
+        fails.store(u64::MAX, Relaxed);
+        let key = format!("0-e-{number}");
+        dead.keep(&key, "400", b"body").unwrap();
+        fails.store(number + 1, Relaxed);
+        let is_done = dead.drop_letter(&key).is_ok();
+        fails.store(u64::MAX, Relaxed);
+        let next = Dead::open(&Disk::of_drive(store.take()), Path::new("dead")).unwrap();
+        let is_there = next.body(&key).unwrap().is_some();
+        assert!(is_there || next.became(&key).unwrap() == Some(Became::Dropped), "at call {number}");
+        if is_done {
+            assert!(!is_there && number > 4);
+            break;
+        }
+    }
 }

@@ -7,7 +7,7 @@ use super::super::operators::Operate;
 use super::super::unit::tests::{no_disk, unit};
 use super::*;
 use crate::core::Across;
-use crate::files::{Durability, Folder};
+use crate::files::{Dead, Durability, Folder, Journal, Outbox};
 use crate::identity::Door;
 use crate::intake::connections::Handler;
 use crate::intake::head::{Head, Packing};
@@ -137,8 +137,12 @@ impl Service {
         let place = self.place.join(number.to_string());
         let folder = Folder::open(&place, Durability::Process).unwrap();
         let (journal, outbox) = folder.slot(0).unwrap();
-        let dead = Arc::new(folder.dead().unwrap());
-        let files = Files { number, journal, outbox: Arc::new(outbox), dead, former: Vec::new() };
+        self.begin(number, (journal, outbox, folder.dead().unwrap())).await;
+    }
+
+    async fn begin(&self, number: u16, (journal, outbox, dead): (Journal, Outbox, Dead)) {
+        let (outbox, dead) = (Arc::new(outbox), Arc::new(dead));
+        let files = Files { number, journal, outbox, dead, former: Vec::new() };
         self.units.open(files).await.unwrap();
         let is_ready = |unit: Arc<operate::Unit>| unit.slot.is_ready();
         while !self.desk.units.get(number).is_some_and(is_ready) {

@@ -5,6 +5,7 @@ mod ready;
 use super::*;
 use crate::cluster::terms::{Doing, Instance, Refused, Row, Seen};
 use crate::cluster::{Answers, Asks, Cluster, Forwarded as Brought, Whose};
+use crate::files::drive::{self, memory::Store};
 use crate::metrics::OfCluster;
 use crate::operate::Databases;
 use crate::store::postgres::Copies;
@@ -19,6 +20,8 @@ enum Mood {
     Refuses,
     /// It never answers.
     StandsStill,
+    /// It does what it is asked, and its answer is lost.
+    LosesAnswers,
 }
 
 /// Who is at which address.
@@ -46,6 +49,10 @@ impl Asks for Through {
             match mood {
                 Mood::Well => {
                     Ok(desk.answer_question(question.into()).await.ok_or("it can't be read")?.into())
+                }
+                Mood::LosesAnswers => {
+                    desk.answer_question(question.into()).await.ok_or("it can't be read")?;
+                    Err("connection reset".into())
                 }
                 Mood::Refuses => Err("connection refused".into()),
                 Mood::StandsStill => {
@@ -250,6 +257,42 @@ async fn dead_requests_are_shown_and_settled_from_anywhere() {
     both.net.mood("b", Mood::Refuses);
     let (status, text) = both.a.ask("GET", "/dead/1-abc-7").await;
     assert!(status == 503 && text.contains("slot 1: instance b"), "{status} {text}");
+}
+
+/// As where the instance is lost with it, and another has its slot.
+#[tokio::test]
+async fn an_order_that_is_given_again_since_its_answer_was_lost_is_answered_as_it_was_carried_out() {
+    let both = Both::new().await;
+    both.b.units.hand_over(1).await.unwrap();
+    let store = Arc::<Store>::default();
+    let of_store = || drive::open(store.take(), "abc").unwrap();
+    both.b.begin(1, of_store()).await;
+    let dead = both.b.desk.units.get(1).unwrap().dead.clone();
+    for key in ["1-abc-7", "1-abc-8"] {
+        dead.keep(key, "no", b"{}").unwrap();
+    }
+    both.net.mood("b", Mood::LosesAnswers);
+    for path in ["/dead/1-abc-7/drop", "/dead/1-abc-8/resend"] {
+        let (status, why) = both.a.ask("POST", path).await;
+        assert!(status == 503 && why.contains("give the order again"), "{status} {why}");
+    }
+    both.b.units.hand_over(1).await.unwrap();
+    both.a.begin(1, of_store()).await;
+    let here = Whose::Here { term: 2 };
+    both.clusters[0].knows(&[(0, here.clone()), (1, here.clone()), (2, here)]);
+    assert_eq!(both.a.ask("POST", "/dead/1-abc-7/drop").await, (200, "{}".into()));
+    let (status, resent) = json(&both.a, "POST", "/dead/1-abc-8/resend").await;
+    assert_eq!((status, &resent["taken"]), (200, &Json::Bool(true)), "{resent}");
+    assert_eq!(both.b.sink.came.lock().unwrap().len(), 1);
+    assert_eq!(both.a.sink.came.lock().unwrap().len(), 0, "it is not sent again");
+    for (path, why) in [
+        ("/dead/1-abc-8/drop", "the sink has it"),
+        ("/dead/1-abc-7/resend", "it was thrown away"),
+        ("/dead/1-abc-9/drop", "it was never put aside, or is gone"),
+    ] {
+        let (status, said) = both.a.ask("POST", path).await;
+        assert!(status == 404 && said.contains(why), "{path}: {status} {said}");
+    }
 }
 
 #[tokio::test]
