@@ -188,6 +188,9 @@ fn trouble(slot: &SlotStatus) -> Option<String> {
         return Some(format!("\nthe delivery of slot {} stops: {why}\n", slot.slot));
     }
     let why = slot.trouble.as_ref()?;
+    if slot.tries == 0 {
+        return Some(format!("\nno request of slot {} is sent: {why}\n", slot.slot));
+    }
     Some(format!(
         "\nthe sink has not taken a request of slot {} in {}: {why}\n",
         slot.slot,
@@ -260,16 +263,24 @@ mod tests {
     }
 
     #[test]
-    fn what_is_kept_back_and_what_is_stuck_is_shown() {
+    fn what_is_kept_back_and_what_is_not_sent_is_shown() {
         let mut told = status(&["A"]);
         let (senders, posts, bytes) = (1, 3, 2048);
         told.slots[0].held = Held { senders, posts, bytes };
         told.slots[0].stuck = Some("1.seg, byte 9: was changed".into());
-        let text = text(&told);
+        let shown = text(&told);
         let kept = "kept back         3 posts of 1 quarantined sender, 2.0 KiB";
-        assert!(text.lines().any(|line| line.trim_end() == kept), "{text}");
+        assert!(shown.lines().any(|line| line.trim_end() == kept), "{shown}");
         let stuck = "\nthe delivery of slot 0 stops: 1.seg, byte 9: was changed\n";
-        assert!(text.ends_with(stuck), "{text}");
+        assert!(shown.ends_with(stuck), "{shown}");
+        (told.slots[0].stuck, told.slots[0].trouble) = (None, Some("503".into()));
+        for (tries, wanted) in [
+            (0, "\nno request of slot 0 is sent: 503\n"),
+            (2, "\nthe sink has not taken a request of slot 0 in 2 attempts: 503\n"),
+        ] {
+            told.slots[0].tries = tries;
+            assert!(text(&told).ends_with(wanted), "{}", text(&told));
+        }
     }
 
     #[test]

@@ -7,19 +7,25 @@ use crate::latch::Latch;
 use crate::metrics::Metrics;
 use crate::work::blocking;
 use std::future::Future;
-use std::sync::{Arc, Mutex, PoisonError};
+use std::pin::pin;
+use std::sync::{Arc, Mutex, MutexGuard, PoisonError};
 use std::time::{Duration, Instant};
 use tokio::sync::watch;
+use tokio::time::timeout;
 
 /// How long a request is sent again at which the sink fails, or does not let this service in. What OTLP says is to send
 /// it no more; but a sink says so also while a part of it is down, or a token has expired, and then each request of that
 /// time would be put aside. For ever would hold up all behind a request that no sink can take, until the disk is full.
 const FAILING: Duration = Duration::from_secs(24 * 3600);
 
+/// How long it is not said that nothing is sent, since it is not sure that the slot is this instance's: where others take it
+/// over, or the store is slow for once, that passes.
+const UNSURE: Duration = Duration::from_secs(60);
+
 /// The state of a delivery, for `status`.
 #[derive(Clone, Debug, Default, PartialEq, Eq, serde::Serialize, serde::Deserialize)]
 pub struct Delivery {
-    /// Why the last try was not taken, where it was not.
+    /// Why the last try was not taken, where it was not, or why none is made.
     pub trouble: Option<String>,
     /// How often the first waiting request was tried; 0 once it is taken.
     pub tries: u64,
@@ -37,7 +43,7 @@ pub async fn deliver(
     stop: watch::Receiver<bool>,
 ) -> Result<(), Fault> {
     let files = Files { outbox, dead };
-    Run { slot, files, sink, metrics, state, failing: FAILING, stop }.until_it_ends().await
+    Run { slot, files, sink, metrics, state, failing: FAILING, unsure: UNSURE, stop }.until_it_ends().await
 }
 
 /// What a delivery needs of the files.
@@ -121,6 +127,8 @@ struct Run<S> {
     state: Arc<Mutex<Delivery>>,
     /// How long a request is sent again at which the sink fails.
     failing: Duration,
+    /// How long it is not said that it is not sure of its slot.
+    unsure: Duration,
     stop: watch::Receiver<bool>,
 }
 
@@ -161,7 +169,7 @@ impl<S: Store> Run<S> {
         loop {
             let key = request.key();
             let held = self.unless_stopped(self.sink.keys().hold(&key)).await?;
-            self.unless_stopped(self.files.may_deliver(request.number)).await??;
+            self.wait_until_sure(request.number).await?;
             let fate = self.sink.deliver_of(&request, self.files.term());
             let fate = self.unless_stopped(fate).await?;
             let outcome = match fate {
@@ -188,6 +196,28 @@ impl<S: Store> Run<S> {
                 }
             }
         }
+    }
+
+    /// Returns once a request may be sent. Where that takes long it says so: else nobody would see why nothing is.
+    async fn wait_until_sure(&self, number: u64) -> Result<(), End> {
+        let mut sure = pin!(self.unless_stopped(self.files.may_deliver(number)));
+        if let Ok(sure) = timeout(self.unsure, &mut sure).await {
+            return Ok(sure??);
+        }
+        let (slot, seconds) = (self.slot, self.unsure.as_secs());
+        let reason = format!(
+            "for {seconds} s the store has not said in time that the slot is still this instance's, so nothing is sent: it is slow, \
+             or away"
+        );
+        tracing::warn!(slot, reason, "slot {slot}: {reason}");
+        let before = self.state().trouble.replace(reason);
+        sure.await??;
+        self.state().trouble = before;
+        tracing::info!(
+            slot,
+            "slot {slot}: the store says in time that it is this instance's: requests are sent again"
+        );
+        Ok(())
     }
 
     async fn put_aside(&self, request: Forwarded, reason: String) -> Result<(), Fault> {
@@ -254,10 +284,14 @@ impl<S: Store> Run<S> {
         Ok(())
     }
 
+    fn state(&self) -> MutexGuard<'_, Delivery> {
+        self.state.lock().unwrap_or_else(PoisonError::into_inner) // two values are sound at any time
+    }
+
     /// Notes a try that failed. How many it were.
     fn failed(&self, key: &str, reason: String, outcome: &str) -> u64 {
         self.metrics.deliveries.with_label_values(&[outcome]).inc();
-        let mut state = self.state.lock().unwrap_or_else(PoisonError::into_inner);
+        let mut state = self.state();
         state.tries += 1;
         if state.trouble.is_none() {
             let sink = self.sink.name();
@@ -274,7 +308,7 @@ impl<S: Store> Run<S> {
 
     fn ended(&self, outcome: &str) {
         self.metrics.deliveries.with_label_values(&[outcome]).inc();
-        let mut state = self.state.lock().unwrap_or_else(PoisonError::into_inner);
+        let mut state = self.state();
         if state.trouble.is_some() {
             let (sink, tries) = (self.sink.name(), state.tries);
             tracing::info!(sink, tries, "{sink} answers again; attempts that failed: {tries}");

@@ -52,6 +52,8 @@ struct Memory {
     term: Option<u64>,
     /// How often it is still found to be this instance's, where that ends.
     ours: Option<Mutex<u64>>,
+    /// Turned on once it is sure that it is.
+    sure: Option<watch::Receiver<bool>>,
 }
 
 fn fault() -> Fault {
@@ -86,6 +88,9 @@ impl Store for &Memory {
     }
 
     async fn may_deliver(&self, _number: u64) -> Result<(), Fault> {
+        if let Some(mut sure) = self.sure.clone() {
+            sure.wait_true().await;
+        }
         let Some(ours) = &self.ours else {
             return Ok(());
         };
@@ -161,19 +166,22 @@ async fn run_at(
     memory: &Memory,
     stop: watch::Receiver<bool>,
 ) -> (Tried, Result<(), Fault>) {
-    let metrics = Arc::new(Metrics::new().expect("metrics"));
-    let state = Arc::new(Mutex::new(Delivery::default()));
-    let run = Run {
+    let run = prepared(sink.clone(), memory, stop);
+    let end = run.until_it_ends().await;
+    (Tried { sink, metrics: run.metrics, state: run.state }, end)
+}
+
+fn prepared(sink: Arc<Script>, memory: &Memory, stop: watch::Receiver<bool>) -> Run<&Memory> {
+    Run {
         slot: 2,
         files: memory,
-        sink: sink.clone(),
-        metrics: metrics.clone(),
-        state: state.clone(),
+        sink,
+        metrics: Arc::new(Metrics::new().expect("metrics")),
+        state: Arc::default(),
         failing: Duration::from_millis(400),
+        unsure: Duration::from_millis(50),
         stop,
-    };
-    let end = run.until_it_ends().await;
-    (Tried { sink, metrics, state }, end)
+    }
 }
 
 fn waiting(numbers: impl IntoIterator<Item = u64>) -> Memory {
