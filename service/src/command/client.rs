@@ -33,6 +33,15 @@ pub(super) const OTHER_VERSION: &str =
 /// What is read of an answer at most.
 const MOST: usize = 256 << 20;
 
+/// Why the service has not done what was asked: what it answered.
+#[derive(Debug, thiserror::Error)]
+#[error("the service at {place} answered {status}: {said}")]
+pub struct Refused {
+    place: String,
+    pub status: u16,
+    pub said: String,
+}
+
 #[derive(Debug)]
 struct Reply {
     status: u16,
@@ -54,7 +63,7 @@ pub fn ask(at: &Address, method: Method, path: &str) -> Result<Vec<u8>> {
         ),
         status => match message(&reply.body) {
             said if said == NO_PATH => bail!(another(&place)),
-            said => bail!("the service at {place} answered {status}: {said}"),
+            said => bail!(Refused { place, status, said }),
         },
     }
 }

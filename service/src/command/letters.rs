@@ -28,7 +28,7 @@ pub enum Command {
         /// As `totxegun dead list` shows it
         #[arg(required_unless_present = "all")]
         key: Option<String>,
-        /// All, one after the other, until the sink does not answer
+        /// All, one after the other, until the sink does not answer; those that it does not take, or that can't be read, are named
         #[arg(long, conflicts_with = "key")]
         all: bool,
         #[command(flatten)]
@@ -98,28 +98,66 @@ fn sent(key: &str, at: &Address) -> Result<Resent> {
     serde_json::from_slice(&body).context(client::OTHER_VERSION)
 }
 
-/// Those that no sink takes, being a part of what it has, are left.
+/// What became of letters that are sent again one after the other.
+#[derive(Default)]
+struct All {
+    taken: u64,
+    /// Those that the sink has not, or in part alone, and why.
+    left: Vec<String>,
+    /// At which it came to an end before all were sent, and why.
+    end: Option<String>,
+}
+
+/// Those that no sink takes, being a part of what it has, are left. One that can't be sent, as it can't be read, keeps none
+/// behind it from the sink; but where the sink or the service does not answer each would be waited for.
 fn resend_all(at: &Address) -> Result<Vec<u8>> {
     let letters = read(&client::ask(at, Method::GET, "/dead")?)?;
-    let (mut taken, mut left) = (0, Vec::new());
+    if letters.is_empty() {
+        return Ok(line(NONE));
+    }
+    let mut all = All::default();
     for Letter { key, .. } in letters.iter().filter(|letter| !is_part(&letter.key)) {
-        let resent = sent(key, at)?;
-        match resent.reason {
-            None => taken += 1,
-            Some(reason) if resent.later => {
-                bail!("{}: the sink did not take {key}: {reason}", so_far(taken))
-            }
-            Some(reason) => left.push(format!("{key}: {reason}")),
+        all.note(key, sent(key, at));
+        if all.end.is_some() {
+            break;
         }
     }
-    match left.first() {
-        None if letters.is_empty() => Ok(line(NONE)),
-        None => Ok(line(format_args!("done: {}", so_far(taken)))),
-        Some(first) => bail!(
-            "{}; it refused, or took in part, {}: {first}",
-            so_far(taken),
-            values::counted(left.len() as u64, "request")
-        ),
+    all.told()
+}
+
+impl All {
+    fn note(&mut self, key: &str, resent: Result<Resent>) {
+        let (reason, is_end) = match resent {
+            Ok(Resent { reason: None, .. }) => {
+                self.taken += 1;
+                return;
+            }
+            Ok(Resent { reason: Some(reason), later, .. }) => (reason, later),
+            Err(why) => match why.downcast_ref::<client::Refused>() {
+                Some(refused) => (refused.said.clone(), refused.status == 503),
+                None => (format!("{why:#}"), true),
+            },
+        };
+        match is_end {
+            true => self.end = Some(format!("{key}: {reason}")),
+            false => self.left.push(format!("{key}: {reason}")),
+        }
+    }
+
+    fn told(self) -> Result<Vec<u8>> {
+        let All { taken, left, end } = self;
+        if left.is_empty() && end.is_none() {
+            return Ok(line(format_args!("done: {}", so_far(taken))));
+        }
+        let mut told = so_far(taken);
+        if let Some(end) = end {
+            told += &format!("; it was given up at {end}");
+        }
+        if !left.is_empty() {
+            let count = values::counted(left.len() as u64, "request");
+            told += &format!("; refused, taken in part or not readable: {count}\n{}", left.join("\n"));
+        }
+        bail!(told)
     }
 }
 

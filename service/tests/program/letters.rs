@@ -130,17 +130,15 @@ fn all_letters_are_sent_until_the_sink_fails() {
         let said = scope.spawn(|| service.said(&resend));
         let asked = sink.answers(2, &["200 OK", "503 Service Unavailable"]);
         let said = said.join().unwrap();
-        assert!(said.contains("the sink has taken 1 request: the sink did not take 0-a-"), "{said}");
+        assert!(said.contains("the sink has taken 1 request; it was given up at 0-a-2: "), "{said}");
         assert_eq!(asked.len(), 2);
     });
     std::thread::scope(|scope| {
         let said = scope.spawn(|| service.said(&resend));
         sink.answers(2, &["400 Bad Request"]);
         let said = said.join().unwrap();
-        assert!(
-            said.contains("the sink has taken 1 request; it refused, or took in part, 1 request: 0-a-"),
-            "{said}"
-        );
+        let refused = "the sink has taken 1 request; refused, taken in part or not readable: 1 request\ntotxegun: 0-a-2: ";
+        assert!(said.contains(refused), "{said}");
     });
     std::thread::scope(|scope| {
         let said = scope.spawn(|| service.said(&resend));
@@ -160,4 +158,38 @@ fn the_page_says_how_many_letters_it_leaves_out() {
     let (status, page) = service.at_socket("GET", "/").unwrap();
     assert_eq!((status, page.matches(">0-a-").count()), (200, 50), "{page}");
     assert!(page.contains("<p class=note>10 more</p>"), "{page}");
+}
+
+/// Else nothing behind it comes to the sink.
+#[test]
+fn of_all_letters_those_that_can_t_be_sent_are_named_and_the_others_are_sent() {
+    let (place, sink) = (Place::new(), Sink::new());
+    let service = service(&place, &sink);
+    for key in ["0-a-2", "0-a-3", "0-a-4"] {
+        put_letter(&place, key, b"{}");
+    }
+    let damaged = place.data().join("dead/0-a-1.json");
+    std::fs::write(&damaged, "{}").unwrap();
+    std::fs::File::open(&damaged).unwrap().set_modified(std::time::UNIX_EPOCH).unwrap();
+    std::thread::scope(|scope| {
+        let resent = scope.spawn(|| service.ended_by(&["dead", "resend", "--all"]));
+        let keys = sink.answers(3, &["200 OK", "400 Bad Request"]);
+        assert_eq!(keys, ["0-a-2", "0-a-3", "0-a-4"]);
+        let (status, said) = resent.join().unwrap();
+        assert_eq!(status, Some(1), "{said}");
+        for part in [
+            "the sink has taken 2 requests; refused, taken in part or not readable: 2 requests\n",
+            "totxegun: 0-a-1: ",
+            "dead/0-a-1.json",
+            "totxegun: 0-a-3: ",
+        ] {
+            assert!(said.contains(part), "{part} in {said}");
+        }
+    });
+    std::fs::remove_file(damaged).unwrap();
+    std::thread::scope(|scope| {
+        let resent = scope.spawn(|| service.ended_by(&["dead", "resend", "--all"]));
+        sink.answers(1, &[]);
+        assert_eq!(resent.join().unwrap(), (Some(0), "done: the sink has taken 1 request\n".to_string()));
+    });
 }

@@ -163,8 +163,13 @@ impl Service {
 
     /// What a command of the program says, on either stream.
     pub fn said(&self, words: &[&str]) -> String {
+        self.ended_by(words).1
+    }
+
+    /// The same behind its exit status.
+    pub fn ended_by(&self, words: &[&str]) -> (Option<i32>, String) {
         let output = Command::new(PROGRAM).args(words).arg("--data").arg(&self.data).output().unwrap();
-        String::from_utf8([output.stdout, output.stderr].concat()).unwrap()
+        (output.status.code(), String::from_utf8([output.stdout, output.stderr].concat()).unwrap())
     }
 
     /// The root of its files.
