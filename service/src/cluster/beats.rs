@@ -31,6 +31,8 @@ pub struct Beats<T, U> {
     /// Of each slot the last step: the next one begins behind it.
     last: HashMap<u16, JoinHandle<()>>,
     following: mpsc::Receiver<Step>,
+    /// The row that is taken away just now.
+    forgetting: Option<JoinHandle<()>>,
     between: Duration,
 }
 
@@ -48,7 +50,7 @@ impl<T: Terms + 'static, U: Units + 'static> Beats<T, U> {
     pub fn new(cluster: Arc<Cluster>, number: usize, terms: Arc<T>, units: Arc<U>) -> Beats<T, U> {
         let (follow, following) = mpsc::channel(FOLLOWING);
         let work = Work { cluster, number, terms, units, follow };
-        Beats { work: Arc::new(work), last: HashMap::new(), following, between: BEAT }
+        Beats { work: Arc::new(work), last: HashMap::new(), following, forgetting: None, between: BEAT }
     }
 
     /// Faster, where a test has no time.
@@ -118,6 +120,18 @@ impl<T: Terms + 'static, U: Units + 'static> Beats<T, U> {
         }
         steps.into_iter().for_each(|step| self.begin(step));
         self.work.publish();
+        self.forget();
+    }
+
+    /// Takes a row away of one that has not come back. No beat waits for that.
+    fn forget(&mut self) {
+        if self.forgetting.as_ref().is_some_and(|before| !before.is_finished()) {
+            return;
+        }
+        self.forgetting = self.work.database().owners().forgotten().map(|(name, beat)| {
+            let work = self.work.clone();
+            tokio::spawn(async move { work.forget(&name, beat).await })
+        });
     }
 
     async fn look(&mut self) {
@@ -224,6 +238,15 @@ impl<T: Terms, U: Units> Work<T, U> {
         self.cluster.counts.handed_over();
         tracing::info!(slot, term, "slot {slot} is handed over, behind term {term}");
         self.database().owners().released(slot, term)
+    }
+
+    /// Each that is there tries it. In doubt a later beat sees whether it is still there.
+    async fn forget(&self, name: &str, beat: u64) {
+        match self.terms.forget(name, beat).await {
+            Ok(true) => tracing::info!(name, "instance {name} has not come back for a day: it is forgotten"),
+            Ok(false) => {}
+            Err(silence) => tell(&silence),
+        }
     }
 
     /// In doubt the row still has this instance's name, and a later beat sees that.

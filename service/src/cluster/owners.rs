@@ -26,6 +26,9 @@ pub const GONE: u32 = 6;
 pub const AFTER_SILENCE: u32 = 14;
 /// So many own beats another instance is the place of a slot, until it is handed over.
 pub const SETTLED: u32 = 20;
+/// So many own beats later, a day, the row of one that is gone is of no use any more. What it needs where it comes back it
+/// brings with its first beat: nobody but itself reads its row for more than who beats, and where.
+pub const FORGOTTEN: u32 = if cfg!(test) { 400 } else { 2 * 24 * 3600 };
 /// A slot that has this instance's name, and is not open here, is an earlier process': a namesake that lives would beat within.
 const RESTARTED: u32 = 4;
 /// Slots that are taken or opened side by side: each replays its journal.
@@ -115,6 +118,14 @@ impl Owners {
     /// Another process beats under this instance's name.
     pub fn has_namesake(&self) -> bool {
         self.namesake.is_there()
+    }
+
+    /// Who has not come back for so long that its row goes, and its last beat. Where a slot has its name it stays: its status
+    /// says who has that.
+    pub fn forgotten(&self) -> Option<(String, u64)> {
+        let is_owner = |name: &str| self.rows.iter().any(|row| row.owner == name);
+        let (name, beat) = self.others.forgotten().find(|(name, _)| !is_owner(name))?;
+        Some((name.into(), beat))
     }
 
     /// Slots that are open here, or being opened or closed, and their terms.

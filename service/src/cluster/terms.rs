@@ -65,6 +65,8 @@ pub trait Terms: Send + Sync {
     fn release(&self, slot: u16, term: u64) -> Doing<'_, Result<(), Silence>>;
     /// Takes this instance's row away: it has no slots any more.
     fn leave(&self) -> Doing<'_, Result<(), Silence>>;
+    /// Takes another's row away, where its beat is still this. Whether it was.
+    fn forget<'a>(&'a self, name: &'a str, beat: u64) -> Doing<'a, Result<bool, Silence>>;
 }
 
 /// Why a slot is not served though this instance has taken it.

@@ -184,6 +184,13 @@ fn beats_go_up_and_a_slot_is_given_away() {
     assert_eq!(seen, [("a", "h1:1", 3), ("b", "h2:1", 1)]);
     wait(store.leave(0, "b")).unwrap();
     assert_eq!(wait(store.instances(0)).unwrap().len(), 1);
+    wait(store.beat(0, "c", "h3:1", Refused::new())).unwrap();
+    assert!(!wait(store.forget(0, "c", 0)).unwrap(), "it has beaten since");
+    assert!(wait(store.forget(0, "c", 1)).unwrap() && !wait(store.forget(0, "c", 1)).unwrap());
+    assert_eq!(wait(store.instances(0)).unwrap().len(), 1);
+    wait(store.beat(0, "c", "h3:1", Refused::new())).unwrap();
+    assert_eq!(wait(store.instances(0)).unwrap().len(), 2, "it comes back");
+    wait(store.leave(0, "c")).unwrap();
     assert_eq!(wait(store.take(1, 0, "a")).unwrap(), Some(1));
     wait(store.release(1, 0)).unwrap();
     assert_eq!(wait(store.slots(0)).unwrap()[1].owner, "a", "of another term");

@@ -118,6 +118,15 @@ impl Terms for Of {
             Ok(())
         })
     }
+
+    fn forget<'a>(&'a self, name: &'a str, beat: u64) -> Doing<'a, Result<bool, Silence>> {
+        Box::pin(async move {
+            self.0.answers().await;
+            let all = &mut self.0.rows.lock().unwrap().0;
+            let is_it = all.get(name).is_some_and(|one| one.beat == beat);
+            Ok(is_it && all.remove(name).is_some())
+        })
+    }
 }
 
 /// What was asked of the slots, in order, and of which of them the books are being filled.

@@ -1,6 +1,6 @@
 //! The other instances: whose beats go on, counted in own beats.
 
-use super::{AFTER_SILENCE, GONE};
+use super::{AFTER_SILENCE, FORGOTTEN, GONE};
 use crate::cluster::status::OtherInstance;
 use crate::cluster::terms::{Refused, Seen};
 use std::collections::BTreeMap;
@@ -99,6 +99,12 @@ impl Others {
 
     pub fn is_gone(&self, name: &str) -> bool {
         self.by_name.get(name).is_some_and(|other| other.still >= GONE)
+    }
+
+    /// Those that have not come back for long, and their last beats.
+    pub fn forgotten(&self) -> impl Iterator<Item = (&str, u64)> {
+        let gone = self.by_name.iter().filter(|(_, other)| other.still >= FORGOTTEN);
+        gone.filter_map(|(name, other)| Some((name.as_str(), other.beat?)))
     }
 
     /// Those that may have slots, and which of these they can't open.

@@ -80,6 +80,46 @@ fn who_hears_nothing_of_the_store_again_and_again_still_sees_that_another_is_gon
     assert!(world.store.rows.iter().all(|row| row.owner == "b"));
 }
 
+/// And while it may be that it had, or has, a slot, its row says who that is.
+#[test]
+fn who_does_not_come_back_is_forgotten_and_its_return_is_as_that_of_another() {
+    let mut world = World::of(7, &["a", "b"]);
+    world.rounds(200);
+    world.nodes[0].stands_for = u64::from(FORGOTTEN) + 60;
+    world.rounds(FORGOTTEN as usize - 1);
+    let is_there = |world: &World| world.store.instances.contains_key("a");
+    assert!(is_there(&world) && world.nodes[1].owners.others().len() == 1);
+    // Where all can't open it, it keeps the name of who had it last.
+    world.store.rows[3].owner = "a".into();
+    world.nodes[1].owners.leave();
+    world.rounds(20);
+    assert!(is_there(&world), "a slot has its name");
+    world.store.rows[3].owner.clear();
+    world.rounds(2);
+    assert!(!is_there(&world) && world.nodes[1].owners.others().is_empty());
+    world.nodes.pop();
+    world.join("c");
+    world.rounds(300);
+    assert!(is_there(&world) && world.is_settled());
+}
+
+/// Nor one that hears nothing of the store.
+#[test]
+fn who_comes_back_in_time_is_not_forgotten() {
+    let mut world = World::of(7, &["a", "b"]);
+    world.rounds(200);
+    for _ in 0..3 {
+        world.nodes[0].stands_for = u64::from(FORGOTTEN) - 10;
+        world.rounds(FORGOTTEN as usize - 10);
+        assert!(world.store.instances.contains_key("a"));
+        world.rounds(60);
+    }
+    assert!(world.is_settled());
+    world.stalls_for = 2 * u64::from(FORGOTTEN);
+    world.rounds(2 * FORGOTTEN as usize);
+    assert!(world.store.instances.contains_key("a") && world.store.instances.contains_key("b"));
+}
+
 #[test]
 fn who_comes_gets_slots_one_by_one_and_not_before_it_has_beaten_for_a_while() {
     let mut world = World::of(3, &["a"]);

@@ -58,4 +58,8 @@ impl Terms for Member {
     fn leave(&self) -> Doing<'_, Result<(), Silence>> {
         Box::pin(async move { Ok(self.store.leave(self.database, &self.name).await?) })
     }
+
+    fn forget<'a>(&'a self, name: &'a str, beat: u64) -> Doing<'a, Result<bool, Silence>> {
+        Box::pin(async move { Ok(self.store.forget(self.database, name, beat).await?) })
+    }
 }

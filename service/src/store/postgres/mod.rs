@@ -322,6 +322,12 @@ impl PostgresStore {
         self.runtime.run(async move { beater.leave(&name).await }).await
     }
 
+    /// Takes the row of an instance away that has not come back, where its beat is still this. Whether it was.
+    pub async fn forget(&self, database: usize, name: &str, beat: u64) -> Result<bool, Doubt> {
+        let (taker, name) = (self.databases[database].taker.clone(), name.to_string());
+        self.runtime.run(async move { taker.forget(&name, beat).await }).await
+    }
+
     /// On how many servers what is committed in a database is now; none where this role may not look. Its writes may wait
     /// meanwhile.
     pub async fn copies(&self, database: usize) -> Result<Option<u64>, Doubt> {

@@ -25,6 +25,8 @@ const TAKE: &str =
     and exists (select from totxegun_store.cluster where state = 'counts')";
 pub(super) const RELEASE: &str = "update totxegun_store.slot set owner = '' where slot = $1 and term = $2";
 const LEAVE: &str = "delete from totxegun_store.instance where name = $1";
+/// One that has beaten meanwhile stays.
+const FORGET: &str = "delete from totxegun_store.instance where name = $1 and beat = $2";
 
 impl Shared {
     /// A write that is done without a doubt, or an error: then it may be done, or be done later.
@@ -77,6 +79,10 @@ impl Shared {
 
     pub(super) async fn leave(&self, name: &str) -> Result<(), Doubt> {
         self.write(LEAVE, &[&name]).await.map(drop)
+    }
+
+    pub(super) async fn forget(&self, name: &str, beat: u64) -> Result<bool, Doubt> {
+        Ok(self.write(FORGET, &[&name, &(beat as i64)]).await? == 1)
     }
 
     pub(super) async fn instances(&self) -> Result<Vec<Instance>, Doubt> {

@@ -110,3 +110,30 @@ async fn who_stops_hands_over_what_is_in_each() {
     }
     assert_eq!(a.told.of(3)[2..], ["hand over 1", "at rest 1"]);
 }
+
+#[tokio::test(flavor = "multi_thread", worker_threads = 2)]
+async fn who_has_not_come_back_for_long_is_forgotten_and_comes_back_all_the_same() {
+    let both = databases();
+    let (a, b) = (InTwo::start(&both, "a"), InTwo::start(&both, "b"));
+    are_settled(&[&both[0], &both[1]], &["a", "b"]).await;
+    b.runs.iter().for_each(JoinHandle::abort);
+    are_settled(&[&both[0], &both[1]], &["a"]).await;
+    let has_b = |database: &Store| database.rows.lock().unwrap().0.contains_key("b");
+    assert!(both.iter().all(|database| has_b(database)) && a.cluster.status().others.len() == 1);
+    until_late(|| !both.iter().any(|database| has_b(database))).await;
+    until(|| a.cluster.status().others.is_empty()).await;
+    let b = InTwo::start(&both, "b");
+    are_settled(&[&both[0], &both[1]], &["a", "b"]).await;
+    until(|| !b.served().is_empty()).await;
+    assert_eq!(both.each_ref().map(|database| has_b(database)), [true; 2]);
+}
+
+/// As many beats as a test has that forgets.
+async fn until_late(is_so: impl Fn() -> bool) {
+    let waiting = async {
+        while !is_so() {
+            sleep(FAST).await;
+        }
+    };
+    timeout(FAST * 4 * crate::cluster::owners::FORGOTTEN, waiting).await.unwrap();
+}

@@ -140,6 +140,11 @@ impl World {
         }
         let steps = one.owners.beat(seen);
         one.under_way.extend(steps);
+        if let Some((name, beat)) = one.owners.forgotten() {
+            let is_it = self.store.instances.get(&name).is_some_and(|row| row.0 == beat);
+            assert!(is_it, "{name} has beaten since");
+            self.store.instances.remove(&name);
+        }
     }
 
     fn work(&mut self, node: usize) {
