@@ -54,13 +54,21 @@ pub struct Acts {
 }
 
 /// What was asked for.
-#[derive(Clone, Debug)]
-pub struct Act {
-    pub who: String,
+#[derive(Clone, Debug, PartialEq, Eq)]
+pub struct Asked {
     /// `quarantine`, `lift`, `dead drop`, `dead resend`, `close`, `open`, `correct`, `repair`, `forget`, `new sink`.
     pub what: &'static str,
     /// A sender, a key, a period, a correction, a series, a sink.
     pub of: String,
+    /// By which of these it was asked for: `--all`, `--anyway`.
+    pub given: Vec<&'static str>,
+}
+
+/// What somebody has asked for.
+#[derive(Clone, Debug)]
+pub struct Act {
+    who: String,
+    asked: Asked,
 }
 
 #[derive(Serialize)]
@@ -69,14 +77,29 @@ struct Written<'a> {
     who: &'a str,
     act: &'static str,
     of: &'a str,
+    #[serde(skip_serializing_if = "<[_]>::is_empty")]
+    given: &'a [&'static str],
     /// None before it is carried out.
     #[serde(skip_serializing_if = "Option::is_none")]
     outcome: Option<&'a str>,
 }
 
+impl Asked {
+    pub fn new(what: &'static str, of: impl Into<String>) -> Asked {
+        Asked { what, of: of.into(), given: Vec::new() }
+    }
+
+    /// With an option, where that was given.
+    pub fn with(mut self, option: &'static str, is_given: bool) -> Asked {
+        self.given.extend(is_given.then_some(option));
+        self
+    }
+}
+
 impl Act {
-    pub fn new(actor: Actor, what: &'static str, of: &str) -> Act {
-        Act { who: actor.name(), what, of: all_shown(cut(of, SHOWN)) }
+    pub fn new(actor: Actor, mut asked: Asked) -> Act {
+        asked.of = all_shown(cut(&asked.of, SHOWN));
+        Act { who: actor.name(), asked }
     }
 }
 
@@ -92,14 +115,23 @@ impl Acts {
 
     /// It was carried out, or not, for this reason.
     pub fn ended(&self, act: &Act, outcome: &str) {
-        let Act { who, what, of } = act;
-        let outcome = all_shown(cut(outcome, SHOWN));
-        tracing::info!(who, act = what, of, outcome, "{what} {of}, by {who}: {outcome}");
+        let Act { who, asked: Asked { what, of, given } } = act;
+        let (outcome, given) = (all_shown(cut(outcome, SHOWN)), given.join(" "));
+        let beside = if given.is_empty() { "" } else { " " };
+        tracing::info!(
+            who,
+            act = what,
+            of,
+            given,
+            outcome,
+            "{what} {of}{beside}{given}, by {who}: {outcome}"
+        );
         self.put(act, Some(&outcome));
     }
 
     fn put(&self, act: &Act, outcome: Option<&str>) {
-        let line = Written { time: crate::log::now(), who: &act.who, act: act.what, of: &act.of, outcome };
+        let Act { who, asked: Asked { what, of, given } } = act;
+        let line = Written { time: crate::log::now(), who, act: what, of, given, outcome };
         let _one = self.file.lock().unwrap_or_else(PoisonError::into_inner); // the file is sound at any time
         if let Err(error) = self.append(&line, outcome.is_none()) {
             let (file, reason) = (self.folder.join(NAME).display().to_string(), error.to_string());
@@ -147,13 +179,12 @@ impl Desk {
     pub(super) async fn act_by<Doing: Future<Output = Response<Body>>>(
         &self,
         actor: Actor,
-        what: &'static str,
-        of: String,
+        asked: Asked,
         doing: impl FnOnce(String) -> Doing,
     ) -> Response<Body> {
         let acts = self.acts.clone();
         let begin = move || {
-            let act = Act::new(actor, what, &of);
+            let act = Act::new(actor, asked);
             acts.begins(&act);
             act
         };
@@ -194,7 +225,7 @@ mod tests {
     fn an_act_is_there_before_it_is_carried_out_and_then_how_it_ended() {
         let folder = tempfile::tempdir().unwrap();
         let acts = Acts::in_folder(folder.path());
-        let act = Act::new(Actor::User(None), "dead drop", "0-a-1\n{\"who\":\"root\"}");
+        let act = Act::new(Actor::User(None), Asked::new("dead drop", "0-a-1\n{\"who\":\"root\"}"));
         acts.begins(&act);
         let first = lines(folder.path(), NAME);
         assert_eq!((&first[0]["who"], &first[0]["act"]), (&"operator".into(), &"dead drop".into()));
@@ -208,10 +239,24 @@ mod tests {
     }
 
     #[test]
+    fn what_was_given_beside_it_is_written_down() {
+        let folder = tempfile::tempdir().unwrap();
+        let acts = Acts::in_folder(folder.path());
+        for (all, anyway) in [(false, false), (true, false), (true, true)] {
+            let asked =
+                Asked::new("forget", "a".repeat(2 * SHOWN)).with("--all", all).with("--anyway", anyway);
+            acts.begins(&Act::new(Actor::User(None), asked));
+        }
+        let given = |line: &serde_json::Value| line.get("given").map(ToString::to_string);
+        let found: Vec<_> = lines(folder.path(), NAME).iter().map(given).collect();
+        assert_eq!(found, [None, Some(r#"["--all"]"#.into()), Some(r#"["--all","--anyway"]"#.into())]);
+    }
+
+    #[test]
     fn the_file_does_not_grow_for_ever() {
         let folder = tempfile::tempdir().unwrap();
         let acts = Acts::in_folder(folder.path());
-        let act = Act::new(Actor::User(None), "lift", "A");
+        let act = Act::new(Actor::User(None), Asked::new("lift", "A"));
         for fill in [MOST, MOST] {
             acts.begins(&act);
             let file = OpenOptions::new().write(true).open(folder.path().join(NAME)).unwrap();
@@ -230,7 +275,7 @@ mod tests {
         let cut = "{\"time\":\"2026-11-27T1";
         std::fs::write(folder.path().join(NAME), cut).unwrap();
         let acts = Acts::in_folder(folder.path());
-        let act = Act::new(Actor::User(None), "lift", "A");
+        let act = Act::new(Actor::User(None), Asked::new("lift", "A"));
         acts.begins(&act);
         acts.ended(&act, "done");
         let text = std::fs::read_to_string(folder.path().join(NAME)).unwrap();
@@ -246,6 +291,6 @@ mod tests {
     #[test]
     fn an_act_goes_on_where_it_can_t_be_written() {
         let acts = Acts::in_folder(Path::new("/nowhere/at/all"));
-        acts.begins(&Act::new(Actor::User(None), "lift", "A"));
+        acts.begins(&Act::new(Actor::User(None), Asked::new("lift", "A")));
     }
 }

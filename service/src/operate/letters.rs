@@ -5,7 +5,7 @@
 //! letter is thrown away only once the sink has it. A service that ends in between sends it again under the same key.
 
 use super::reach::{Answer, Command};
-use super::{reply, Actor, Desk, Unit, JSON};
+use super::{reply, Actor, Asked, Desk, Unit, JSON};
 use crate::files::dead::{sent_as, Became, Letter};
 use crate::files::{Dead, Fault};
 use crate::sinks::{of_part, Fate, Forwarded};
@@ -64,8 +64,8 @@ impl Desk {
         command: Command,
         key: String,
     ) -> Response<Body> {
-        let (what, of) = command.act().unwrap_or(("dead", key.clone())); // each has its name
-        self.act_by(actor, what, of, |who| async move { self.of_key(&who, &key, command).await }).await
+        let asked = command.act().unwrap_or_else(|| Asked::new("dead", &*key)); // each has its name
+        self.act_by(actor, asked, |who| async move { self.of_key(&who, &key, command).await }).await
     }
 
     pub(super) async fn letters_of(&self, unit: &Unit) -> Answer {

@@ -20,7 +20,7 @@ mod units;
 mod user;
 mod web;
 
-pub use acts::{Act, Actor, Acts};
+pub use acts::{Act, Actor, Acts, Asked};
 pub use databases::Databases;
 pub use letters::Resent;
 pub use named::Named;
@@ -186,8 +186,8 @@ impl Desk {
         match route {
             Route::Order(order) => match order.act() {
                 None => self.order("", &order).await,
-                Some((what, of)) => {
-                    self.act_by(actor, what, of, |who| async move { self.order(&who, &order).await }).await
+                Some(asked) => {
+                    self.act_by(actor, asked, |who| async move { self.order(&who, &order).await }).await
                 }
             },
             Route::Report => self.report().await,

@@ -2,7 +2,7 @@
 //! does not flush by itself: a biller is to know what is not in it.
 
 use super::status::Status;
-use super::{message, reply, Actor, Desk, JSON};
+use super::{message, reply, Actor, Asked, Desk, JSON};
 use crate::sinks::periods::{Correction, Deed, Told};
 use hyper::{Body, Response};
 use serde_json::json;
@@ -18,12 +18,13 @@ impl Desk {
         parts: &[String],
         query: &str,
     ) -> Response<Body> {
-        let (what, of, deed) = match read(parts, query) {
+        let (asked, deed) = match read(parts, query) {
             Ok(read) => read,
             Err(why) => return message(400, &why),
         };
-        let is_anyway = query == ANYWAY;
-        self.act_by(actor, what, of, |who| self.settle(who, deed, is_anyway)).await
+        let is_anyway = matches!(deed, Deed::Close(_)) && query == ANYWAY;
+        let asked = asked.with("--anyway", is_anyway);
+        self.act_by(actor, asked, |who| self.settle(who, deed, is_anyway)).await
     }
 
     async fn settle(self: &Arc<Self>, who: String, deed: Deed, is_anyway: bool) -> Response<Body> {
@@ -77,16 +78,16 @@ fn kept_back(status: &Status) -> String {
     text
 }
 
-/// What is asked for, as an act names it, and of what.
-fn read(parts: &[String], query: &str) -> Result<(&'static str, String, Deed), String> {
+/// What is asked for, and as it is written down.
+fn read(parts: &[String], query: &str) -> Result<(Asked, Deed), String> {
     let parts: Vec<&str> = parts.iter().map(String::as_str).collect();
     match parts[..] {
-        ["close", period] => Ok(("close", period.into(), Deed::Close(period.parse()?))),
-        ["open", period] => Ok(("open", period.into(), Deed::Open(period.parse()?))),
+        ["close", period] => Ok((Asked::new("close", period), Deed::Close(period.parse()?))),
+        ["open", period] => Ok((Asked::new("open", period), Deed::Open(period.parse()?))),
         ["correct", series, hour, value] => {
             let correction = correction(series, hour, value, query)?;
             let of = format!("{series} {hour} {value}: {}", correction.reason);
-            Ok(("correct", of, Deed::Correct(correction)))
+            Ok((Asked::new("correct", of), Deed::Correct(correction)))
         }
         _ => Err("this takes /close/PERIOD, /open/PERIOD and /correct/SERIES/HOUR/VALUE?reason=TEXT".into()),
     }
@@ -117,7 +118,7 @@ mod tests {
 
     fn of(path: &str, query: &str) -> Result<Deed, String> {
         let parts: Vec<String> = path.split('/').map(String::from).collect();
-        read(&parts, query).map(|(_, _, deed)| deed)
+        read(&parts, query).map(|(_, deed)| deed)
     }
 
     #[test]

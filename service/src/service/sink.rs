@@ -4,7 +4,7 @@ mod in_store;
 
 use super::Ended;
 use crate::files::{Folder, KnownSink, Outbox};
-use crate::operate::{Act, Actor, Acts};
+use crate::operate::{Act, Actor, Acts, Asked};
 use crate::sinks::{self, Address, Memory, Retention, Sink};
 use crate::store::postgres::PostgresStore;
 use anyhow::{anyhow, Context};
@@ -116,7 +116,8 @@ impl Remembered {
         }
         let act = left
             .as_ref()
-            .map(|left| Act::new(Actor::User(None), "new sink", &format!("{now} in the place of {left}")));
+            .map(|left| Asked::new("new sink", format!("{now} in the place of {left}")))
+            .map(|asked| Act::new(Actor::User(None), asked));
         if let Some(act) = &act {
             self.acts.begins(act);
         }

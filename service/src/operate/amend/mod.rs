@@ -7,7 +7,7 @@ pub(super) use sought::Sought;
 
 use super::named::named;
 use super::reach::{slots_shown, Answer, Command};
-use super::{message, reply, Actor, Desk, JSON};
+use super::{message, reply, Actor, Desk, ANYWAY, JSON};
 use crate::log::utc;
 use crate::otlp::series::SeriesKey;
 use crate::sinks::periods::{hour_shown, seconds_of};
@@ -33,16 +33,15 @@ impl Desk {
         parts: &[String],
         query: &str,
     ) -> Response<Body> {
-        let (sought, anyway) = match read(parts, query) {
+        let sought = match read(parts, query) {
             Ok(read) => read,
             Err(why) => return message(400, &why),
         };
-        let (what, of) = sought.act();
-        self.act_by(actor, what, of, |who| self.amended(who, sought, anyway)).await
+        self.act_by(actor, sought.act(), |who| self.amended(who, sought)).await
     }
 
-    async fn amended(self: &Arc<Self>, who: String, sought: Sought, anyway: Anyway) -> Response<Body> {
-        if self.totals.is_none() && anyway == Anyway::No {
+    async fn amended(self: &Arc<Self>, who: String, sought: Sought) -> Response<Body> {
+        if self.totals.is_none() && !sought.anyway {
             let what = "can't tell what it has already, so what is posted again would count twice";
             return message(
                 409,
@@ -143,15 +142,8 @@ fn in_hours(hours: &[Hour]) -> String {
     shown.join(", ")
 }
 
-/// Whether it is to be done although the sink may count a repeat twice.
-#[derive(Clone, Copy, Debug, PartialEq, Eq)]
-enum Anyway {
-    Yes,
-    No,
-}
-
 /// What is asked for.
-fn read(parts: &[String], query: &str) -> Result<(Sought, Anyway), String> {
+fn read(parts: &[String], query: &str) -> Result<Sought, String> {
     let to = match parts.iter().map(String::as_str).collect::<Vec<_>>()[..] {
         ["forget"] => None,
         ["repair", to] => {
@@ -162,7 +154,7 @@ fn read(parts: &[String], query: &str) -> Result<(Sought, Anyway), String> {
         }
         _ => return Err("this takes /repair/TIME?series=NAME and /forget?series=NAME".into()),
     };
-    let (mut written, mut all, mut anyway) = (String::new(), false, Anyway::No);
+    let (mut written, mut all, mut anyway) = (String::new(), false, false);
     for pair in query.split('&') {
         match pair.split_once('=').unwrap_or((pair, "")) {
             ("series", name) => {
@@ -170,11 +162,13 @@ fn read(parts: &[String], query: &str) -> Result<(Sought, Anyway), String> {
                 written = name.map_err(|_| "the name is no text in UTF-8")?.into();
             }
             ("all", _) => all = true,
-            ("anyway", _) => anyway = Anyway::Yes,
+            (ANYWAY, _) => anyway = true,
             _ => {}
         }
     }
-    Ok((Sought::new(written, to, all, now())?, anyway))
+    let mut sought = Sought::new(written, to, all, now())?;
+    sought.anyway = anyway;
+    Ok(sought)
 }
 
 /// In UTC, to the second.
@@ -197,12 +191,11 @@ mod tests {
             let parts: Vec<String> = path.split('/').map(String::from).collect();
             read(&parts, query)
         };
-        let (one, anyway) = asked("repair/2026-11-27T12:00:00", "series=a%7Bshop%3Ds1%7D&all").unwrap();
+        let one = asked("repair/2026-11-27T12:00:00", "series=a%7Bshop%3Ds1%7D&all").unwrap();
         let noon = 1_795_780_800 * SECOND;
-        assert_eq!((one.to, &*one.written, one.all), (Some(noon), "a{shop=s1}", true));
-        assert_eq!(anyway, Anyway::No);
-        let (one, anyway) = asked("forget", "series=a&anyway").unwrap();
-        assert_eq!((one.to, one.all, anyway), (None, false, Anyway::Yes));
+        assert_eq!((one.to, &*one.written, one.all, one.anyway), (Some(noon), "a{shop=s1}", true, false));
+        let one = asked("forget", "series=a&anyway").unwrap();
+        assert_eq!((one.to, one.all, one.anyway), (None, false, true));
         for (path, query, part) in [
             ("repair/yesterday", "series=a", "no time"),
             ("repair/1970-01-01", "series=a", "no time"),

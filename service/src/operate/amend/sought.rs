@@ -5,7 +5,7 @@ use crate::files::Series;
 use crate::keeper::{Amend, Done, Order};
 use crate::operate::named::{named, Named};
 use crate::operate::reach::Answer;
-use crate::operate::Unit;
+use crate::operate::{Asked, Unit};
 use crate::otlp::series::SeriesKey;
 use crate::otlp::Encoding;
 use crate::work::blocking;
@@ -21,6 +21,9 @@ pub struct Sought {
     pub(super) to: Option<u64>,
     /// All that are named so, where they are several.
     pub(super) all: bool,
+    /// Although the sink may count a repeat twice.
+    #[serde(default)]
+    pub(super) anyway: bool,
     /// When it was asked, by the clock of who was.
     now: u64,
 }
@@ -61,15 +64,16 @@ pub struct Meant {
 impl Sought {
     pub fn new(written: String, to: Option<u64>, all: bool, now: u64) -> Result<Sought, String> {
         written.parse::<Named>()?;
-        Ok(Sought { written, to, all, now })
+        Ok(Sought { written, to, all, anyway: false, now })
     }
 
     /// What is written down of it.
-    pub fn act(&self) -> (&'static str, String) {
-        match self.to {
-            Some(to) => ("repair", format!("{} to {}", self.written, time(to))),
-            None => ("forget", self.written.clone()),
-        }
+    pub fn act(&self) -> Asked {
+        let asked = match self.to {
+            Some(to) => Asked::new("repair", format!("{} to {}", self.written, time(to))),
+            None => Asked::new("forget", &self.written),
+        };
+        asked.with("--all", self.all).with("--anyway", self.anyway)
     }
 
     /// Those of a slot that are named so, in the order of their keys.

@@ -45,12 +45,12 @@ impl Desk {
         slots: Vec<u16>,
     ) -> Vec<(u16, Answer)> {
         let is_here = slots.iter().any(|slot| self.units.get(*slot).is_some());
-        let Some((what, of)) = command.act().filter(|_| is_here) else {
+        let Some(asked) = command.act().filter(|_| is_here) else {
             return self.answers_of(&command, &slots).await;
         };
         let acts = self.acts.clone();
         let begin = move || {
-            let act = Act::new(Actor::Named(who), what, &of);
+            let act = Act::new(Actor::Named(who), asked);
             acts.begins(&act);
             act
         };

@@ -3,7 +3,7 @@
 use super::Desk;
 use crate::keeper::{Done, Order};
 use crate::operate::amend::Sought;
-use crate::operate::Unit;
+use crate::operate::{Asked, Unit};
 use crate::otlp::Encoding;
 use crate::work::blocking;
 use serde::{Deserialize, Serialize};
@@ -69,13 +69,13 @@ impl Command {
         }
     }
 
-    /// What is written down of it, and of what it is.
-    pub fn act(&self) -> Option<(&'static str, String)> {
+    /// What is written down of it.
+    pub fn act(&self) -> Option<Asked> {
         Some(match self {
-            Command::Quarantine(sender) => ("quarantine", sender.clone()),
-            Command::Lift(sender) => ("lift", sender.clone()),
-            Command::Resend(key) => ("dead resend", key.clone()),
-            Command::Drop(key) => ("dead drop", key.clone()),
+            Command::Quarantine(sender) => Asked::new("quarantine", sender),
+            Command::Lift(sender) => Asked::new("lift", sender),
+            Command::Resend(key) => Asked::new("dead resend", key),
+            Command::Drop(key) => Asked::new("dead drop", key),
             Command::Amend(sought) => sought.act(),
             Command::Flush | Command::Report | Command::Letters | Command::Letter(_) | Command::Find(_) => {
                 return None

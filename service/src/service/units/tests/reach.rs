@@ -362,6 +362,14 @@ async fn series_are_found_in_all_slots_and_forgotten_where_they_are() {
         "{told}"
     );
     assert_eq!(both.post(10).await, [200, 200]);
+    for service in [&both.a, &both.b] {
+        let text = std::fs::read_to_string(service.place.join("acts.jsonl")).unwrap();
+        let last: Json = serde_json::from_str(text.lines().next_back().unwrap()).unwrap();
+        assert_eq!(
+            (&last["act"], &last["given"].to_string()[..]),
+            (&"forget".into(), r#"["--all","--anyway"]"#)
+        );
+    }
     both.net.mood("b", Mood::Refuses);
     let (status, why) = both.a.ask("POST", "/forget?series=m&all&anyway").await;
     assert!(status == 503 && why.contains("not slot 1"), "{status} {why}");
