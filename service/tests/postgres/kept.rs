@@ -1,9 +1,11 @@
 //! What is made ahead and deleted in the background, while deliveries go on.
 
+use crate::periods::{done, period};
 use crate::points::HOUR;
 use crate::server::{sum, sums, Server};
 use crate::{open, open_with, refused, taken};
 use std::time::Duration;
+use totxegun::sinks::periods::Deed;
 use totxegun::sinks::postgres::export;
 use totxegun::sinks::{Address, Fate, Retention};
 
@@ -215,6 +217,33 @@ async fn a_series_out_of_use_loses_its_spans_alone() {
     refused(&*sink, 11, sum("a", old + 12, old + 15, 1), "spans were deleted").await;
     taken(&*sink, 12, sum("b", old + 12, old + 15, 1)).await;
     taken(&*sink, 13, sum("a", old + 30, old + 40, 1)).await;
+}
+
+/// It counts in another hour than the one in which its spans are.
+#[tokio::test(flavor = "multi_thread")]
+async fn a_series_out_of_use_loses_what_came_late_too() {
+    let Some(server) = Server::start() else { return };
+    let address = server.by_socket("postgres");
+    let before = open(&address);
+    let closed = (now() - 3 * DAY) / DAY * DAY + 6 * HOUR;
+    make_day(&server, closed);
+    taken(&*before, 1, sum("a", closed + 2 * HOUR, closed + 2 * HOUR + 10, 1)).await;
+    done(&*before, Deed::Close(period(closed / HOUR, 1))).await;
+    taken(&*before, 2, sum("a", closed, closed + 10, 2)).await;
+    let late = "select count(*), sum(total) from totxegun.late";
+    assert_eq!(
+        (server.ask(late), server.ask("select count(*) from totxegun.span")),
+        ("1|2".into(), "2".into())
+    );
+    drop(before);
+    let _sink = open_with(&address, Retention { series: days(1), ..Retention::default() });
+    until(&server, "select count(*) from totxegun.series_total where spans_from_ns = last_end_ns", "1").await;
+    until(&server, "select count(*) from totxegun.ending", "0").await;
+    assert_eq!(server.ask("select count(*) from totxegun.span"), "0");
+    assert_eq!(
+        (server.ask(late), server.ask("select total from totxegun.totals")),
+        ("1|2".into(), "3".into())
+    );
 }
 
 /// As where a run was killed, or its connection cut, once it had written down that they go.

@@ -15,13 +15,13 @@ fn now() -> u64 {
     since.unwrap().as_secs() / 3600
 }
 
-fn period(from: u64, hours: u64) -> Period {
+pub fn period(from: u64, hours: u64) -> Period {
     let text = hour_shown(from as i64);
     let text = if hours == 1 { &text[..13] } else { &text[..10] };
     text.replace(' ', "T").parse().unwrap()
 }
 
-async fn done(sink: &dyn Sink, deed: Deed) -> String {
+pub async fn done(sink: &dyn Sink, deed: Deed) -> String {
     match sink.settle("alice", &deed).await {
         Told::Done(told) => told,
         other => panic!("{deed:?}: {other:?}"),

@@ -21,11 +21,15 @@ const BEGIN: &str = "with old as (
     )
     insert into totxegun.ending select series from marked on conflict do nothing";
 
-/// The hours, as stretches of time, in which there are spans in days: from the horizon on, and no far-off ones. Where
-/// hours were deleted before spans, each day that is there.
+/// The hours, as stretches of time, in which there are spans in days: from the horizon on, and no far-off ones. What came late
+/// counts in another one. Where hours were deleted before spans, each day that is there.
 const HOURS: &str = "select hour::int8 * 3600000000000, (hour + 1)::int8 * 3600000000000
     from totxegun.hour, totxegun.horizon where series in (select series from totxegun.ending)
         and hour >= div(spans_from_ns, 3600000000000) and hour < 2562047
+    union
+    select of_hour::int8 * 3600000000000, (of_hour + 1)::int8 * 3600000000000
+    from totxegun.late_hour, totxegun.horizon where series in (select series from totxegun.ending)
+        and of_hour >= div(spans_from_ns, 3600000000000) and of_hour < 2562047
     union
     select hour * 3600000000000, (hour + 24) * 3600000000000 from totxegun.horizon, (
         select extract(epoch from to_date(right(relname, 8), 'YYYYMMDD'))::int8 / 3600 as hour
