@@ -28,7 +28,7 @@ pub const AFTER_SILENCE: u32 = 14;
 pub const SETTLED: u32 = 20;
 /// So many own beats later, a day, the row of one that is gone is of no use any more. What it needs where it comes back it
 /// brings with its first beat: nobody but itself reads its row for more than who beats, and where.
-pub const FORGOTTEN: u32 = if cfg!(test) { 400 } else { 2 * 24 * 3600 };
+pub const FORGOTTEN: u32 = if cfg!(test) { 120 } else { 2 * 24 * 3600 };
 /// A slot that has this instance's name, and is not open here, is an earlier process': a namesake that lives would beat within.
 const RESTARTED: u32 = 4;
 /// Slots that are taken or opened side by side: each replays its journal.

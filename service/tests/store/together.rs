@@ -85,6 +85,10 @@ fn who_comes_aboard_and_who_syncs_meanwhile_both_go_on() {
     owners[0].drive.board();
     owners[0].drive.lose();
     owners[1].write("y").unwrap();
+    // Nor one that does not sync at all.
+    owners[2].drive.board();
+    owners[2].drive.leave();
+    owners[1].write("z").unwrap();
 }
 
 /// It is aboard and can't write: its connection is used by a read, which waits for the slot's row.

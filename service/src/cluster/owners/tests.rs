@@ -86,12 +86,13 @@ fn who_does_not_come_back_is_forgotten_and_its_return_is_as_that_of_another() {
     let mut world = World::of(7, &["a", "b"]);
     world.rounds(200);
     world.nodes[0].stands_for = u64::from(FORGOTTEN) + 60;
-    world.rounds(FORGOTTEN as usize - 1);
+    world.rounds(FORGOTTEN as usize - 30);
+    world.nodes[1].owners.leave();
+    world.rounds(20);
     let is_there = |world: &World| world.store.instances.contains_key("a");
     assert!(is_there(&world) && world.nodes[1].owners.others().len() == 1);
-    // Where all can't open it, it keeps the name of who had it last.
+    // As where nobody can open it.
     world.store.rows[3].owner = "a".into();
-    world.nodes[1].owners.leave();
     world.rounds(20);
     assert!(is_there(&world), "a slot has its name");
     world.store.rows[3].owner.clear();

@@ -8,7 +8,7 @@ use crate::files::{Dead, Fault, Journal, Outbox, Ticket};
 use std::collections::BTreeSet;
 use std::path::PathBuf;
 use std::sync::atomic::{AtomicBool, AtomicUsize, Ordering::SeqCst};
-use std::sync::{mpsc, Arc, Mutex};
+use std::sync::Arc;
 
 const EPOCH: &str = "00000000000000aa";
 
@@ -275,39 +275,6 @@ fn posts_that_were_moved_before_a_commit_that_did_not_come_are_held_once() {
         (texts(&journal, outbox.journal()), journal.held().posts),
         (all.map(String::from).to_vec(), 3)
     );
-}
-
-/// Others wait for the sync that it is aboard for, and none follows.
-#[tokio::test(flavor = "multi_thread")]
-async fn who_came_aboard_and_can_not_sync_keeps_no_other_slot_waiting() {
-    for is_closed in [false, true] {
-        let (store, stops) = (Arc::new(Store::default()), Arc::<AtomicBool>::default());
-        let (write, written) = mpsc::channel();
-        let (go, goes) = mpsc::channel();
-        let (stopping, goes) = (stops.clone(), Mutex::new(goes));
-        let owner = store.take_with(move |step| match step {
-            Step::Write if stopping.swap(false, SeqCst) => {
-                write.send(()).unwrap();
-                goes.lock().unwrap().recv().unwrap()
-            }
-            _ => Ok(()),
-        });
-        let (journal, _outbox, _dead) = open_of(owner.clone());
-        stops.store(true, SeqCst);
-        let ticket = append(&journal, "A", "one");
-        let fails = async {
-            tokio::task::block_in_place(|| written.recv().unwrap());
-            if is_closed {
-                journal.close("it can't be kept open");
-            }
-            let ended: io::Result<()> =
-                if is_closed { Ok(()) } else { Err(io::ErrorKind::StorageFull.into()) };
-            go.send(ended).unwrap();
-        };
-        let (durable, ()) = tokio::join!(journal.durable(ticket), fails);
-        assert_eq!(durable, Err(Lost));
-        assert!(!owner.is_aboard(), "closed: {is_closed}");
-    }
 }
 
 /// A loss of power tears a folder's files, and a start goes on; but what a drive has is as it was written.
