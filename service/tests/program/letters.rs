@@ -137,7 +137,8 @@ fn all_letters_are_sent_until_the_sink_fails() {
         let said = scope.spawn(|| service.said(&resend));
         sink.answers(2, &["400 Bad Request"]);
         let said = said.join().unwrap();
-        let refused = "the sink has taken 1 request; refused, taken in part or not readable: 1 request\ntotxegun: 0-a-2: ";
+        let refused =
+            "the sink has taken 1 request; refused, taken in part or not readable: 1 request\n0-a-2: ";
         assert!(said.contains(refused), "{said}");
     });
     std::thread::scope(|scope| {
@@ -179,9 +180,9 @@ fn of_all_letters_those_that_can_t_be_sent_are_named_and_the_others_are_sent() {
         assert_eq!(status, Some(1), "{said}");
         for part in [
             "the sink has taken 2 requests; refused, taken in part or not readable: 2 requests\n",
-            "totxegun: 0-a-1: ",
+            "\n0-a-1: ",
             "dead/0-a-1.json",
-            "totxegun: 0-a-3: ",
+            "\n0-a-3: ",
         ] {
             assert!(said.contains(part), "{part} in {said}");
         }
