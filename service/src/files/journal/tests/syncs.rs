@@ -288,7 +288,10 @@ fn who_came_aboard_and_can_not_sync_keeps_no_other_slot_waiting() {
                 return Ok(());
             }
             match ending.get().and_then(Weak::upgrade).filter(|_| ends) {
-                Some(journal) => Ok(assert!(journal.close("it can't be kept open"))),
+                Some(journal) => {
+                    assert!(journal.close("it can't be kept open"));
+                    Ok(())
+                }
                 None => Err(std::io::ErrorKind::StorageFull.into()),
             }
         });
