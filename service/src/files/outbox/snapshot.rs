@@ -1,6 +1,6 @@
 //! What a segment begins with: all that the outbox knows, but its requests.
 
-use super::rows::{packed, unpacked, SNAPSHOT};
+use super::rows::{packed_long, unpacked, SNAPSHOT};
 use super::state::State;
 use super::table::{KnownSeries, Table};
 use super::texts::Texts;
@@ -80,7 +80,7 @@ impl Snapshot {
             runs: (0..).zip(&self.series).filter_map(run).collect(),
         };
         let mut out = Vec::new();
-        put(&mut out, SNAPSHOT, &[&packed(&content)]);
+        put(&mut out, SNAPSHOT, &[&packed_long(&content)]);
         out
     }
 
