@@ -5,7 +5,7 @@ use super::units::Unit;
 use super::FinerUnits;
 use crate::files::{Body, Fault, Journal, Outbox};
 use crate::otlp::json::{Document, Value};
-use crate::otlp::series::{visit, SeriesKey};
+use crate::otlp::series::{visit, Around, SeriesKey};
 use crate::work::in_order;
 use bytes::Bytes;
 
@@ -33,7 +33,7 @@ impl FinerUnits {
                 for part in keys.chunks(KEYS_OF_A_PART) {
                     queue.push(Said::Series(part.to_vec()));
                 }
-                journal.posts(outbox.journal(), u64::MAX, |read| {
+                journal.requests(outbox.journal(), u64::MAX, |read| {
                     let mut texts: Vec<Bytes> = read.named.into_iter().map(|(_, text)| text).collect();
                     if let Body::Text(text) = read.post.body {
                         texts.push(text);
@@ -46,35 +46,55 @@ impl FinerUnits {
 
     fn know_said(&self, said: &Said) {
         match said {
-            Said::Series(keys) => keys.iter().for_each(|key| self.know_series(&key.0)),
-            Said::Requests(texts) => texts.iter().for_each(|text| self.know_request(text)),
+            Said::Series(keys) => self.know_all_series(keys.iter().map(|key| &*key.0)),
+            Said::Requests(texts) => self.know_requests(texts),
         }
     }
 
-    pub(super) fn know_series(&self, key: &str) {
-        let Ok(document) = Document::parse(key.as_bytes()) else {
-            return;
-        };
-        let mut parts = document.root().elements().into_iter().flatten().skip(4);
-        if let (Some(name), Some(unit)) = (parts.next(), parts.next()) {
-            self.know_unit(name, unit);
+    /// Most have all up to their unit in common with the one before.
+    pub(super) fn know_all_series<'k>(&self, keys: impl Iterator<Item = &'k str>) {
+        let mut known = None;
+        for key in keys {
+            if !known.is_some_and(|known| key.starts_with(known)) {
+                known = self.know_series(key);
+            }
         }
     }
 
-    /// Of a request in the book's form the metrics with points that are taken.
-    pub(super) fn know_request(&self, request: &[u8]) {
+    /// What the key begins with, up to its unit.
+    fn know_series<'k>(&self, key: &'k str) -> Option<&'k str> {
+        let document = Document::parse(key.as_bytes()).ok()?;
+        let mut parts = document.root().elements()?.skip(4);
+        let (name, unit) = (parts.next()?, parts.next()?);
+        self.know_unit(name, unit);
+        Some(&key[..unit.range().end])
+    }
+
+    /// Where all metrics of one are known, another point of theirs says nothing.
+    pub(super) fn know_requests(&self, requests: &[Bytes]) {
+        let mut known: Option<Around<'_>> = None;
+        for request in requests {
+            if known.as_ref().is_none_or(|known| known.point(request).is_none()) {
+                known = self.know_request(request).then(|| Around::of(request)).flatten();
+            }
+        }
+    }
+
+    /// Of a request in the book's form the metrics with points that are taken: whether all its metrics are known then.
+    pub(super) fn know_request(&self, request: &[u8]) -> bool {
         let Ok(document) = Document::parse(request) else {
-            return;
+            return false;
         };
         // Most say what is known already, and a look at their points takes several times as long.
         if self.is_known(&document) == Some(true) {
-            return;
+            return true;
         }
         let _ = visit(&document, |seen| {
             if let (Ok(_), Some(name), Some(unit)) = (seen.found, seen.metric.name, seen.metric.unit) {
                 self.know_unit(name, unit);
             }
         });
+        self.is_known(&document) == Some(true)
     }
 
     /// Whether all metrics are, whatever points they have; none where the request is of another form.

@@ -173,13 +173,36 @@ fn what_a_folder_knows_decides() {
     let request = request(&[sum("a", "s", &[DOUBLE]), sum("b", "s", &[WHOLE])]);
     let posted = prepare(Encoding::Json, request.into(), &before).unwrap();
     let after = auto(&[]);
-    after.finer_units.know_request(&posted.body);
-    after.finer_units.know_series(r#"[[],"","",[],"c","ms","monotonic",[]]"#);
+    assert!(after.finer_units.know_request(&posted.body));
+    // Of those that begin as the one before it only the first says something.
+    let key = |name, unit, kind| format!(r#"[[],"","",[],"{name}","{unit}","{kind}",[]]"#);
+    let keys =
+        [key("c", "ms", "monotonic"), key("c", "ms", "sum"), key("e", "ms", "sum"), key("e", "min", "sum")];
+    after.finer_units.know_all_series(keys.iter().map(String::as_str));
     let unit = |name, unit, point| taken(&after, &[sum(name, unit, &[point])]).0;
     assert_eq!(
         [unit("a", "s", WHOLE), unit("b", "s", DOUBLE), unit("c", "s", DOUBLE), unit("d", "s", WHOLE)],
         ["us", "s", "ms", "s"]
     );
+    assert_eq!(
+        [unit("e", "s", DOUBLE), unit("e", "min", DOUBLE), unit("e", "h", WHOLE)],
+        ["ms", "min", "min"]
+    );
+}
+
+/// A point that is taken says what one before it that is foreign did not.
+#[test]
+fn what_a_folder_has_of_a_foreign_point_decides_nothing() {
+    let reading = auto(&[]);
+    let of = |says: &str| bytes::Bytes::from(request(&[sum("a", "ms", &[says])]));
+    let foreign = of(r#""asInt":1.5"#);
+    reading.finer_units.know_requests(&[foreign.clone(), foreign.clone()]);
+    let undecided = auto(&[]);
+    let unit = |reading: &Reading| taken(reading, &[sum("a", "s", &[DOUBLE])]).0;
+    assert_eq!(unit(&reading), unit(&undecided));
+    let reading = auto(&[]);
+    reading.finer_units.know_requests(&[foreign, of(WHOLE), of(WHOLE)]);
+    assert_eq!(unit(&reading), "ms");
 }
 
 /// Else a later unit of its name was taken otherwise than behind a start, or than of protobuf.
