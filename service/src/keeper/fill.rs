@@ -11,7 +11,7 @@
 
 mod said;
 
-use super::numbers::Numbers;
+use super::numbers::{Numbers, Own};
 use super::Trouble;
 use crate::core::{free_spare_readers, Book, Core, Read, Refused};
 use crate::files::{Body, Outbox, Post};
@@ -110,8 +110,13 @@ enum Unprimed {
     NotForwarded(#[from] NotForwarded),
 }
 
-/// What comes of the journal; none where room is to be made ahead of what is next.
-type Coming = Option<Again>;
+/// What comes of the journal.
+enum Coming {
+    /// Posts, one behind the other.
+    Posts(Vec<Again>),
+    /// Room is to be made ahead of what is next.
+    Room,
+}
 
 /// A post that a book had, and is to have again.
 struct Again {
@@ -127,9 +132,12 @@ struct Again {
 impl<S: Fn() -> bool> Filling<'_, S> {
     fn prime(&mut self) -> Result<(), Trouble> {
         let (slot, fresh, stops) = (self.slot, &mut self.fresh, &self.stops);
+        // Where there is no post to put in, no number is asked for.
+        let own = slot.journal.size().1.map(|_| self.numbers.own());
+        let own = own.as_deref();
         in_order(
-            |priming: &mut Priming| priming.be_read(&slot.core),
-            |priming| fresh.prime(priming),
+            |priming: &mut Priming| priming.be_read(&slot.core, own),
+            |priming| fresh.prime(priming, own),
             |queue| {
                 for (owner, series) in owned(&slot.outbox) {
                     let mut parts = series.chunks(SERIES_OF_A_POST);
@@ -151,20 +159,42 @@ impl<S: Fn() -> bool> Filling<'_, S> {
         let (slot, fresh) = (self.slot, &mut self.fresh);
         let (numbers, stops) = (&mut self.numbers, &self.stops);
         in_order(
-            |coming: &mut Coming| coming.iter_mut().for_each(Again::be_read),
+            Coming::be_read,
             |coming| match coming {
-                Some(again) => fresh.replay_one(again, admit),
-                None => fresh.make_room(),
+                Coming::Posts(posts) => posts.into_iter().try_for_each(|post| fresh.replay_one(post, admit)),
+                Coming::Room => fresh.make_room(),
             },
             |queue| {
                 let own = numbers.own();
-                said(slot, &own, stops, |said| {
-                    // Also of a post that is not wanted: no later one says it again.
-                    numbers.note(said.named);
-                    !is_wanted(&said.post) || queue.push(Some(Again::of(numbers, said.post, queue)))
+                said(slot, &own, stops, |part| {
+                    let mut posts = Vec::new();
+                    for said in part {
+                        // Also of a post that is not wanted: no later one says it again.
+                        numbers.note(said.named);
+                        if is_wanted(&said.post) {
+                            let again = Again::of(numbers, said.post, || make_room(queue, &mut posts));
+                            posts.push(again);
+                        }
+                    }
+                    posts.is_empty() || queue.push(Coming::Posts(posts))
                 })
             },
         )
+    }
+}
+
+/// Returns once all that came is put, also these posts, and there is room.
+fn make_room(queue: &WorkQueue<Coming>, posts: &mut Vec<Again>) {
+    queue.push(Coming::Posts(std::mem::take(posts)));
+    queue.push(Coming::Room);
+    queue.wait_until_empty();
+}
+
+impl Coming {
+    fn be_read(&mut self) {
+        if let Coming::Posts(posts) = self {
+            posts.iter_mut().for_each(Again::be_read);
+        }
     }
 }
 
@@ -173,8 +203,11 @@ impl Priming {
         Priming { owner: owner.into(), series: series.to_vec(), posts: Ok(Vec::new()) }
     }
 
-    fn be_read(&mut self, core: &Core) {
+    fn be_read(&mut self, core: &Core, own: Option<&Own>) {
         self.posts = self.read(core);
+        if let (Ok(posts), Some(own)) = (&mut self.posts, own) {
+            posts.iter_mut().for_each(|read| own.note(read));
+        }
     }
 
     fn read(&self, core: &Core) -> Result<Vec<Read>, Unprimed> {
@@ -186,11 +219,10 @@ impl Priming {
 impl Again {
     /// Its numbers are those that stand for the same here. Where there is no memory for that, it is tried again behind all
     /// before it, with room.
-    fn of(numbers: &mut Numbers, post: Post, queue: &WorkQueue<Coming>) -> Again {
+    fn of(numbers: &mut Numbers, post: Post, make_room: impl FnOnce()) -> Again {
         let mut read = numbers.unread(&post);
         if read.as_ref().is_err_and(|refused| refused.status() == 503) {
-            queue.push(None);
-            queue.wait_until_empty();
+            make_room();
             read = numbers.unread(&post);
         }
         Again { sender: post.sender, foreign: post.foreign, said: Ok(()), read }
@@ -210,10 +242,10 @@ impl Again {
 }
 
 impl Fresh<'_> {
-    fn prime(&mut self, mut priming: Priming) -> Result<(), Trouble> {
+    fn prime(&mut self, mut priming: Priming, own: Option<&Own>) -> Result<(), Trouble> {
         if matches!(priming.posts, Err(Unprimed::Refused(_))) {
             free_spare_readers();
-            priming.be_read(&self.slot.core);
+            priming.be_read(&self.slot.core, own);
         }
         let posts = std::mem::replace(&mut priming.posts, Ok(Vec::new()));
         let admit = |mut read: Read| Ok(self.book.admit(&mut read)?);

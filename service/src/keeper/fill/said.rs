@@ -23,17 +23,17 @@ pub(super) struct Said {
     pub post: Post,
 }
 
-/// Gives the posts of the journal that are in no group, in order, until `each` is false. What they say of numbers is known
-/// already, but where there is no memory for that.
+/// Gives the posts of the journal that are in no group, in order and some at once, until `each` is false. What they say of
+/// numbers is known already, but where there is no memory for that.
 pub(super) fn said(
     slot: &Slot,
     own: &Own,
     stops: &impl Fn() -> bool,
-    mut each: impl FnMut(Said) -> bool + Send,
+    mut each: impl FnMut(Vec<Said>) -> bool + Send,
 ) -> Result<(), Trouble> {
     let given = in_order(
-        |part: &mut Part| part.posts.iter_mut().for_each(|said| said.be_named(own)),
-        |part| part.posts.into_iter().all(&mut each).then_some(()).ok_or(None),
+        |part: &mut Part| part.be_named(own),
+        |part| each(part.posts).then_some(()).ok_or(None),
         |queue| {
             let mut part = Part::default();
             let read = slot.journal.posts(slot.outbox.journal(), u64::MAX, |read| {
@@ -66,16 +66,12 @@ impl Part {
         self.posts.push(Said { named, post });
     }
 
+    fn be_named(&mut self, own: &Own) {
+        let named = self.posts.iter_mut().flat_map(|said| &mut said.named);
+        own.find(&mut named.map(|(_, number)| number).collect::<Vec<_>>());
+    }
+
     fn is_full(&self) -> bool {
         self.posts.len() >= POSTS_OF_A_PART || self.bytes >= BYTES_OF_A_PART
-    }
-}
-
-impl Said {
-    /// What is refused is asked for again in its turn.
-    fn be_named(&mut self, own: &Own) {
-        for (_, number) in &mut self.named {
-            let _ = number.be_own(own);
-        }
     }
 }
