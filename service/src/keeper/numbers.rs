@@ -113,7 +113,7 @@ impl Own {
         let texts: Vec<Bytes> = said.iter().map_while(|number| number.text()).collect();
         let mut texts = &texts[..];
         while let Some(first) = texts.first() {
-            let around = Around::of(first);
+            let around = Around::of(first).filter(Around::is_of_sum);
             let points = around.iter().flat_map(|around| around.points(texts)).collect::<Vec<_>>();
             let alike = points.len().max(1);
             let (those, left) = said.split_at_mut(alike);
@@ -125,7 +125,7 @@ impl Own {
         }
     }
 
-    /// By a request of their points, of which the library says words as many as sums have: else they are found one by one.
+    /// By a request of their points, where the library says as many words of them as of sums: else they are found one by one.
     fn find_alike(&self, said: &mut [&mut Number], request: &[u8]) {
         let found = self.names().ok().and_then(|names| names.numbers_of(request, said.len()));
         let found = found.into_iter().flatten();
