@@ -7,7 +7,11 @@ mod posts;
 
 use super::table::Table;
 use super::{json, values, Failure, Form};
-use crate::files::{Dropped, Durability, Fault, Folder, FolderFault, Journal, Mark, Outbox, Replayed};
+use crate::files::{
+    Dropped, Durability, Fault, Folder, FolderFault, Journal, Mark, Outbox, Replayed, UnitOfMetric,
+};
+use crate::log::shown;
+use crate::post_reports::SERIES_SHOWN;
 use crate::service::slot_of;
 use crate::store::moving::folder_counts;
 use crate::store::postgres::{address, Server};
@@ -16,7 +20,7 @@ use clap::Args;
 use copy::{interrupts, remove_at, Copy};
 use nix::fcntl::{flock, FlockArg};
 use serde::Serialize;
-use std::collections::HashSet;
+use std::collections::{BTreeSet, HashSet};
 use std::fs::File;
 use std::os::fd::AsRawFd;
 use std::path::{Path, PathBuf};
@@ -63,6 +67,8 @@ struct CheckReport {
     series: usize,
     series_without_owner: usize,
     quarantined: Vec<String>,
+    /// Metrics, each with a unit that a rule of `--whole` brought beside a finer one: no other of its name is taken in it.
+    beside: BTreeSet<UnitOfMetric>,
     /// Of the posts, those in quarantined senders' own files.
     held_posts: u64,
     held_bytes: u64,
@@ -220,6 +226,7 @@ impl CheckReport {
         self.series += series.len();
         self.series_without_owner += series.values().filter(|series| series.owner.is_none()).count();
         self.quarantined.extend(outbox.quarantined());
+        self.beside.extend(outbox.beside());
         self.dropped.extend(outbox.dropped().iter().map(Dropped::to_string));
         let changed = outbox.find_changed()?.into_iter();
         self.faults.extend(changed.map(|fault| format!("slot {number}: {fault}")));
@@ -295,6 +302,9 @@ fn text(found: &CheckReport, data: &Path) -> String {
     row("quarantined", values::senders_shown(&found.quarantined));
     row("held back", format!("{}, {}", counted(found.held_posts, "post"), bytes(found.held_bytes)));
     row("refused for good", counted(found.dead, "request"));
+    for (metric, unit) in &found.beside {
+        row("by a rule alone", format!("{unit} of {}", shown(metric, SERIES_SHOWN)));
+    }
     if found.new_epoch {
         row("keys", "new ones from a start on: this folder was copied, or its lock is gone".into());
     }

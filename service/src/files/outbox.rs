@@ -3,6 +3,7 @@
 //! What is written is a `Change`; the same change is then made in memory, as a start makes it when it reads. The
 //! bytes are described in `rows`.
 
+mod beside;
 mod brought;
 mod changes;
 mod damaged;
@@ -28,6 +29,7 @@ use crate::runs::{Run, Since};
 use crate::work::blocking;
 pub use brought::{Beginning, Waits};
 use changes::Change;
+pub use changes::UnitOfMetric;
 use state::{Age, State};
 use std::collections::{BTreeSet, HashMap, HashSet};
 use std::io;
@@ -262,6 +264,11 @@ impl Outbox {
                 None => return Ok(()),
             }
         }
+    }
+
+    /// Ends the process, but of a drive the slot alone.
+    pub fn fail(&self, fault: Fault) -> Lost {
+        self.disk.fail(fault)
     }
 
     /// Returns once another instance has the slot, or may have.

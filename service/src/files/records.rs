@@ -38,10 +38,11 @@ pub enum Which {
 
 impl Which {
     /// Of the records and of what is in them. A journal of version 1 has no points by number, one of version 2 no runs,
-    /// nor has an outbox of version 1, and one of version 3 no name behind another; totxegun up to 0.5.0 reads version 1 alone.
+    /// nor has an outbox of version 1, and one of version 3 no name behind another; an outbox of version 2 has no units
+    /// beside others. totxegun up to 0.5.0 reads version 1 alone.
     fn version(self) -> u16 {
         match self {
-            Which::Outbox => 2,
+            Which::Outbox => 3,
             Which::Journal | Which::Held => 4,
         }
     }

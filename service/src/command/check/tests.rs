@@ -94,6 +94,18 @@ fn a_request_that_was_changed_is_a_fault_and_the_rest_is_told() -> Result<()> {
 }
 
 #[test]
+fn units_that_decide_nothing_are_told() -> Result<()> {
+    let data = tempdir()?;
+    killed(data.path())?;
+    let outbox = Folder::open(data.path(), Durability::Disk).unwrap().slot(0)?.1;
+    outbox.put_beside(&[("a\nb".to_string(), "ms".to_string())])?;
+    drop(outbox);
+    let text = String::from_utf8(checked(data.path()).unwrap())?;
+    assert!(text.contains("by a rule alone") && text.contains("ms of a b\n"), "{text}");
+    Ok(())
+}
+
+#[test]
 fn a_folder_in_use_is_not_read() -> Result<()> {
     let folder = tempdir()?;
     std::fs::write(folder.path().join("version"), "")?;

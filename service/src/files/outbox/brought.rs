@@ -1,6 +1,6 @@
 //! What an outbox has, brought into another that goes on from it.
 
-use super::changes::{Change, Group};
+use super::changes::{Change, Group, UnitOfMetric};
 use super::rows;
 use super::state::{Batch, Front};
 use super::{Outbox, Series, Waiting};
@@ -16,6 +16,7 @@ pub struct Beginning {
     pub next: u64,
     pub series: Vec<(SeriesKey, Series)>,
     pub quarantined: BTreeSet<String>,
+    pub beside: BTreeSet<UnitOfMetric>,
     pub since: Since,
 }
 
@@ -65,6 +66,7 @@ impl Outbox {
         self.renew(|state| {
             (state.next, state.acknowledged) = (beginning.next, beginning.next - 1);
             (state.quarantined, state.since) = (beginning.quarantined, Some(beginning.since));
+            state.beside = beginning.beside;
             state.adopt(beginning.series);
         })
     }

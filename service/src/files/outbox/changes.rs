@@ -6,6 +6,9 @@ use std::ops::Range;
 use std::sync::Arc;
 use std::time::Instant;
 
+/// The name of a metric, and that of a unit.
+pub type UnitOfMetric = (String, String);
+
 #[derive(Debug)]
 pub enum Change {
     Group {
@@ -24,6 +27,7 @@ pub enum Change {
     Quarantine(String),
     Lift(String),
     Forget(Vec<u32>),
+    Beside(Vec<UnitOfMetric>),
 }
 
 /// What one checkpoint flushed.

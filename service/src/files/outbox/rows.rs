@@ -10,6 +10,7 @@
 //! | 21 owners | packed `[[id, owner], ..]` |
 //! | 22 quarantine, 23 lift | the sender's name |
 //! | 24 forget | packed `[id, ..]` |
+//! | 25 beside | packed `[[metric, unit], ..]` |
 //!
 //! Packed is deflated; but bodies it is JSON. A series has the id of the snapshot, or the next free one from the
 //! commit that first has it.
@@ -38,6 +39,7 @@ pub const OWNERS: u8 = OWN + 5;
 pub const QUARANTINE: u8 = OWN + 6;
 pub const LIFT: u8 = OWN + 7;
 pub const FORGET: u8 = OWN + 8;
+pub const BESIDE: u8 = OWN + 9;
 
 /// What a group did to series.
 #[derive(Serialize, Deserialize)]
@@ -173,6 +175,7 @@ pub fn record(change: &Change) -> Vec<u8> {
         Change::Quarantine(sender) => (QUARANTINE, sender.as_bytes().to_vec()),
         Change::Lift(sender) => (LIFT, sender.as_bytes().to_vec()),
         Change::Forget(ids) => (FORGET, packed(ids)),
+        Change::Beside(units) => (BESIDE, packed(units)),
     };
     let mut out = Vec::new();
     put(&mut out, kind, &[&bytes]);
@@ -194,6 +197,7 @@ pub fn change_of(kind: u8, bytes: &[u8], series: &Table) -> Option<Change> {
             let ids: Vec<u32> = unpacked(bytes)?;
             ids.iter().all(was_given).then_some(Change::Forget(ids))?
         }
+        BESIDE => Change::Beside(unpacked(bytes)?),
         _ => return None,
     })
 }

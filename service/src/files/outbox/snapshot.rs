@@ -1,5 +1,6 @@
 //! What a segment begins with: all that the outbox knows, but its requests.
 
+use super::changes::UnitOfMetric;
 use super::rows::{packed, unpacked, SNAPSHOT};
 use super::state::State;
 use super::table::{KnownSeries, Table};
@@ -22,6 +23,7 @@ pub struct Snapshot {
     pub acknowledged: u64,
     pub journal: u64,
     pub quarantined: BTreeSet<String>,
+    pub beside: BTreeSet<UnitOfMetric>,
     pub since: Option<Since>,
     /// By their ids, none is left out.
     pub series: Vec<Series>,
@@ -42,6 +44,8 @@ struct Content<S> {
     since: Option<Since>,
     #[serde(default)]
     runs: Vec<RunRow>,
+    #[serde(default)]
+    beside: BTreeSet<UnitOfMetric>,
 }
 
 /// Key, frontier, seconds since 1970 when last seen, owner.
@@ -78,6 +82,7 @@ impl Snapshot {
             series: Rows(self),
             since: self.since,
             runs: (0..).zip(&self.series).filter_map(run).collect(),
+            beside: self.beside.clone(),
         };
         let mut out = Vec::new();
         put(&mut out, SNAPSHOT, &[&packed(&content)]);
@@ -90,6 +95,7 @@ impl Snapshot {
         (state.next, state.acknowledged, state.journal) =
             (content.next, content.acknowledged, content.journal);
         (state.quarantined, state.since) = (content.quarantined, content.since);
+        state.beside = content.beside;
         state.series = content.series;
         for row in content.runs {
             let series = &mut state.series.at_mut(row.0)?.series;

@@ -1,6 +1,6 @@
 //! What the outbox knows, in memory: some bytes a series, and some a group, but none a waiting request.
 
-use super::changes::{Change, Group};
+use super::changes::{Change, Group, UnitOfMetric};
 use super::snapshot::Snapshot;
 use super::table::{KnownSeries, Table};
 use super::{Series, Waiting};
@@ -67,6 +67,7 @@ pub struct State {
     pub acknowledged: u64,
     pub journal: u64,
     pub quarantined: BTreeSet<String>,
+    pub beside: BTreeSet<UnitOfMetric>,
     /// None until the outbox is opened.
     pub since: Option<Since>,
     pub series: Table,
@@ -83,6 +84,7 @@ impl State {
             acknowledged: 0,
             journal: 1,
             quarantined: BTreeSet::new(),
+            beside: BTreeSet::new(),
             since: None,
             series: Table::default(),
             batches: VecDeque::new(),
@@ -110,6 +112,7 @@ impl State {
             acknowledged: self.acknowledged,
             journal: self.journal,
             quarantined: self.quarantined.clone(),
+            beside: self.beside.clone(),
             since: self.since,
             series: known.collect(),
             texts: self.series.texts(),
@@ -144,6 +147,7 @@ impl State {
             Change::Quarantine(sender) => drop(self.quarantined.insert(sender)),
             Change::Lift(sender) => drop(self.quarantined.remove(&sender)),
             Change::Forget(ids) => self.forget(&ids),
+            Change::Beside(units) => self.beside.extend(units),
         }
     }
 

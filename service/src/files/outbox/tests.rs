@@ -34,6 +34,10 @@ fn key_of(key: &str) -> SeriesKey {
     SeriesKey(key.into())
 }
 
+fn unit_of(metric: &str, unit: &str) -> UnitOfMetric {
+    (metric.into(), unit.into())
+}
+
 fn open_on(disk: &Disk, path: &Path, epoch: &str, longest: u64) -> Result<Outbox, Fault> {
     let free_space = Arc::new(FreeSpace::new(Path::new("/"))?);
     Outbox::open_with(disk, path, epoch, free_space, read_ends, longest)
@@ -64,10 +68,11 @@ fn view(outbox: &Outbox) -> String {
     series.sort_by(|one, other| one.0.cmp(&other.0));
     let (count, bytes, first) = outbox.waiting();
     format!(
-        "{} {} {series:?} {:?} {count} {bytes} {first:?}",
+        "{} {} {series:?} {:?} {:?} {count} {bytes} {first:?}",
         outbox.epoch(),
         outbox.journal(),
-        outbox.quarantined()
+        outbox.quarantined(),
+        outbox.beside()
     )
 }
 
@@ -249,6 +254,44 @@ fn what_was_forgotten_is_known_by_when_it_ended() {
     for _ in 0..2 {
         let wanted = Since { made, forgotten: 70 };
         assert_eq!(open(folder.path()).since(), wanted);
+    }
+}
+
+/// All of it is durable before a post may hang on it.
+#[test]
+fn units_beside_others_last_until_they_are_left() {
+    let folder = tempfile::tempdir().unwrap();
+    let [a, b] = ["a", "b"].map(|metric| unit_of(metric, "ms"));
+    let outbox = open(folder.path());
+    outbox.put_beside(std::slice::from_ref(&a)).unwrap();
+    outbox.put_beside(&[a.clone(), b.clone()]).unwrap();
+    kill(outbox);
+    // The first start reads the records, the others the snapshot that it wrote.
+    for _ in 0..3 {
+        let outbox = open(folder.path());
+        assert_eq!(outbox.beside(), [a.clone(), b.clone()].into());
+        kill(outbox);
+    }
+    let outbox = open(folder.path());
+    outbox.leave_beside(&[b, unit_of("c", "ms")]).unwrap();
+    kill(outbox);
+    assert_eq!(open(folder.path()).beside(), [a].into());
+}
+
+/// It has what says that it is of version 2.
+#[test]
+fn an_outbox_of_version_2_has_no_units_beside_others() {
+    let folder = tempfile::tempdir().unwrap();
+    let snapshot = r#"{"epoch":"e","next":1,"acknowledged":0,"journal":1,"quarantined":["q"],"series":[["a",7,6,"A"]],"since":{"made":3,"forgotten":2},"runs":[]}"#;
+    let header: [&[u8]; 4] = [b"totxegun", &2u16.to_le_bytes(), &[Which::Outbox as u8], &1u64.to_le_bytes()];
+    let mut bytes = Vec::new();
+    records::put(&mut bytes, records::HEADER, &header);
+    records::put(&mut bytes, rows::SNAPSHOT, &[&rows::deflated(snapshot.as_bytes())]);
+    std::fs::write(segment::path(folder.path(), 1), bytes).unwrap();
+    for _ in 0..2 {
+        let outbox = open(folder.path());
+        assert_eq!((outbox.quarantined(), outbox.beside()), (["q".to_string()].into(), BTreeSet::new()));
+        assert_eq!((outbox.since(), outbox.frontier(&key_of("a"))), (Since { made: 3, forgotten: 2 }, 7));
     }
 }
 

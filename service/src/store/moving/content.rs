@@ -3,7 +3,7 @@
 use super::{MoveFault, Moved};
 use crate::core::Core;
 use crate::files::drive::{self, Drive};
-use crate::files::{Beginning, Dead, Fault, Folder, Journal, Outbox, Series};
+use crate::files::{Beginning, Dead, Fault, Folder, Journal, Outbox, Series, UnitOfMetric};
 use crate::keeper;
 use crate::metrics::Metrics;
 use crate::otlp::series::SeriesKey;
@@ -29,6 +29,7 @@ pub struct Content {
     pub from: Vec<From>,
     series: HashMap<SeriesKey, Series>,
     quarantined: BTreeSet<String>,
+    beside: BTreeSet<UnitOfMetric>,
     since: Since,
 }
 
@@ -95,6 +96,7 @@ impl Content {
             }
         }
         self.quarantined.extend(from.outbox.quarantined());
+        self.beside.extend(from.outbox.beside());
         let since = from.outbox.since();
         // All slots are one service, which began with the first: who moves may be the first to open another. 0 is not known.
         let made = [self.since.made, since.made].into_iter().filter(|made| *made > 0);
@@ -115,6 +117,7 @@ impl Content {
             next: own.map_or(1, |from| from.outbox.first_number()),
             series: series.map(|(key, series)| (key.clone(), series.clone())).collect(),
             quarantined: self.quarantined.clone(),
+            beside: self.beside.clone(),
             since: self.since,
         }
     }
@@ -130,7 +133,8 @@ mod tests {
         let folder = Folder::open(place.path(), Durability::Process).unwrap();
         let outbox = folder.outbox(number).unwrap();
         let (next, series, quarantined) = (1, Vec::new(), BTreeSet::new());
-        let beginning = Beginning { next, series, quarantined, since };
+        let beside = [(format!("m{number}"), "ms".to_string())].into();
+        let beginning = Beginning { next, series, quarantined, beside, since };
         outbox.begin_with(beginning).unwrap();
         From { number, outbox: Arc::new(outbox), journal: None }
     }
@@ -144,5 +148,17 @@ mod tests {
             content.with(from(number, since));
         }
         assert_eq!(content.beginning(0, 1).since, since(40, 9));
+    }
+
+    /// Else a start behind the move would decide by them.
+    #[test]
+    fn units_that_decide_nothing_are_moved() {
+        let mut content = Content::default();
+        content.with(from(0, Since::default())).beginning(0, 1);
+        content.with_known(&from(1, Since::default()));
+        for slot in [0, 1] {
+            let beside = content.beginning(slot, 2).beside;
+            assert_eq!(beside, ["m0", "m1"].map(|name| (name.to_string(), "ms".to_string())).into());
+        }
     }
 }

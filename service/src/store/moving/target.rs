@@ -99,6 +99,7 @@ pub fn former(folder: &Folder, number: u16, from: &Outbox) -> Result<u64, Fault>
         next: from.first_number(),
         series: Vec::new(),
         quarantined: Default::default(),
+        beside: Default::default(),
         since: from.since(),
     })?;
     go_on(&to, from)

@@ -18,6 +18,7 @@ fn bring(from: &Outbox, to: &Outbox) {
         next: from.first_number(),
         series: from.series().into_iter().collect(),
         quarantined: from.quarantined(),
+        beside: from.beside(),
         since: from.since(),
     })
     .unwrap();
@@ -33,6 +34,7 @@ async fn an_outbox_that_goes_on_from_another_has_its_requests_and_what_it_knows(
         from.commit(&[body(&[("a", 3)], "1"), body(&[("b", 4)], "2")], 2).unwrap();
         from.own([(key_of("a"), "s".to_string())].into()).unwrap();
         from.quarantine("q").unwrap();
+        from.put_beside(&[unit_of("m", "ms")]).unwrap();
         take(&from).await;
         kill(from);
         let from = open_on(&Disk::default(), &one, "f", longest).unwrap();
@@ -43,8 +45,8 @@ async fn an_outbox_that_goes_on_from_another_has_its_requests_and_what_it_knows(
         kill(to);
         let to = open_on(&Disk::default(), &other, "g", longest).unwrap();
         assert_eq!(
-            (to.series(), to.quarantined(), to.since()),
-            (from.series(), from.quarantined(), from.since())
+            (to.series(), to.quarantined(), to.beside(), to.since()),
+            (from.series(), from.quarantined(), from.beside(), from.since())
         );
         to.commit(&[body(&[("a", 11)], "5")], 2).unwrap();
         from.commit(&[body(&[("a", 11)], "5")], 5).unwrap();

@@ -65,14 +65,15 @@ fn many_series_come_back_with_their_keys() {
     }
 }
 
-/// What is written is what earlier versions write and read.
+/// All programs of a format write and read the same.
 #[test]
 fn a_snapshot_has_one_form() {
-    let text = r#"{"epoch":"e","next":4,"acknowledged":3,"journal":7,"quarantined":["q"],"series":[["a",5,6,null],["[\"b\"]",9,8,"me"]],"since":{"made":1,"forgotten":2},"runs":[[1,3,4,[5,6]]]}"#;
+    let text = r#"{"epoch":"e","next":4,"acknowledged":3,"journal":7,"quarantined":["q"],"series":[["a",5,6,null],["[\"b\"]",9,8,"me"]],"since":{"made":1,"forgotten":2},"runs":[[1,3,4,[5,6]]],"beside":[["m","ms"]]}"#;
     let mut state = snapshot::Snapshot::read(&rows::deflated(text.as_bytes())).unwrap();
     let b = &state.series.get(&key_of("[\"b\"]")).unwrap().series;
     assert_eq!((b.frontier, b.seen, b.owner.as_deref()), (9, 8, Some("me")));
     assert_eq!(b.run, Some(run_of(3, 5, &[5, 6])));
+    assert_eq!(state.beside, [unit_of("m", "ms")].into());
     let record = state.snapshot().record();
     let written = rows::inflated(&record[crate::files::records::HEAD..]).unwrap();
     assert_eq!(String::from_utf8(written).unwrap(), text);

@@ -10,13 +10,14 @@ struct Model {
     journal: u64,
     series: std::collections::BTreeMap<String, (u64, Option<String>)>,
     quarantined: BTreeSet<String>,
+    beside: BTreeSet<UnitOfMetric>,
 }
 
 impl Model {
     fn change(&mut self, outbox: &Outbox, numbers: &mut TestRandom) {
         let key = format!("key {}", numbers.below(30));
         let sender = format!("s{}", numbers.below(4));
-        match numbers.below(9) {
+        match numbers.below(10) {
             0..=2 => self.commit(outbox, numbers),
             3 | 4 => {
                 if let Some((number, _)) = self.waiting.pop_front() {
@@ -36,6 +37,16 @@ impl Model {
             6 => {
                 outbox.lift(&sender).unwrap();
                 self.quarantined.remove(&sender);
+            }
+            8 => {
+                let unit = [unit_of(&key, "ms")];
+                if numbers.below(2) == 0 {
+                    outbox.put_beside(&unit).unwrap();
+                    self.beside.extend(unit);
+                } else {
+                    outbox.leave_beside(&unit).unwrap();
+                    self.beside.remove(&unit[0]);
+                }
             }
             7 => {
                 let to = numbers.below(self.journal + 1);
@@ -75,8 +86,8 @@ impl Model {
         let series: std::collections::BTreeMap<_, _> = outbox.series().into_iter().map(known).collect();
         assert_eq!(series, self.series, "{about}");
         assert_eq!(
-            (outbox.journal().max(1), outbox.quarantined()),
-            (self.journal.max(1), self.quarantined.clone()),
+            (outbox.journal().max(1), outbox.quarantined(), outbox.beside()),
+            (self.journal.max(1), self.quarantined.clone(), self.beside.clone()),
             "{about}"
         );
         assert_eq!(outbox.waiting().0, self.waiting.len() as u64, "{about}");

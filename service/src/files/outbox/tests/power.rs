@@ -9,6 +9,8 @@ enum Step {
     Own,
     Hold(bool),
     PutBack(u64),
+    Beside(UnitOfMetric),
+    NotBeside(UnitOfMetric),
     Acknowledge,
 }
 
@@ -21,11 +23,14 @@ fn steps(chance: &mut TestRandom) -> Vec<Step> {
         let noise = (0..chance.below(1500)).map(|_| char::from(b'a' + chance.below(26) as u8));
         body(&[(series, end)], &noise.collect::<String>())
     };
-    let mut step = |chance: &mut TestRandom| match chance.below(10) {
+    let unit = |chance: &mut TestRandom| unit_of("m", ["ms", "us"][chance.below(2) as usize]);
+    let mut step = |chance: &mut TestRandom| match chance.below(12) {
         0..=3 => Step::Commit((0..chance.below(4)).map(|_| request(chance)).collect()),
         4 => Step::Own,
         5 => Step::Hold(chance.below(2) == 0),
         6 => Step::PutBack(chance.below(6)),
+        7 => Step::Beside(unit(chance)),
+        8 => Step::NotBeside(unit(chance)),
         _ => Step::Acknowledge,
     };
     (0..12).map(|_| step(chance)).collect()
@@ -42,6 +47,8 @@ fn make(outbox: &Outbox, step: &Step) -> Result<bool, Fault> {
             let series: Vec<_> = outbox.series().into_keys().collect();
             outbox.put_back(&series, *to)?
         }
+        Step::Beside(unit) => outbox.put_beside(std::slice::from_ref(unit))?,
+        Step::NotBeside(unit) => outbox.leave_beside(std::slice::from_ref(unit))?,
         Step::Acknowledge => {
             if let Some(first) = outbox.waiting().2 {
                 outbox.acknowledge(first.number)?;
@@ -58,7 +65,8 @@ fn said(outbox: &Outbox) -> String {
     let series: Vec<_> = series.iter().map(|(key, it)| (&key.0, it.frontier, &it.owner)).collect();
     let (count, bytes, first) = outbox.waiting();
     let first = first.map(|first| first.number);
-    format!("{} {:?} {count} {bytes} {first:?} {series:?}", outbox.journal(), outbox.quarantined())
+    let (held, beside) = (outbox.quarantined(), outbox.beside());
+    format!("{} {held:?} {beside:?} {count} {bytes} {first:?} {series:?}", outbox.journal())
 }
 
 /// Of a run up to a loss of power: what may be said after it.
