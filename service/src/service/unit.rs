@@ -72,9 +72,11 @@ fn room(most_series: usize, slots: u16, known: usize) -> usize {
 impl Opened {
     /// One of so many slots.
     pub fn new(files: Files, slots: u16, settings: &Settings, shared: &Shared) -> Result<Opened, Ended> {
-        let reading = settings.store.is_some().then(|| Arc::new(settings.reading.of_slot()));
-        let finer_units = &reading.as_deref().unwrap_or(&settings.reading).finer_units;
-        finer_units.know(&files.outbox, &files.journal)?;
+        let reading = Arc::new(match settings.store {
+            Some(_) => settings.reading.of_slot(),
+            None => settings.reading.clone(),
+        });
+        reading.finer_units.know(&files.outbox, &files.journal)?;
         let room = room(settings.most_series, slots, files.outbox.series_count());
         let core = Core::apart(room, settings.across).with_context(|| {
             format!(
@@ -83,7 +85,7 @@ impl Opened {
             )
         })?;
         let Files { number, journal, outbox, dead, former } = files;
-        let slot = Slot::reading_by(reading, number, journal, outbox, core, shared);
+        let slot = Slot::reading_by(Some(reading), number, journal, outbox, core, shared);
         slot.runs.set(settings.runs);
         let (keeper, orders) = Keeper::new(slot.clone(), settings.keeping());
         Ok(Opened { slot, keeper, orders, dead, former })

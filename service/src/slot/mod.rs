@@ -65,8 +65,10 @@ pub struct Slot {
     pub(crate) landed: Notify,
     told: disk_stall::Stall,
     pub(crate) shares: Arc<Shares>,
-    /// Where it reads by itself, as each of several does.
+    /// None where it reads as all others here, and keeps nothing of that.
     reading: Option<Arc<Reading>>,
+    /// Who has the outbox know what was read.
+    keeping: tokio::sync::Mutex<()>,
 }
 
 /// What all slots of a process share.
@@ -125,7 +127,7 @@ impl Slot {
         Slot::reading_by(None, number, journal, outbox, core, shared)
     }
 
-    /// The same, which reads posts so, and not as all others here.
+    /// The same, which reads posts so.
     pub fn reading_by(
         reading: Option<Arc<Reading>>,
         number: u16,
@@ -153,6 +155,7 @@ impl Slot {
             landed: Notify::new(),
             told: disk_stall::Stall::default(),
             shares: shared.shares.clone(),
+            keeping: tokio::sync::Mutex::default(),
         })
     }
 

@@ -6,10 +6,10 @@
 use super::numbers::Source;
 use super::posted::{read, Posted};
 use super::verdict::{Journalled, Taken};
-use super::{is_sender, Phase, Request, Slot, NO_ROOM};
+use super::{is_sender, Phase, Request, Slot, MOVED, NO_ROOM};
 use crate::core::{Locked, Refused};
-use crate::files::FAILED;
-use crate::otlp::Outcome;
+use crate::files::{Lost, FAILED};
+use crate::otlp::{Outcome, Reading};
 use crate::shares::{Claim, Over};
 use crate::work::blocking;
 use std::sync::Arc;
@@ -36,6 +36,11 @@ impl Slot {
         if let Some(why) = self.unavailable() {
             return unavailable(why);
         }
+        if let Some(reading) = self.unkept() {
+            if let Err(Lost) = Box::pin(self.keep(reading)).await {
+                return unavailable(MOVED);
+            }
+        }
         let said = match request {
             Request::Numbered(by) if !by.cumulative.is_empty() => {
                 match self.claim(&sender, by.points.count() as u64, by.source.clone()).await {
@@ -60,6 +65,22 @@ impl Slot {
         match said {
             Ok(journalled) => journalled.durable(&self.journal).await,
             Err(why) => unavailable(why),
+        }
+    }
+
+    /// How it was read, where that may hang on what the outbox does not have.
+    fn unkept(&self) -> Option<Arc<Reading>> {
+        let reading = self.reading.as_ref()?;
+        reading.finer_units.has_unkept().then(|| reading.clone())
+    }
+
+    /// The outbox has it before the journal may have the post: else a start would read the next ones otherwise.
+    async fn keep(&self, reading: Arc<Reading>) -> Result<(), Lost> {
+        let _turn = self.keeping.lock().await;
+        let outbox = self.outbox.clone();
+        match reading.finer_units.has_unkept() {
+            true => blocking(move || reading.finer_units.keep(&outbox).map_err(|why| outbox.fail(why))).await,
+            false => Ok(()), // another has done it
         }
     }
 

@@ -1,9 +1,9 @@
 //! The units that a folder has series in, which a start has to know before it reads a post: those of the outbox, and of posts
-//! in the journal that are in no group.
+//! in the journal that are in no group. The outbox also says which of them decide nothing.
 
-use super::units::Unit;
+use super::units::{Named, Unit};
 use super::FinerUnits;
-use crate::files::{Body, Fault, Journal, Outbox};
+use crate::files::{Body, Fault, Journal, Outbox, UnitOfMetric};
 use crate::otlp::json::{Document, Value};
 use crate::otlp::series::{visit, SeriesKey};
 use crate::work::in_order;
@@ -21,9 +21,33 @@ enum Said {
 impl FinerUnits {
     /// Notes the units of all series of a folder.
     pub fn know(&self, outbox: &Outbox, journal: &Journal) -> Result<(), Fault> {
-        if self.units.is_none() {
+        let Some(units) = &self.units else {
             return Ok(());
-        }
+        };
+        let beside = outbox.beside().into_iter();
+        units.begin(beside.filter_map(|(metric, unit)| Some((metric, Unit::of(&unit)?))));
+        self.know_series_of(outbox, journal)?;
+        // Before a post may hang on it.
+        outbox.leave_beside(&named(&units.settle()))
+    }
+
+    /// Whether a post that was read may hang on what the outbox does not have.
+    pub fn has_unkept(&self) -> bool {
+        self.units.as_ref().is_some_and(|units| units.has_unkept())
+    }
+
+    /// Has the outbox know which units decide nothing.
+    pub fn keep(&self, outbox: &Outbox) -> Result<(), Fault> {
+        let Some(units) = &self.units else {
+            return Ok(());
+        };
+        let unkept = units.unkept();
+        outbox.put_beside(&named(&unkept))?;
+        units.kept(&unkept);
+        Ok(())
+    }
+
+    fn know_series_of(&self, outbox: &Outbox, journal: &Journal) -> Result<(), Fault> {
         // Side by side: what is known of a metric is a set of units.
         in_order(
             |said: &mut Said| self.know_said(said),
@@ -104,6 +128,10 @@ impl FinerUnits {
             units.note(&name, unit);
         }
     }
+}
+
+fn named(units: &[Named]) -> Vec<UnitOfMetric> {
+    units.iter().map(|(metric, unit)| (metric.to_string(), unit.name().to_string())).collect()
 }
 
 /// The elements of a list that an object has under this name, and none where it has none.

@@ -1,9 +1,13 @@
 //! `--whole auto`: in which unit the points of each metric are taken that has a known unit and no rule.
 //!
 //! A metric is taken in **the coarsest unit, no coarser than its own, that a series of its name has**; where there is none, in
-//! a finer one if it has doubles, and else in its own. So what decides is what the folder knows already, and nothing else
-//! is kept: a unit that was taken once is the coarsest of these for ever, since a coarser one between would be taken in it
-//! (units are in chains, each of which divides the one before). Which is why a start has to know all series before posts are read.
+//! a finer one if it has doubles, and else in its own. So what decides is what the folder knows already: a unit that was taken
+//! once is the coarsest of these for ever, since a coarser one between would be taken in it (units are in chains, each of which
+//! divides the one before). Which is why a start has to know all series before posts are read.
+//!
+//! But a rule may bring a coarser one between. Such a unit is **beside** the finer one: it decides nothing, and the outbox has it
+//! before its first point is taken (`keep` in `folder_units`), since the series do not say which came first. Once a start finds
+//! no series of the finer one it is as any other: nothing hangs on that any more.
 //!
 //! Times are taken in microseconds: a histogram's sum of at most 2^53 is 285 years then, and would be 104 days in nanoseconds.
 //! A histogram of times is taken so from the first, since after a whole second its later points would be foreign. Doubles of
@@ -14,8 +18,8 @@
 //! would be of another series, and count twice. Where a slot knows nothing of a name yet, it takes what others here have.
 
 use super::{Rule, BYTES, PARTS, TIMES};
-use std::collections::HashMap;
-use std::sync::atomic::{AtomicU64, Ordering::Relaxed};
+use std::collections::{BTreeSet, HashMap};
+use std::sync::atomic::{AtomicBool, AtomicU64, Ordering::Relaxed, Ordering::SeqCst};
 use std::sync::{Arc, PoisonError, RwLock};
 
 /// Units of which each is a whole part of all before it, and the one in which doubles are taken.
@@ -30,8 +34,11 @@ const MOST: usize = 64 << 20;
 const ENTRY: usize = 96;
 
 /// A known unit: its place among all, the coarser ones first.
-#[derive(Clone, Copy, Debug, PartialEq, Eq)]
+#[derive(Clone, Copy, Debug, PartialEq, Eq, PartialOrd, Ord)]
 pub struct Unit(usize);
+
+/// A metric's name, and a unit.
+pub type Named = (Box<str>, Unit);
 
 /// A set of known units, a bit each.
 type Set = u32;
@@ -44,6 +51,8 @@ pub struct Units {
     /// Of each that is opened another; 0 of those that all slots share.
     pub(super) number: u64,
     names: RwLock<Names>,
+    /// Something is beside others that no outbox has.
+    has_unkept: AtomicBool,
     /// What is known here of a name that this slot does not know yet.
     of_all: Option<Arc<Units>>,
     /// By the place of the unit, and then of the one that it is taken in.
@@ -53,13 +62,22 @@ pub struct Units {
 }
 
 struct Names {
-    units: HashMap<Box<str>, Set>,
+    units: HashMap<Box<str>, Known>,
     left: usize,
+    /// Those beside others that the outbox has to have; none where there is no outbox.
+    unkept: Option<BTreeSet<Named>>,
+}
+
+/// The units of a name.
+#[derive(Clone, Copy, Default)]
+struct Known {
+    deciding: Set,
+    beside: Set,
 }
 
 impl Default for Names {
     fn default() -> Names {
-        Names { units: HashMap::new(), left: MOST }
+        Names { units: HashMap::new(), left: MOST, unkept: None }
     }
 }
 
@@ -106,6 +124,7 @@ impl Default for Units {
         Units {
             number: 0,
             names: RwLock::default(),
+            has_unkept: AtomicBool::new(false),
             of_all: None,
             finer: (0..all().count()).map(|place| Unit(place).finer()).collect(),
             rules: Arc::new(rules),
@@ -119,6 +138,7 @@ impl Units {
         Units {
             number: 1 + LAST.fetch_add(1, Relaxed),
             names: RwLock::default(),
+            has_unkept: AtomicBool::new(false),
             rules: of_all.rules.clone(),
             finer: of_all.finer.clone(),
             of_all: Some(of_all),
@@ -132,27 +152,35 @@ impl Units {
 
     /// Whether such a series was noted.
     pub fn has(&self, metric: &str, unit: Unit) -> bool {
-        self.read().units.get(metric).is_some_and(|known| known & bit(unit) != 0)
+        self.known(metric).deciding & bit(unit) != 0
     }
 
     /// Notes a series.
     pub fn note(&self, metric: &str, unit: Unit) {
-        let known = self.read().units.get(metric).copied().unwrap_or(0);
-        if known & bit(unit) == 0 {
+        let known = self.known(metric);
+        if known.deciding & bit(unit) == 0 {
             self.write().put(metric, unit);
         }
-        self.of_all.iter().for_each(|of_all| of_all.note(metric, unit));
+        if known.beside & bit(unit) == 0 {
+            self.of_all.iter().for_each(|of_all| of_all.note(metric, unit));
+        }
     }
 
-    /// Notes a series that a rule has put into a unit, but where one of its name is in a finer one: what is coarser than that
-    /// may be taken in it, and would be taken in this from then on. A start knows all series of a folder, and not in which order
-    /// they came: behind it what is coarser is taken in this unit after all.
+    /// Notes a series that a rule has put into a unit. It is beside a finer one, if that has decided: what is coarser than both
+    /// may be taken in that, and would be taken in this from then on.
     pub fn note_of_rule(&self, metric: &str, unit: Unit) {
-        if self.decided(metric, unit).is_none() {
+        let is_noted = |known: Known| (known.deciding | known.beside) & bit(unit) != 0;
+        if !is_noted(self.known(metric)) {
             let mut names = self.write();
-            let known = names.units.get(metric).copied().unwrap_or(0);
-            if self.coarsest(known, unit).is_none() {
-                names.put(metric, unit); // nobody has decided meanwhile
+            let known = names.of(metric);
+            match self.coarsest(known, unit) {
+                _ if is_noted(known) => {} // another was here meanwhile
+                None => drop(names.put(metric, unit)),
+                Some(_) => {
+                    names.put_beside(metric, unit);
+                    // With the lock: who finds it noted finds this too.
+                    self.has_unkept.store(names.has_unkept(), SeqCst);
+                }
             }
         }
         self.of_all.iter().for_each(|of_all| of_all.note_of_rule(metric, unit));
@@ -160,8 +188,7 @@ impl Units {
 
     /// In which unit a metric of this one is taken, where that is decided.
     pub fn decided(&self, metric: &str, unit: Unit) -> Option<Unit> {
-        let known = self.read().units.get(metric).copied()?;
-        self.coarsest(known, unit)
+        self.coarsest(self.known(metric), unit)
     }
 
     /// The same, where it may be decided now. Where there is no room for more names it is the metric's own.
@@ -172,8 +199,7 @@ impl Units {
         let elsewhere = self.of_all.as_ref();
         let elsewhere = elsewhere.map(|of_all| of_all.decide(metric, unit, has_doubles));
         let mut names = self.write();
-        let known = names.units.get(metric).copied().unwrap_or(0);
-        if let Some(decided) = self.coarsest(known, unit) {
+        if let Some(decided) = self.coarsest(names.of(metric), unit) {
             return decided; // another has decided meanwhile
         }
         let own = if has_doubles { unit.of_doubles() } else { unit };
@@ -185,12 +211,16 @@ impl Units {
         }
     }
 
-    /// Of known units the coarsest that a unit is made of.
-    fn coarsest(&self, known: Set, unit: Unit) -> Option<Unit> {
-        match known & self.finer[unit.0] {
+    /// Of those that decide the coarsest that a unit is made of.
+    fn coarsest(&self, known: Known, unit: Unit) -> Option<Unit> {
+        match known.deciding & self.finer[unit.0] {
             0 => None,
             both => Some(Unit(both.trailing_zeros() as usize)),
         }
+    }
+
+    fn known(&self, metric: &str) -> Known {
+        self.read().of(metric)
     }
 
     fn read(&self) -> std::sync::RwLockReadGuard<'_, Names> {
@@ -206,19 +236,95 @@ fn bit(unit: Unit) -> Set {
     1 << unit.0
 }
 
+/// What a folder keeps of them.
+impl Units {
+    /// Ahead of the series that a start finds: these are beside others.
+    pub fn begin(&self, beside: impl IntoIterator<Item = (String, Unit)>) {
+        let mut names = self.write();
+        for (metric, unit) in beside {
+            names.put_beside(&metric, unit);
+        }
+        names.unkept = Some(BTreeSet::new());
+    }
+
+    /// Behind them: those that are beside nothing any more, and are as others from now on.
+    pub fn settle(&self) -> Vec<Named> {
+        let mut left = Vec::new();
+        for (metric, known) in self.write().units.iter_mut().filter(|(_, known)| known.beside != 0) {
+            let before = std::mem::replace(known, self.settled(*known));
+            left.extend(units_of(before.beside & !known.beside).map(|unit| (metric.clone(), unit)));
+        }
+        let decide = left.iter().filter(|(metric, unit)| self.has(metric, *unit));
+        decide.for_each(|(metric, unit)| self.note(metric, *unit)); // also for others here
+        left
+    }
+
+    /// Of a name whose series were noted as if all of them decided.
+    fn settled(&self, known: Known) -> Known {
+        let both = known.deciding & known.beside;
+        let others = known.deciding & !known.beside;
+        let is_beside = |unit: &Unit| others & self.finer[unit.0] != 0;
+        let beside = units_of(both).filter(is_beside).fold(0, |set, unit| set | bit(unit));
+        Known { deciding: known.deciding & !beside, beside }
+    }
+
+    /// Whether a post may hang on what no outbox has.
+    pub fn has_unkept(&self) -> bool {
+        self.has_unkept.load(SeqCst)
+    }
+
+    pub fn unkept(&self) -> Vec<Named> {
+        self.read().unkept.iter().flatten().cloned().collect()
+    }
+
+    /// The outbox has these.
+    pub fn kept(&self, these: &[Named]) {
+        let mut names = self.write();
+        if let Some(unkept) = &mut names.unkept {
+            unkept.retain(|one| these.binary_search(one).is_err()); // they came in its order
+        }
+        self.has_unkept.store(names.has_unkept(), SeqCst);
+    }
+}
+
+fn units_of(set: Set) -> impl Iterator<Item = Unit> {
+    (0..Set::BITS as usize).map(Unit).filter(move |unit| set & bit(*unit) != 0)
+}
+
 impl Names {
+    fn of(&self, metric: &str) -> Known {
+        self.units.get(metric).copied().unwrap_or_default()
+    }
+
     /// Whether there was room.
     fn put(&mut self, metric: &str, unit: Unit) -> bool {
-        if let Some(known) = self.units.get_mut(metric) {
-            *known |= bit(unit);
-            return true;
+        let known = self.with_room(metric);
+        known.is_some_and(|known| {
+            known.deciding |= bit(unit);
+            true
+        })
+    }
+
+    fn put_beside(&mut self, metric: &str, unit: Unit) {
+        if let Some(known) = self.with_room(metric) {
+            known.beside |= bit(unit);
         }
-        let Some(left) = self.left.checked_sub(metric.len() + ENTRY) else {
-            return false;
-        };
-        self.left = left;
-        self.units.insert(metric.into(), bit(unit));
-        true
+        if let Some(unkept) = &mut self.unkept {
+            unkept.insert((metric.into(), unit));
+        }
+    }
+
+    fn has_unkept(&self) -> bool {
+        self.unkept.as_ref().is_some_and(|unkept| !unkept.is_empty())
+    }
+
+    /// What is known of a name; none where there is no room for it.
+    fn with_room(&mut self, metric: &str) -> Option<&mut Known> {
+        if !self.units.contains_key(metric) {
+            self.left = self.left.checked_sub(metric.len() + ENTRY)?;
+            self.units.insert(metric.into(), Known::default());
+        }
+        self.units.get_mut(metric)
     }
 }
 
@@ -250,19 +356,27 @@ mod tests {
         assert!(Unit::of("").is_none() && Unit::of("{request}").is_none());
     }
 
-    /// Whatever comes, in whatever order, and whatever of it a start finds: the same unit as before.
-    #[test]
-    fn what_a_start_finds_decides_as_before() {
+    fn drawn() -> impl FnMut(usize) -> usize {
         let mut draw = 88_172_645_463_325_252u64;
-        let mut next = |most: usize| {
+        move |most| {
             draw ^= draw << 13;
             draw ^= draw >> 7;
             draw ^= draw << 17;
             draw as usize % most
-        };
-        let count = all().count();
+        }
+    }
+
+    /// What a start begins with; the rules are made once.
+    fn fresh(all: &Arc<Units>) -> Units {
+        Units { of_all: None, ..Units::of_slot(all.clone()) }
+    }
+
+    /// Whatever comes, in whatever order, and whatever of it a start finds: the same unit as before.
+    #[test]
+    fn what_a_start_finds_decides_as_before() {
+        let (mut next, count, all) = (drawn(), all().count(), Arc::default());
         for _ in 0..2_000 {
-            let mut units = Units::default();
+            let mut units = fresh(&all);
             let mut taken: HashMap<usize, Unit> = HashMap::new();
             for _ in 0..40 {
                 let own = Unit(next(count));
@@ -273,10 +387,97 @@ mod tests {
                     assert_eq!(found, before, "{}", own.name());
                 }
                 if next(8) == 0 {
-                    units = Units::default();
+                    units = fresh(&all);
                     taken.values().for_each(|unit| units.note("a", *unit));
                 }
             }
+        }
+    }
+
+    /// A metric of one name, and what is on disk of it.
+    struct OnDisk {
+        all: Arc<Units>,
+        units: Units,
+        series: Set,
+        beside: Vec<Named>,
+        /// In which unit points were taken, by their own.
+        taken: HashMap<usize, Unit>,
+    }
+
+    impl OnDisk {
+        fn new(all: &Arc<Units>) -> OnDisk {
+            let (all, units) = (all.clone(), fresh(all));
+            let mut made = OnDisk { all, units, series: 0, beside: Vec::new(), taken: HashMap::new() };
+            made.start();
+            made
+        }
+
+        fn start(&mut self) {
+            self.units = fresh(&self.all);
+            self.units.begin(self.beside.iter().map(|(metric, unit)| (metric.to_string(), *unit)));
+            units_of(self.series).for_each(|unit| self.units.note("a", unit));
+            let left = self.units.settle();
+            self.beside.retain(|one| !left.contains(one));
+        }
+
+        fn post(&mut self, own: Unit, has_doubles: bool, is_taken: bool) {
+            let found = self.units.decide("a", own, has_doubles);
+            if is_taken {
+                self.series |= bit(found);
+                let before = *self.taken.entry(own.0).or_insert(found);
+                assert_eq!(found, before, "{}", own.name());
+            }
+        }
+
+        fn post_by_rule(&mut self, unit: Unit, is_taken: bool) {
+            self.units.note_of_rule("a", unit);
+            if is_taken {
+                let unkept = self.units.unkept();
+                self.units.kept(&unkept);
+                self.beside.extend(unkept);
+                self.series |= bit(unit);
+            }
+            assert!(!is_taken || !self.units.has_unkept());
+        }
+
+        fn forget(&mut self, unit: Unit) {
+            self.series &= !bit(unit);
+            self.taken.retain(|_, taken| *taken != unit);
+        }
+    }
+
+    /// The same where rules bring units between, posts are refused or lost by a kill, and series are forgotten.
+    #[test]
+    fn what_rules_bring_between_decides_nothing_behind_a_start_either() {
+        let (mut next, count, all) = (drawn(), all().count(), Arc::default());
+        let mut beside = 0;
+        for _ in 0..3_000 {
+            let mut disk = OnDisk::new(&all);
+            for _ in 0..60 {
+                let (unit, is_taken) = (Unit(next(count)), next(3) > 0);
+                match next(10) {
+                    0..=4 => disk.post(unit, next(2) == 0, is_taken),
+                    5..=7 => disk.post_by_rule(unit, is_taken),
+                    8 => disk.forget(unit),
+                    _ => disk.start(),
+                }
+            }
+            beside += disk.beside.len();
+        }
+        assert!(beside > 3_000, "{beside}");
+    }
+
+    #[test]
+    fn what_is_beside_nothing_any_more_decides_again() {
+        for (found, left, decided) in [(&["ms", "us"][..], &["b"][..], "us"), (&["ms"], &["a", "b"], "ms")] {
+            let units = Units::default();
+            units.begin(["a", "b"].map(|metric| (metric.to_string(), unit("ms"))));
+            found.iter().for_each(|name| units.note("a", unit(name)));
+            let mut names: Vec<_> = units.settle().into_iter().map(|(metric, _)| metric).collect();
+            names.sort();
+            assert_eq!(names, left.iter().map(|name| (*name).into()).collect::<Vec<Box<str>>>());
+            let decide = |metric, own| units.decide(metric, unit(own), false).name();
+            assert_eq!([decide("a", "s"), decide("b", "ms")], [decided, "ms"]);
         }
     }
 

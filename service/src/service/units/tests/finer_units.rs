@@ -1,12 +1,26 @@
-//! What `--whole auto` decides, of slots that go from one instance to another.
+//! What `--whole auto` decides, of slots that go from one instance to another, or from one start to the next.
 
 use super::*;
-use crate::otlp::{Choice, FinerUnits};
+use crate::files::drive::{self, lost, memory::Step, memory::Store, Drive};
+use crate::otlp::{Cumulative, FinerUnits};
 use crate::service::OfStore;
+use crate::slot::Phase;
 use crate::store::postgres::{address, Copies};
+use std::sync::atomic::{AtomicBool, AtomicUsize, Ordering::SeqCst};
+
+const DOUBLE: &str = r#""asDouble":0.25"#;
+const WHOLE: &str = r#""asInt":"7""#;
+const AHEAD: u64 = 4_000_000_000_000_000_000;
+
+fn finer(settings: Settings, choices: &[&str]) -> Settings {
+    let choices = choices.iter().map(|choice| choice.parse().unwrap());
+    let reading = Reading { cumulative: Cumulative::On, ..Reading::default() };
+    let finer_units = FinerUnits::of(choices).unwrap().with_profile(reading.profile());
+    Settings { reading: Reading { finer_units, ..reading }, ..settings }
+}
 
 /// An instance whose slots have their files in folders here.
-fn instance(place: &Path) -> Service {
+fn instance(place: &Path, choices: &[&str]) -> Service {
     let store = OfStore {
         databases: vec![address("postgres://u@h/d").unwrap()],
         copies: Copies::One,
@@ -16,21 +30,37 @@ fn instance(place: &Path) -> Service {
         peer_plain: false,
         reading: String::new(),
     };
-    Service::of(
-        Settings {
-            store: Some(store),
-            reading: Reading { finer_units: FinerUnits::of([Choice::Auto]).unwrap(), ..Reading::default() },
-            ..settings(place)
-        },
-        None,
+    Service::of(Settings { store: Some(store), ..finer(settings(place), choices) }, None)
+}
+
+/// A process that has them without a store.
+fn process(place: &Path, choices: &[&str]) -> Service {
+    Service::of(finer(settings(place), choices), None)
+}
+
+/// A delta of a slot's process.
+async fn post(service: &Service, slot: u16, unit: &str, value: &str) -> Outcome {
+    let point = format!(r#"{value},"startTimeUnixNano":"1","timeUnixNano":"2""#);
+    post_of(service, slot, &sum("m", unit, 1, &point)).await
+}
+
+/// What a run has come to, which began when the folder was there.
+async fn post_run(service: &Service, unit: &str, value: &str, nanoseconds: u64) -> Outcome {
+    let (start, time) = (AHEAD, AHEAD + nanoseconds);
+    let point = format!(r#"{value},"startTimeUnixNano":"{start}","timeUnixNano":"{time}""#);
+    post_of(service, 1, &sum("run", unit, 2, &point)).await
+}
+
+fn sum(name: &str, unit: &str, temporality: u8, point: &str) -> String {
+    format!(
+        r#"{{"name":"{name}","unit":"{unit}","sum":{{"aggregationTemporality":{temporality},"dataPoints":[{{{point}}}]}}}}"#
     )
 }
 
-/// A point of seconds of a slot's process.
-async fn post(service: &Service, slot: u16, value: &str) -> Outcome {
+async fn post_of(service: &Service, slot: u16, metric: &str) -> Outcome {
     let attributes = attributes(slot);
     let body = format!(
-        r#"{{"resourceMetrics":[{{"resource":{{"attributes":{attributes}}},"scopeMetrics":[{{"metrics":[{{"name":"m","unit":"s","sum":{{"aggregationTemporality":1,"dataPoints":[{{{value},"startTimeUnixNano":"1","timeUnixNano":"2"}}]}}}}]}}]}}]}}"#
+        r#"{{"resourceMetrics":[{{"resource":{{"attributes":{attributes}}},"scopeMetrics":[{{"metrics":[{metric}]}}]}}]}}"#
     );
     let head = Head { sender: "A".into(), encoding: Encoding::Json, packing: Packing::Plain };
     service.intake.put(head, body.into(), service.budget.hold()).await
@@ -40,26 +70,25 @@ async fn post(service: &Service, slot: u16, value: &str) -> Outcome {
 #[tokio::test]
 async fn what_one_instance_has_decided_is_so_at_the_next() {
     let place = tempfile::tempdir().unwrap();
-    let (one, other) = (instance(place.path()), instance(place.path()));
+    let (one, other) = (instance(place.path(), &["auto"]), instance(place.path(), &["auto"]));
     one.open(1).await;
     other.open(0).await;
-    let (double, whole) = (r#""asDouble":0.25"#, r#""asInt":"7""#);
-    assert_eq!(post(&one, 1, double).await, Outcome::taken(0), "in us");
-    assert_eq!(post(&other, 0, whole).await, Outcome::taken(0), "in s");
+    assert_eq!(post(&one, 1, "s", DOUBLE).await, Outcome::taken(0), "in us");
+    assert_eq!(post(&other, 0, "s", WHOLE).await, Outcome::taken(0), "in s");
     for flushed in [false, true] {
         if flushed {
             assert_eq!(one.ask("POST", "/flush").await.0, 503, "it has not all slots");
         }
         assert!(one.units.hand_over(1).await.unwrap(), "in time");
         other.open(1).await;
-        let repeat = post(&other, 1, double).await;
+        let repeat = post(&other, 1, "s", DOUBLE).await;
         assert_eq!(repeat.status(), 400, "{repeat:?}");
         assert!(other.units.hand_over(1).await.unwrap(), "in time");
         one.open(1).await;
     }
     // Where the second slot knows nothing of the name it does as the first one here.
     one.open(2).await;
-    assert_eq!(post(&one, 2, whole).await, Outcome::taken(0));
+    assert_eq!(post(&one, 2, "s", WHOLE).await, Outcome::taken(0));
     assert_eq!(one.ask("POST", "/flush").await.0, 503, "it has not all slots");
     one.taken().await;
     let points = {
@@ -73,4 +102,123 @@ async fn what_one_instance_has_decided_is_so_at_the_next() {
     for (service, slot) in [(&one, 1), (&one, 2), (&other, 0)] {
         assert!(service.units.hand_over(slot).await.unwrap(), "in time");
     }
+}
+
+/// Requests that came to sinks, by their keys.
+#[derive(Default)]
+struct Came(BTreeMap<String, Vec<u8>>);
+
+impl Came {
+    fn note(&mut self, service: &Service) {
+        let came = service.sink.came.lock().unwrap();
+        self.0.extend(came.iter().map(|request| (request.key(), request.body.clone())));
+    }
+
+    /// The sum of each metric in each unit.
+    fn sums(&self) -> Vec<(String, i64)> {
+        let mut sums = BTreeMap::new();
+        for point in self.0.values().flat_map(|body| forwarded(body).unwrap()) {
+            let parts = point.series.parts().unwrap();
+            let Value::Sum(value) = point.value else { panic!("{:?}", point.value) };
+            *sums.entry(format!("{} {}", parts.name, parts.unit)).or_insert(0) += value;
+        }
+        sums.into_iter().collect()
+    }
+}
+
+fn sums<const N: usize>(sums: [(&str, i64); N]) -> Vec<(String, i64)> {
+    sums.map(|(name, sum)| (name.to_string(), sum)).into()
+}
+
+/// Else a repeat behind a start, and the rest of a run, are of the rule's series, and count twice.
+#[tokio::test]
+async fn what_a_rule_brings_in_a_coarser_unit_decides_nothing_at_the_next_start() {
+    for serves in [instance, process] {
+        let (place, mut came) = (folder(), Came::default());
+        let mut service = serves(&place, &["auto", "ms"]);
+        service.open(1).await;
+        for (unit, value) in [("s", DOUBLE), ("ms", WHOLE)] {
+            assert_eq!(post(&service, 1, unit, value).await, Outcome::taken(0), "{unit}");
+            assert_eq!(post_run(&service, unit, value, 1).await, Outcome::taken(0), "{unit}");
+        }
+        for start in 2..4 {
+            assert!(service.units.hand_over(1).await.unwrap(), "in time");
+            came.note(&service);
+            service = serves(&place, &["auto", "ms"]);
+            service.open(1).await;
+            let of_minutes = r#""asDouble":0.004166666666666667"#;
+            for (unit, value) in [("s", DOUBLE), ("min", of_minutes), ("ms", WHOLE)] {
+                let repeat = post(&service, 1, unit, value).await;
+                assert_eq!(repeat.status(), 400, "{unit}: {repeat:?}");
+            }
+            let whole = format!(r#""asInt":"{start}""#);
+            assert_eq!(post_run(&service, "s", &whole, start).await, Outcome::taken(0));
+        }
+        assert!(service.units.hand_over(1).await.unwrap(), "in time");
+        let last = serves(&place, &["auto", "ms"]);
+        last.open(1).await;
+        last.taken().await;
+        [&service, &last].into_iter().for_each(|service| came.note(service));
+        assert!(last.units.hand_over(1).await.unwrap(), "in time");
+        assert_eq!(came.sums(), sums([("m ms", 7), ("m us", 250_000), ("run ms", 7), ("run us", 3_000_000)]));
+    }
+}
+
+impl Service {
+    /// Whether a slot could be opened before it was lost.
+    async fn has_opened(&self, slot: u16, drive: Arc<dyn Drive>) -> bool {
+        let Ok((journal, outbox, dead)) = drive::open(drive, "00000000000000aa") else {
+            return false;
+        };
+        let (outbox, dead) = (Arc::new(outbox), Arc::new(dead));
+        let files = Files { number: slot, journal, outbox, dead, former: Vec::new() };
+        if self.units.open(files).await.is_err() {
+            return false;
+        }
+        loop {
+            let unit = self.desk.units.get(slot);
+            match unit.map(|unit| unit.slot.phase()) {
+                Some(Phase::Recovering) => tokio::time::sleep(Duration::from_millis(1)).await,
+                phase => return phase == Some(Phase::Serving),
+            }
+        }
+    }
+}
+
+/// Ahead of each sync, and behind it; and so at the start that follows.
+#[tokio::test]
+async fn whenever_a_slot_is_lost_each_point_counts_once_in_its_unit() {
+    let place = folder();
+    let (mut at, mut is_lost) = (0, true);
+    while std::mem::take(&mut is_lost) {
+        let (store, mut came) = (Arc::<Store>::default(), Came::default());
+        // The second owner is lost there too, and gets again what the first one got.
+        for most in [at, at, usize::MAX] {
+            let (steps, over) = (AtomicUsize::new(0), Arc::new(AtomicBool::new(false)));
+            let ends = over.clone();
+            let drive = store.take_with(move |step| match step {
+                Step::Sync | Step::Committed if steps.fetch_add(1, SeqCst) >= most => {
+                    ends.store(true, SeqCst);
+                    Err(lost())
+                }
+                _ => Ok(()),
+            });
+            let service = instance(&place, &["auto", "ms"]);
+            if service.has_opened(1, drive).await {
+                for (unit, value) in [("s", DOUBLE), ("ms", WHOLE)] {
+                    let said = post(&service, 1, unit, value).await.status();
+                    assert!([200, 400].contains(&said) || over.load(SeqCst), "{at} {unit}: {said}");
+                }
+                assert_eq!(service.ask("POST", "/flush").await.0, 503, "it has not all slots");
+            }
+            if most == usize::MAX {
+                service.taken().await;
+            }
+            came.note(&service);
+            is_lost |= over.load(SeqCst);
+        }
+        assert_eq!(came.sums(), sums([("m ms", 7), ("m us", 250_000)]), "{at}");
+        at += 1;
+    }
+    assert!(at > 4, "{at}");
 }
