@@ -14,7 +14,7 @@ use std::ptr::null_mut;
 
 pub(super) use answer::{Answer, NO_MEMORY};
 #[cfg(test)]
-pub(super) use blocks::given_back;
+pub(super) use blocks::{allocated, given_back};
 pub(super) use blocks::{give_back, give_back_of_thread};
 
 /// The most series of each book that one flush takes.

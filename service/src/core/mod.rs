@@ -90,6 +90,12 @@ pub(crate) fn given_back() -> usize {
     book::given_back()
 }
 
+/// How much of it is in blocks now.
+#[cfg(test)]
+pub(crate) fn allocated() -> usize {
+    book::allocated()
+}
+
 impl Core {
     /// A book with room for so many series, which keeps hours apart.
     pub fn new(series: usize) -> Result<Arc<Core>, Refused> {

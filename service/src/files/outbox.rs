@@ -24,7 +24,7 @@ use super::drive::Lost;
 use super::free_space::FreeSpace;
 use super::segment::{self, Dropped};
 use super::{lock, Fault};
-use crate::otlp::series::{self, NotForwarded, SeriesKey};
+use crate::otlp::series::{self, Digest, NotForwarded, SeriesKey};
 use crate::runs::{Run, Since};
 use crate::work::blocking;
 pub use brought::{Beginning, Waits};
@@ -60,7 +60,7 @@ pub struct Series {
 }
 
 /// The runs of series as they were when a group was taken.
-pub type Runs = HashMap<SeriesKey, Arc<Run>>;
+pub type Runs = HashMap<Digest, Arc<Run>>;
 
 /// A forwarded request that the sink does not have yet.
 #[derive(Clone, Debug, PartialEq, Eq)]
@@ -120,11 +120,12 @@ impl Outbox {
         self.those(|_| true).into_iter().map(|(key, _)| key).collect()
     }
 
-    /// Those that have a run, and those whose owners are known.
-    pub fn with_run(&self) -> Vec<(SeriesKey, Series)> {
-        self.those(|series| series.run.is_some())
+    /// What is made of each that has a run.
+    pub fn with_run<T: Send>(&self, make: impl Fn(SeriesKey, Series) -> T + Sync) -> Vec<T> {
+        self.each_of(|series| series.run.is_some(), make)
     }
 
+    /// Those whose owners are known.
     pub fn with_owner(&self) -> Vec<(SeriesKey, Series)> {
         self.those(|series| series.owner.is_some())
     }
@@ -135,16 +136,23 @@ impl Outbox {
         unknown.into_iter().map(|(key, _)| key).collect()
     }
 
-    /// Their keys are read without the lock.
     fn those(&self, wanted: impl Fn(&Series) -> bool) -> Vec<(SeriesKey, Series)> {
-        let (ids, series, texts): (Vec<u32>, Vec<Series>, _) = {
+        self.each_of(wanted, |key, series| (key, series))
+    }
+
+    /// Their keys are read without the lock, and those alone stay that are in what is made.
+    fn each_of<T: Send>(
+        &self,
+        wanted: impl Fn(&Series) -> bool,
+        make: impl Fn(SeriesKey, Series) -> T + Sync,
+    ) -> Vec<T> {
+        let (those, texts): (Vec<(u32, Series)>, _) = {
             let state = lock(&self.state);
             let all = state.series.iter().map(|(id, known)| (id, &known.series));
             let those = all.filter(|(_, series)| wanted(series));
-            let (ids, series) = those.map(|(id, series)| (id, series.clone())).unzip();
-            (ids, series, state.series.texts())
+            (those.map(|(id, series)| (id, series.clone())).collect(), state.series.texts())
         };
-        texts.all_of(&ids).into_iter().zip(series).collect()
+        texts.each_of(those, make)
     }
 
     /// When what is known here began.
@@ -153,12 +161,12 @@ impl Outbox {
     }
 
     /// Where a series' last forwarded point ends; 0 of one that is not known.
-    pub fn frontier(&self, series: &SeriesKey) -> u64 {
+    pub fn frontier(&self, series: &Digest) -> u64 {
         let state = lock(&self.state);
         state.series.get(series).map_or(0, |known| known.series.frontier)
     }
 
-    pub fn owner(&self, series: &SeriesKey) -> Option<String> {
+    pub fn owner(&self, series: &Digest) -> Option<String> {
         let state = lock(&self.state);
         Some(state.series.get(series)?.series.owner.as_ref()?.to_string())
     }

@@ -152,7 +152,7 @@ impl Owned for Arc<Units> {
 
     fn has(&self, series: &SeriesKey) -> bool {
         let units = self.all();
-        units.iter().any(|unit| unit.slot.outbox.owner(series).is_some())
+        units.iter().any(|unit| unit.slot.outbox.owner(&series.digest()).is_some())
     }
 }
 

@@ -82,7 +82,7 @@ pub trait Owners: Send + Sync + 'static {
 impl Owners for Arc<Outbox> {
     /// Known once the series was forwarded.
     fn owner(&self, series: &SeriesKey) -> Option<String> {
-        Outbox::owner(self, series)
+        Outbox::owner(self, &series.digest())
     }
 }
 

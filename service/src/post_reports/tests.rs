@@ -281,7 +281,7 @@ async fn so_many_strangers_are_told_of() {
 /// Cumulative points that are refused by name count, beside foreign ones and alone.
 #[tokio::test]
 async fn what_is_refused_of_runs_is_counted() {
-    let turned = Turned { by: [(Refused::WentDown, 2)].into(), first: None };
+    let turned = Turned { by: [(Refused::WentDown, 2)].into() };
     for (gauges, metrics) in [(0, ""), (3, GAUGES)] {
         let outcome = Outcome::Taken {
             rejected: 2 + gauges,

@@ -1,9 +1,10 @@
 //! The points that the book is asked to take of a post.
 
 use super::{added_by, Added, Entry, Kind, Locked, Names, Options, Points};
-use super::{Refused, Run, Runs, SeriesKey, SeriesPlace};
+use super::{Refused, Run, Runs, SeriesPlace};
 use crate::core;
 use crate::files::OfRun;
+use crate::otlp::series::Digest;
 use std::collections::{BTreeMap, HashMap};
 use std::sync::Arc;
 
@@ -18,7 +19,7 @@ pub struct Draft<'r> {
     pub turned: Turned,
     pub noted: Vec<Noted>,
     /// Points that add nothing, since they are no later than their runs: each by its place in the post, and its series.
-    pub late: Vec<(u32, SeriesKey)>,
+    pub late: Vec<(u32, Digest)>,
     /// Of the series of each point that was made, in their order, how many words its run had; none where there was none.
     before: Vec<(u32, Option<usize>)>,
     /// The start, the time and the words of these.
@@ -51,14 +52,13 @@ struct Ended {
 #[derive(Clone, Debug, Default, PartialEq, Eq)]
 pub struct Turned {
     pub by: BTreeMap<Refused, u64>,
-    /// One of them.
-    pub first: Option<(Refused, SeriesKey)>,
 }
 
 /// A first point from which alone its series counts: what it has from before is left out.
 #[derive(Clone, Debug, PartialEq, Eq)]
 pub struct Noted {
-    pub series: SeriesKey,
+    /// Of its series.
+    pub number: u64,
     pub run: Run,
 }
 
@@ -72,7 +72,7 @@ pub struct Posted<'p> {
 
 impl Runs {
     /// What the points of a post come to. `frontier` is where a series ends that has no run.
-    pub fn draft(&self, posted: Posted<'_>, frontier: impl Fn(&SeriesKey) -> u64) -> Draft<'_> {
+    pub fn draft(&self, posted: Posted<'_>, frontier: impl Fn(&Digest) -> u64) -> Draft<'_> {
         let mut runs = self.lock();
         runs.go_by(posted.names);
         let (points, cumulative) = (posted.points, posted.cumulative.len());
@@ -119,7 +119,7 @@ impl Draft<'_> {
         options: Options,
         names: &Names,
         (place, point): (u32, &[u64]),
-        frontier: impl Fn(&SeriesKey) -> u64,
+        frontier: impl Fn(&Digest) -> u64,
     ) {
         let mut run = std::mem::take(&mut self.run);
         run.put(point);
@@ -132,7 +132,7 @@ impl Draft<'_> {
         options: Options,
         names: &Names,
         (place, number, run): (u32, u64, &Run),
-        frontier: impl Fn(&SeriesKey) -> u64,
+        frontier: impl Fn(&Digest) -> u64,
     ) {
         let deltas = self.deltas.get(&number).copied().unwrap_or(0);
         if let Some((kind, frontier)) = self.runs.untaken.get(&number).copied() {
@@ -140,10 +140,9 @@ impl Draft<'_> {
                 self.unsound.push(place);
                 return;
             }
-            let is_told = self.turned.first.is_some();
-            match added_by(options, self.runs.since, kind, None, frontier.max(deltas), run) {
-                Err(refused) if is_told => return self.turned.count_one(refused),
-                _ => {} // it is looked up
+            let added = added_by(options, self.runs.since, kind, None, frontier.max(deltas), run);
+            if let Err(refused) = added {
+                return self.turned.count_one(refused);
             }
         }
         let Some(found) = self.runs.find(names, number, frontier) else {
@@ -163,14 +162,14 @@ impl Draft<'_> {
         }
         match series.entry(options, self.runs.since, run, deltas) {
             Ok(None) => {
-                let key = series.key.clone();
+                let digest = series.digest;
                 match self.is_of_another(&found, run) {
-                    true => self.turned.add(Refused::EarlierRun, &key),
-                    false => self.late.push((place, key)),
+                    true => self.turned.count_one(Refused::EarlierRun),
+                    false => self.late.push((place, digest)),
                 }
             }
             Ok(Some(entry)) => self.take(found, number, entry, run),
-            Err(refused) => self.turned.add(refused, &series.key),
+            Err(refused) => self.turned.count_one(refused),
         }
     }
 
@@ -207,8 +206,7 @@ impl Draft<'_> {
         let place = self.runs.place(found, number);
         let series = &self.runs.series[place as usize];
         if let Entry::Noted(run) = &entry {
-            let series = series.key.clone();
-            self.noted.push(Noted { series, run: run.clone() });
+            self.noted.push(Noted { number, run: run.clone() });
         }
         if let Some(run) = &series.run {
             self.was.extend([run.start, run.time]);
@@ -223,12 +221,12 @@ impl Draft<'_> {
 
     /// The book has refused this point, since the series ends there in it: it has delta points too, which came before this post.
     /// So that stays also where the post is refused. The series, where the point was made here.
-    pub fn note_frontier(&mut self, at: u32, frontier: u64) -> Option<SeriesKey> {
+    pub fn note_frontier(&mut self, at: u32, frontier: u64) -> Option<Digest> {
         let found = self.made.binary_search_by_key(&at, |made| made.0).ok()?;
         let place = self.made[found].1;
         let series = &mut self.runs.series[place as usize];
         series.frontier = frontier;
-        Some(series.key.clone())
+        Some(series.digest)
     }
 
     /// The places of the points that were made here.
@@ -301,11 +299,6 @@ fn counts_alike(one: &[u64], other: &[u64]) -> bool {
 }
 
 impl Turned {
-    fn add(&mut self, refused: Refused, series: &SeriesKey) {
-        self.count_one(refused);
-        self.first.get_or_insert_with(|| (refused, series.clone()));
-    }
-
     fn count_one(&mut self, refused: Refused) {
         *self.by.entry(refused).or_default() += 1;
     }

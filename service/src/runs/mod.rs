@@ -16,7 +16,7 @@ pub use law::{Entry, First, Kind, Options, Refused, Reset, Run, Since};
 
 use crate::core::Names;
 use crate::files::{self, Outbox, Points};
-use crate::otlp::series::{self, SeriesKey};
+use crate::otlp::series::{self, Digest, SeriesKey};
 use law::{entry, Added};
 use std::collections::HashMap;
 use std::sync::atomic::{AtomicUsize, Ordering::Relaxed};
@@ -41,7 +41,7 @@ const UNKNOWN: u32 = u32::MAX;
 pub struct State {
     since: Since,
     series: Vec<Series>,
-    places: HashMap<SeriesKey, u32>,
+    places: HashMap<Digest, u32>,
     /// By the number of a series in the names that were used last.
     by_number: Vec<u32>,
     /// By the same numbers, of series that are not here, since no point of theirs was taken yet, what a point needs of them. Their
@@ -52,8 +52,9 @@ pub struct State {
     changed: Vec<u32>,
 }
 
+/// By the digest of its key, as the outbox knows it: the text may have 48 KB, and a number has it for who shows it.
 struct Series {
-    key: SeriesKey,
+    digest: Digest,
     kind: Kind,
     run: Option<Arc<Run>>,
     is_changed: bool,
@@ -96,11 +97,12 @@ impl State {
     /// What an outbox knows.
     pub fn of(outbox: &Outbox) -> State {
         let mut state = State { since: outbox.since(), ..State::default() };
-        for (key, known) in outbox.with_run() {
-            if let (Some(run), Some(mut series)) = (known.run, Series::new(key, known.frontier)) {
-                series.run = Some(run);
-                state.put(series);
-            }
+        let series = |key: SeriesKey, known: files::Series| {
+            let series = Series::new(&key, key.digest(), known.frontier)?;
+            Some(Series { run: known.run, ..series })
+        };
+        for series in outbox.with_run(series).into_iter().flatten() {
+            state.put(series);
         }
         state
     }
@@ -141,14 +143,14 @@ impl State {
     /// The runs that are in no commit as they are.
     pub fn changed(&self) -> files::Runs {
         let changed = self.changed.iter().map(|place| &self.series[*place as usize]);
-        let runs = changed.filter_map(|series| Some((series.key.clone(), series.run.clone()?)));
+        let runs = changed.filter_map(|series| Some((series.digest, series.run.clone()?)));
         runs.collect()
     }
 
     /// These are in a commit.
     pub fn saved(&mut self, runs: &files::Runs) {
-        for (key, saved) in runs {
-            let Some(place) = self.places.get(key) else {
+        for (digest, saved) in runs {
+            let Some(place) = self.places.get(digest) else {
                 continue;
             };
             let series = &mut self.series[*place as usize];
@@ -169,24 +171,20 @@ impl State {
     }
 
     /// The series of a number; none where its name is that of none. `frontier` is asked of one that is new here.
-    fn find(
-        &mut self,
-        names: &Names,
-        number: u64,
-        frontier: impl Fn(&SeriesKey) -> u64,
-    ) -> Option<SeriesPlace> {
+    fn find(&mut self, names: &Names, number: u64, frontier: impl Fn(&Digest) -> u64) -> Option<SeriesPlace> {
         self.go_by(names);
         let known = self.by_number.get(number as usize);
         if let Some(place) = known.filter(|place| **place != UNKNOWN) {
             return Some(SeriesPlace::At(*place));
         }
         let key = series::only(&files::Names::text(names, number))?;
-        if let Some(place) = self.places.get(&key).copied() {
+        let digest = key.digest();
+        if let Some(place) = self.places.get(&digest).copied() {
             self.number(number, place);
             return Some(SeriesPlace::At(place));
         }
-        let frontier = frontier(&key);
-        Series::new(key, frontier).map(SeriesPlace::New)
+        let frontier = frontier(&digest);
+        Series::new(&key, digest, frontier).map(SeriesPlace::New)
     }
 
     /// The place of what was found, from now on.
@@ -202,7 +200,7 @@ impl State {
 
     fn put(&mut self, series: Series) -> u32 {
         let place = self.series.len() as u32;
-        self.places.insert(series.key.clone(), place);
+        self.places.insert(series.digest, place);
         self.series.push(series);
         place
     }
@@ -221,7 +219,7 @@ impl State {
             return;
         }
         for series in self.series.drain(first..) {
-            self.places.remove(&series.key);
+            self.places.remove(&series.digest);
         }
         let is_left = |place: u32| (place as usize) < first;
         self.changed.retain(|place| is_left(*place));
@@ -241,13 +239,13 @@ enum SeriesPlace {
 }
 
 impl Series {
-    fn new(key: SeriesKey, frontier: u64) -> Option<Series> {
+    fn new(key: &SeriesKey, digest: Digest, frontier: u64) -> Option<Series> {
         let kind = match key.parts().ok()?.kind {
             series::Kind::Sum => Kind::Sum,
             series::Kind::Monotonic => Kind::Monotonic,
             series::Kind::Histogram { .. } => Kind::Histogram,
         };
-        Some(Series { key, kind, run: None, is_changed: false, frontier })
+        Some(Series { digest, kind, run: None, is_changed: false, frontier })
     }
 
     /// What a point of it adds; the delta points ahead of it in its post end at `deltas`.

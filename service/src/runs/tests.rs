@@ -245,7 +245,7 @@ fn a_series_is_looked_up_once_however_many_of_its_points_are_not_taken() {
     let draft = drafted(posted);
     assert_eq!((draft.foreign(), draft.turned.count(), draft.points.count()), (50, 50, 2));
     assert_eq!(draft.turned.by, [(Refused::Delta, 50)].into());
-    assert_eq!(asked.get(), 3, "once of each kind");
+    assert_eq!(asked.get(), 2, "until one is taken, and then");
     drop(draft);
     // And once of each post, for its name.
     let untaken = Posted { points: &points_before(&points, 100), cumulative: &cumulative[..100], ..posted };
@@ -286,6 +286,51 @@ fn of_two_points_over_one_time_in_a_post_the_second_is_refused_by_name() {
     assert_eq!(taken(&[(10, 60, 15), (10, 55, 14), (12, 50, 4)]), (3, 0), "it comes again");
     assert_eq!(taken(&[(10, 70, 17), (12, 60, 5)]), (1, 0), "an earlier post may have had it");
     assert_eq!(taken(&[(70, 80, 1), (10, 75, 18)]), (0, 1), "what a run came to before the next one began");
+}
+
+/// Series of attributes that are as long as they may be, and so some 48 KB each.
+const LONG: u64 = 100;
+/// What a run may take of memory, with its words and its place by number.
+const MOST_OF_A_RUN: usize = 400;
+
+fn long_request(number: u64) -> String {
+    let text = "x".repeat(3_900);
+    let pair = |key: &str| format!(r#"{{"key":"{key}","value":{{"stringValue":"{text}"}}}}"#);
+    let pairs = ["a", "b", "c", "d"].map(pair).join(",");
+    let own =
+        format!(r#"{{"key":"n","value":{{"intValue":"{number}"}}}},{}"#, ["a", "b", "c"].map(pair).join(","));
+    format!(
+        r#"{{"resourceMetrics":[{{"resource":{{"attributes":[{pairs}]}},"scopeMetrics":[{{"scope":{{"attributes":[{pairs}]}},"metrics":[{{"name":"m","sum":{{"aggregationTemporality":1,"isMonotonic":true,"dataPoints":[{{"attributes":[{own}],"startTimeUnixNano":"1","timeUnixNano":"2","asInt":"0"}}]}}}}]}}]}}]}}"#
+    )
+}
+
+/// Run by the next test in a process of its own, in which nothing else takes memory.
+#[test]
+#[ignore]
+fn takes_memory_for_runs_of_long_series() {
+    let (names, runs) = (Names::new().unwrap(), Runs::default());
+    let numbers: Vec<u64> =
+        (0..LONG).map(|number| names.learn(long_request(number).into()).unwrap()).collect();
+    let length = series::only(&files::Names::text(&*names, numbers[0])).unwrap().0.len();
+    assert!(length > 42_000, "{length}");
+    let mut points = Points::default();
+    numbers.iter().for_each(|number| points.push(*number, 10, 20, [5]));
+    let cumulative: Vec<u32> = (0..LONG as u32).collect();
+    let before = crate::core::allocated();
+    runs.draft(Posted { points: &points, cumulative: &cumulative, names: &names }, |_| 0).keep();
+    let taken = crate::core::allocated() - before;
+    assert_eq!(runs.count() as u64, LONG);
+    assert!(taken < LONG as usize * MOST_OF_A_RUN, "{taken} bytes");
+    println!("{taken} bytes");
+}
+
+#[test]
+fn a_run_takes_as_little_memory_where_its_key_is_long() {
+    let mut this = std::process::Command::new(std::env::current_exe().unwrap());
+    this.args(["--exact", "--ignored", "--nocapture", "runs::tests::takes_memory_for_runs_of_long_series"]);
+    let ended = this.output().unwrap();
+    let said = [ended.stdout, ended.stderr].map(|text| String::from_utf8_lossy(&text).into_owned()).concat();
+    assert!(ended.status.success() && said.contains("1 passed"), "{said}");
 }
 
 /// A start finds entries that a commit has already, and others.

@@ -5,8 +5,9 @@ use super::request::{Put, SHORT};
 use super::verdict::Journalled;
 use super::{ByNumber, Slot};
 use crate::core::{Read, Refused};
+use crate::files::Names as _;
 use crate::log::shown;
-use crate::otlp::series::SeriesKey;
+use crate::otlp::series::{self, Digest};
 use crate::otlp::Window;
 use crate::post_reports::SERIES_SHOWN;
 use crate::runs::{self, Draft, Noted};
@@ -24,7 +25,7 @@ enum Tried {
     /// The library finds a point foreign that was not known to be.
     Otherwise,
     /// Series that end later in the book than their runs.
-    Beyond(Vec<(SeriesKey, u64)>),
+    Beyond(Vec<(Digest, u64)>),
     /// What is in flight has to land first.
     InFlight,
 }
@@ -36,7 +37,7 @@ struct Making {
     window: Window,
     left_out: LeftOut,
     /// Of series that the book ends later than was known.
-    frontiers: HashMap<SeriesKey, u64>,
+    frontiers: HashMap<Digest, u64>,
     is_of_text: bool,
 }
 
@@ -128,7 +129,7 @@ impl Slot {
     fn try_made(&self, making: &Making) -> Result<Tried, &'static str> {
         let (by, left_out) = (&making.by, &making.left_out);
         let posted = runs::Posted { points: &by.points, cumulative: &by.cumulative, names: &by.names };
-        let frontier = |series: &SeriesKey| match making.frontiers.get(series) {
+        let frontier = |series: &Digest| match making.frontiers.get(series) {
             Some(frontier) => *frontier,
             None => self.outbox.frontier(series),
         };
@@ -156,7 +157,7 @@ impl Slot {
         Ok(match self.put(&mut read)? {
             Ok(Put { journalled, new_series }) => {
                 let journalled = said(journalled, &draft);
-                self.kept(&making.sender, draft);
+                self.kept(making, draft);
                 Tried::Put(Put { journalled, new_series })
             }
             Err(Refused::InFlight) => Tried::InFlight,
@@ -174,7 +175,7 @@ impl Slot {
 
     /// Where all series of a draft end that end later in the book than was known, since the book said so of the first one; none
     /// where that is no point of the draft. They are asked for at once: else a post is tried as often as it has such series.
-    fn beyond(&self, read: &mut Posted, draft: &mut Draft<'_>, first: (u32, u64)) -> Vec<(SeriesKey, u64)> {
+    fn beyond(&self, read: &mut Posted, draft: &mut Draft<'_>, first: (u32, u64)) -> Vec<(Digest, u64)> {
         let Some(series) = draft.note_frontier(first.0, first.1) else {
             return Vec::new();
         };
@@ -192,8 +193,7 @@ impl Slot {
     fn of_another(&self, sender: &str, draft: &Draft<'_>) -> Option<u32> {
         let is_of_another = |series| self.outbox.owner(series).is_some_and(|owner| owner != sender);
         let (mut late, mut asked) = (draft.late.iter(), HashSet::new());
-        // Of each series once: the outbox knows it by a digest of all that identifies it.
-        let found = late.find(|(_, series)| asked.insert(series.0.as_ptr()) && is_of_another(series));
+        let found = late.find(|(_, series)| asked.insert(series) && is_of_another(series));
         found.map(|(place, _)| *place)
     }
 
@@ -215,13 +215,14 @@ impl Slot {
     }
 
     /// The journal has it.
-    fn kept(&self, sender: &str, mut draft: Draft<'_>) {
+    fn kept(&self, making: &Making, mut draft: Draft<'_>) {
         let noted = std::mem::take(&mut draft.noted);
         draft.keep();
         self.metrics.noted_runs.inc_by(noted.len() as u64);
-        if let Some(Noted { series, run }) = noted.first() {
-            let (series, value, series_count) =
-                (shown(&series.0, SERIES_SHOWN), run.words[0] as i64, noted.len());
+        if let Some(Noted { number, run }) = noted.first() {
+            let (sender, value, series_count) = (making.sender.as_str(), run.words[0] as i64, noted.len());
+            let key = series::only(&making.by.names.text(*number));
+            let series = key.map_or_else(String::new, |key| shown(&key.0, SERIES_SHOWN));
             tracing::info!(
                 sender,
                 series,

@@ -31,11 +31,22 @@ pub(in crate::core) fn give_back_of_thread() {
 /// How many bytes of the allocator's the system has back now.
 #[cfg(test)]
 pub(in crate::core) fn given_back() -> usize {
-    let mut bytes = 0;
+    number(c"tcmalloc.pageheap_unmapped_bytes")
+}
+
+/// How many bytes the process has in blocks now.
+#[cfg(test)]
+pub(in crate::core) fn allocated() -> usize {
+    number(c"generic.current_allocated_bytes")
+}
+
+#[cfg(test)]
+fn number(property: &std::ffi::CStr) -> usize {
+    let mut number = 0;
     // SAFETY: the name ends with a zero, and both are there through the call.
-    let is_known = unsafe { number_of(c"tcmalloc.pageheap_unmapped_bytes".as_ptr(), &mut bytes) };
+    let is_known = unsafe { number_of(property.as_ptr(), &mut number) };
     assert_eq!(is_known, 1, "tcmalloc has this number");
-    bytes
+    number
 }
 
 /// The length that the allocator gave a block, which counts.

@@ -98,7 +98,7 @@ pub fn unpacked<T: DeserializeOwned>(bytes: &[u8]) -> Option<T> {
     serde_json::from_slice(&inflated(bytes)?).ok()
 }
 
-fn numbers<const N: usize>(numbers: [u64; N]) -> Vec<u8> {
+pub fn numbers<const N: usize>(numbers: [u64; N]) -> Vec<u8> {
     numbers.map(u64::to_le_bytes).concat()
 }
 

@@ -47,8 +47,8 @@ impl Table {
         self.ids.get(digest).copied()
     }
 
-    pub fn get(&self, key: &SeriesKey) -> Option<&KnownSeries> {
-        self.at(self.id(key)?)
+    pub fn get(&self, digest: &Digest) -> Option<&KnownSeries> {
+        self.at(self.id_of(digest)?)
     }
 
     pub fn at(&self, id: u32) -> Option<&KnownSeries> {

@@ -1,7 +1,12 @@
 //! The keys of series by their ids, packed: neighbours share most of what they say, so one takes some ten bytes in the place
 //! of some hundreds. They are read seldom: at a start, for a snapshot, and where an operator names series.
+//!
+//! Each is what it has beside the one before it, and this is deflated: by itself that looks back over 32 KiB alone, and a key
+//! may be longer.
 
-use super::rows::{deflated_fast, inflated};
+use super::rows::{deflated_fast, inflated, numbers};
+use crate::files::records::take_number;
+use crate::files::shared_ends;
 use crate::otlp::series::SeriesKey;
 use crate::work::in_order;
 use std::convert::Infallible;
@@ -11,9 +16,6 @@ use std::sync::Arc;
 const IN_BLOCK: usize = 64;
 /// So many, which is a multiple of that, are read by one thread where there are more.
 const PART: usize = IN_BLOCK * if cfg!(test) { 3 } else { 32 };
-/// Between two keys: JSON has none within. A text is looked through for a character faster than for a text of one.
-const BETWEEN: char = '\n';
-
 /// A copy shares what is packed.
 #[derive(Clone, Default)]
 pub struct Texts {
@@ -28,42 +30,54 @@ impl Texts {
     pub fn push(&mut self, key: SeriesKey) {
         self.last.push(key);
         if self.last.len() == IN_BLOCK {
-            let keys: Vec<&str> = self.last.iter().map(|key| &*key.0).collect();
-            let text = keys.join(&BETWEEN.to_string());
-            self.blocks.push(deflated_fast(text.as_bytes()).into());
+            self.blocks.push(packed(&self.last).into());
             self.last.clear();
         }
     }
 
     /// Those of these ids. It is quick where they ascend.
     pub fn of<'t>(&'t self, ids: impl Iterator<Item = u32> + 't) -> impl Iterator<Item = SeriesKey> + 't {
+        let mut read = self.reader();
+        ids.filter_map(move |id| read(id))
+    }
+
+    fn reader(&self) -> impl FnMut(u32) -> Option<SeriesKey> + '_ {
         let (mut at, mut read) = (self.blocks.len(), self.last.clone());
-        ids.filter_map(move |id| {
+        move |id| {
             let (block, place) = (id as usize / IN_BLOCK, id as usize % IN_BLOCK);
             if block != at {
                 (at, read) = (block, self.read(block));
             }
             read.get(place).cloned()
-        })
+        }
     }
 
-    /// The same at once, read side by side where they are many.
-    pub fn all_of(&self, ids: &[u32]) -> Vec<SeriesKey> {
-        let mut all = Vec::with_capacity(ids.len());
-        if ids.len() <= PART {
-            all.extend(self.of(ids.iter().copied()));
-            return all;
+    /// What is made of these by their ids, read side by side where they are many. It is quick where they ascend.
+    pub fn each_of<V: Send, T: Send>(
+        &self,
+        those: Vec<(u32, V)>,
+        make: impl Fn(SeriesKey, V) -> T + Sync,
+    ) -> Vec<T> {
+        let made = |part: Vec<(u32, V)>| -> Vec<T> {
+            let mut read = self.reader();
+            part.into_iter().filter_map(|(id, value)| Some(make(read(id)?, value))).collect()
+        };
+        if those.len() <= PART {
+            return made(those);
         }
-        let put = |(_, keys): (&[u32], Vec<SeriesKey>)| {
-            all.extend(keys);
+        let mut all = Vec::with_capacity(those.len());
+        let put = |(_, made): (Vec<(u32, V)>, Vec<T>)| {
+            all.extend(made);
             Ok::<(), Infallible>(())
         };
         let _ = in_order(
-            |(ids, keys)| keys.extend(self.of(ids.iter().copied())),
+            |(part, all)| *all = made(std::mem::take(part)),
             put,
             |queue| {
-                let mut parts = ids.chunks(PART);
-                parts.all(|part| queue.push((part, Vec::new())));
+                let mut left = those.into_iter();
+                while left.len() > 0 {
+                    queue.push((left.by_ref().take(PART).collect(), Vec::new()));
+                }
                 Ok(())
             },
         );
@@ -81,8 +95,76 @@ impl Texts {
             return self.last.clone();
         };
         // What was packed here is read here.
-        let text = inflated(packed).and_then(|bytes| String::from_utf8(bytes).ok());
-        let keys = text.iter().flat_map(|text| text.split(BETWEEN));
-        keys.map(|key| SeriesKey(key.into())).collect()
+        inflated(packed).and_then(|bytes| unpacked(&bytes)).unwrap_or_default()
+    }
+}
+
+/// Of each key with how many bytes of the one before it it begins, with how many it ends, how many are between, and these.
+fn packed(keys: &[SeriesKey]) -> Vec<u8> {
+    let (mut out, mut before) = (Vec::new(), &[][..]);
+    for key in keys.iter().map(|key| key.0.as_bytes()) {
+        let (begin, end) = shared_ends(before, key);
+        let own = &key[begin..key.len() - end];
+        out.extend(numbers([begin, end, own.len()].map(|number| number as u64)));
+        out.extend(own);
+        before = key;
+    }
+    deflated_fast(&out)
+}
+
+fn unpacked(mut rest: &[u8]) -> Option<Vec<SeriesKey>> {
+    let (mut keys, mut key) = (Vec::with_capacity(IN_BLOCK), Vec::new());
+    while !rest.is_empty() {
+        let mut number = || take_number(&mut rest).map(|number| number as usize);
+        let (begin, end, length) = (number()?, number()?, number()?);
+        let own = rest.split_off(..length)?;
+        key.splice(begin..key.len().checked_sub(end)?, own.iter().copied());
+        keys.push(SeriesKey(std::str::from_utf8(&key).ok()?.into()));
+    }
+    Some(keys)
+}
+
+#[cfg(test)]
+mod tests {
+    use super::*;
+
+    fn all_of(texts: &Texts, count: usize) -> Vec<SeriesKey> {
+        texts.of(0..count as u32).collect()
+    }
+
+    fn texts_of(keys: &[SeriesKey]) -> Texts {
+        let mut texts = Texts::default();
+        keys.iter().for_each(|key| texts.push(key.clone()));
+        texts
+    }
+
+    /// Also where two differ within a character, and where one is all of another.
+    #[test]
+    fn keys_come_back_as_they_were() {
+        let pieces = ["", "a", "ab", "\u{e9}", "\u{e8}x", "x\u{e8}", "\u{1f600}", "\u{1f601}", "aa", "a\na"];
+        let keys =
+            (0..300).map(|number| pieces[number * 7 % 10].repeat(number % 3) + pieces[number / 9 % 10]);
+        let keys: Vec<SeriesKey> = keys.map(|key| SeriesKey(key.into())).collect();
+        let texts = texts_of(&keys);
+        assert_eq!(all_of(&texts, keys.len()), keys);
+        let those: Vec<(u32, usize)> = (0..300).rev().map(|id| (id, id as usize)).collect();
+        let same = texts.each_of(those, |key, place| key == keys[place]);
+        assert_eq!(same, vec![true; 300]);
+    }
+
+    /// So far back nothing is found to be the same by what deflates them.
+    #[test]
+    fn what_long_keys_share_is_kept_once_a_block() {
+        let mut state = 1u64;
+        let characters = std::iter::repeat_with(|| {
+            state = state.wrapping_mul(6364136223846793005).wrapping_add(1442695040888963407);
+            char::from(b'0' + (state >> 58) as u8)
+        });
+        let shared: String = characters.take(48_000).collect();
+        let keys: Vec<SeriesKey> =
+            (0..4 * IN_BLOCK).map(|number| SeriesKey(format!("{shared}{number}").into())).collect();
+        let texts = texts_of(&keys);
+        assert_eq!(all_of(&texts, keys.len()), keys);
+        assert!(texts.bytes() < 5 * shared.len(), "{} bytes", texts.bytes());
     }
 }

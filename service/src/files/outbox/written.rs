@@ -35,7 +35,7 @@ impl Outbox {
             }
             items.push(rows::deflated(body));
         }
-        runs.retain(|key, _| ends.contains_key(&key.digest()));
+        runs.retain(|digest, _| ends.contains_key(digest));
         let mut writer = lock(&self.writer);
         let group = {
             let state = lock(&self.state);
@@ -164,7 +164,7 @@ pub(super) type Ends = HashMap<Digest, (SeriesKey, u64)>;
 pub(super) fn by_id(ends: Ends, runs: &Runs, series: &Table) -> Vec<End> {
     let (mut all, mut new) = (Vec::new(), Vec::new());
     for (digest, (key, end)) in ends {
-        let run = runs.get(&key).cloned();
+        let run = runs.get(&digest).cloned();
         match series.id_of(&digest) {
             Some(id) => all.push(End { id, new: None, end, run }),
             None => new.push((key, end, run)),

@@ -19,8 +19,8 @@ fn commit(outbox: &Outbox, ends: &[(u64, u64)], journal: u64) {
 fn found(outbox: &Outbox) -> HashMap<SeriesKey, u64> {
     let all = outbox.series().into_iter();
     let all = all.map(|(key, series)| {
-        assert_eq!(outbox.frontier(&key), series.frontier, "{key:?}");
-        assert_eq!(outbox.owner(&key).as_deref(), series.owner.as_deref());
+        assert_eq!(outbox.frontier(&key.digest()), series.frontier, "{key:?}");
+        assert_eq!(outbox.owner(&key.digest()).as_deref(), series.owner.as_deref());
         (key, series.frontier)
     });
     all.collect()
@@ -70,7 +70,7 @@ fn many_series_come_back_with_their_keys() {
 fn a_snapshot_has_one_form() {
     let text = r#"{"epoch":"e","next":4,"acknowledged":3,"journal":7,"quarantined":["q"],"series":[["a",5,6,null],["[\"b\"]",9,8,"me"]],"since":{"made":1,"forgotten":2},"runs":[[1,3,4,[5,6]]],"beside":[["m","ms"]]}"#;
     let mut state = snapshot::Snapshot::read(&rows::deflated(text.as_bytes())).unwrap();
-    let b = &state.series.get(&key_of("[\"b\"]")).unwrap().series;
+    let b = &state.series.get(&key_of("[\"b\"]").digest()).unwrap().series;
     assert_eq!((b.frontier, b.seen, b.owner.as_deref()), (9, 8, Some("me")));
     assert_eq!(b.run, Some(run_of(3, 5, &[5, 6])));
     assert_eq!(state.beside, [unit_of("m", "ms")].into());
