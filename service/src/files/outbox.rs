@@ -30,6 +30,7 @@ use crate::work::blocking;
 pub use brought::{Beginning, Waits};
 use changes::Change;
 pub use changes::UnitOfMetric;
+pub use owned::Owned;
 use state::{Age, State};
 use std::collections::{BTreeSet, HashMap, HashSet};
 use std::io;
@@ -37,6 +38,7 @@ use std::path::PathBuf;
 use std::sync::atomic::{AtomicU64, Ordering::SeqCst};
 use std::sync::{Arc, Mutex};
 use std::time::Duration;
+use texts::Texts;
 use tokio::sync::Notify;
 use writer::Writer;
 
@@ -113,11 +115,12 @@ impl Outbox {
     }
 
     pub fn series(&self) -> HashMap<SeriesKey, Series> {
-        self.those(|_| true).into_iter().collect()
+        self.each_of(|_| true, |key, series| (key, series)).into_iter().collect()
     }
 
-    pub fn keys(&self) -> Vec<SeriesKey> {
-        self.those(|_| true).into_iter().map(|(key, _)| key).collect()
+    /// Shows each key, side by side.
+    pub fn each_key(&self, show: impl Fn(SeriesKey) + Sync) {
+        self.each_of(|_| true, |key, _| show(key));
     }
 
     /// What is made of each that has a run.
@@ -125,34 +128,35 @@ impl Outbox {
         self.each_of(|series| series.run.is_some(), make)
     }
 
-    /// Those whose owners are known.
-    pub fn with_owner(&self) -> Vec<(SeriesKey, Series)> {
-        self.those(|series| series.owner.is_some())
-    }
-
     /// The series whose owners are unknown.
-    pub fn without_owner(&self) -> HashSet<SeriesKey> {
-        let unknown = self.those(|series| series.owner.is_none());
-        unknown.into_iter().map(|(key, _)| key).collect()
+    pub fn without_owner(&self) -> HashSet<Digest> {
+        let unknown = self.each_of(|series| series.owner.is_none(), |key, _| key.digest());
+        unknown.into_iter().collect()
     }
 
-    fn those(&self, wanted: impl Fn(&Series) -> bool) -> Vec<(SeriesKey, Series)> {
-        self.each_of(wanted, |key, series| (key, series))
+    /// The key of a series that is known.
+    pub fn key(&self, series: &Digest) -> Option<SeriesKey> {
+        let state = lock(&self.state);
+        let key = state.series.keys(state.series.id_of(series).into_iter()).next();
+        key
     }
 
-    /// Their keys are read without the lock, and those alone stay that are in what is made.
+    /// What is made of each that is wanted. Keys are read without the lock, and all of them together may be very long.
     fn each_of<T: Send>(
         &self,
         wanted: impl Fn(&Series) -> bool,
         make: impl Fn(SeriesKey, Series) -> T + Sync,
     ) -> Vec<T> {
-        let (those, texts): (Vec<(u32, Series)>, _) = {
-            let state = lock(&self.state);
-            let all = state.series.iter().map(|(id, known)| (id, &known.series));
-            let those = all.filter(|(_, series)| wanted(series));
-            (those.map(|(id, series)| (id, series.clone())).collect(), state.series.texts())
-        };
+        let (those, texts) = self.those(wanted);
         texts.each_of(those, make)
+    }
+
+    /// Those that are wanted, by their ids, and the texts that have their keys.
+    fn those(&self, wanted: impl Fn(&Series) -> bool) -> (Vec<(u32, Series)>, Texts) {
+        let state = lock(&self.state);
+        let all = state.series.iter().map(|(id, known)| (id, &known.series));
+        let those = all.filter(|(_, series)| wanted(series));
+        (those.map(|(id, series)| (id, series.clone())).collect(), state.series.texts())
     }
 
     /// When what is known here began.
@@ -180,23 +184,23 @@ impl Outbox {
     }
 
     /// Leaves out the series that no group had for so long, but those in `keep`. Which these were.
-    pub fn forget(&self, age: Duration, keep: &HashSet<SeriesKey>) -> Result<Vec<SeriesKey>, Fault> {
+    pub fn forget(&self, age: Duration, keep: &HashSet<Digest>) -> Result<Vec<SeriesKey>, Fault> {
         self.forget_of(Age::from_now(age), keep)
     }
 
-    fn forget_of(&self, age: Age, keep: &HashSet<SeriesKey>) -> Result<Vec<SeriesKey>, Fault> {
+    fn forget_of(&self, age: Age, keep: &HashSet<Digest>) -> Result<Vec<SeriesKey>, Fault> {
         self.leave_out(|series| {
-            let keep: HashSet<u32> = keep.iter().filter_map(|key| series.id(key)).collect();
+            let keep: HashSet<u32> = keep.iter().filter_map(|digest| series.id_of(digest)).collect();
             let old = series.iter().filter(|(_, known)| known.may_be_forgotten(age));
             old.map(|(id, _)| id).filter(|id| !keep.contains(id)).collect()
         })
     }
 
     /// Whether there is a series to forget, but those in `keep`.
-    pub fn has_any_of(&self, age: Duration, keep: &HashSet<SeriesKey>) -> bool {
+    pub fn has_any_of(&self, age: Duration, keep: &HashSet<Digest>) -> bool {
         let age = Age::from_now(age);
         let state = lock(&self.state);
-        let keep: HashSet<u32> = keep.iter().filter_map(|key| state.series.id(key)).collect();
+        let keep: HashSet<u32> = keep.iter().filter_map(|digest| state.series.id_of(digest)).collect();
         let mut all = state.series.iter();
         all.any(|(id, known)| known.may_be_forgotten(age) && !keep.contains(&id))
     }

@@ -14,13 +14,13 @@ mod said;
 use super::numbers::Numbers;
 use super::Trouble;
 use crate::core::{free_spare_readers, Book, Core, Read, Refused};
-use crate::files::{Body, Outbox, Post};
-use crate::otlp::series::{zeros, NotForwarded, SeriesKey};
+use crate::files::{Body, Owned, Post};
+use crate::otlp::series::{zeros, NotForwarded};
 use crate::runs::State;
 use crate::slot::Slot;
 use crate::work::{in_order, WorkQueue};
 use said::said;
-use std::collections::{BTreeMap, BTreeSet};
+use std::collections::BTreeSet;
 use std::sync::Arc;
 use std::time::{Duration, Instant};
 
@@ -92,10 +92,11 @@ struct Fresh<'a> {
     shown: Instant,
 }
 
-/// Series of one owner, each with where it ends.
-struct Priming {
-    owner: String,
-    series: Vec<(SeriesKey, u64)>,
+/// Series of one owner.
+struct Priming<'o> {
+    of: &'o Owned,
+    owner: &'o str,
+    series: &'o [(u32, u64)],
     /// What primes them, once it is read.
     posts: Result<Vec<Read>, Unprimed>,
 }
@@ -126,13 +127,16 @@ struct Again {
 impl<S: Fn() -> bool> Filling<'_, S> {
     fn prime(&mut self) -> Result<(), Trouble> {
         let (slot, fresh, stops) = (self.slot, &mut self.fresh, &self.stops);
+        // In the order of their keys: so neighbours share most, and each goes behind those that a book has, or near their end.
+        let of = &slot.outbox.owned();
         in_order(
             |priming: &mut Priming| priming.be_read(&slot.core),
             |priming| fresh.prime(priming),
             |queue| {
-                for (owner, series) in owned(&slot.outbox) {
+                for (owner, series) in &of.all {
                     let mut parts = series.chunks(SERIES_OF_A_POST);
-                    if !parts.all(|part| !stops() && queue.push(Priming::of(&owner, part))) {
+                    let unread = |series| Priming { of, owner, series, posts: Ok(Vec::new()) };
+                    if !parts.all(|part| !stops() && queue.push(unread(part))) {
                         break;
                     }
                 }
@@ -165,18 +169,14 @@ impl<S: Fn() -> bool> Filling<'_, S> {
     }
 }
 
-impl Priming {
-    fn of(owner: &str, series: &[(SeriesKey, u64)]) -> Priming {
-        Priming { owner: owner.into(), series: series.to_vec(), posts: Ok(Vec::new()) }
-    }
-
+impl Priming<'_> {
     fn be_read(&mut self, core: &Core) {
         self.posts = self.read(core);
     }
 
     fn read(&self, core: &Core) -> Result<Vec<Read>, Unprimed> {
-        let read = |body: Vec<u8>| Ok(core.read(self.owner.clone(), body.into())?);
-        zeros(&self.series)?.into_iter().map(read).collect()
+        let read = |body: Vec<u8>| Ok(core.read(self.owner.into(), body.into())?);
+        zeros(self.of.with_keys(self.series))?.into_iter().map(read).collect()
     }
 }
 
@@ -216,7 +216,7 @@ impl Fresh<'_> {
         let admit = |mut read: Read| Ok(self.book.admit(&mut read)?);
         let put = posts.and_then(|posts| posts.into_iter().try_for_each(admit));
         put.map_err(|why| match why {
-            Unprimed::Refused(refused) => self.not_filled(&priming.owner, refused),
+            Unprimed::Refused(refused) => self.not_filled(priming.owner, refused),
             why => Trouble::NotFilled(format!("the outbox has a series that can't be primed: {why}")),
         })
     }
@@ -306,18 +306,4 @@ fn not_taken(refused: Refused) -> Trouble {
     Trouble::NotFilled(format!(
         "what the book has can't be taken of it: {refused}. Nothing is lost: give a greater --book-memory"
     ))
-}
-
-/// The series whose owners are known, by these, each with where it ends. In the order of their keys: so neighbours share most, and
-/// each goes behind those that a book has, or near their end.
-fn owned(outbox: &Outbox) -> BTreeMap<Arc<str>, Vec<(SeriesKey, u64)>> {
-    let mut owned: BTreeMap<Arc<str>, Vec<(SeriesKey, u64)>> = BTreeMap::new();
-    for (key, series) in outbox.with_owner() {
-        if let Some(owner) = series.owner {
-            owned.entry(owner).or_default().push((key, series.frontier));
-        }
-    }
-    // They mostly are in this order already, which this way of sorting is quick with.
-    owned.values_mut().for_each(|series| series.sort());
-    owned
 }

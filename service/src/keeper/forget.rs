@@ -11,7 +11,7 @@ use super::series::SeriesOfPosts;
 use super::{not_now, Amend, Done, Keeper, Trouble};
 use crate::core::Refused;
 use crate::files::Fault;
-use crate::otlp::series::SeriesKey;
+use crate::otlp::series::{Digest, SeriesKey};
 use crate::slot::Slot;
 use crate::work::blocking;
 use std::collections::HashSet;
@@ -123,11 +123,11 @@ fn forget_series(slot: &Slot, age: Duration) -> Result<u64, Fault> {
 }
 
 /// The series that have points in the journal that are in no group: behind a group those of quarantined senders alone.
-fn with_posts(slot: &Slot) -> Result<HashSet<SeriesKey>, Fault> {
+fn with_posts(slot: &Slot) -> Result<HashSet<Digest>, Fault> {
     let mut found = HashSet::new();
     let mut series = SeriesOfPosts::default();
     slot.journal.posts(slot.outbox.journal(), u64::MAX, |post| {
-        found.extend(series.of(&post).into_iter().flat_map(|posted| posted.series.into_keys()));
+        found.extend(series.of(&post).into_iter().flat_map(|read| read.series));
         true
     })?;
     Ok(found)
@@ -137,7 +137,7 @@ fn with_posts(slot: &Slot) -> Result<HashSet<SeriesKey>, Fault> {
 fn amended(slot: &Slot, amend: &Amend) -> Result<Result<(), SeriesKey>, Fault> {
     let kept_back = with_posts(slot)?;
     let (Amend::Forget(series) | Amend::PutBack { series, .. }) = amend;
-    if let Some(one) = series.iter().find(|one| kept_back.contains(*one)) {
+    if let Some(one) = series.iter().find(|one| kept_back.contains(&one.digest())) {
         return Ok(Err(one.clone()));
     }
     match amend {

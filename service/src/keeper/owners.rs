@@ -5,7 +5,7 @@
 use super::series::SeriesOfPosts;
 use crate::files::{Fault, Replayed};
 use crate::log::shown;
-use crate::otlp::series::SeriesKey;
+use crate::otlp::series::Digest;
 use crate::post_reports::SERIES_SHOWN;
 use crate::slot::Slot;
 use std::collections::{HashMap, HashSet};
@@ -47,7 +47,7 @@ fn find_in(slot: &Slot, ranges: impl Iterator<Item = (u64, u64)>) -> Result<(), 
 }
 
 /// These are faults of this program, and a late repeat to such a series may be taken after a start.
-fn report(slot: &Slot, misread: u64, unknown: &HashSet<SeriesKey>) {
+fn report(slot: &Slot, misread: u64, unknown: &HashSet<Digest>) {
     let faults = &slot.metrics.faults;
     let number = slot.number();
     if misread > 0 {
@@ -60,7 +60,8 @@ fn report(slot: &Slot, misread: u64, unknown: &HashSet<SeriesKey>) {
     }
     if let Some(one) = unknown.iter().next() {
         faults.with_label_values(&["owner"]).inc_by(unknown.len() as u64);
-        let (count, series) = (unknown.len(), shown(&one.0, SERIES_SHOWN));
+        let series = slot.outbox.key(one).map_or_else(String::new, |key| shown(&key.0, SERIES_SHOWN));
+        let count = unknown.len();
         tracing::error!(
             slot = number,
             series_count = count,
@@ -71,8 +72,8 @@ fn report(slot: &Slot, misread: u64, unknown: &HashSet<SeriesKey>) {
 }
 
 struct Search {
-    unknown: HashSet<SeriesKey>,
-    owners: HashMap<SeriesKey, String>,
+    unknown: HashSet<Digest>,
+    owners: HashMap<Digest, String>,
     misread: u64,
     series: SeriesOfPosts,
 }
@@ -84,9 +85,9 @@ impl Search {
         if read.as_ref().map(|read| read.foreign) != Some(post.foreign) {
             self.misread += 1;
         }
-        for key in read.into_iter().flat_map(|read| read.series.into_keys()) {
-            if self.unknown.remove(&key) {
-                self.owners.insert(key, post.sender.clone());
+        for series in read.into_iter().flat_map(|read| read.series) {
+            if self.unknown.remove(&series) {
+                self.owners.insert(series, post.sender.clone());
             }
         }
         !self.unknown.is_empty()

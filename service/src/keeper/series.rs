@@ -1,38 +1,43 @@
 //! The series of the journal's posts, whether they are texts or points by number.
 
 use crate::files::{Body, Points, Replayed};
-use crate::otlp::series::{only, posted, Posted, SeriesKey};
-use std::collections::HashMap;
+use crate::otlp::series::{only, posted, Digest};
+use std::collections::{HashMap, HashSet};
 
 /// Reads posts one after the other, each in its turn: a later one does not say again what a number stands for.
 #[derive(Default)]
 pub(super) struct SeriesOfPosts {
     /// None where the text of a name is not that of one point.
-    named: HashMap<u64, Option<SeriesKey>>,
+    named: HashMap<u64, Option<Digest>>,
+}
+
+/// What a post has, read as the book reads it.
+pub(super) struct OfPost {
+    /// Those with points of the profile.
+    pub series: HashSet<Digest>,
+    pub foreign: u64,
 }
 
 impl SeriesOfPosts {
-    /// What a post has. None where the book would refuse it whole.
-    pub fn of(&mut self, read: &Replayed) -> Option<Posted> {
+    /// None where the book would refuse it whole.
+    pub fn of(&mut self, read: &Replayed) -> Option<OfPost> {
         for (number, text) in &read.named {
-            self.named.insert(*number, only(text));
+            self.named.insert(*number, only(text).map(|key| key.digest()));
         }
-        match &read.post.body {
-            Body::Text(body) => posted(body),
-            Body::Points(points) => {
-                Some(Posted { series: self.of_points(points)?, foreign: read.post.foreign })
+        Some(match &read.post.body {
+            Body::Text(body) => {
+                let posted = posted(body)?;
+                OfPost {
+                    series: posted.series.keys().map(|key| key.digest()).collect(),
+                    foreign: posted.foreign,
+                }
             }
-        }
+            Body::Points(points) => OfPost { series: self.of_points(points)?, foreign: read.post.foreign },
+        })
     }
 
-    fn of_points(&self, points: &Points) -> Option<HashMap<SeriesKey, u64>> {
-        let mut series = HashMap::new();
-        for (number, end) in points.each().map(|point| (point[0], point[2])) {
-            let key = self.named.get(&number)?.clone()?;
-            let last = series.entry(key).or_insert(end);
-            *last = end.max(*last);
-        }
-        Some(series)
+    fn of_points(&self, points: &Points) -> Option<HashSet<Digest>> {
+        points.numbers().map(|number| *self.named.get(&number)?).collect()
     }
 }
 
@@ -51,14 +56,14 @@ mod tests {
         .into()
     }
 
-    fn of(series: &mut SeriesOfPosts, body: Body, named: &[(u64, &str)]) -> Option<Vec<(String, u64)>> {
+    fn of(series: &mut SeriesOfPosts, body: Body, named: &[(u64, &str)]) -> Option<HashSet<Digest>> {
         let post = Post { sender: "s".into(), foreign: 0, body };
         let named = named.iter().map(|(number, name)| (*number, text(name, 2)));
-        let posted = series.of(&Replayed { post, named: named.collect() })?;
-        let names = posted.series.into_iter();
-        let mut names: Vec<_> = names.map(|(key, end)| (key.parts().unwrap().name, end)).collect();
-        names.sort();
-        Some(names)
+        Some(series.of(&Replayed { post, named: named.collect() })?.series)
+    }
+
+    fn series<const N: usize>(names: [&str; N]) -> Option<HashSet<Digest>> {
+        Some(names.map(|name| only(&text(name, 3)).unwrap().digest()).into())
     }
 
     fn points(of: &[(u64, u64)]) -> Body {
@@ -71,14 +76,13 @@ mod tests {
 
     #[test]
     fn a_number_stands_for_what_was_said_last() {
-        let mut series = SeriesOfPosts::default();
-        let pair = |name: &str, end| (name.to_string(), end);
-        let both = of(&mut series, points(&[(0, 9), (7, 8), (0, 7)]), &[(7, "b"), (0, "a")]);
-        assert_eq!(both, Some(vec![pair("a", 9), pair("b", 8)]));
-        let one = of(&mut series, Body::Text(text("c", 6)), &[(0, "d")]);
-        assert_eq!(one, Some(vec![pair("c", 6)]));
-        let again = of(&mut series, points(&[(0, 5), (7, 4)]), &[]);
-        assert_eq!(again, Some(vec![pair("b", 4), pair("d", 5)]));
-        assert_eq!(of(&mut series, points(&[(1, 5)]), &[]), None);
+        let mut read = SeriesOfPosts::default();
+        let both = of(&mut read, points(&[(0, 9), (7, 8), (0, 7)]), &[(7, "b"), (0, "a")]);
+        assert_eq!(both, series(["a", "b"]));
+        let one = of(&mut read, Body::Text(text("c", 6)), &[(0, "d")]);
+        assert_eq!(one, series(["c"]));
+        let again = of(&mut read, points(&[(0, 5), (7, 4)]), &[]);
+        assert_eq!(again, series(["b", "d"]));
+        assert_eq!(of(&mut read, points(&[(1, 5)]), &[]), None);
     }
 }

@@ -3,6 +3,7 @@
 use super::changes::{Change, Group, UnitOfMetric};
 use super::rows;
 use super::state::{Batch, Front};
+use super::texts::Texts;
 use super::{Outbox, Series, Waiting};
 use crate::files::{lock, segment, Fault};
 use crate::otlp::series::SeriesKey;
@@ -83,6 +84,7 @@ impl Outbox {
                 heard: None,
                 journal: state.journal,
                 ends: Vec::new(),
+                new: Texts::default(),
             }
         };
         let bytes = rows::group(&group, &waits.bodies);

@@ -1,6 +1,6 @@
 //! What can become of an outbox.
 
-use crate::otlp::series::SeriesKey;
+use super::texts::Texts;
 use crate::runs::Run;
 use std::ops::Range;
 use std::sync::Arc;
@@ -43,14 +43,14 @@ pub struct Group {
     pub journal: u64,
     /// What it does to series, in the order of their ids.
     pub ends: Vec<End>,
+    /// The keys of those that are new, which have the next ids: the last of these.
+    pub new: Texts,
 }
 
 /// What a group does to a series.
 #[derive(Debug)]
 pub struct End {
     pub id: u32,
-    /// Of one that is new: these have the next ids, in the order of their keys.
-    pub new: Option<SeriesKey>,
     /// Where its last point ends.
     pub end: u64,
     pub run: Option<Arc<Run>>,

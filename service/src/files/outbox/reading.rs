@@ -169,7 +169,7 @@ impl Reading {
         let Items::Whole { journal, ends, from, to } = items else {
             return Err(wrong());
         };
-        let ends = rows::ends_of(&ends, series).ok_or_else(wrong)?;
+        let (ends, new) = rows::ends_of(&ends, series).ok_or_else(wrong)?;
         let group = Group {
             first: head.first,
             epoch: head.epoch.as_str().into(),
@@ -177,6 +177,7 @@ impl Reading {
             heard: None,
             journal,
             ends,
+            new,
         };
         Ok(Change::Group { group, count: head.count, segment: self.number, items: from..to })
     }

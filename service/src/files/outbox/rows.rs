@@ -19,14 +19,18 @@ use super::changes::{Change, End, Group};
 use super::snapshot::RunRow;
 use super::state::Front;
 use super::table::Table;
+use super::texts::Texts;
 use crate::files::disk::{io_fault, Disk};
 use crate::files::records::{self, put, take_number, HEAD, OWN};
 use crate::files::Fault;
 use crate::otlp::series::SeriesKey;
 use flate2::{read::DeflateDecoder, write::DeflateEncoder, Compression};
-use serde::{de::DeserializeOwned, Deserialize, Serialize};
+use serde::de::{DeserializeOwned, SeqAccess, Visitor};
+use serde::{Deserialize, Deserializer, Serialize, Serializer};
 use std::collections::HashMap;
+use std::fmt;
 use std::io::{self, BufWriter, Read, Write};
+use std::marker::PhantomData;
 use std::ops::Range;
 use std::path::Path;
 
@@ -43,13 +47,22 @@ pub const BESIDE: u8 = OWN + 9;
 
 /// What a group did to series.
 #[derive(Serialize, Deserialize)]
-struct Ends {
+struct Ends<N> {
     /// Id and frontier.
     known: Vec<(u32, u64)>,
     /// Key and frontier of those that get the next ids.
-    new: Vec<(String, u64)>,
+    new: N,
     #[serde(default)]
     runs: Vec<RunRow>,
+}
+
+/// Rows of new series, written and read one by one: their keys are long.
+struct NewRows<'g>(&'g Texts, &'g [End]);
+
+#[derive(Default)]
+struct NewRead {
+    keys: Texts,
+    ends: Vec<u64>,
 }
 
 /// A group's records, and where in them its items are.
@@ -98,6 +111,46 @@ pub fn unpacked<T: DeserializeOwned>(bytes: &[u8]) -> Option<T> {
     serde_json::from_slice(&inflated(bytes)?).ok()
 }
 
+/// Shows the rows of a list, without having all of them at once.
+pub fn each_row<'de, R: Deserialize<'de>, D: Deserializer<'de>>(
+    deserializer: D,
+    each: impl FnMut(R),
+) -> Result<(), D::Error> {
+    deserializer.deserialize_seq(Rows { each, row: PhantomData })
+}
+
+struct Rows<R, F> {
+    each: F,
+    row: PhantomData<R>,
+}
+
+impl<'de, R: Deserialize<'de>, F: FnMut(R)> Visitor<'de> for Rows<R, F> {
+    type Value = ();
+
+    fn expecting(&self, out: &mut fmt::Formatter) -> fmt::Result {
+        out.write_str("rows")
+    }
+
+    fn visit_seq<A: SeqAccess<'de>>(mut self, mut rows: A) -> Result<(), A::Error> {
+        while let Some(row) = rows.next_element()? {
+            (self.each)(row);
+        }
+        Ok(())
+    }
+}
+
+impl Serialize for SeriesKey {
+    fn serialize<S: Serializer>(&self, serializer: S) -> Result<S::Ok, S::Error> {
+        serializer.serialize_str(&self.0)
+    }
+}
+
+impl<'de> Deserialize<'de> for SeriesKey {
+    fn deserialize<D: Deserializer<'de>>(deserializer: D) -> Result<SeriesKey, D::Error> {
+        Ok(SeriesKey(String::deserialize(deserializer)?.into()))
+    }
+}
+
 pub fn numbers<const N: usize>(numbers: [u64; N]) -> Vec<u8> {
     numbers.map(u64::to_le_bytes).concat()
 }
@@ -113,21 +166,37 @@ pub fn group(group: &Group, items: &[Vec<u8>]) -> GroupBytes {
     put(&mut out, GROUP, &[&head, group.epoch.as_bytes()]);
     let items = out.len()..out.len() + bodies.len();
     out.append(&mut bodies);
-    let ends = packed(&ends(&group.ends));
+    let ends = packed(&ends(group));
     put(&mut out, COMMIT, &[&numbers([group.first, count, group.journal]), &ends]);
     GroupBytes { records: out, items }
 }
 
-fn ends(all: &[End]) -> Ends {
-    let (mut known, mut new, mut runs) = (Vec::new(), Vec::new(), Vec::new());
-    for End { id, new: key, end, run } in all {
-        match key {
-            None => known.push((*id, *end)),
-            Some(key) => new.push((key.0.to_string(), *end)),
-        }
-        runs.extend(run.as_ref().map(|run| RunRow::of(*id, *end, run)));
+fn ends(group: &Group) -> Ends<NewRows<'_>> {
+    let (known, new) = group.ends.split_at(group.ends.len() - group.new.count() as usize);
+    let run = |end: &End| Some(RunRow::of(end.id, end.end, end.run.as_ref()?));
+    Ends {
+        known: known.iter().map(|end| (end.id, end.end)).collect(),
+        new: NewRows(&group.new, new),
+        runs: group.ends.iter().filter_map(run).collect(),
     }
-    Ends { known, new, runs }
+}
+
+impl Serialize for NewRows<'_> {
+    fn serialize<S: Serializer>(&self, serializer: S) -> Result<S::Ok, S::Error> {
+        let rows = self.0.all().zip(self.1);
+        serializer.collect_seq(rows.map(|(key, end)| (key, end.end)))
+    }
+}
+
+impl<'de> Deserialize<'de> for NewRead {
+    fn deserialize<D: Deserializer<'de>>(deserializer: D) -> Result<NewRead, D::Error> {
+        let mut new = NewRead::default();
+        each_row(deserializer, |(key, end)| {
+            new.keys.push(key);
+            new.ends.push(end);
+        })?;
+        Ok(new)
+    }
 }
 
 pub fn head_of(mut bytes: &[u8]) -> Option<GroupHead> {
@@ -146,24 +215,19 @@ pub fn commit_of<'a>(mut bytes: &'a [u8], head: &GroupHead) -> Option<(u64, &'a 
     is_its.then_some((journal, *rest))
 }
 
-/// What a group did to series, behind all that these know.
-pub fn ends_of(bytes: &[u8], series: &Table) -> Option<Vec<End>> {
-    let ends: Ends = unpacked(bytes)?;
-    let runs = ends.runs.into_iter().map(|row| (row.0, row));
+/// What a group did to series, behind all that these know, and the keys of those that are new.
+pub fn ends_of(bytes: &[u8], series: &Table) -> Option<(Vec<End>, Texts)> {
+    let Ends { known, new, runs } = unpacked::<Ends<NewRead>>(bytes)?;
+    let runs = runs.into_iter().map(|row| (row.0, row));
     let mut runs: HashMap<u32, RunRow> = runs.collect();
-    let mut of = |id: u32, new: Option<SeriesKey>, end: u64| {
+    let mut of = |(id, end)| {
         let run = runs.remove(&id).map(|row| row.run(end));
-        End { id, new, end, run }
+        End { id, end, run }
     };
-    let mut all = Vec::new();
-    for (id, end) in ends.known {
-        series.at(id)?;
-        all.push(of(id, None, end));
-    }
-    for (id, (key, end)) in (series.next_id()..).zip(ends.new) {
-        all.push(of(id, Some(SeriesKey(key.into())), end));
-    }
-    runs.is_empty().then_some(all)
+    let are_known = known.iter().all(|(id, _)| series.at(*id).is_some());
+    let new_ends = (series.next_id()..).zip(new.ends);
+    let all = known.into_iter().chain(new_ends).map(&mut of).collect();
+    (are_known && runs.is_empty()).then_some((all, new.keys))
 }
 
 /// The record of a change that is no group.

@@ -1,7 +1,7 @@
 //! What a segment begins with: all that the outbox knows, but its requests.
 
 use super::changes::UnitOfMetric;
-use super::rows::{packed, unpacked, SNAPSHOT};
+use super::rows::{each_row, packed, unpacked, SNAPSHOT};
 use super::state::State;
 use super::table::{KnownSeries, Table};
 use super::texts::Texts;
@@ -9,11 +9,8 @@ use super::Series;
 use crate::files::records::put;
 use crate::otlp::series::SeriesKey;
 use crate::runs::{Run, Since};
-use serde::de::{Deserializer, SeqAccess, Visitor};
-use serde::ser::Serializer;
-use serde::{Deserialize, Serialize};
+use serde::{Deserialize, Deserializer, Serialize, Serializer};
 use std::collections::BTreeSet;
-use std::fmt;
 use std::sync::Arc;
 
 /// To be written without the lock.
@@ -49,7 +46,11 @@ struct Content<S> {
 }
 
 /// Key, frontier, seconds since 1970 when last seen, owner.
-type Row<T> = (T, u64, u64, Option<T>);
+type Row<T> = (SeriesKey, u64, u64, Option<T>);
+
+fn row(key: SeriesKey, series: &Series) -> Row<&str> {
+    (key, series.frontier, series.seen, series.owner.as_deref())
+}
 
 /// The run of a series: its id, its start, how far its frontier is after the last point, that point's words.
 #[derive(Serialize, Deserialize)]
@@ -111,44 +112,19 @@ struct Rows<'s>(&'s Snapshot);
 impl Serialize for Rows<'_> {
     fn serialize<S: Serializer>(&self, serializer: S) -> Result<S::Ok, S::Error> {
         let Snapshot { series, texts, .. } = self.0;
-        let rows = texts.of(0..series.len() as u32).zip(series);
-        serializer.collect_seq(rows.map(|(key, series)| Written(key, series)))
-    }
-}
-
-struct Written<'s>(SeriesKey, &'s Series);
-
-impl Serialize for Written<'_> {
-    fn serialize<S: Serializer>(&self, serializer: S) -> Result<S::Ok, S::Error> {
-        let Written(key, series) = self;
-        let row: Row<&str> = (&key.0, series.frontier, series.seen, series.owner.as_deref());
-        row.serialize(serializer)
+        serializer.collect_seq(texts.all().zip(series).map(|(key, series)| row(key, series)))
     }
 }
 
 /// Read one by one as well.
 impl<'de> Deserialize<'de> for Table {
     fn deserialize<D: Deserializer<'de>>(deserializer: D) -> Result<Table, D::Error> {
-        deserializer.deserialize_seq(OfRows)
-    }
-}
-
-struct OfRows;
-
-impl<'de> Visitor<'de> for OfRows {
-    type Value = Table;
-
-    fn expecting(&self, out: &mut fmt::Formatter) -> fmt::Result {
-        out.write_str("rows of series")
-    }
-
-    fn visit_seq<A: SeqAccess<'de>>(self, mut rows: A) -> Result<Table, A::Error> {
         let mut table = Table::default();
-        while let Some((key, frontier, seen, owner)) = rows.next_element::<Row<String>>()? {
+        each_row(deserializer, |(key, frontier, seen, owner): Row<String>| {
             let (owner, run) = (owner.map(|owner| table.shared(&owner)), None);
             let series = Series { frontier, owner, seen, run };
-            table.put(SeriesKey(key.into()), KnownSeries { series, heard: None });
-        }
+            table.put(key, KnownSeries { series, heard: None });
+        })?;
         Ok(table)
     }
 }

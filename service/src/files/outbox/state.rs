@@ -184,12 +184,12 @@ impl State {
 
     fn advance(&mut self, group: Group) {
         let (seen, heard) = (group.since, group.heard);
+        for key in group.new.all() {
+            let (frontier, owner, run) = (0, None, None);
+            let series = Series { frontier, owner, seen, run };
+            self.series.put(key, KnownSeries { series, heard });
+        }
         for end in group.ends {
-            if let Some(key) = end.new {
-                let (frontier, owner, run) = (0, None, None);
-                let series = Series { frontier, owner, seen, run };
-                self.series.put(key, KnownSeries { series, heard });
-            }
             let Some(known) = self.series.at_mut(end.id) else {
                 continue;
             };

@@ -93,7 +93,9 @@ async fn groups_come_back_with_their_numbers_bytes_and_series() {
     let outbox = open(folder.path());
     let bodies = [body(&[("a", 5), ("b", 7), ("a", 9)], "one"), body(&[("c", 3)], "two")];
     outbox.commit(&bodies, 4).unwrap();
-    outbox.own(HashMap::from([(key_of("a"), "me".into()), (key_of("unknown"), "you".into())])).unwrap();
+    outbox
+        .own(HashMap::from([(key_of("a").digest(), "me".into()), (key_of("unknown").digest(), "you".into())]))
+        .unwrap();
     outbox.commit(&[], 5).unwrap();
     assert_eq!((outbox.journal(), outbox.series_count(), outbox.waiting().0), (5, 3, 2));
     let before = view(&outbox);
@@ -169,7 +171,7 @@ fn a_clock_that_is_set_forgets_no_series_of_this_run() {
     let folder = tempfile::tempdir().unwrap();
     let outbox = open(folder.path());
     outbox.commit(&[body(&[("a", 1)], "")], 2).unwrap();
-    outbox.own(HashMap::from([(key_of("a"), "me".into())])).unwrap();
+    outbox.own(HashMap::from([(key_of("a").digest(), "me".into())])).unwrap();
     let far_ahead = Age { before: u64::MAX, age: Duration::from_secs(3600) };
     assert_eq!(outbox.forget_of(far_ahead, &HashSet::new()).unwrap(), []);
     drop(outbox);
@@ -182,10 +184,10 @@ fn a_series_without_an_owner_is_never_forgotten() {
     let folder = tempfile::tempdir().unwrap();
     let outbox = open(folder.path());
     outbox.commit(&[body(&[("a", 1), ("b", 1), ("c", 1)], "")], 2).unwrap();
-    let owner = |key| (key_of(key), "me".to_string());
+    let owner = |key| (key_of(key).digest(), "me".to_string());
     outbox.own(HashMap::from([owner("a"), owner("b")])).unwrap();
     assert_eq!(outbox.forget(Duration::MAX, &HashSet::new()).unwrap(), []);
-    let keep = HashSet::from([key_of("b")]);
+    let keep = HashSet::from([key_of("b").digest()]);
     assert_eq!(outbox.forget_of(AT_ONCE, &keep).unwrap(), [key_of("a")]);
     drop(outbox);
     let outbox = open(folder.path());
@@ -245,9 +247,9 @@ fn what_was_forgotten_is_known_by_when_it_ended() {
     let made = {
         let outbox = open(folder.path());
         outbox.commit(&[body(&[("a", 40), ("b", 70), ("c", 90)], "")], 2).unwrap();
-        let owners = ["a", "b", "c"].map(|key| (key_of(key), "A".to_string()));
+        let owners = ["a", "b", "c"].map(|key| (key_of(key).digest(), "A".to_string()));
         outbox.own(owners.into()).unwrap();
-        let keep = HashSet::from([key_of("c")]);
+        let keep = HashSet::from([key_of("c").digest()]);
         assert_eq!(outbox.forget_of(AT_ONCE, &keep).unwrap().len(), 2);
         outbox.since().made
     };

@@ -14,10 +14,14 @@ use std::sync::Arc;
 
 /// So many are packed together: for one all of them are read.
 const IN_BLOCK: usize = 64;
+/// So many are read together where somebody wants them in another order: those of a block at once.
+const TOGETHER: usize = 4 * IN_BLOCK;
+/// So many bytes of a key are looked at for its place among others.
+const LOOKED_AT: usize = 512;
 /// So many, which is a multiple of that, are read by one thread where there are more.
 const PART: usize = IN_BLOCK * if cfg!(test) { 3 } else { 32 };
 /// A copy shares what is packed.
-#[derive(Clone, Default)]
+#[derive(Clone, Debug, Default)]
 pub struct Texts {
     /// Each of `IN_BLOCK` keys.
     blocks: Vec<Arc<[u8]>>,
@@ -26,6 +30,10 @@ pub struct Texts {
 }
 
 impl Texts {
+    pub fn count(&self) -> u32 {
+        (self.blocks.len() * IN_BLOCK + self.last.len()) as u32 // there is no memory for 2^32
+    }
+
     /// The one with the next id.
     pub fn push(&mut self, key: SeriesKey) {
         self.last.push(key);
@@ -35,10 +43,26 @@ impl Texts {
         }
     }
 
-    /// Those of these ids. It is quick where they ascend.
-    pub fn of<'t>(&'t self, ids: impl Iterator<Item = u32> + 't) -> impl Iterator<Item = SeriesKey> + 't {
-        let mut read = self.reader();
-        ids.filter_map(move |id| read(id))
+    /// All, in the order of their ids.
+    pub fn all(&self) -> impl Iterator<Item = SeriesKey> + '_ {
+        (0..self.count()).filter_map(self.reader())
+    }
+
+    /// Those of these ids. It is quick where most ascend.
+    pub fn of<'t>(&'t self, mut ids: impl Iterator<Item = u32> + 't) -> impl Iterator<Item = SeriesKey> + 't {
+        let next = move || {
+            let some: Vec<u32> = ids.by_ref().take(TOGETHER).collect();
+            (!some.is_empty()).then(|| self.together(&some))
+        };
+        std::iter::from_fn(next).flatten()
+    }
+
+    fn together(&self, ids: &[u32]) -> impl Iterator<Item = SeriesKey> {
+        let mut ascending: Vec<usize> = (0..ids.len()).collect();
+        ascending.sort_by_key(|place| ids[*place]);
+        let (mut read, mut keys) = (self.reader(), vec![None; ids.len()]);
+        ascending.into_iter().for_each(|place| keys[place] = read(ids[place]));
+        keys.into_iter().flatten()
     }
 
     fn reader(&self) -> impl FnMut(u32) -> Option<SeriesKey> + '_ {
@@ -99,6 +123,12 @@ impl Texts {
     }
 }
 
+/// As much of a key as says its place among others; that of one which is no longer says it wholly.
+pub fn begin_of(key: &SeriesKey) -> Box<[u8]> {
+    let bytes = key.0.as_bytes();
+    bytes[..bytes.len().min(LOOKED_AT)].into()
+}
+
 /// Of each key with how many bytes of the one before it it begins, with how many it ends, how many are between, and these.
 fn packed(keys: &[SeriesKey]) -> Vec<u8> {
     let (mut out, mut before) = (Vec::new(), &[][..]);
@@ -128,10 +158,6 @@ fn unpacked(mut rest: &[u8]) -> Option<Vec<SeriesKey>> {
 mod tests {
     use super::*;
 
-    fn all_of(texts: &Texts, count: usize) -> Vec<SeriesKey> {
-        texts.of(0..count as u32).collect()
-    }
-
     fn texts_of(keys: &[SeriesKey]) -> Texts {
         let mut texts = Texts::default();
         keys.iter().for_each(|key| texts.push(key.clone()));
@@ -146,10 +172,13 @@ mod tests {
             (0..300).map(|number| pieces[number * 7 % 10].repeat(number % 3) + pieces[number / 9 % 10]);
         let keys: Vec<SeriesKey> = keys.map(|key| SeriesKey(key.into())).collect();
         let texts = texts_of(&keys);
-        assert_eq!(all_of(&texts, keys.len()), keys);
+        assert_eq!(texts.all().collect::<Vec<_>>(), keys);
         let those: Vec<(u32, usize)> = (0..300).rev().map(|id| (id, id as usize)).collect();
         let same = texts.each_of(those, |key, place| key == keys[place]);
         assert_eq!(same, vec![true; 300]);
+        let mixed: Vec<u32> = (0..600).map(|number| number * 7 % 300).collect();
+        let wanted = mixed.iter().map(|id| keys[*id as usize].clone());
+        assert!(texts.of(mixed.iter().copied()).eq(wanted));
     }
 
     /// So far back nothing is found to be the same by what deflates them.
@@ -164,7 +193,7 @@ mod tests {
         let keys: Vec<SeriesKey> =
             (0..4 * IN_BLOCK).map(|number| SeriesKey(format!("{shared}{number}").into())).collect();
         let texts = texts_of(&keys);
-        assert_eq!(all_of(&texts, keys.len()), keys);
+        assert_eq!(texts.all().collect::<Vec<_>>(), keys);
         assert!(texts.bytes() < 5 * shared.len(), "{} bytes", texts.bytes());
     }
 }

@@ -5,6 +5,7 @@ use super::rows;
 use super::snapshot::Snapshot;
 use super::state::State;
 use super::table::Table;
+use super::texts::{begin_of, Texts};
 use super::{Outbox, Runs, Writer};
 use crate::files::disk::Disk;
 use crate::files::records::Which;
@@ -16,6 +17,9 @@ use std::io;
 use std::path::Path;
 use std::time::Instant;
 
+/// Whoever commits a group is who forgets series.
+const OTHER_SERIES: &str = "series were forgotten while it was read";
+
 impl Outbox {
     /// As `commit`, of a group without runs.
     #[cfg(test)]
@@ -26,26 +30,28 @@ impl Outbox {
     /// Makes a group durable, whole or not at all; with a drive once it is settled. Posts of the journal's segments before `journal` are in it or in earlier
     /// ones. Of the runs those count whose series the group has: these are returned.
     pub fn commit_with(&self, bodies: &[Vec<u8>], journal: u64, mut runs: Runs) -> Result<Runs, Fault> {
-        let (mut ends, mut digests) = (Ends::new(), Digests::default());
-        let mut items = Vec::new();
+        let (mut ends, mut items) = (Ends::default(), Vec::new());
         for body in bodies {
             for (key, end) in (self.read_ends)(body).map_err(|error| self.unreadable(error))? {
-                let (_, known) = ends.entry(digests.of(&key)).or_insert((key, end));
-                *known = end.max(*known);
+                ends.note(key, end, |digest| lock(&self.state).series.id_of(digest).is_some());
             }
             items.push(rows::deflated(body));
         }
-        runs.retain(|digest, _| ends.contains_key(digest));
+        ends.sort();
+        runs.retain(|digest, _| ends.of.contains_key(digest));
         let mut writer = lock(&self.writer);
         let group = {
             let state = lock(&self.state);
+            let by_id = ends.by_id(&runs, &state.series);
+            let (ends, new) = by_id.ok_or_else(|| self.unreadable(NotForwarded(OTHER_SERIES.into())))?;
             Group {
                 first: state.next,
                 epoch: state.next_epoch.clone(),
                 since: seconds(),
                 heard: Some(Instant::now()),
                 journal,
-                ends: by_id(ends, &runs, &state.series),
+                ends,
+                new,
             }
         };
         let bytes = rows::group(&group, &items);
@@ -63,9 +69,7 @@ impl Outbox {
     }
 
     /// Makes durable who owns series.
-    pub fn own(&self, owners: HashMap<SeriesKey, String>) -> Result<(), Fault> {
-        let by_digest = owners.into_iter().map(|(key, owner)| (key.digest(), owner));
-        let owners: Vec<_> = by_digest.collect();
+    pub fn own(&self, owners: HashMap<Digest, String>) -> Result<(), Fault> {
         self.change(true, |state| {
             let by_id = |(digest, owner)| Some((state.series.id_of(&digest)?, owner));
             let owners: Vec<_> = owners.into_iter().filter_map(by_id).collect();
@@ -158,23 +162,57 @@ impl Outbox {
 }
 
 /// Where the last points of series end.
-pub(super) type Ends = HashMap<Digest, (SeriesKey, u64)>;
+#[derive(Default)]
+pub(super) struct Ends {
+    /// With its place among the new ones, where it is new.
+    of: HashMap<Digest, (u64, Option<u32>)>,
+    /// The others' keys are known: all together may be very long.
+    new: Texts,
+    begins: Vec<Box<[u8]>>,
+    digests: Digests,
+}
 
-/// What they do to these series.
-pub(super) fn by_id(ends: Ends, runs: &Runs, series: &Table) -> Vec<End> {
-    let (mut all, mut new) = (Vec::new(), Vec::new());
-    for (digest, (key, end)) in ends {
-        let run = runs.get(&digest).cloned();
-        match series.id_of(&digest) {
-            Some(id) => all.push(End { id, new: None, end, run }),
-            None => new.push((key, end, run)),
-        }
+impl Ends {
+    pub fn note(&mut self, key: SeriesKey, end: u64, is_known: impl FnOnce(&Digest) -> bool) {
+        let digest = self.digests.of(&key);
+        let (last, _) = self.of.entry(digest).or_insert_with(|| {
+            let place = (!is_known(&digest)).then(|| self.new.count());
+            if place.is_some() {
+                self.begins.push(begin_of(&key));
+                self.new.push(key);
+            }
+            (end, place)
+        });
+        *last = end.max(*last);
     }
-    all.sort_unstable_by_key(|end| end.id);
-    new.sort_unstable_by(|one, other| one.0.cmp(&other.0));
-    let new = (series.next_id()..).zip(new);
-    all.extend(new.map(|(id, (key, end, run))| End { id, new: Some(key), end, run }));
-    all
+
+    /// Puts the new ones in the order of their keys.
+    fn sort(&mut self) {
+        let begins = std::mem::take(&mut self.begins);
+        let mut order: Vec<u32> = (0..self.new.count()).collect();
+        order.sort_by(|one, other| begins[*one as usize].cmp(&begins[*other as usize]));
+        let mut places = vec![0; order.len()];
+        (0..).zip(&order).for_each(|(place, before)| places[*before as usize] = place);
+        let new = self.of.values_mut().filter_map(|(_, new)| new.as_mut());
+        new.for_each(|place| *place = places[*place as usize]);
+        let before = std::mem::take(&mut self.new);
+        before.of(order.into_iter()).for_each(|key| self.new.push(key));
+    }
+
+    /// What they do to these series, and the keys of those that are new; none where other series are known than before.
+    pub fn by_id(self, runs: &Runs, series: &Table) -> Option<(Vec<End>, Texts)> {
+        let mut all = Vec::with_capacity(self.of.len());
+        for (digest, (end, new)) in self.of {
+            let id = match (series.id_of(&digest), new) {
+                (Some(id), None) => id,
+                (None, Some(place)) => series.next_id() + place,
+                _ => return None,
+            };
+            all.push(End { id, end, run: runs.get(&digest).cloned() });
+        }
+        all.sort_unstable_by_key(|end| end.id);
+        Some((all, self.new))
+    }
 }
 
 /// Makes a segment that begins with a snapshot. It has another name until it is whole.

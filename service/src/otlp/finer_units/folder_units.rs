@@ -5,18 +5,9 @@ use super::units::{Named, Unit};
 use super::FinerUnits;
 use crate::files::{Body, Fault, Journal, Outbox, UnitOfMetric};
 use crate::otlp::json::{Document, Value};
-use crate::otlp::series::{visit, SeriesKey};
+use crate::otlp::series::visit;
 use crate::work::in_order;
 use bytes::Bytes;
-
-/// So many keys are looked through by one thread.
-const KEYS_OF_A_PART: usize = 1000;
-
-/// What says of series.
-enum Said {
-    Series(Vec<SeriesKey>),
-    Requests(Vec<Bytes>),
-}
 
 impl FinerUnits {
     /// Notes the units of all series of a folder.
@@ -49,30 +40,20 @@ impl FinerUnits {
 
     fn know_series_of(&self, outbox: &Outbox, journal: &Journal) -> Result<(), Fault> {
         // Side by side: what is known of a metric is a set of units.
+        outbox.each_key(|key| self.know_series(&key.0));
         in_order(
-            |said: &mut Said| self.know_said(said),
+            |requests: &mut Vec<Bytes>| requests.iter().for_each(|text| self.know_request(text)),
             |_| Ok(()),
             |queue| {
-                let keys = outbox.keys();
-                for part in keys.chunks(KEYS_OF_A_PART) {
-                    queue.push(Said::Series(part.to_vec()));
-                }
                 journal.posts(outbox.journal(), u64::MAX, |read| {
                     let mut texts: Vec<Bytes> = read.named.into_iter().map(|(_, text)| text).collect();
                     if let Body::Text(text) = read.post.body {
                         texts.push(text);
                     }
-                    texts.is_empty() || queue.push(Said::Requests(texts))
+                    texts.is_empty() || queue.push(texts)
                 })
             },
         )
-    }
-
-    fn know_said(&self, said: &Said) {
-        match said {
-            Said::Series(keys) => keys.iter().for_each(|key| self.know_series(&key.0)),
-            Said::Requests(texts) => texts.iter().for_each(|text| self.know_request(text)),
-        }
     }
 
     pub(super) fn know_series(&self, key: &str) {

@@ -43,6 +43,6 @@ fn number(learner: &Learner<'_>, key: &str) -> Result<u32, Stop> {
         return Ok(number);
     }
     let end = 2; // of a point from 1 on
-    let mut request = zeros(&[(SeriesKey(key.into()), end)]).map_err(|_| Stop::Slow)?;
+    let mut request = zeros([(SeriesKey(key.into()), end)]).map_err(|_| Stop::Slow)?;
     learner.name(KEYS, key.as_bytes(), request.pop().ok_or(Stop::Slow)?, 0)
 }

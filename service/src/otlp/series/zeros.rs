@@ -28,11 +28,11 @@ struct Body {
 /// Bodies that prime: for each series with frontier F a point of value zero over (F-1, F]. At most 3 MiB
 /// each, but that of a series which is longer itself. What a series shares with the one before it is said once: who reads it keeps
 /// it once, too.
-pub fn zeros(series: &[(SeriesKey, u64)]) -> Result<Vec<Vec<u8>>, NotForwarded> {
+pub fn zeros(series: impl IntoIterator<Item = (SeriesKey, u64)>) -> Result<Vec<Vec<u8>>, NotForwarded> {
     let mut bodies = Vec::new();
     let mut body = Body::default();
     for (key, frontier) in series {
-        let zero = Zero::of(key, *frontier)?;
+        let zero = Zero::of(&key, frontier)?;
         if !body.text.is_empty() && body.text.len() + zero.most() > MOST {
             bodies.push(body.finished());
             body = Body::default();

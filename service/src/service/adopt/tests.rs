@@ -3,7 +3,7 @@
 use super::*;
 use crate::files::{Body, Call, Disk, Durability, NoNames, Post, Series};
 use crate::keeper::tests::settings;
-use crate::otlp::series::{forwarded, SeriesKey, Value};
+use crate::otlp::series::{forwarded, Digest, SeriesKey, Value};
 use std::collections::{BTreeMap, HashMap};
 use std::future::pending;
 use std::path::{Path, PathBuf};
@@ -41,8 +41,8 @@ fn filled(path: &Path, slots: u16, posts: u64) {
         let bodies: Vec<_> = own.clone().map(|sender| request(&sender, frontier(&sender, slots))).collect();
         journal.turn();
         outbox.commit(&bodies, 2).unwrap();
-        let owners: HashMap<SeriesKey, String> =
-            outbox.series().into_keys().map(|key| (key.clone(), key.parts().unwrap().name)).collect();
+        let owners: HashMap<Digest, String> =
+            outbox.series().into_keys().map(|key| (key.digest(), key.parts().unwrap().name)).collect();
         outbox.own(owners).unwrap();
         for sender in own {
             for number in 1..=posts {

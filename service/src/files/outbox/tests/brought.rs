@@ -32,7 +32,7 @@ async fn an_outbox_that_goes_on_from_another_has_its_requests_and_what_it_knows(
         let (one, other) = (place.path().join("one"), place.path().join("other"));
         let from = open_on(&Disk::default(), &one, "e", longest).unwrap();
         from.commit(&[body(&[("a", 3)], "1"), body(&[("b", 4)], "2")], 2).unwrap();
-        from.own([(key_of("a"), "s".to_string())].into()).unwrap();
+        from.own([(key_of("a").digest(), "s".to_string())].into()).unwrap();
         from.quarantine("q").unwrap();
         from.put_beside(&[unit_of("m", "ms")]).unwrap();
         take(&from).await;

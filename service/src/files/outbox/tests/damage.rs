@@ -81,7 +81,7 @@ async fn a_changed_byte_is_named_at_the_start_or_at_the_delivery_and_nothing_is_
     let outbox = open(folder.path());
     let first = body(&[("a", 1)], "first");
     outbox.commit(std::slice::from_ref(&first), 2).unwrap();
-    outbox.own(HashMap::from([(key_of("a"), "me".into())])).unwrap();
+    outbox.own(HashMap::from([(key_of("a").digest(), "me".into())])).unwrap();
     outbox.quarantine("me").unwrap();
     outbox.put_beside(&[unit_of("m", "ms")]).unwrap();
     let end = std::fs::metadata(last_segment(folder.path())).unwrap().len() as usize - MARK_LENGTHS[0];

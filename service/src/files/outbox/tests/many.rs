@@ -35,9 +35,9 @@ fn many_series_come_back_with_their_keys() {
         let outbox = open(folder.path());
         commit(&outbox, &all, 2);
         assert_eq!(outbox.without_owner().len(), MANY as usize);
-        let owner = |key: SeriesKey| {
-            let owner = format!("s{}", key.0.len());
-            (key, owner)
+        let owner = |series: Digest| {
+            let owner = format!("s{}", outbox.key(&series).unwrap().0.len());
+            (series, owner)
         };
         outbox.own(outbox.without_owner().into_iter().map(owner).collect()).unwrap();
         assert_eq!(outbox.without_owner(), HashSet::new());

@@ -25,7 +25,7 @@ impl Model {
                 }
             }
             5 => {
-                outbox.own(HashMap::from([(key_of(&key), sender.clone())])).unwrap();
+                outbox.own(HashMap::from([(key_of(&key).digest(), sender.clone())])).unwrap();
                 if let Some(known) = self.series.get_mut(&key) {
                     known.1 = Some(sender);
                 }
@@ -56,7 +56,7 @@ impl Model {
                 }
             }
             _ => {
-                let keep = HashSet::from([key_of(&key)]);
+                let keep = HashSet::from([key_of(&key).digest()]);
                 let count = self.series.len();
                 self.series.retain(|one, known| known.1.is_none() || *one == key);
                 let forgotten = outbox.forget_of(AT_ONCE, &keep).unwrap();

@@ -40,7 +40,9 @@ fn steps(chance: &mut TestRandom) -> Vec<Step> {
 fn make(outbox: &Outbox, step: &Step) -> Result<bool, Fault> {
     match step {
         Step::Commit(bodies) => outbox.commit(bodies, outbox.journal() + 1)?,
-        Step::Own => outbox.own(outbox.series().into_keys().map(|key| (key, "me".into())).collect())?,
+        Step::Own => {
+            outbox.own(outbox.series().into_keys().map(|key| (key.digest(), "me".into())).collect())?
+        }
         Step::Hold(true) => outbox.quarantine("me")?,
         Step::Hold(false) => outbox.lift("me")?,
         Step::PutBack(to) => {

@@ -117,18 +117,22 @@ fn backlog() {
 
 fn commit_without_sync(outbox: &Outbox, bodies: &[Vec<u8>], journal: u64) {
     let items: Vec<_> = bodies.iter().map(|body| rows::deflated(body)).collect();
-    let read = bodies.iter().flat_map(|body| read_ends(body).unwrap());
-    let ends = read.map(|(key, end)| (key.digest(), (key, end))).collect();
     let mut writer = lock(&outbox.writer);
     let group = {
         let state = lock(&outbox.state);
+        let mut ends = written::Ends::default();
+        for (key, end) in bodies.iter().flat_map(|body| read_ends(body).unwrap()) {
+            ends.note(key, end, |digest| state.series.id_of(digest).is_some());
+        }
+        let (ends, new) = ends.by_id(&Runs::new(), &state.series).unwrap();
         Group {
             first: state.next,
             epoch: state.next_epoch.clone(),
             since: 1,
             heard: None,
             journal,
-            ends: written::by_id(ends, &Runs::new(), &state.series),
+            ends,
+            new,
         }
     };
     let bytes = rows::group(&group, &items);

@@ -19,7 +19,7 @@ fn zeros_say_once_what_a_series_shares_with_the_one_before() {
         key("q", "t", "m", "[6]", "b"),
         key("q", "t", "n", "[6]", "b"),
     ];
-    let body = zeros(&series).unwrap().pop().unwrap();
+    let body = zeros(series.clone()).unwrap().pop().unwrap();
     let found = posted(&body).unwrap();
     assert_eq!((found.foreign, &found.series), (0, &series.iter().cloned().collect()));
     let text = String::from_utf8(body).unwrap();
@@ -36,7 +36,7 @@ fn zeros_are_points_of_each_series_at_its_frontier() {
         format!(r#"[[],"","",[],"m","","monotonic",[{{"key":"{}","value":{{}}}}]]"#, place + 10_000_000)
     });
     series.extend(many.map(|key| (SeriesKey(key.into()), u64::MAX)));
-    let bodies = zeros(&series).unwrap();
+    let bodies = zeros(series.clone()).unwrap();
     assert!(bodies.iter().all(|body| body.len() <= 3 << 20));
     let mut found = HashMap::new();
     for body in &bodies {
@@ -45,17 +45,17 @@ fn zeros_are_points_of_each_series_at_its_frontier() {
         found.extend(body.series);
     }
     assert_eq!(found, series.iter().cloned().collect());
-    assert_eq!(zeros(&[]).unwrap(), Vec::<Vec<u8>>::new());
+    assert_eq!(zeros([]).unwrap(), Vec::<Vec<u8>>::new());
     series.sort_unstable();
-    let sorted = zeros(&series).unwrap();
+    let sorted = zeros(series.clone()).unwrap();
     let length = |bodies: &[Vec<u8>]| bodies.iter().map(Vec::len).sum::<usize>();
     assert!(length(&sorted) <= length(&bodies));
     let in_order = sorted.iter().flat_map(|body| posted(body).unwrap().series);
     assert_eq!(in_order.collect::<HashMap<_, _>>(), found);
     let long = format!(r#"[[],"","",[],"{}","","sum",[]]"#, "x".repeat(4 << 20));
-    let bodies = zeros(&[(SeriesKey(long.into()), 9), series[0].clone()]).unwrap();
+    let bodies = zeros([(SeriesKey(long.into()), 9), series[0].clone()]).unwrap();
     assert_eq!(bodies.len(), 2);
     for frontier in [0, 1] {
-        assert!(zeros(&[(series[0].0.clone(), frontier)]).is_err());
+        assert!(zeros([(series[0].0.clone(), frontier)]).is_err());
     }
 }
