@@ -2,7 +2,9 @@
 
 use crate::core::{Core, Names, Read, Refused};
 use crate::files::{Body, Points, Post};
+use crate::otlp::series::Digest;
 use bytes::Bytes;
+use sha2::{Digest as _, Sha256};
 use std::collections::HashMap;
 use std::sync::{Arc, OnceLock, PoisonError, RwLock};
 
@@ -19,8 +21,8 @@ pub(super) struct Numbers {
 pub(super) struct Own {
     /// None until a series has one.
     names: OnceLock<Arc<Names>>,
-    /// By what it stands for: each segment says it anew.
-    numbers: RwLock<HashMap<Bytes, u64>>,
+    /// By the SHA-256 of what it stands for: each segment says it anew, and it may be long.
+    numbers: RwLock<HashMap<Digest, u64>>,
 }
 
 /// What a number in a file stands for.
@@ -94,15 +96,16 @@ impl Own {
 
     /// Two that ask for one at once get the same.
     fn number(&self, text: &Bytes) -> Result<u64, Refused> {
+        let digest: Digest = Sha256::digest(text).into();
         // A map is sound at any time.
         let known = self.numbers.read().unwrap_or_else(PoisonError::into_inner);
-        if let Some(own) = known.get(text) {
+        if let Some(own) = known.get(&digest) {
             return Ok(*own);
         }
         drop(known);
         let own = self.names()?.learn(text.clone())?;
         let mut known = self.numbers.write().unwrap_or_else(PoisonError::into_inner);
-        known.insert(text.clone(), own);
+        known.insert(digest, own);
         Ok(own)
     }
 }

@@ -5,18 +5,12 @@ use crate::support::{field, fixed, Place, NO_SINK};
 /// More than one book has, so that none is kept. A key of each of them takes 170 MB together.
 const SERIES: usize = 10_500;
 const MOST: u64 = 100 << 20;
-/// A key of each of these series takes 75 MB together, too.
-const POSTS: usize = 3;
-const SERIES_OF_A_POST: usize = 700;
-
-fn resource(text: &str) -> String {
-    let attribute = |key: &str| format!("{{\"key\":\"{key}\",\"value\":{{\"stringValue\":\"{text}\"}}}}");
-    ["a", "b", "c", "d"].map(attribute).join(",")
-}
 
 /// Points of one metric, each of a series of its own, which share a resource that is as long as it may be.
 fn many_series() -> String {
-    let resource = resource(&"r".repeat(4000));
+    let text = "r".repeat(4000);
+    let attribute = |key: &str| format!("{{\"key\":\"{key}\",\"value\":{{\"stringValue\":\"{text}\"}}}}");
+    let resource = ["a", "b", "c", "d"].map(attribute).join(",");
     let point = |number: usize| {
         format!(
             "{{\"attributes\":[{{\"key\":\"{number}\"}}],\"asInt\":\"1\",\"startTimeUnixNano\":\"1\",\
@@ -47,30 +41,6 @@ fn in_protobuf() -> Vec<u8> {
     field(1, &[field(1, &resource), field(2, &metric)].concat())
 }
 
-/// Cumulative points, each of a series of its own, which share a resource, a scope and a name that are as long as they may be.
-fn long_series(post: usize, time: usize) -> String {
-    let mut state = post as u64;
-    let mut next = || {
-        state = state.wrapping_mul(6364136223846793005).wrapping_add(1442695040888963407);
-        char::from(b'0' + (state >> 59) as u8)
-    };
-    let [name, of_resource, of_scope] = [0; 3].map(|_| (0..3900).map(|_| next()).collect::<String>());
-    let (of_resource, of_scope) = (resource(&of_resource), resource(&of_scope));
-    let point = |number: usize| {
-        format!(
-            "{{\"attributes\":[{{\"key\":\"{number}\"}}],\"asInt\":\"{time}\",\"startTimeUnixNano\":\"1\",\
-             \"timeUnixNano\":\"{time}\"}}"
-        )
-    };
-    let points: Vec<String> = (0..SERIES_OF_A_POST).map(point).collect();
-    format!(
-        "{{\"resourceMetrics\":[{{\"resource\":{{\"attributes\":[{of_resource}]}},\"scopeMetrics\":[{{\"scope\":{{\
-         \"attributes\":[{of_scope}]}},\"metrics\":[{{\"name\":\"{name}\",\"sum\":{{\"aggregationTemporality\":2,\
-         \"isMonotonic\":true,\"dataPoints\":[{}]}}}}]}}]}}]}}",
-        points.join(",")
-    )
-}
-
 /// The most memory that a process has had so far, in bytes.
 fn greatest_memory(pid: u32) -> u64 {
     let status = std::fs::read_to_string(format!("/proc/{pid}/status")).unwrap();
@@ -90,23 +60,4 @@ fn series_that_share_a_long_resource_take_little_memory() {
     }
     let most = greatest_memory(service.pid());
     assert!(most < MOST, "{} MiB", most >> 20);
-}
-
-/// Not where they are known, nor while they are read, forwarded and primed.
-#[test]
-fn long_keys_of_series_are_not_in_memory_at_once() {
-    let place = Place::new();
-    for start in 0..3 {
-        let service = place.serve_with(&["--sink", NO_SINK, "--flush-every", "1h"]);
-        for time in [20, 21] {
-            for post in 0..POSTS {
-                let answer = service.post("A", &long_series(post, 10 * start + time)).unwrap();
-                assert_eq!(answer, (200, "{}".into()));
-            }
-            assert_eq!(service.order("/flush").0, 200);
-        }
-        assert_eq!(service.series() as usize, POSTS * SERIES_OF_A_POST);
-        let most = greatest_memory(service.pid());
-        assert!(most < MOST, "{} MiB, start {start}", most >> 20);
-    }
 }

@@ -13,6 +13,9 @@ pub struct Owned {
     texts: Texts,
 }
 
+/// How the key of a series begins, and that.
+type Begun = (Box<[u8]>, (u32, u64));
+
 impl Owned {
     /// Some of these with their keys.
     pub fn with_keys<'o>(&'o self, some: &'o [(u32, u64)]) -> impl Iterator<Item = (SeriesKey, u64)> + 'o {
@@ -30,11 +33,11 @@ impl Outbox {
             let begin = begin_of(&key);
             series.owner.map(|owner| (owner, begin, (id, series.frontier)))
         });
-        let mut by_begin: BTreeMap<Arc<str>, Vec<_>> = BTreeMap::new();
+        let mut by_begin: BTreeMap<Arc<str>, Vec<Begun>> = BTreeMap::new();
         for (owner, begin, series) in found.into_iter().flatten() {
             by_begin.entry(owner).or_default().push((begin, series));
         }
-        let in_order = |(owner, mut series): (_, Vec<(Box<[u8]>, (u32, u64))>)| {
+        let in_order = |(owner, mut series): (_, Vec<Begun>)| {
             series.sort(); // they mostly are, which this way of sorting is quick with
             (owner, series.into_iter().map(|(_, series)| series).collect())
         };
