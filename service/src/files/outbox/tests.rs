@@ -293,7 +293,10 @@ fn an_outbox_of_version_2_has_no_units_beside_others() {
     for _ in 0..2 {
         let outbox = open(folder.path());
         assert_eq!((outbox.quarantined(), outbox.beside()), (["q".to_string()].into(), BTreeSet::new()));
-        assert_eq!((outbox.since(), outbox.frontier(&key_of("a"))), (Since { made: 3, forgotten: 2 }, 7));
+        assert_eq!(
+            (outbox.since(), outbox.frontier(&key_of("a").digest())),
+            (Since { made: 3, forgotten: 2 }, 7)
+        );
     }
 }
 
