@@ -247,9 +247,9 @@ fn a_series_is_looked_up_once_however_many_of_its_points_are_not_taken() {
     assert_eq!(draft.turned.by, [(Refused::Delta, 50)].into());
     assert_eq!(asked.get(), 2, "until one is taken, and then");
     drop(draft);
-    // And once of each post, for its name.
+    // And for the posts after it not again.
     let untaken = Posted { points: &points_before(&points, 100), cumulative: &cumulative[..100], ..posted };
-    for wanted in [2, 1, 1] {
+    for wanted in [1, 0, 0] {
         let draft = drafted(untaken);
         assert_eq!((draft.foreign(), draft.turned.count(), draft.points.count()), (50, 50, 0));
         assert_eq!(asked.get(), wanted);
