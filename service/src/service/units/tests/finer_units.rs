@@ -175,11 +175,14 @@ impl Service {
         if self.units.open(files).await.is_err() {
             return false;
         }
+        let slot = self.desk.units.get(slot).unwrap().slot.clone();
         loop {
-            let unit = self.desk.units.get(slot);
-            match unit.map(|unit| unit.slot.phase()) {
-                Some(Phase::Recovering) => tokio::time::sleep(Duration::from_millis(1)).await,
-                phase => return phase == Some(Phase::Serving),
+            match slot.phase() {
+                Phase::Recovering => tokio::select! {
+                    _ = slot.journal.lost() => return false, // where its delivery finds it first, its keeper is gone
+                    () = tokio::time::sleep(Duration::from_millis(1)) => {}
+                },
+                phase => return phase == Phase::Serving,
             }
         }
     }
