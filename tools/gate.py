@@ -48,12 +48,13 @@ STEPS = (
     ("gateway_load.py", GATEWAY, 5, True),
 )
 # Of the sources alone: what `make fmt` would change, the definitions that docs/PROOFS.md counts and lists, the pictures, the Python,
-# and whether each wrong copy of the service, and each edit of the crates, can still be made.
+# the checksums of Cargo.lock, and whether each wrong copy of the service, and each edit of the crates, can still be made.
 TOOL_STEPS = (
     ("crates_are_laid_out", ["tools/format.py", "--check"], 3),
     ("promise_is_counted", ["tools/promise.py", "--check"], 2),
     ("pictures_are_drawn", ["tools/pictures.py", "--check"], 2),
     ("python_is_typed", ["tools/python.py", "--check"], 30),
+    ("checksums_are_true", ["tools/cargo", "--made-up"], 1),
     ("wrong_copies_can_be_made", ["tools/wrong.py", "--check"], 1),
     ("edits_can_be_made", ["tools/edits.py", "--check"], 1),
 )
