@@ -128,7 +128,7 @@ const REASONS: [(&str, &str); 41] = [
     ),
     (
         "too large",
-        "this ends by itself; where it stays, one request is over a limit of OPERATING",
+        "503 ends by itself; 413 does not: have the sender post fewer points at a time",
     ),
     ("no memory", "raise --book-memory"),
     (

@@ -69,6 +69,19 @@ pub fn foreign_points(body: &[u8], profile: Profile, mut is_enough: impl FnMut(E
     });
 }
 
+/// Shows each point that the book takes: its series' key, its metric's name, and its start, its end and what it says.
+pub fn taken_points(body: &[u8], mut each: impl FnMut(&str, &str, &[u64])) {
+    let Ok(document) = Document::parse(body) else {
+        return;
+    };
+    let _ = visit_with(&document, Profile::Deltas, |seen| {
+        if seen.found.is_ok() {
+            let name = seen.metric.name.and_then(Value::text).unwrap_or_default();
+            each(seen.key, &name, seen.words);
+        }
+    });
+}
+
 /// A point that would be taken, counted from 0 among these alone, and its series.
 pub fn point_at(body: &[u8], profile: Profile, place: u64) -> Option<(Explained, SeriesKey)> {
     let document = Document::parse(body).ok()?;

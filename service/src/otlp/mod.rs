@@ -39,7 +39,7 @@ pub(crate) use answers::partial_success;
 pub use causes::{Cause, Causes};
 pub use clock::{Clock, Off, OffClock, Window};
 pub use combined_outcome::{combined, OfPart};
-pub use explain::{explained, foreign_points, point_at, second_at, Explained};
+pub use explain::{explained, foreign_points, point_at, second_at, taken_points, Explained};
 pub use exponential::Bounds;
 pub use finer_units::{Choice, FinerUnits, Rounded, Rounding, Rule};
 pub use instance::{with_instance, INSTANCE};

@@ -8,7 +8,7 @@ use crate::core::{Read, Refused};
 use crate::files::Names as _;
 use crate::log::shown;
 use crate::otlp::series::{self, Digest};
-use crate::otlp::Window;
+use crate::otlp::{Outcome, Window};
 use crate::post_reports::SERIES_SHOWN;
 use crate::runs::{self, Draft, Noted};
 use crate::shares::Claim;
@@ -116,7 +116,7 @@ impl Slot {
         }
     }
 
-    fn not_made(&self, refused: Refused) -> Put {
+    fn not_made(&self, refused: impl Into<Outcome>) -> Put {
         Put { journalled: Journalled::refused(refused, &self.journal), new_series: None }
     }
 
@@ -168,7 +168,7 @@ impl Slot {
                         return Ok(Tried::Beyond(beyond));
                     }
                 }
-                Tried::Put(self.not_made(draft.refused(refused, among_all)))
+                Tried::Put(self.not_made(self.refusal(&read.read, draft.refused(refused, among_all))))
             }
         })
     }

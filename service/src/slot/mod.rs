@@ -1,11 +1,12 @@
 //! The book with its journal and outbox, and the way of a post through them.
 //!
 //! `request` is that way, `posted` reads a request, `cumulative` what is done ahead of it with cumulative points, `numbers` which
-//! series have numbers, `verdict` what is said of a post and when, `phase` whether posts are taken, `disk_stall` whether the disk
-//! answers. `slots` is where posts of each slot go.
+//! series have numbers, `verdict` what is said of a post and when, `never` which are refused for good, `phase` whether posts are
+//! taken, `disk_stall` whether the disk answers. `slots` is where posts of each slot go.
 
 mod cumulative;
 mod disk_stall;
+mod never;
 mod numbers;
 mod phase;
 mod posted;

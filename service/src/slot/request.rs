@@ -129,7 +129,10 @@ impl Slot {
                     return Ok(put.journalled);
                 }
                 Err(Refused::InFlight) => landed.await,
-                Err(refused) => return Ok(Journalled::refused(posted.refused(refused), &self.journal)),
+                Err(refused) => {
+                    let outcome = self.refusal(&posted.read, posted.refused(refused));
+                    return Ok(Journalled::refused(outcome, &self.journal));
+                }
             }
         }
     }

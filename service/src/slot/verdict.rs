@@ -44,8 +44,8 @@ impl Taken<'_> {
 
 impl Journalled {
     /// What the book refused: all that it took before is waited for.
-    pub fn refused(refused: Refused, journal: &Journal) -> Journalled {
-        Journalled { ticket: journal.now(), outcome: Outcome::from(refused) }
+    pub fn refused(refused: impl Into<Outcome>, journal: &Journal) -> Journalled {
+        Journalled { ticket: journal.now(), outcome: refused.into() }
     }
 
     /// What has nothing that was not taken before: this is waited for.

@@ -54,9 +54,9 @@ fn series_that_share_a_long_resource_take_little_memory() {
     let place = Place::new();
     let service = place.serve_with(&["--sink", NO_SINK, "--most-series", "8000"]);
     let answer = service.post("A", &many_series()).unwrap();
-    assert!(answer.0 == 503 && answer.1.contains("too many series"), "{answer:?}");
+    assert!(answer.0 == 413 && answer.1.contains("too many series"), "{answer:?}");
     for _ in 0..3 {
-        assert_eq!(service.post_protobuf("A", &in_protobuf()), 503);
+        assert_eq!(service.post_protobuf("A", &in_protobuf()), 413);
     }
     let most = greatest_memory(service.pid());
     assert!(most < MOST, "{} MiB", most >> 20);

@@ -1,0 +1,234 @@
+//! Posts that are over a limit by their own points alone. No repeat of one could be taken, whatever the book has by then, and a
+//! sender repeats a 503: so they are refused for good.
+
+use super::Slot;
+use crate::core::{Read, Refused};
+use crate::files::{Body, Points};
+use crate::log::shown;
+use crate::otlp::series::{self, Profile};
+use crate::otlp::{taken_points, Outcome};
+use std::collections::hash_map::RandomState;
+use std::collections::{HashMap, HashSet};
+use std::hash::BuildHasher;
+
+/// A book of the library has no more.
+const SERIES_OF_A_BOOK: usize = 10_000;
+/// What a row comes to at most ("Rows" in docs/FORMATS.md): added, subtracted, a histogram's sum, its buckets together.
+const MOST: [u64; 4] = [i64::MAX as u64, i64::MAX as u64, 1 << 53, u64::MAX];
+/// How much of a metric's name is told, in characters.
+const NAME_SHOWN: usize = 100;
+
+#[derive(Debug, PartialEq, Eq, thiserror::Error)]
+enum Never {
+    #[error("too many series in a post: over {most}: post fewer series at a time")]
+    ManySeries { most: usize },
+    #[error(
+        "too large: a post's points of one series of {metric} add up to over {most}: post fewer at a time"
+    )]
+    Large { metric: String, most: u64 },
+}
+
+impl From<Never> for Outcome {
+    fn from(never: Never) -> Outcome {
+        Outcome::Refused { status: 413, message: never.to_string() }
+    }
+}
+
+impl Slot {
+    /// What is said of a post that the book refuses.
+    pub(super) fn refusal(&self, read: &Read, refused: Refused) -> Outcome {
+        let never = match refused {
+            Refused::TooManySeries => too_many(read, self.core.books() * SERIES_OF_A_BOOK),
+            Refused::TooLarge => too_large(read),
+            _ => None,
+        };
+        never.map_or_else(|| refused.into(), Outcome::from)
+    }
+}
+
+/// Where they are unevenly among the books fewer are too many, which is not seen here.
+fn too_many(read: &Read, most: usize) -> Option<Never> {
+    let is_over = read.points() > most as u64
+        && match &read.post.body {
+            Body::Points(points) => points.numbers().collect::<HashSet<_>>().len() > most,
+            Body::Text(text) => series::has_more(text, Profile::Deltas, most as u64, |_| false),
+        };
+    is_over.then_some(Never::ManySeries { most })
+}
+
+fn too_large(read: &Read) -> Option<Never> {
+    match &read.post.body {
+        Body::Points(points) => {
+            let (number, most) = large(points)?;
+            let parts = series::only(&read.names().text(number))?.parts().ok()?;
+            Some(Never::Large { metric: shown(&parts.name, NAME_SHOWN), most })
+        }
+        Body::Text(text) => large_of_text(text),
+    }
+}
+
+/// The number of a series that is over a limit, and the limit.
+fn large(points: &Points) -> Option<(u64, u64)> {
+    let mut rows = Rows::default();
+    points.each().find_map(|point| Some((point[0], rows.add(point[0], &point[3..])?)))
+}
+
+/// The same of a text, for whose series there was no room to have numbers. No key is kept.
+fn large_of_text(text: &[u8]) -> Option<Never> {
+    let (hasher, mut rows, mut found) = (RandomState::new(), Rows::default(), None);
+    taken_points(text, |key, metric, words| {
+        if let (None, Some(most)) = (&found, rows.add(hasher.hash_one(key), &words[2..])) {
+            found = Some(Never::Large { metric: shown(metric, NAME_SHOWN), most });
+        }
+    });
+    found
+}
+
+/// Of each series what its points come to.
+#[derive(Default)]
+struct Rows(HashMap<u64, [u128; 4]>);
+
+impl Rows {
+    /// Adds what a point says. The limit that its row is over then.
+    fn add(&mut self, series: u64, says: &[u64]) -> Option<u64> {
+        let row = self.0.entry(series).or_default();
+        for (word, more) in row.iter_mut().zip(row_of(says)) {
+            *word += u128::from(more);
+        }
+        row.iter().zip(MOST).find_map(|(word, most)| (*word > u128::from(most)).then_some(most))
+    }
+}
+
+/// Of what a point says: a sum's value, or a histogram's count, whether it has a sum, the sum, and its buckets.
+fn row_of(says: &[u64]) -> [u64; 4] {
+    match says {
+        [value] if (*value as i64) < 0 => [0, (*value as i64).unsigned_abs(), 0, 0],
+        [value] => [*value, 0, 0, 0],
+        [count, _, sum, ..] => [0, 0, *sum, *count],
+        _ => [0; 4],
+    }
+}
+
+#[cfg(test)]
+mod tests {
+    use super::*;
+    use crate::core::Core;
+    use crate::files::drive::{self, memory::Store};
+    use crate::metrics::Metrics;
+    use crate::otlp::Clock;
+    use crate::runs::{First, Options};
+    use crate::slot::{Request, Shared};
+    use std::sync::Arc;
+
+    const HOUR: u64 = 3_600_000_000_000;
+    const HALF: i64 = 1 << 62;
+
+    fn slot() -> Arc<Slot> {
+        let (journal, outbox, _dead) =
+            drive::open(Arc::<Store>::default().take(), "00000000000000aa").unwrap();
+        let shared = Shared::new(Arc::new(Metrics::new().unwrap()), Clock::default());
+        let slot = Slot::of(0, journal, Arc::new(outbox), Core::new(10).unwrap(), &shared);
+        slot.open();
+        slot
+    }
+
+    fn body(metrics: &[String]) -> String {
+        format!(r#"{{"resourceMetrics":[{{"scopeMetrics":[{{"metrics":[{}]}}]}}]}}"#, metrics.join(","))
+    }
+
+    /// Points of one series, each behind the one before, so many nanoseconds long.
+    fn points(long: u64, kind: &str, says: &[String]) -> String {
+        let point = |(place, says): (u64, &String)| {
+            let (start, end) = (long * (place + 1), long * (place + 2));
+            format!(r#"{{"startTimeUnixNano":"{start}","timeUnixNano":"{end}",{says}}}"#)
+        };
+        let points: Vec<String> = (0..).zip(says).map(point).collect();
+        body(&[format!(
+            r#"{{"name":"a","{kind}":{{"aggregationTemporality":1,"dataPoints":[{}]}}}}"#,
+            points.join(",")
+        )])
+    }
+
+    fn sums(long: u64, values: &[i64]) -> String {
+        points(long, "sum", &values.iter().map(|value| format!(r#""asInt":"{value}""#)).collect::<Vec<_>>())
+    }
+
+    fn many(series: usize, start: u64) -> String {
+        let point =
+            format!(r#"{{"startTimeUnixNano":"{start}","timeUnixNano":"{}","asInt":"1"}}"#, start + 1);
+        let metric = |name| {
+            format!(r#"{{"name":"m{name}","sum":{{"aggregationTemporality":1,"dataPoints":[{point}]}}}}"#)
+        };
+        body(&(0..series).map(metric).collect::<Vec<_>>())
+    }
+
+    async fn said(slot: &Arc<Slot>, body: String) -> (u16, String) {
+        let outcome = slot.post("A".into(), body.into()).await;
+        (outcome.status(), outcome.refusal().unwrap_or_default().to_string())
+    }
+
+    fn over(most: u64) -> (u16, String) {
+        let text = format!(
+            "too large: a post's points of one series of a add up to over {most}: post fewer at a time"
+        );
+        (413, text)
+    }
+
+    /// Else its sender would repeat it for ever.
+    #[tokio::test]
+    async fn what_is_too_large_by_itself_is_refused_for_good() {
+        let slot = slot();
+        let most = i64::MAX as u64;
+        let taken = (200, String::new());
+        let histogram =
+            |count: u64, sum: u64| format!(r#""count":"{count}","bucketCounts":["{count}"],"sum":{sum}"#);
+        let (long, wide) = (histogram(1, 1 << 53), histogram(u64::MAX, 0));
+        for (body, wanted) in [
+            (sums(10, &[HALF, HALF]), over(most)),
+            (sums(10, &[-HALF, 5, -HALF]), over(most)),
+            (sums(HOUR, &[HALF, 0, HALF]), over(most)),
+            (points(10, "histogram", &[long.clone(), long.clone()]), over(1 << 53)),
+            (points(10, "histogram", &[wide, histogram(1, 0)]), over(u64::MAX)),
+            (sums(10, &[HALF, HALF - 1]), taken.clone()),
+        ] {
+            assert_eq!(said(&slot, body).await, wanted);
+        }
+        // This one may be taken once what is pending is forwarded.
+        let later = sums(100, &[HALF]);
+        assert_eq!(said(&slot, later.clone()).await, (503, "too large".into()));
+        let flushed = slot.core.lock().take_all().unwrap();
+        slot.core.lock().settle(flushed).unwrap();
+        assert_eq!(said(&slot, later).await, taken);
+    }
+
+    #[tokio::test]
+    async fn so_is_a_cumulative_one_and_one_without_numbers() {
+        let slot = slot();
+        slot.runs.set(Options { first: First::Count, ..Options::default() });
+        let runs = sums(10, &[i64::MAX, 5]).replace(r#"Temporality":1"#, r#"Temporality":2"#);
+        let by = slot.numbered_text(&runs.into()).unwrap().unwrap();
+        let outcome = slot.request("A".into(), Request::Numbered(by)).await;
+        assert_eq!(outcome.status(), 413, "{outcome:?}");
+        let read = slot.core.read("A".into(), sums(10, &[HALF, HALF]).into()).unwrap();
+        assert!(matches!(read.post.body, Body::Text(_)));
+        let (status, message) = over(i64::MAX as u64);
+        assert_eq!(slot.refusal(&read, Refused::TooLarge), Outcome::Refused { status, message });
+        let read = slot.core.read("A".into(), sums(10, &[HALF]).into()).unwrap();
+        assert_eq!(slot.refusal(&read, Refused::TooLarge), Refused::TooLarge.into());
+        for (series, status) in [(SERIES_OF_A_BOOK + 1, 413), (SERIES_OF_A_BOOK, 503)] {
+            let read = slot.core.read("A".into(), many(series, 10).into()).unwrap();
+            assert_eq!(slot.refusal(&read, Refused::TooManySeries).status(), status);
+        }
+    }
+
+    #[tokio::test]
+    async fn so_is_one_of_more_series_than_all_books_have() {
+        let slot = slot();
+        let (status, text) = said(&slot, many(SERIES_OF_A_BOOK + 1, 10)).await;
+        let wanted = "too many series in a post: over 10000: post fewer series at a time";
+        assert_eq!((status, &*text), (413, wanted));
+        assert_eq!(said(&slot, sums(10, &[1])).await.0, 200);
+        let (status, text) = said(&slot, many(SERIES_OF_A_BOOK, 10)).await;
+        assert_eq!((status, &*text), (503, "too many series"), "others may be forgotten");
+    }
+}
