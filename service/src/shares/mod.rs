@@ -1,8 +1,8 @@
 //! What each sender may have of what all share: series, and points a second.
 //!
 //! A post asks for its points once it is read, before the book is: over a sender's share it is answered 429, and nothing of
-//! it is anywhere. `bucket` counts points. Series are counted by their owners at each flush, and by what a post has added
-//! since; `rules` says how many each may have.
+//! it is anywhere; 413 where no repeat could be within it. `bucket` counts points. Series are counted by their owners at each
+//! flush, and by what a post has added since; `rules` says how many each may have.
 
 mod bucket;
 mod count;
@@ -43,30 +43,26 @@ pub enum Over {
     Points { sender: String, points: u64, seconds: u64 },
     #[error("over its share: {sender} has {series} series, and may have no new ones over {most}: drop an attribute, or raise its series=")]
     Series { sender: String, series: u64, most: u64 },
+    #[error("over its share: {sender} may have {most} series, and this post alone has more new ones: drop an attribute, or raise its series=")]
+    Alone { sender: String, most: u64 },
 }
 
-/// How many series a sender has, and may have.
-#[derive(Clone, Copy, Debug)]
+/// How many series the sender of a post has, and may have, and how many points that has.
+#[derive(Clone, Debug)]
 pub struct Limit {
+    sender: String,
     series: u64,
     most: u64,
-}
-
-impl Limit {
-    pub fn over(self, sender: &str) -> Over {
-        let Limit { series, most } = self;
-        Over::Series { sender: sender.to_string(), series, most }
-    }
+    points: u64,
 }
 
 impl From<Over> for Outcome {
     fn from(over: Over) -> Outcome {
-        Outcome::Later {
-            message: over.to_string(),
-            seconds: match over {
-                Over::Points { seconds, .. } => seconds,
-                Over::Series { .. } => AGAIN,
-            },
+        let message = over.to_string();
+        match over {
+            Over::Points { seconds, .. } => Outcome::Later { seconds, message },
+            Over::Series { .. } => Outcome::Later { seconds: AGAIN, message },
+            Over::Alone { .. } => Outcome::Refused { status: 413, message },
         }
     }
 }
@@ -129,15 +125,26 @@ impl Shares {
         let series = self.counted.of(sender);
         let has_others = self.counted.all() > series;
         let most = share.series.or(has_others.then(|| rules.kept_for_others()))?;
-        (series >= most || points > most).then_some(Limit { series, most })
+        let sender = || sender.to_string();
+        (series >= most || points > most).then(|| Limit { sender: sender(), series, most, points })
     }
 
-    /// Whether a post that says this is within it.
-    pub fn is_within(&self, limit: Limit, text: Option<Bytes>) -> bool {
-        let Limit { series, most } = limit;
-        self.rules.get().is_none_or(|rules| match series >= most {
-            true => rules.knows_all(text),
-            false => !rules.has_more(text, most),
+    /// Looks whether a post that says this is within it. So many series that are no new ones may look so, since they are in no
+    /// flush yet.
+    pub fn look(&self, limit: Limit, text: Option<Bytes>, unflushed: u64) -> Result<(), Over> {
+        let Limit { sender, series, most, points } = limit;
+        let Some(rules) = self.rules.get() else { return Ok(()) };
+        let is_within = match series >= most {
+            true => rules.knows_all(text.clone()),
+            false => !rules.has_more(text.clone(), most),
+        };
+        if is_within {
+            return Ok(());
+        }
+        let alone = most.saturating_add(unflushed);
+        Err(match points > alone && rules.has_more(text, alone) {
+            true => Over::Alone { sender, most },
+            false => Over::Series { sender, series, most },
         })
     }
 

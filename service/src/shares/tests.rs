@@ -74,13 +74,11 @@ fn post(shares: &Shares, sender: &str, names: &[String]) -> Result<(), Over> {
     let known = |key: &SeriesKey| shares.rules.get().is_some_and(|rules| rules.owned.has(key));
     let new = posted(names).iter().filter(|key| !known(key)).count();
     let points = names.len() as u64;
-    match shares.limit(sender, points) {
-        Some(limit) if !shares.is_within(limit, Some(body(names))) => Err(limit.over(sender)),
-        _ => {
-            shares.claim(sender, points)?.keep(sender, new);
-            Ok(())
-        }
+    if let Some(limit) = shares.limit(sender, points) {
+        shares.look(limit, Some(body(names)), 0)?;
     }
+    shares.claim(sender, points)?.keep(sender, new);
+    Ok(())
 }
 
 #[test]
@@ -128,21 +126,30 @@ fn a_share_of_series_is_kept_to_between_two_flushes_too() {
     ));
 }
 
-/// Else the first post of a sender that makes very many would take the room of all others.
+/// Else the first post of a sender that makes very many would take the room of all others. It would come again for ever, were it
+/// answered as one that may be taken later.
 #[test]
 fn no_post_has_more_new_series_than_a_share() {
     let flushed = Flushed::default();
     let shares = shares(Share { series: Some(5), points: None }, &flushed);
-    let over = post(&shares, "A", &names("a", 6)).unwrap_err();
-    assert_eq!(over, Over::Series { sender: "A".into(), series: 0, most: 5 });
+    let alone = || Over::Alone { sender: "A".into(), most: 5 };
+    assert_eq!(post(&shares, "A", &names("a", 6)), Err(alone()));
+    assert_eq!(Outcome::from(alone()).status(), 413);
     let many_points = shares.limit("A", 50).unwrap();
-    assert!(shares.is_within(many_points, Some(body(&names("a", 5)))), "they are of few series");
+    let of_few_series = Some(body(&names("a", 5)));
+    assert_eq!(shares.look(many_points, of_few_series, 0), Ok(()));
+    let limit = shares.limit("A", 6).unwrap();
+    let over = shares.look(limit, Some(body(&names("a", 6))), 1).unwrap_err();
+    assert!(matches!(over, Over::Series { .. }), "one of them may be taken, and in no flush yet");
     assert_eq!(post(&shares, "A", &names("a", 3)), Ok(()));
     flushed.add("A", &names("a", 3));
     shares.counted.count(&flushed);
     let with = |new| post(&shares, "A", &[names("a", 3), names("b", new)].concat());
-    assert!(with(6).is_err());
+    assert_eq!(with(6), Err(alone()));
     assert_eq!(with(3), Ok(()), "as for who has one left");
+    let used_up = Over::Series { sender: "A".into(), series: 6, most: 5 };
+    assert_eq!(post(&shares, "A", &names("c", 5)), Err(used_up), "some may be forgotten");
+    assert_eq!(post(&shares, "A", &names("c", 6)), Err(alone()));
 }
 
 /// Else a sender that is refused for another reason would use up what it has.

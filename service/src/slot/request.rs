@@ -98,18 +98,17 @@ impl Slot {
     async fn claim(&self, sender: &str, points: u64, source: Source) -> Result<Claim<'_>, Over> {
         if let Some(limit) = self.shares.limit(sender, points) {
             let (shares, length) = (self.shares.clone(), source.length());
-            let look = move || shares.is_within(limit, source.text());
-            let is_within = match length {
+            let in_book = self.core.lock().series();
+            let unflushed = in_book.saturating_sub(self.outbox.series_count()) as u64;
+            let look = move || shares.look(limit, source.text(), unflushed);
+            let found = match length {
                 0..=SHORT => look(),
                 _ => {
                     let _turn = self.readers.acquire().await; // it is never closed
                     blocking(look).await
                 }
             };
-            if !is_within {
-                self.crowded.notify_one();
-                return Err(limit.over(sender));
-            }
+            found.inspect_err(|_| self.crowded.notify_one())?;
         }
         self.shares.claim(sender, points)
     }

@@ -65,6 +65,8 @@ fn a_sender_with_all_of_its_series_gets_no_new_ones() {
     let service = place.serve_with(&words);
     until("they are counted", || is_over(&service));
     assert_eq!(service.post("A", &body(&first, 200)).unwrap().0, 200, "what it has goes on");
+    let alone = posted(&service, "x-sender: B", &body(&names("b", 4), 100));
+    assert!(alone.starts_with("HTTP/1.1 413") && alone.contains("has more new ones"), "{alone}");
     assert_eq!(service.post("B", &body(&names("b", 3), 100)).unwrap().0, 200);
     service.drain();
     assert_eq!(place.totals().values().sum::<i64>(), 9);
