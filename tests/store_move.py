@@ -454,15 +454,19 @@ def go_there_and_back(checks, program, moves, filled, folder):
     running.kill()
     shutil.rmtree(data)
     shutil.copytree(filled.data, data, ignore=LEFT)
+    peer = f"127.0.0.1:{free_port()}"
+    options = ["--store", address, "--instance", "a", "--peer", peer, "--cumulative", "on", "--flush-every", "1h", *ONE_COPY]
+    status, text = run(program, "serve", "--data", data, "--sink", filled.sink.address, *options, "--listen", f"127.0.0.1:{free_port()}",
+                       "--operate", f"127.0.0.1:{free_port()}")
+    checks.true("no instance starts in a folder with what nobody would deliver",
+                status == 1 and f"totxegun store move --from {data} {address}" in text, text)
     status, text, _ = moves.move(["--from", data, address])
     checks.true("it is moved", status == 0 and "counts in its place" in text, text)
     checks.true("no service starts on the folder any more", not moves.starts_on("--data", data), "it went on")
-    peer = f"127.0.0.1:{free_port()}"
-    options = ["--store", address, "--instance", "a", "--peer", peer, "--cumulative", "on", "--flush-every", "1h", *ONE_COPY]
     status, text = run(program, "serve", "--data", f"{folder}/x", "--sink", "http://127.0.0.1:1/", *options, "--listen",
                        f"127.0.0.1:{free_port()}", "--operate", f"127.0.0.1:{free_port()}")
     checks.true("another sink than the folder's is refused", status == 1 and "the instances of this store deliver to" in text, text)
-    over = Service(program, f"{folder}/a", filled.sink.address, *options)
+    over = Service(program, data, filled.sink.address, *options)  # what it had is in the store
     filled.go_on(checks, "over the store", over)
     letters = json.loads(over.asked("GET", "/dead")[1])
     for letter in letters:

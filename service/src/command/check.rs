@@ -13,8 +13,7 @@ use crate::files::{
 use crate::log::shown;
 use crate::post_reports::SERIES_SHOWN;
 use crate::service::slot_of;
-use crate::store::moving::folder_counts;
-use crate::store::postgres::{address, Server};
+use crate::store::moving::said_by_store;
 use anyhow::{bail, Context};
 use clap::Args;
 use copy::{interrupts, remove_at, Copy};
@@ -121,12 +120,6 @@ fn show_found(mut found: CheckReport, copy: &Path, data: &Path, form: Form) -> R
             Err(Failure::Changed(first.clone()))
         }
     }
-}
-
-/// Whether a folder counts that was on its way into a store, or out of one.
-fn said_by_store(mark: &Mark) -> Option<bool> {
-    let servers: Result<Vec<Server>, String> = mark.store.split(' ').map(address).collect();
-    folder_counts(mark, &servers.ok()?).ok()
 }
 
 /// Keeps a service from starting on the folder while it is copied. Nothing is written: a lock that was deleted is not

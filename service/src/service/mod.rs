@@ -5,6 +5,7 @@
 mod adopt;
 pub mod init;
 mod instance;
+mod left;
 mod operators;
 mod parts;
 mod peers;
@@ -32,6 +33,8 @@ use crate::post_reports::ReportOptions;
 use crate::runs;
 use crate::shares::Share;
 use crate::sinks::{Address, Retention};
+use crate::store::moving::addresses;
+use crate::work::blocking;
 use anyhow::{anyhow, Context};
 use instance::Joining;
 use operators::{Operators, Readers};
@@ -206,7 +209,9 @@ async fn of_store(
     signals: &mut Signals,
 ) -> Result<Opened, Ended> {
     let peers = Peers::bind(of, &settings.metrics).await?;
-    let folder = settings.data.display();
+    let (data, durability) = (settings.data.clone(), settings.durability);
+    let (address, folder) = (addresses(&of.databases), settings.data.display());
+    blocking(move || left::look_at(&data, durability, &address)).await?;
     std::fs::create_dir_all(&settings.data).with_context(|| format!("the folder {folder} can't be made"))?;
     let operators = readers.and_socket(&settings.operate).await?;
     let twice = "an address can't be served twice";

@@ -17,7 +17,7 @@ mod target;
 use super::postgres::{Copies, PostgresStore, Server, Standing, State, StoreFault};
 use crate::files::{Durability, Fault, Folder, FolderFault, KnownSink, Mark, Way};
 use content::{Content, From};
-pub use ended::{folder_counts, give_up};
+pub use ended::{give_up, said_by_store};
 use posts::Posts;
 use std::fs::File;
 use std::io::Read;
@@ -57,6 +57,12 @@ pub struct Moved {
     pub letters: u64,
 }
 
+/// As commands get them, without a secret.
+pub fn addresses(servers: &[Server]) -> String {
+    let addresses: Vec<String> = servers.iter().map(|server| format!("postgres://{server}")).collect();
+    addresses.join(" ")
+}
+
 /// A store, and where it is.
 struct Place {
     store: PostgresStore,
@@ -65,8 +71,7 @@ struct Place {
 
 impl Place {
     fn open(servers: &[Server], copies: Copies) -> Result<Place, MoveFault> {
-        let addresses: Vec<String> = servers.iter().map(|server| format!("postgres://{server}")).collect();
-        Ok(Place { store: PostgresStore::look_into(servers, copies)?, address: addresses.join(" ") })
+        Ok(Place { store: PostgresStore::look_into(servers, copies)?, address: addresses(servers) })
     }
 
     fn mark(&self, way: Way, id: &str) -> Mark {

@@ -2,7 +2,7 @@
 
 use super::{absolute, refused, target, MoveFault, Place};
 use crate::files::{Durability, Fault, Folder, Mark, Way};
-use crate::store::postgres::{Copies, PostgresStore, Server, Standing, State};
+use crate::store::postgres::{address, Copies, PostgresStore, Server, Standing, State};
 use std::path::Path;
 
 /// Gives up a move that has not come to its end: the one counts that counted before.
@@ -50,15 +50,15 @@ fn empty_store(store: &PostgresStore, id: &str) -> Result<(), MoveFault> {
     Ok(())
 }
 
-/// What a store says of a folder with a mark: whether the folder counts.
-pub fn folder_counts(mark: &Mark, servers: &[Server]) -> Result<bool, MoveFault> {
+/// Whether a folder counts that was on its way into a store, or out of one; none where that store can't be asked.
+pub fn said_by_store(mark: &Mark) -> Option<bool> {
     if mark.way == Way::Left {
-        return Ok(false);
+        return Some(false); // whatever became of the store
     }
-    let standing = PostgresStore::look_into(servers, Copies::One)?.standing()?;
-    Ok(match mark.way {
+    let servers: Result<Vec<Server>, String> = mark.store.split(' ').map(address).collect();
+    let standing = PostgresStore::look_into(&servers.ok()?, Copies::One).ok()?.standing().ok()?;
+    Some(match mark.way {
         Way::Leaving => !standing.has_had(&mark.id),
-        Way::Left => false, // whatever became of the store
-        Way::Coming => standing.id == mark.id && standing.state == State::Gone,
+        Way::Left | Way::Coming => standing.id == mark.id && standing.state == State::Gone,
     })
 }
