@@ -17,8 +17,12 @@ use std::time::Duration;
 use tokio::sync::Semaphore;
 use tokio::time::timeout;
 
-/// A part is no longer than the request that it is of, but for what a length may grow by.
-const MOST: usize = 5 << 20;
+/// What is added to a request before it is taken apart: `otlp::with_instance` puts in names of `n` bytes up to 2^20 / (n + 80)
+/// times, each with 85 bytes around it at most, in JSON. Since n is 1 at least, that is less than 2^20 * 86 / 81, and so less
+/// than 2^20 * 17 / 16.
+const NAMES: usize = 17 << 16;
+/// A part is no longer than its request is with these.
+const MOST: usize = crate::intake::MOST + NAMES;
 /// So many of them are in memory at once, whoever sends them.
 const PARTS: usize = 64;
 /// A body comes within.

@@ -4,7 +4,7 @@ mod peers;
 mod tls;
 
 use super::*;
-use crate::otlp::{Encoding, Resources};
+use crate::otlp::{Encoding, Reading, Resources};
 use bytes::Bytes;
 use peers::{ends_after_one, half_deaf, posted, receiver, secret, strange, there, Peer, Slots};
 use std::sync::atomic::Ordering::SeqCst;
@@ -44,6 +44,37 @@ async fn an_owners_answer_comes_back_as_it_said_it() {
     assert_eq!(came.len(), says.len() + 1);
     assert_eq!(peer.connections.load(SeqCst), 1, "the connection is kept");
     assert_eq!(forward.forwarded().answered, came.len() as u64);
+}
+
+/// Else it would be 503 for ever.
+#[tokio::test]
+async fn the_longest_post_with_the_names_of_its_instances_is_brought() {
+    let peer = Peer::here().await;
+    let forward = receiver(peer.whose(), secret("of all"));
+    let reading = Reading { instance_from_sender: true, ..Reading::default() };
+    let mut longest = 0;
+    for name in ["x".into(), "web-1".into(), "y".repeat(64)] {
+        let with_names = |resources: usize| {
+            let body = longest_json(resources);
+            crate::otlp::with_instance(&name, Encoding::Json, body, &reading).ok()
+        };
+        let most = (1 << 20) / (name.len() + 80);
+        assert!(with_names(most + 1).is_none(), "more of them may be named");
+        let (body, named) = with_names(most).unwrap();
+        assert_eq!(named, most);
+        longest = longest.max(body.len());
+        let part = Original { encoding: Encoding::Json, body };
+        assert_eq!(forward.post(3, &name, part).await, Outcome::taken(0), "{name}");
+    }
+    assert!(longest > 5 << 20, "{longest}");
+}
+
+/// A request as long as one may be, of so many resources that have no name: each gets as much as one can.
+fn longest_json(resources: usize) -> Bytes {
+    let all = vec![r#"{"a":0}"#; resources].join(",");
+    let around = r#"{"resourceMetrics":[],"b":""}"#.len();
+    let rest = "x".repeat(crate::intake::MOST - around - all.len());
+    format!(r#"{{"resourceMetrics":[{all}],"b":"{rest}"}}"#).into()
 }
 
 #[tokio::test]
