@@ -4,7 +4,7 @@ mod cluster;
 
 use super::{ask::Shown, client, table::Table, values, with_end};
 use crate::files::Held;
-use crate::operate::{CumulativeStatus, RoundedStatus, SlotStatus, Status, Stock};
+use crate::operate::{quarantined, CumulativeStatus, RoundedStatus, SlotStatus, Status, Stock};
 use crate::shares::Used;
 use crate::slot::{NO_ANSWER, NO_ROOM};
 use anyhow::{Context, Result};
@@ -44,8 +44,12 @@ fn text(status: &Status) -> String {
     if status.cumulative.series > 0 {
         lines.row(&["cumulative", &cumulative(&status.cumulative)]);
     }
-    for slot in status.slots.iter().filter(|slot| slot.held.posts > 0) {
-        lines.row(&["kept back", &held(&slot.held)]);
+    let quarantined: Vec<String> = quarantined(&status.slots).into_iter().map(String::from).collect();
+    if !quarantined.is_empty() {
+        lines.row(&["quarantined", &values::senders_shown(&quarantined)]);
+    }
+    if let Some(held) = held(&status.slots) {
+        lines.row(&["kept back", &held]);
     }
     for rounded in &status.rounded {
         lines.row(&["rounded", &rounding(rounded)]);
@@ -96,10 +100,12 @@ fn unavailable(status: &Status) -> Option<String> {
     })
 }
 
-fn held(held: &Held) -> String {
-    let posts = values::counted(held.posts, "post");
-    let senders = values::counted(held.senders, "quarantined sender");
-    format!("{posts} of {senders}, {}", values::bytes_shown(held.bytes))
+/// Of all slots together. A sender may be in each.
+fn held(slots: &[SlotStatus]) -> Option<String> {
+    let sum = |of: fn(&Held) -> u64| slots.iter().map(|slot| of(&slot.held)).sum::<u64>();
+    let (posts, bytes) = (sum(|held| held.posts), sum(|held| held.bytes));
+    let posts = (posts > 0).then(|| values::counted(posts, "post"))?;
+    Some(format!("{posts} of quarantined senders, {}", values::bytes_shown(bytes)))
 }
 
 fn books(status: &Status) -> String {
@@ -262,6 +268,22 @@ mod tests {
         assert_eq!(line(&["-"]).unwrap(), format!("{slot}1 sender: - (who names none)"));
     }
 
+    /// As over a store, in which a sender has all slots.
+    #[test]
+    fn who_is_quarantined_in_several_slots_is_shown_once() {
+        let mut told = status(&["A", "B"]);
+        let (senders, posts, bytes) = (1, 3, 2048);
+        told.slots[0].held = Held { senders, posts, bytes };
+        told.slots.extend(status(&["A"]).slots);
+        told.slots[1].held = Held { senders, posts, bytes };
+        let shown = text(&told);
+        let of = |name: &str| {
+            shown.lines().filter(|line| line.starts_with(name)).map(str::trim_end).collect::<Vec<_>>()
+        };
+        assert_eq!(of("quarantined"), ["quarantined       2 senders: A, B"], "{shown}");
+        assert_eq!(of("kept back"), ["kept back         6 posts of quarantined senders, 4.0 KiB"], "{shown}");
+    }
+
     #[test]
     fn what_is_kept_back_and_what_is_not_sent_is_shown() {
         let mut told = status(&["A"]);
@@ -269,7 +291,7 @@ mod tests {
         told.slots[0].held = Held { senders, posts, bytes };
         told.slots[0].stuck = Some("1.seg, byte 9: was changed".into());
         let shown = text(&told);
-        let kept = "kept back         3 posts of 1 quarantined sender, 2.0 KiB";
+        let kept = "kept back         3 posts of quarantined senders, 2.0 KiB";
         assert!(shown.lines().any(|line| line.trim_end() == kept), "{shown}");
         let stuck = "\nthe delivery of slot 0 stops: 1.seg, byte 9: was changed\n";
         assert!(shown.ends_with(stuck), "{shown}");

@@ -28,8 +28,8 @@ pub use pages::Pulse;
 pub use periods::ANYWAY;
 pub use reach::Others;
 pub use status::{
-    BooksStatus, ClusterStatus, CumulativeStatus, DatabaseStatus, InstanceStatus, RoundedSeriesStatus,
-    RoundedStatus, SlotStatus, Status, Stock,
+    quarantined, BooksStatus, ClusterStatus, CumulativeStatus, DatabaseStatus, InstanceStatus,
+    RoundedSeriesStatus, RoundedStatus, SlotStatus, Status, Stock,
 };
 pub use tcp::AtTcp;
 pub use totals::Totals;

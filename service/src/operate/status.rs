@@ -267,7 +267,9 @@ impl Desk {
         levels.outbox_bytes.set(sum(|slot| slot.outbox.bytes));
         levels.outbox_age_seconds.set(oldest(|slot| &slot.outbox));
         levels.dead_requests.set(self.units.dead() as i64);
-        levels.quarantined_senders.set(quarantined(&slots).len() as i64);
+        // A sender is in each slot. Of several instances one counts it.
+        let counts = slots.iter().any(|slot| slot.slot == 0);
+        levels.quarantined_senders.set(if counts { quarantined(&slots).len() as i64 } else { 0 });
         levels.held_posts.set(sum(|slot| slot.held.posts));
         levels.held_bytes.set(sum(|slot| slot.held.bytes));
         let is_stuck = slots.iter().any(|slot| slot.stuck.is_some());
@@ -343,7 +345,7 @@ impl SlotStatus {
 }
 
 /// Who is quarantined: a sender is in each slot, and counts once.
-pub(super) fn quarantined(slots: &[SlotStatus]) -> BTreeSet<&str> {
+pub fn quarantined(slots: &[SlotStatus]) -> BTreeSet<&str> {
     slots.iter().flat_map(|slot| &slot.quarantined).map(String::as_str).collect()
 }
 
