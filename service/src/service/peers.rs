@@ -5,7 +5,8 @@ use super::{Ended, OfStore};
 use crate::cluster::Wire;
 use crate::metrics::Metrics;
 use crate::tls::Tls;
-use anyhow::anyhow;
+use anyhow::{anyhow, Context};
+use std::net::IpAddr;
 use std::sync::Arc;
 use tokio::net::TcpListener;
 
@@ -26,6 +27,8 @@ impl Peers {
                 of.peer
             )));
         }
+        let at = listener.local_addr().context("--peer has no address")?.ip();
+        look_at_name(&of.peer, at.to_canonical())?;
         let tls = of.peer_tls.as_ref();
         let tls = tls.map(|files| Tls::of_peers(files, host(&of.peer), metrics.clone()));
         Ok(Peers { listener, tls: tls.transpose()?.map(Arc::new) })
@@ -35,6 +38,22 @@ impl Peers {
     pub fn wire(&self) -> Wire {
         self.tls.clone().map_or(Wire::Plain, Wire::Tls)
     }
+}
+
+/// Passes where others may reach this instance by what they are told. Debian's `/etc/hosts` has a machine's own name at
+/// 127.0.1.1, and at 0.0.0.0 each finds itself.
+fn look_at_name(peer: &str, at: IpAddr) -> Result<(), Ended> {
+    let host = host(peer);
+    let is_meant =
+        host.eq_ignore_ascii_case("localhost") || host.trim_matches(['[', ']']).parse::<IpAddr>().is_ok();
+    if !at.is_unspecified() && (is_meant || !at.is_loopback()) {
+        return Ok(());
+    }
+    Err(Ended::Other(anyhow!(
+        "--peer {peer} is {at} on this machine, where no other instance reaches this one: write the name or the address by which \
+         the others reach this machine (a name has to have that address in /etc/hosts too, and not {at}); or write localhost, if \
+         all instances are on this machine"
+    )))
 }
 
 fn host(address: &str) -> &str {
@@ -60,6 +79,31 @@ mod tests {
         }
     }
 
+    #[test]
+    fn a_name_that_leads_each_machine_to_itself_is_refused() {
+        let refusal =
+            |peer: &str, at: &str| look_at_name(peer, at.parse().unwrap()).err().map(|why| why.to_string());
+        for (peer, at) in [
+            ("a.example:4320", "10.0.0.21"),
+            ("10.0.0.21:4320", "10.0.0.21"),
+            ("localhost:4320", "127.0.0.1"),
+            ("127.0.1.1:4320", "127.0.1.1"),
+            ("[::1]:4320", "::1"),
+        ] {
+            assert_eq!(refusal(peer, at), None);
+        }
+        for (peer, at) in [
+            ("a.example:4320", "127.0.1.1"),
+            ("a:4320", "::1"),
+            ("0.0.0.0:4320", "0.0.0.0"),
+            ("[::]:4320", "::"),
+        ] {
+            let why = refusal(peer, at).unwrap_or_default();
+            assert!(why.starts_with(&format!("--peer {peer} is {at} on this machine")), "{why}");
+            assert!(why.contains("in /etc/hosts") && why.contains("localhost"), "{why}");
+        }
+    }
+
     #[tokio::test(flavor = "multi_thread", worker_threads = 2)]
     async fn beyond_loopback_there_is_tls_or_nobody_else() {
         let metrics = Arc::new(Metrics::new().unwrap());
@@ -68,7 +112,10 @@ mod tests {
             async move { Peers::bind(&of, &metrics).await }
         };
         assert!(bound(at("127.0.0.1:0", false, None)).await.is_ok());
-        assert!(bound(at("0.0.0.0:0", true, None)).await.is_ok());
+        let Err(Ended::Other(why)) = bound(at("0.0.0.0:0", true, None)).await else {
+            panic!("each other instance would call itself");
+        };
+        assert!(why.to_string().contains("by which the others reach this machine"), "{why}");
         let Err(Ended::Open(why)) = bound(at("0.0.0.0:0", false, None)).await else {
             panic!("it is not refused");
         };
