@@ -21,6 +21,7 @@ use nix::fcntl::{flock, FlockArg};
 use serde::Serialize;
 use std::collections::{BTreeSet, HashSet};
 use std::fs::File;
+use std::io::ErrorKind;
 use std::os::fd::AsRawFd;
 use std::path::{Path, PathBuf};
 use std::time::Duration;
@@ -132,7 +133,7 @@ fn lock(data: &Path) -> anyhow::Result<File> {
              Without --store a start would begin anew there"
         );
     }
-    Folder::look_at(data)?;
+    look_at(data)?;
     let is_none = |name: &str| !data.join(name).exists();
     if is_none("version") && is_none("dead") && !has_slot(data) {
         bail!(
@@ -152,6 +153,21 @@ fn lock(data: &Path) -> anyhow::Result<File> {
         bail!("{} is in use by a running service: `totxegun status` shows how it is", data.display());
     }
     Ok(file)
+}
+
+/// What a start would refuse. Nothing has to be written: it may be a backup that can only be read.
+fn look_at(data: &Path) -> anyhow::Result<()> {
+    match std::fs::read_dir(data) {
+        Err(error) if error.kind() != ErrorKind::NotFound => {
+            return Err(error).with_context(|| format!("{} can't be read as a folder", data.display()));
+        }
+        _ => {}
+    }
+    let files = ["lock", "version"].map(|name| data.join(name));
+    match files.iter().find(|file| file.is_dir()) {
+        Some(file) => bail!("{} is a folder, and has to be a file: remove it", file.display()),
+        None => Ok(()),
+    }
 }
 
 /// A store, or the folder of an instance, which has no more than its socket and its acts.

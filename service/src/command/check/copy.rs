@@ -2,7 +2,7 @@
 
 use anyhow::Context;
 use nix::sys::signal::{SigSet, Signal};
-use std::fs::DirBuilder;
+use std::fs::{DirBuilder, File};
 use std::io::ErrorKind;
 use std::os::unix::fs::DirBuilderExt;
 use std::path::{Path, PathBuf};
@@ -66,9 +66,8 @@ impl Copy {
                 .to_str()
                 .is_some_and(|name| name == "version" || name == "dead" || name.starts_with("slot-"));
             if is_ours {
-                copy_all(&data.join(&name), &self.0.join(&name)).with_context(|| {
-                    format!("{} can't be copied to {}: give --temporary", data.display(), temporary.display())
-                })?;
+                let to = format!("can't be copied to {}: give --temporary", temporary.display());
+                copy_all(&data.join(&name), &self.0.join(&name), &to)?;
             }
         }
         Ok(())
@@ -81,15 +80,19 @@ impl Drop for Copy {
     }
 }
 
-/// A file, or a folder with all in it.
-fn copy_all(from: &Path, to: &Path) -> std::io::Result<()> {
+/// A file, or a folder with all in it. What is copied can be written, also where this one can only be read.
+fn copy_all(from: &Path, to: &Path, why: &str) -> anyhow::Result<()> {
+    let unread = || format!("{} can't be read", from.display());
+    let uncopied = || format!("{} {why}", from.display());
     if !from.is_dir() {
-        return std::fs::copy(from, to).map(|_| ());
+        let mut file = File::open(from).with_context(unread)?;
+        let copied = File::create(to).and_then(|mut copy| std::io::copy(&mut file, &mut copy));
+        return copied.map(drop).with_context(uncopied);
     }
-    std::fs::create_dir(to)?;
-    for entry in std::fs::read_dir(from)? {
-        let name = entry?.file_name();
-        copy_all(&from.join(&name), &to.join(&name))?;
+    std::fs::create_dir(to).with_context(uncopied)?;
+    for entry in std::fs::read_dir(from).with_context(unread)? {
+        let name = entry.with_context(unread)?.file_name();
+        copy_all(&from.join(&name), &to.join(&name), why)?;
     }
     Ok(())
 }

@@ -4,6 +4,8 @@ use super::*;
 use crate::files::{Body, Names, Points, Post};
 use anyhow::Result;
 use bytes::Bytes;
+use std::os::unix::fs::{MetadataExt, PermissionsExt};
+use std::os::unix::process::CommandExt;
 use tempfile::tempdir;
 
 #[test]
@@ -14,7 +16,7 @@ fn what_is_no_folder_is_named() -> Result<()> {
     let file = folder.path().join("file");
     std::fs::write(&file, "a")?;
     let error = lock(&file).unwrap_err().to_string();
-    assert!(error.contains("--data has to name a folder"), "{error}");
+    assert!(error.contains("can't be read as a folder"), "{error}");
     std::fs::create_dir(folder.path().join("lock"))?;
     let error = lock(folder.path()).unwrap_err().to_string();
     assert!(error.contains("lock is a folder"), "{error}");
@@ -55,6 +57,55 @@ fn killed(data: &Path) -> Result<()> {
     let killed = std::fs::read(&segment)?;
     drop(outbox);
     std::fs::write(&segment, killed)?; // as `kill -9` leaves it
+    Ok(())
+}
+
+/// A file, or a folder and all in it.
+fn may(path: &Path, folder: u32, file: u32) {
+    let is_folder = path.is_dir();
+    let mode = if is_folder { folder } else { file };
+    std::fs::set_permissions(path, std::fs::Permissions::from_mode(mode)).unwrap();
+    let below = is_folder.then(|| std::fs::read_dir(path).unwrap());
+    below.into_iter().flatten().for_each(|entry| may(&entry.unwrap().path(), folder, file));
+}
+
+/// Run by the next test in a process of its own, by a user who is not root.
+#[test]
+#[ignore]
+fn says_what_it_finds() {
+    if let Some(path) = std::env::var_os("TOTXEGUN_TEST_FOLDER") {
+        let found = checked(Path::new(&path)).map(|text| String::from_utf8(text).unwrap());
+        println!("found: {}", found.unwrap_or_else(|failure| failure.to_string()));
+    }
+}
+
+/// As a backup that is mounted so.
+#[test]
+fn a_folder_that_can_only_be_read_is_checked() -> Result<()> {
+    const NOBODY: u32 = 65534;
+    let data = tempdir()?;
+    killed(data.path())?;
+    let is_root = std::fs::metadata("/proc/self")?.uid() == 0;
+    let said = || {
+        let mut this = std::process::Command::new("/proc/self/exe");
+        this.args(["--exact", "--ignored", "--nocapture", "command::check::tests::says_what_it_finds"]);
+        if is_root {
+            this.uid(NOBODY);
+        }
+        let ended = this.env("TOTXEGUN_TEST_FOLDER", data.path()).output().unwrap();
+        String::from_utf8_lossy(&ended.stdout).into_owned()
+    };
+    may(data.path(), 0o555, 0o444);
+    let text = said();
+    assert!(text.contains("requests for the sink  2,") && text.contains("none"), "{text}");
+    let segment = data.path().join("slot-0/outbox/000000000001.seg");
+    std::fs::set_permissions(&segment, std::fs::Permissions::from_mode(0o000))?;
+    let text = said();
+    assert!(text.contains(&format!("{} can't be read: Permission denied", segment.display())), "{text}");
+    may(data.path(), 0o000, 0o444);
+    assert!(said().contains("can't be read as a folder: Permission denied"), "{text}");
+    std::fs::set_permissions(data.path(), std::fs::Permissions::from_mode(0o700))?;
+    may(data.path(), 0o755, 0o644);
     Ok(())
 }
 
