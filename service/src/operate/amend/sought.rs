@@ -190,7 +190,8 @@ impl InAllSlots {
         match &first[..] {
             [] => {
                 return Err(format!(
-                    "no series is named {}: `totxegun totals` shows names and attributes, as does the view totals",
+                    "no series is named {}, or it is forgotten already: `totxegun totals` shows names and attributes, as does the view \
+                     totals",
                     sought.written
                 ))
             }
@@ -281,7 +282,7 @@ mod tests {
         let to = Some(NOW - HOUR / 2);
         for (written, to, part) in [
             ("b", Some(NOW + SECOND), "after the service's clock, which says 2026-11-27 13:00:00"),
-            ("c", to, "no series is named c"),
+            ("c", to, "no series is named c, or it is forgotten already: `totxegun totals`"),
             ("a", to, "2 series are named so, as a{\"shop\":\"s1\"} and a{\"shop\":\"s2\"}"),
             ("a{shop=s2}", to, "ends at 2026-11-27 12:00:00: there is nothing to put back"),
         ] {
