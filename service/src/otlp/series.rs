@@ -96,24 +96,30 @@ impl SeriesKey {
 
     fn parts_of(&self) -> Option<SeriesParts> {
         let document = Document::parse(self.0.as_bytes()).ok()?;
-        let parts: Vec<Json<'_>> = document.root().elements()?.collect();
-        let [resource, scope_name, scope_version, scope_attributes, name, unit, kind, attributes] = parts[..]
-        else {
-            return None;
-        };
+        let [resource, scope_name, scope_version, scope_attributes, name, unit, kind, attributes] =
+            parts_in(&document)?;
         let plain = |text: Json<'_>| text.text().map(String::from);
-        let list = |list: Json<'_>| list.elements().map(|_| list.raw().to_string());
+        let list = |list: Json<'_>| list.raw().to_string();
         Some(SeriesParts {
-            resource: list(resource)?,
+            resource: list(resource),
             scope_name: plain(scope_name)?,
             scope_version: plain(scope_version)?,
-            scope_attributes: list(scope_attributes)?,
+            scope_attributes: list(scope_attributes),
             name: plain(name)?,
             unit: plain(unit)?,
             kind: kind_of(kind)?,
-            attributes: list(attributes)?,
+            attributes: list(attributes),
         })
     }
+}
+
+/// The parts of a key, where it is one but for its kind.
+fn parts_in<'d>(document: &'d Document<'_>) -> Option<[Json<'d>; 8]> {
+    use super::json::Kind::{Array, Text};
+    let parts: Vec<Json<'_>> = document.root().elements()?.collect();
+    let parts: [Json<'_>; 8] = parts.try_into().ok()?;
+    let kinds = [0, 1, 2, 3, 4, 5, 7].map(|part| parts[part].kind());
+    (kinds == [Array, Text, Text, Array, Text, Text, Array]).then_some(parts)
 }
 
 /// The kind of a series from its part of a key.

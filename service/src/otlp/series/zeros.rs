@@ -1,7 +1,7 @@
 //! Points of value zero, which tell a fresh book whom each series belongs to and where its points begin.
 
-use super::{Kind, NotForwarded, SeriesKey};
-use crate::otlp::json::Document;
+use super::{kind_of, parts_in, Kind, NotForwarded, SeriesKey};
+use crate::otlp::json::{Document, Value as Json};
 
 /// A body is not much longer, so that none takes long to read.
 const MOST: usize = 3 << 20;
@@ -75,16 +75,14 @@ impl Body {
 
 impl Zero {
     fn of(key: &SeriesKey, frontier: u64) -> Result<Zero, NotForwarded> {
-        let kind = key.parts()?.kind;
         // A point begins at 1 or later, so a frontier is 2 at least.
         let start = frontier.checked_sub(1).filter(|start| *start > 0);
         let start = start.ok_or_else(|| NotForwarded(format!("a frontier of {frontier}")))?;
         let document = Document::parse(key.0.as_bytes()).map_err(|error| NotForwarded(error.to_string()))?;
-        let parts: Vec<&str> =
-            document.root().elements().into_iter().flatten().map(|part| part.raw()).collect();
-        let [resource, scope, version, scope_attributes, name, unit, bounds, attributes] = parts[..] else {
-            return Err(NotForwarded(format!("the key {}", key.0)));
-        };
+        let parts = parts_in(&document).and_then(|parts| Some((parts, kind_of(parts[6])?)));
+        let (parts, kind) = parts.ok_or_else(|| NotForwarded(format!("the key {}", key.0)))?;
+        let [resource, scope, version, scope_attributes, name, unit, bounds, attributes] =
+            parts.map(Json::raw);
         let span = format!(
             "\"attributes\":{attributes},\"startTimeUnixNano\":\"{start}\",\"timeUnixNano\":\"{frontier}\""
         );
