@@ -24,10 +24,12 @@ use crate::files::disk::{io_fault, Disk};
 use crate::files::records::{self, put, take_number, HEAD, OWN};
 use crate::files::Fault;
 use crate::otlp::series::SeriesKey;
+use crate::work::{in_order, WorkQueue};
 use flate2::{read::DeflateDecoder, write::DeflateEncoder, Compression};
 use serde::de::{DeserializeOwned, SeqAccess, Visitor};
 use serde::{Deserialize, Deserializer, Serialize, Serializer};
 use std::collections::HashMap;
+use std::convert::Infallible;
 use std::fmt;
 use std::io::{self, BufWriter, Read, Write};
 use std::marker::PhantomData;
@@ -44,6 +46,11 @@ pub const QUARANTINE: u8 = OWN + 6;
 pub const LIFT: u8 = OWN + 7;
 pub const FORGET: u8 = OWN + 8;
 pub const BESIDE: u8 = OWN + 9;
+
+/// How much is done to pack.
+const LEVEL: u32 = 5;
+/// Of what is packed in pieces each has so many bytes, or some more.
+const PIECE: usize = if cfg!(test) { 4 << 10 } else { 256 << 10 };
 
 /// What a group did to series.
 #[derive(Serialize, Deserialize)]
@@ -81,7 +88,7 @@ pub struct GroupHead {
 }
 
 pub fn deflated(bytes: &[u8]) -> Vec<u8> {
-    deflated_by(Compression::new(5), |out| out.write_all(bytes))
+    deflated_by(Compression::new(LEVEL), |out| out.write_all(bytes))
 }
 
 /// The same in less time, and somewhat longer.
@@ -104,7 +111,56 @@ pub fn inflated(bytes: &[u8]) -> Option<Vec<u8>> {
 
 pub fn packed(value: &impl Serialize) -> Vec<u8> {
     // These types have no key that is not a text, and so can be written.
-    deflated_by(Compression::new(5), |out| Ok(serde_json::to_writer(out, value)?))
+    deflated_by(Compression::new(LEVEL), |out| Ok(serde_json::to_writer(out, value)?))
+}
+
+/// The same, pieces of which are packed side by side: an end of all is behind them.
+pub fn packed_long(value: &impl Serialize) -> Vec<u8> {
+    let mut out = Vec::new();
+    let put = |piece: Vec<u8>| {
+        out.extend_from_slice(&piece);
+        Ok::<(), Infallible>(())
+    };
+    let _ = in_order(
+        |piece| *piece = deflated_piece(piece),
+        put,
+        |queue| {
+            let mut pieces = Pieces { queue, piece: Vec::new() };
+            let _ = serde_json::to_writer(&mut pieces, value); // as above
+            let _ = pieces.flush();
+            Ok(())
+        },
+    );
+    out.extend(deflated(&[]));
+    out
+}
+
+/// What is written, in pieces to be packed.
+struct Pieces<'q> {
+    queue: &'q WorkQueue<Vec<u8>>,
+    piece: Vec<u8>,
+}
+
+impl Write for Pieces<'_> {
+    fn write(&mut self, bytes: &[u8]) -> io::Result<usize> {
+        self.piece.extend_from_slice(bytes);
+        if self.piece.len() >= PIECE {
+            self.flush()?;
+        }
+        Ok(bytes.len())
+    }
+
+    fn flush(&mut self) -> io::Result<()> {
+        self.queue.push(std::mem::take(&mut self.piece));
+        Ok(())
+    }
+}
+
+/// Deflated up to a full byte, and more may follow.
+fn deflated_piece(bytes: &[u8]) -> Vec<u8> {
+    let mut packer = DeflateEncoder::new(Vec::new(), Compression::new(LEVEL));
+    let packed = packer.write_all(bytes).and_then(|()| packer.flush());
+    packed.map_or_else(|_| Vec::new(), |()| std::mem::take(packer.get_mut())) // as above
 }
 
 pub fn unpacked<T: DeserializeOwned>(bytes: &[u8]) -> Option<T> {
@@ -322,4 +378,17 @@ fn changed(path: &Path, front: &Front) -> Fault {
         front.waiting.number
     );
     Fault::Damaged { path: path.into(), at: front.at, what }
+}
+
+#[cfg(test)]
+mod tests {
+    use super::*;
+
+    #[test]
+    fn what_is_packed_in_pieces_comes_back() {
+        for count in [0, 10, 10_000] {
+            let all: Vec<u32> = (0..count).collect();
+            assert_eq!(unpacked(&packed_long(&all)), Some(all));
+        }
+    }
 }

@@ -1,7 +1,7 @@
 //! What a segment begins with: all that the outbox knows, but its requests.
 
 use super::changes::UnitOfMetric;
-use super::rows::{each_row, packed, unpacked, SNAPSHOT};
+use super::rows::{each_row, packed_long, unpacked, SNAPSHOT};
 use super::state::State;
 use super::table::{KnownSeries, Table};
 use super::texts::Texts;
@@ -86,7 +86,7 @@ impl Snapshot {
             beside: self.beside.clone(),
         };
         let mut out = Vec::new();
-        put(&mut out, SNAPSHOT, &[&packed(&content)]);
+        put(&mut out, SNAPSHOT, &[&packed_long(&content)]);
         out
     }
 
