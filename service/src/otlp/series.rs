@@ -1,5 +1,6 @@
 //! The series that a body has points of.
 
+mod around;
 mod digest;
 mod forwarded;
 mod identity;
@@ -8,6 +9,7 @@ mod posted;
 mod why;
 mod zeros;
 
+pub use around::Around;
 pub use digest::{Digest, Digests};
 pub use forwarded::forwarded;
 pub(super) use forwarded::protobuf_of_forwarded;

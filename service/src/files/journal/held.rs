@@ -6,7 +6,7 @@
 //! still have these posts, and a sender whose points were flushed is in the next segment's record no more.
 
 use super::name_records::NameWriter;
-use super::record::{self, Posts};
+use super::record::{self, Posts, Wanted};
 use super::{lock, Journal, Post, Replayed, Shared, HELD};
 use crate::files::disk::{io_fault, Disk, File};
 use crate::files::records::{self, Next, Reader, Which};
@@ -55,7 +55,7 @@ impl Journal {
         };
         if !due.is_empty() {
             let mut moving = Moving::new(shared, &mut list);
-            shared.posts(first, next, false, &mut |since, Replayed { post, named }| {
+            shared.posts(first, next, Wanted::All, false, &mut |since, Replayed { post, named }| {
                 moving.names.extend(named);
                 if due.contains(&post.sender) {
                     moving.append(since, &post)?;
@@ -167,7 +167,7 @@ fn posts_of(
     each: &mut impl FnMut(u64, Replayed) -> Result<bool, Fault>,
 ) -> Result<bool, Fault> {
     let (mut reader, first) = Reader::open(disk, &path(folder, sender), Which::Held, 0, Some(part.end))?;
-    let (mut posts, mut left) = (Posts::default(), part.posts);
+    let (mut posts, mut left) = (Posts::new(Wanted::All), part.posts);
     let mut next = if first == Next::Stop { first } else { reader.next()? };
     while let Next::Record { at, kind, bytes } = next {
         let read = posts.read(kind, bytes);

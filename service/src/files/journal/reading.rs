@@ -1,6 +1,6 @@
 //! The posts of the journal, in order.
 
-use super::record::Posts;
+use super::record::{Posts, Wanted};
 use super::{held, lock, Journal, Replayed, Shared, COPY, HELD};
 use crate::files::records::{self, Next, Reader, Which};
 use crate::files::{segment, Fault};
@@ -9,7 +9,17 @@ impl Journal {
     /// Gives the posts of the segments from `first` to before `end` that count, in order, until `each` is false. Those of
     /// quarantined senders' own files are among them where the segment `first` is there and says so.
     pub fn posts(&self, first: u64, end: u64, mut each: impl FnMut(Replayed) -> bool) -> Result<(), Fault> {
-        self.shared.posts(first, end, true, &mut |_, post| Ok(each(post)))
+        self.shared.posts(first, end, Wanted::All, true, &mut |_, post| Ok(each(post)))
+    }
+
+    /// The same without their points, for who looks at requests alone: those that are posts, and those that name series.
+    pub fn requests(
+        &self,
+        first: u64,
+        end: u64,
+        mut each: impl FnMut(Replayed) -> bool,
+    ) -> Result<(), Fault> {
+        self.shared.posts(first, end, Wanted::Requests, true, &mut |_, post| Ok(each(post)))
     }
 }
 
@@ -19,6 +29,7 @@ impl Shared {
         &self,
         first: u64,
         end: u64,
+        wanted: Wanted,
         with_held: bool,
         each: &mut impl FnMut(u64, Replayed) -> Result<bool, Fault>,
     ) -> Result<(), Fault> {
@@ -32,6 +43,7 @@ impl Shared {
                 number,
                 written: (number == last).then_some(at),
                 is_first: number == first,
+                wanted,
                 with_held,
             };
             if !self.posts_of(segment, each)? {
@@ -57,7 +69,7 @@ impl Shared {
         let path = segment::path(&self.folder, segment.number);
         let (number, written) = (segment.number, segment.written);
         let (mut reader, mut next) = Reader::open(&self.disk, &path, Which::Journal, number, written)?;
-        let mut posts = Posts::default();
+        let mut posts = Posts::new(segment.wanted);
         loop {
             match next {
                 Next::Record { kind: records::HEADER, .. } => {}
@@ -89,5 +101,6 @@ struct Read {
     /// Up to where it is written.
     written: Option<u64>,
     is_first: bool,
+    wanted: Wanted,
     with_held: bool,
 }

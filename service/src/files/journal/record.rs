@@ -4,8 +4,8 @@ use super::name_records::NameReader;
 use super::post::{Body, Points, Post, Replayed};
 use super::{packed, COPY, NAME, NAME_AFTER, POINTS, POST, RUNS};
 use crate::files::{records, torn_tail};
+use ahash::AHashSet;
 use bytes::Bytes;
-use std::collections::HashSet;
 
 const NO_POST: &str = "is no post that was written here";
 const NO_NAME: &str = "has points of a series that this file names nowhere before it";
@@ -46,27 +46,44 @@ pub(super) fn since(kind: u8, mut bytes: &[u8]) -> Option<u64> {
     }
 }
 
+/// What is read of posts.
+#[derive(Clone, Copy, Debug, PartialEq, Eq)]
+pub(super) enum Wanted {
+    All,
+    /// What names series: points by number are passed over, and there are none then.
+    Requests,
+}
+
 /// Reads the records of one file, one after the other: points need the names before them.
-#[derive(Default)]
 pub(super) struct Posts {
+    wanted: Wanted,
     /// Said since the last post.
     named: Vec<(u64, Bytes)>,
-    known: HashSet<u64>,
+    known: AHashSet<u64>,
     names: NameReader,
 }
 
 impl Posts {
+    pub fn new(wanted: Wanted) -> Posts {
+        Posts { wanted, named: Vec::new(), known: AHashSet::new(), names: NameReader::default() }
+    }
+
     /// The post of a record, and when it was appended; none where it says a name. The error is what is wrong with it.
     pub fn read(&mut self, kind: u8, bytes: Vec<u8>) -> Result<Option<(u64, Replayed)>, &'static str> {
         let bytes = Bytes::from(bytes);
         let (since, post) = match kind {
             NAME | NAME_AFTER => {
                 let name = self.names.read(kind, &bytes).ok_or(NO_POST)?;
-                self.known.insert(name.0);
+                if self.wanted == Wanted::All {
+                    self.known.insert(name.0);
+                }
                 self.named.push(name);
                 return Ok(None);
             }
             POST | COPY => text(bytes).ok_or(NO_POST)?,
+            POINTS | RUNS if self.wanted == Wanted::Requests => {
+                points(&bytes, |_| Some(Points::default())).ok_or(NO_POST)?
+            }
             POINTS => self.points(bytes, packed::read)?,
             RUNS => self.points(bytes, packed::read_with_runs)?,
             _ => return Err(torn_tail::CHANGED),

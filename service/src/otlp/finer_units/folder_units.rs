@@ -5,7 +5,7 @@ use super::units::{Named, Unit};
 use super::FinerUnits;
 use crate::files::{Body, Fault, Journal, Outbox, UnitOfMetric};
 use crate::otlp::json::{Document, Value};
-use crate::otlp::series::visit;
+use crate::otlp::series::{visit, Around};
 use crate::work::in_order;
 use bytes::Bytes;
 
@@ -42,10 +42,10 @@ impl FinerUnits {
         // Side by side: what is known of a metric is a set of units.
         outbox.each_key(|key| self.know_series(&key.0));
         in_order(
-            |requests: &mut Vec<Bytes>| requests.iter().for_each(|text| self.know_request(text)),
+            |requests: &mut Vec<Bytes>| self.know_requests(requests),
             |_| Ok(()),
             |queue| {
-                journal.posts(outbox.journal(), u64::MAX, |read| {
+                journal.requests(outbox.journal(), u64::MAX, |read| {
                     let mut texts: Vec<Bytes> = read.named.into_iter().map(|(_, text)| text).collect();
                     if let Body::Text(text) = read.post.body {
                         texts.push(text);
@@ -66,20 +66,31 @@ impl FinerUnits {
         }
     }
 
-    /// Of a request in the book's form the metrics with points that are taken.
-    pub(super) fn know_request(&self, request: &[u8]) {
+    /// Where all metrics of one are known, another point of theirs says nothing.
+    pub(super) fn know_requests(&self, requests: &[Bytes]) {
+        let mut known: Option<Around<'_>> = None;
+        for request in requests {
+            if known.as_ref().is_none_or(|known| known.point(request).is_none()) {
+                known = self.know_request(request).then(|| Around::of(request)).flatten();
+            }
+        }
+    }
+
+    /// Of a request in the book's form the metrics with points that are taken: whether all its metrics are known then.
+    pub(super) fn know_request(&self, request: &[u8]) -> bool {
         let Ok(document) = Document::parse(request) else {
-            return;
+            return false;
         };
         // Most say what is known already, and a look at their points takes several times as long.
         if self.is_known(&document) == Some(true) {
-            return;
+            return true;
         }
         let _ = visit(&document, |seen| {
             if let (Ok(_), Some(name), Some(unit)) = (seen.found, seen.metric.name, seen.metric.unit) {
                 self.know_unit(name, unit);
             }
         });
+        self.is_known(&document) == Some(true)
     }
 
     /// Whether all metrics are, whatever points they have; none where the request is of another form.

@@ -74,6 +74,32 @@ fn a_segment_says_a_name_once_ahead_of_its_first_points_and_by_the_same_write() 
 }
 
 #[test]
+fn requests_are_read_without_points() {
+    let folder = tempfile::tempdir().unwrap();
+    let journal = open(folder.path());
+    let text = Post { sender: "s".into(), foreign: 0, body: Body::Text("{}".into()) };
+    for post in [of_letters(b"ab"), text, of_letters(b"b"), of_letters(b"bc")] {
+        journal.append(&post, &Letters::of(""));
+    }
+    let mut all = Vec::new();
+    let read = journal.requests(1, u64::MAX, |Replayed { post, named }| {
+        let text = match post.body {
+            Body::Text(text) => Some(text),
+            Body::Points(points) => {
+                assert_eq!(points.count(), 0);
+                None
+            }
+        };
+        all.push((text, named));
+        true
+    });
+    read.unwrap();
+    let none = (None, Vec::new());
+    let wanted = [(None, names(b"ab", 0)), (Some("{}".into()), Vec::new()), none, (None, names(b"c", 0))];
+    assert_eq!(all, wanted);
+}
+
+#[test]
 fn where_numbers_begin_anew_they_are_named_anew() {
     let folder = tempfile::tempdir().unwrap();
     let journal = open(folder.path());

@@ -173,13 +173,28 @@ fn what_a_folder_knows_decides() {
     let request = request(&[sum("a", "s", &[DOUBLE]), sum("b", "s", &[WHOLE])]);
     let posted = prepare(Encoding::Json, request.into(), &before).unwrap();
     let after = auto(&[]);
-    after.finer_units.know_request(&posted.body);
+    assert!(after.finer_units.know_request(&posted.body));
     after.finer_units.know_series(r#"[[],"","",[],"c","ms","monotonic",[]]"#);
     let unit = |name, unit, point| taken(&after, &[sum(name, unit, &[point])]).0;
     assert_eq!(
         [unit("a", "s", WHOLE), unit("b", "s", DOUBLE), unit("c", "s", DOUBLE), unit("d", "s", WHOLE)],
         ["us", "s", "ms", "s"]
     );
+}
+
+/// A point that is taken says what one before it that is foreign did not.
+#[test]
+fn what_a_folder_has_of_a_foreign_point_decides_nothing() {
+    let reading = auto(&[]);
+    let of = |says: &str| bytes::Bytes::from(request(&[sum("a", "ms", &[says])]));
+    let foreign = of(r#""asInt":1.5"#);
+    reading.finer_units.know_requests(&[foreign.clone(), foreign.clone()]);
+    let undecided = auto(&[]);
+    let unit = |reading: &Reading| taken(reading, &[sum("a", "s", &[DOUBLE])]).0;
+    assert_eq!(unit(&reading), unit(&undecided));
+    let reading = auto(&[]);
+    reading.finer_units.know_requests(&[foreign, of(WHOLE), of(WHOLE)]);
+    assert_eq!(unit(&reading), "ms");
 }
 
 /// Else a later unit of its name was taken otherwise than behind a start, or than of protobuf.

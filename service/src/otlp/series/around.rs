@@ -1,0 +1,114 @@
+//! Requests of one point, of which most have all but the point in common with the one before. So they can be read together.
+
+use crate::otlp::json::{plain_length, Document, Value};
+use bytes::Bytes;
+
+/// What is around the point of a request.
+pub struct Around<'t> {
+    before: &'t [u8],
+    behind: &'t [u8],
+}
+
+impl<'t> Around<'t> {
+    /// None where the request is of another form.
+    pub fn of(text: &'t [u8]) -> Option<Around<'t>> {
+        let document = Document::parse(text).ok()?;
+        let mut metric = document.root();
+        for list in ["resourceMetrics", "scopeMetrics", "metrics"] {
+            metric = first(metric, list)?;
+        }
+        let [sum, histogram] = metric.named(["sum", "histogram"])?;
+        let point = first(sum.or(histogram)?, "dataPoints")?.range();
+        Some(Around { before: &text[..point.start], behind: &text[point.end..] })
+    }
+
+    /// The point of another request, where all around it is the same: whatever that says, it says nothing else of it.
+    pub fn point<'o>(&self, other: &'o [u8]) -> Option<&'o [u8]> {
+        let point = other.strip_prefix(self.before)?.strip_suffix(self.behind)?;
+        is_one(point).then_some(point)
+    }
+
+    /// Those of the first of these, as far as all around them is the same.
+    pub fn points<'o>(&self, texts: &'o [Bytes]) -> impl Iterator<Item = &'o [u8]> + use<'_, 't, 'o> {
+        texts.iter().map_while(|text| self.point(text))
+    }
+
+    /// A request that has these points, in this order.
+    pub fn with(&self, points: &[&[u8]]) -> Vec<u8> {
+        [self.before, &points.join(&b','), self.behind].concat()
+    }
+}
+
+fn first<'d>(object: Value<'d>, list: &str) -> Option<Value<'d>> {
+    let [list] = object.named([list])?;
+    list?.elements()?.next()
+}
+
+/// Whether this is one value with brackets, where it is JSON: the first of them is closed by the last byte, and by none before.
+fn is_one(text: &[u8]) -> bool {
+    let (mut depth, mut at) = (0u32, 0);
+    while let Some(byte) = text.get(at) {
+        at += 1;
+        match byte {
+            b'{' | b'[' => depth += 1,
+            b'}' | b']' if depth > 1 => depth -= 1,
+            b'}' | b']' => return depth == 1 && at == text.len(),
+            b'"' => at += text_length(&text[at..]),
+            _ => {}
+        }
+        if depth == 0 {
+            return false;
+        }
+    }
+    false
+}
+
+/// Up to behind the quote that ends a text.
+fn text_length(text: &[u8]) -> usize {
+    let mut at = 0;
+    loop {
+        at += plain_length(&text[at..]);
+        match text.get(at) {
+            Some(b'\\') if at + 1 < text.len() => at += 2,
+            Some(b'"') => return at + 1,
+            _ => return text.len(), // no JSON
+        }
+    }
+}
+
+#[cfg(test)]
+mod tests {
+    use super::*;
+
+    fn request(name: &str, points: &str) -> String {
+        format!(
+            r#"{{"resourceMetrics":[{{"scopeMetrics":[{{"metrics":[{{"name":"{name}","sum":{{"dataPoints":[{points}],"isMonotonic":true}}}}]}}]}}]}}"#
+        )
+    }
+
+    #[test]
+    fn requests_with_all_but_the_point_in_common_are_read_together() {
+        let points = [r#"{"a":"\"}]"}"#, r#"{"b":[{"c":1},{}],"d":{}}"#, "{}"];
+        let all = points.map(|point| request("n", point));
+        let around = Around::of(all[0].as_bytes()).unwrap();
+        let found: Vec<&[u8]> = all.iter().map(|text| around.point(text.as_bytes()).unwrap()).collect();
+        assert_eq!(found, points.map(str::as_bytes));
+        assert_eq!(around.with(&found), request("n", &points.join(",")).into_bytes());
+    }
+
+    /// What has more than a point in the place of the point may say something else of all.
+    #[test]
+    fn what_is_no_single_point_has_nothing_in_common() {
+        let one = request("n", "{}");
+        let around = Around::of(one.as_bytes()).unwrap();
+        let beyond = r#"{}],"unit":"s","other":[{}"#;
+        for points in ["", "{},{}", " {}", "{} ", beyond, "{}{", "}{", "1", "\"{}\"", "{\"", "{\"\\"] {
+            assert!(around.point(request("n", points).as_bytes()).is_none(), "{points}");
+        }
+        assert!(around.point(request("m", "{}").as_bytes()).is_none());
+        assert!(around.point(&one.as_bytes()[..one.len() - 1]).is_none());
+        for other in ["", "{}", &request("n", ""), &one.replace("sum", "gauge")] {
+            assert!(Around::of(other.as_bytes()).is_none(), "{other}");
+        }
+    }
+}
