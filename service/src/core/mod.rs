@@ -1,13 +1,14 @@
 //! The book: proved, linked in, and asked by calls. `book` is the wrapper over its library, the only file that calls what
 //! is not Rust, `refusal` what it says no by, `memory` what it may have, `names` has numbers for series, `rounds` when rounds are
-//! closed, `read` a post that was read, `readers` what reads them, `stretch` which points are of one hour, `earlier` what is taken
-//! where a later one begins, `flushed` what was taken, `out_of_order` where the series of a refused post end.
+//! closed, `close` how, `read` a post that was read, `readers` what reads them, `stretch` which points are of one hour, `earlier`
+//! what is taken where a later one begins, `flushed` what was taken, `out_of_order` where the series of a refused post end.
 //!
 //! A post is read by a reader, which needs no lock. All else is asked of the one `Book` under the lock of `Core`: so
 //! there is one order of all that changes it, and what is put into the journal under that lock has the same.
 
 #[allow(unsafe_code)]
 mod book;
+mod close;
 mod earlier;
 mod flushed;
 mod memory;
@@ -176,27 +177,38 @@ impl Book {
 
     /// Puts a post into all of its books, or into none: what is refused changed nothing, but where it is `HalfTaken`.
     pub fn admit(&mut self, read: &mut Read) -> Result<(), Refused> {
-        let Some((first, last)) = read.first_and_last() else {
-            return Ok(());
-        };
-        if read.stretches.is_empty() {
-            self.cross(read.reader.as_mut().ok_or(Refused::Nothing)?, last)?;
-            self.admit_whole(read, first)?;
-        } else {
-            self.admit_stretches(read)?;
-        }
+        self.admit_in_turn(read)?;
         self.close_next_round();
         Ok(())
     }
 
-    /// Puts a post of a quarantined sender in again: of it nothing is taken, and when it came it went over no stretch.
+    /// The same of a post that is put in again, while nobody waits.
+    pub fn admit_again(&mut self, read: &mut Read) -> Result<(), Refused> {
+        self.admit_in_turn(read)?;
+        self.close_full_rounds();
+        Ok(())
+    }
+
+    /// The same of a quarantined sender's: of it nothing is taken, and when it came it went over no stretch.
     pub fn admit_held(&mut self, read: &mut Read) -> Result<(), Refused> {
         let Some((first, _)) = read.first_and_last() else {
             return Ok(());
         };
         self.admit_whole(read, first)?;
-        self.close_next_round();
+        self.close_full_rounds();
         Ok(())
+    }
+
+    fn admit_in_turn(&mut self, read: &mut Read) -> Result<(), Refused> {
+        let Some((first, last)) = read.first_and_last() else {
+            return Ok(());
+        };
+        if read.stretches.is_empty() {
+            self.cross(read.reader.as_mut().ok_or(Refused::Nothing)?, last)?;
+            self.admit_whole(read, first)
+        } else {
+            self.admit_stretches(read)
+        }
     }
 
     fn admit_whole(&mut self, read: &mut Read, first: u64) -> Result<(), Refused> {
@@ -210,49 +222,6 @@ impl Book {
         self.earlier.note(first);
         self.rounds.count(read.points);
         Ok(())
-    }
-
-    /// Of one book, where one is to be closed: what is over is forgotten, and sums begin at what they are. While something is
-    /// in flight none can be, and who is next waits: else its book had more in its journal than is known here.
-    fn close_next_round(&mut self) {
-        if self.earlier.in_flight > 0 {
-            return;
-        }
-        if let Some(book) = self.rounds.next() {
-            self.close_round(book);
-        }
-    }
-
-    /// Of all books at once, since something finds no room.
-    fn close_rounds(&mut self) {
-        self.rounds.begin();
-        while let Some(book) = self.rounds.being_closed() {
-            self.close_round(book);
-        }
-    }
-
-    /// Closes the round of a book where nobody posts: whether there is another. Each keeps what came since it began.
-    pub fn close_round_at_rest(&mut self) -> bool {
-        if self.earlier.in_flight > 0 || !self.rounds.have_entries() {
-            return false;
-        }
-        if self.rounds.being_closed().is_none() {
-            self.rounds.begin();
-        }
-        if let Some(book) = self.rounds.being_closed() {
-            self.close_round(book);
-        }
-        self.rounds.being_closed().is_some()
-    }
-
-    /// How much has come to it so far: posts, and ends of what was taken.
-    pub fn came(&self) -> u64 {
-        self.rounds.came()
-    }
-
-    fn close_round(&mut self, book: usize) {
-        let is_closed = self.desk.close_round(book);
-        self.rounds.note(is_closed, || self.desk.series());
     }
 
     /// Takes all that may be forwarded, or nothing. Until it is settled no round can be closed.
@@ -343,11 +312,6 @@ impl Book {
     /// How many series it has.
     pub fn series(&mut self) -> usize {
         self.desk.series()
-    }
-
-    /// How many rounds were closed since this was asked last.
-    pub fn rounds_closed(&mut self) -> usize {
-        self.rounds.closed()
     }
 
     /// What each of its books has, one after the other.

@@ -66,7 +66,7 @@ impl Rounds {
 
     /// The book whose round is to be closed after this post.
     pub fn next(&mut self) -> Option<usize> {
-        if self.next.is_none() && self.are_past(1, 1) {
+        if self.next.is_none() && self.are_due() {
             self.begin();
         }
         let book = self.being_closed()?;
@@ -81,6 +81,17 @@ impl Rounds {
     /// Whether this part of the way is behind them to where it is begun again.
     fn are_past(&self, part: u64, of: u64) -> bool {
         of * self.entries >= part * self.most_entries || of * self.points >= part * self.most_points
+    }
+
+    /// Whether there is no room for more, or for more points: where nobody waits all are closed at once, and not before.
+    pub fn are_full(&self) -> bool {
+        let may_be_tried = self.entries >= POSTS_UNTIL_ANOTHER_TRY;
+        may_be_tried && !self.have_room_for(1) || self.points >= self.most_points
+    }
+
+    /// Whether it is time to begin to close them.
+    pub fn are_due(&self) -> bool {
+        self.are_past(1, 1)
     }
 
     /// All of them are to be closed, from the first one on.
@@ -103,12 +114,16 @@ impl Rounds {
         if any {
             self.before = 0;
         }
-        let series = series();
+        self.last_for(series());
+        if !any {
+            self.most_entries = POSTS_UNTIL_ANOTHER_TRY;
+        }
+    }
+
+    /// The next ones are as long as so many series need.
+    pub fn last_for(&mut self, series: usize) {
         self.most_points = (POINTS_FOR_A_SERIES * series).max(LEAST_POINTS) as u64;
-        self.most_entries = match any {
-            true => (series / SERIES_FOR_A_POST).clamp(LEAST_POSTS, MOST_POSTS) as u64,
-            false => POSTS_UNTIL_ANOTHER_TRY,
-        };
+        self.most_entries = (series / SERIES_FOR_A_POST).clamp(LEAST_POSTS, MOST_POSTS) as u64;
     }
 
     /// How many entries came so far.
@@ -167,6 +182,21 @@ mod tests {
         assert_eq!(behind(&mut rounds, 2_000, true), [(2_000, 0)]);
         assert!(rounds.have_entries());
         assert_eq!(rounds.being_closed(), Some(1), "it may be closed at once");
+    }
+
+    #[test]
+    fn where_nobody_waits_they_are_as_long_as_there_is_room() {
+        let mut rounds = Rounds::new(3);
+        rounds.last_for(100_000);
+        let full = (1..).find(|_| {
+            rounds.count(1);
+            rounds.are_full()
+        });
+        assert_eq!(full, Some(30_000));
+        rounds.begin();
+        assert!(!rounds.are_full(), "where none could be closed it is tried again later");
+        rounds.count(2_000_000);
+        assert!(rounds.are_full(), "as many points as else");
     }
 
     #[test]

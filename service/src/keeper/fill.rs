@@ -59,7 +59,7 @@ pub(super) fn fill(
     };
     filling.prime()?;
     let held = slot.outbox.quarantined();
-    filling.replay(|post| !held.contains(&post.sender), Book::admit)?;
+    filling.replay(|post| !held.contains(&post.sender), Book::admit_again)?;
     if !held.is_empty() {
         // Behind the others: what is taken to make room for these must not be of a quarantined sender.
         if !filling.fresh.filled.carried.is_empty() {
@@ -68,6 +68,7 @@ pub(super) fn fill(
         filling.replay(|post| held.contains(&post.sender), Book::admit_held)?;
     }
     filling.fresh.quarantine(&held)?;
+    filling.fresh.book.note_filled();
     free_spare_readers();
     let stopped = (filling.stops)();
     Ok((!stopped).then_some(filling.fresh.filled))
@@ -144,7 +145,9 @@ impl<S: Fn() -> bool> Filling<'_, S> {
             },
         )?;
         let taken = fresh.book.take_all().map_err(not_taken)?;
-        fresh.book.settle(taken).map_err(not_taken)
+        fresh.book.settle(taken).map_err(not_taken)?;
+        fresh.book.note_primed();
+        Ok(())
     }
 
     /// Puts the posts of the journal that are wanted, in its order.

@@ -35,3 +35,26 @@ fn rounds_that_are_closed_at_rest_keep_what_is_pending() {
     assert_eq!(post(&core, "A", &points(&a, 110, 1)), Ok(0));
     assert_eq!(taken(&core), [("a0".into(), (11, 120))].into());
 }
+
+/// It takes long where there are many series, and nobody waits for a post that is put in again.
+#[test]
+fn rounds_are_closed_seldom_while_posts_are_put_in_again() {
+    let core = Core::new(24_000).unwrap();
+    let a = names("a", 1);
+    let mut book = core.lock();
+    book.note_primed();
+    let closed: Vec<(u64, usize)> = (1..=40_000)
+        .filter_map(|number| {
+            let mut read = core.read("A".into(), points(&a, number * 10, 1).into()).unwrap();
+            book.admit_again(&mut read).unwrap();
+            Some((number, book.rounds_closed())).filter(|(_, closed)| *closed > 0)
+        })
+        .collect();
+    assert_eq!(closed, [(30_000, 1)], "of one book, which the series is in");
+    book.note_filled();
+    assert_eq!(book.rounds_closed(), 1, "whoever posts finds room");
+    book.note_filled();
+    assert_eq!(book.rounds_closed(), 0);
+    drop(book);
+    assert_eq!(taken(&core), [("a0".into(), (40_000, 400_010))].into());
+}
