@@ -84,20 +84,56 @@ impl Names {
     /// The number of the series of a request that has one point, which the book would take: else `NotOne`. It is read by a
     /// kept reader, so what several have in common is in memory once.
     pub fn learn(&self, request: Bytes) -> Result<u64, Refused> {
+        self.number_with(&request, |number, handle| {
+            self.name_those_before(number, handle, |_| true)?;
+            if number == self.count() {
+                self.push(&request);
+            }
+            Ok(())
+        })
+    }
+
+    /// The same where its request is asked for seldom: none is kept.
+    pub fn number_of(&self, request: &[u8]) -> Result<u64, Refused> {
+        self.number_with(request, |_, _| Ok(()))
+    }
+
+    /// The same of a request of so many points of sums, in their order. Else it says no, also where there is no memory.
+    pub fn numbers_of(&self, request: &[u8], count: usize) -> Option<Vec<u64>> {
+        let words = with_reader(|reader| {
+            let read = check(reader.read(ANYBODY, request, 1))?;
+            if (read.number, read.at) != (count as u64, 0) {
+                return Err(Refused::NotOne);
+            }
+            Ok(said(reader, &mut *self.open()?, LEAST_WORDS * count)?.0)
+        });
+        let words = words.ok()?;
+        let points = words.chunks_exact(LEAST_WORDS);
+        (words.len() == LEAST_WORDS * count).then(|| points.map(|point| point[0]).collect())
+    }
+
+    fn number_with(
+        &self,
+        request: &[u8],
+        name: impl FnOnce(u64, &mut book::Names) -> Result<(), Refused>,
+    ) -> Result<u64, Refused> {
         with_reader(|reader| {
-            let read = check(reader.read(ANYBODY, &request, 1))?;
+            let read = check(reader.read(ANYBODY, request, 1))?;
             if (read.number, read.at) != (1, 0) {
                 return Err(Refused::NotOne);
             }
             let mut handle = self.open()?;
             let (words, _) = said(reader, &mut handle, LEAST_WORDS)?;
             let number = *words.first().ok_or(Refused::NotOne)?;
-            self.name_those_before(number, &mut handle, |_| true)?;
-            if number == self.count() {
-                self.push(&request);
-            }
+            name(number, &mut handle)?;
             Ok(number)
         })
+    }
+
+    /// Has the series of the points that a reader has, so many, have numbers, as far as there is memory. Whoever names one again
+    /// gets its number, and the books find a point of it by what they noted when they took these.
+    pub(super) fn note(&self, reader: &mut Reader, count: usize) {
+        let _ = said(reader, &mut self.handle(), LEAST_WORDS * count);
     }
 
     /// The points that a reader has by the numbers of their series, so many; `has_room` takes room for the request of each that is
@@ -145,8 +181,7 @@ impl Names {
         has_room: impl Fn(usize) -> bool,
     ) -> Result<(), Refused> {
         for next in self.count()..number {
-            let mut text = vec![0; TEXT];
-            check(handle.text(next, &mut text))?;
+            let text = text_of(handle, next)?;
             if !has_room(text.len()) {
                 return Err(Refused::NoMemory);
             }
@@ -193,6 +228,13 @@ fn said(reader: &mut Reader, names: &mut book::Names, room: usize) -> Result<(Ve
     Ok((words, answer.at))
 }
 
+/// A request of one point of the series that has this number.
+fn text_of(names: &mut book::Names, number: u64) -> Result<Vec<u8>, Refused> {
+    let mut text = vec![0; TEXT];
+    check(names.text(number, &mut text))?;
+    Ok(text)
+}
+
 impl files::Names for Names {
     fn generation(&self) -> u64 {
         self.generation
@@ -200,6 +242,6 @@ impl files::Names for Names {
 
     fn text(&self, number: u64) -> Bytes {
         let text = usize::try_from(number).ok().and_then(|number| self.named().texts.get(number));
-        text.unwrap_or_default().into()
+        text.or_else(|| text_of(&mut self.handle(), number).ok()).unwrap_or_default().into()
     }
 }

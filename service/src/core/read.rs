@@ -103,6 +103,13 @@ impl Read {
         true
     }
 
+    /// Has its series have numbers by these names too, as far as there is memory; its points stay as they are.
+    pub fn note(&mut self, names: &Names) {
+        if let Some(reader) = &mut self.reader {
+            names.note(reader, self.points as usize);
+        }
+    }
+
     fn split(&mut self) {
         if let (Body::Points(points), true) = (&self.post.body, self.is_of_several()) {
             self.stretches = self.across.split(points);

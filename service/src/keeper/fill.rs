@@ -11,7 +11,7 @@
 
 mod said;
 
-use super::numbers::Numbers;
+use super::numbers::{Numbers, Own};
 use super::Trouble;
 use crate::core::{free_spare_readers, Book, Core, Read, Refused};
 use crate::files::{Body, Owned, Post};
@@ -128,11 +128,14 @@ struct Again {
 impl<S: Fn() -> bool> Filling<'_, S> {
     fn prime(&mut self) -> Result<(), Trouble> {
         let (slot, fresh, stops) = (self.slot, &mut self.fresh, &self.stops);
+        // Where there is no post to put in, no number is asked for.
+        let own = slot.journal.size().1.map(|_| self.numbers.own());
+        let own = own.as_deref();
         // In the order of their keys: so neighbours share most, and each goes behind those that a book has, or near their end.
         let of = &slot.outbox.owned();
         in_order(
-            |priming: &mut Priming| priming.be_read(&slot.core),
-            |priming| fresh.prime(priming),
+            |priming: &mut Priming| priming.be_read(&slot.core, own),
+            |priming| fresh.prime(priming, own),
             |queue| {
                 for (owner, series) in &of.all {
                     let mut parts = series.chunks(SERIES_OF_A_POST);
@@ -173,8 +176,11 @@ impl<S: Fn() -> bool> Filling<'_, S> {
 }
 
 impl Priming<'_> {
-    fn be_read(&mut self, core: &Core) {
+    fn be_read(&mut self, core: &Core, own: Option<&Own>) {
         self.posts = self.read(core);
+        if let (Ok(posts), Some(own)) = (&mut self.posts, own) {
+            posts.iter_mut().for_each(|read| own.note(read));
+        }
     }
 
     fn read(&self, core: &Core) -> Result<Vec<Read>, Unprimed> {
@@ -210,10 +216,10 @@ impl Again {
 }
 
 impl Fresh<'_> {
-    fn prime(&mut self, mut priming: Priming) -> Result<(), Trouble> {
+    fn prime(&mut self, mut priming: Priming, own: Option<&Own>) -> Result<(), Trouble> {
         if matches!(priming.posts, Err(Unprimed::Refused(_))) {
             free_spare_readers();
-            priming.be_read(&self.slot.core);
+            priming.be_read(&self.slot.core, own);
         }
         let posts = std::mem::replace(&mut priming.posts, Ok(Vec::new()));
         let admit = |mut read: Read| Ok(self.book.admit(&mut read)?);

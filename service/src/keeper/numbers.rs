@@ -2,27 +2,25 @@
 
 use crate::core::{Core, Names, Read, Refused};
 use crate::files::{Body, Points, Post};
-use crate::otlp::series::Digest;
+use crate::otlp::series::Around;
+use ahash::AHashMap;
 use bytes::Bytes;
-use sha2::{Digest as _, Sha256};
-use std::collections::HashMap;
-use std::sync::{Arc, OnceLock, PoisonError, RwLock};
+use std::sync::{Arc, OnceLock};
 
 /// Takes posts one after the other, each in its turn: a later one does not say again what a number stands for.
 pub(super) struct Numbers {
     core: Arc<Core>,
     own: Arc<Own>,
     /// By the number in the file that is read.
-    of_file: HashMap<u64, Number>,
+    of_file: AHashMap<u64, Number>,
 }
 
-/// The book's numbers, which series get side by side.
+/// The book's numbers, which series get side by side. Those that are primed have them before any file names one: so the
+/// identity that their points have then is the book's own, whose place it knows.
 #[derive(Default)]
 pub(super) struct Own {
     /// None until a series has one.
     names: OnceLock<Arc<Names>>,
-    /// By the SHA-256 of what it stands for: each segment says it anew, and it may be long.
-    numbers: RwLock<HashMap<Digest, u64>>,
 }
 
 /// What a number in a file stands for.
@@ -34,7 +32,7 @@ pub(super) enum Number {
 
 impl Numbers {
     pub fn new(core: Arc<Core>) -> Numbers {
-        Numbers { core, own: Arc::default(), of_file: HashMap::new() }
+        Numbers { core, own: Arc::default(), of_file: AHashMap::new() }
     }
 
     pub fn own(&self) -> Arc<Own> {
@@ -74,6 +72,17 @@ impl Numbers {
 }
 
 impl Number {
+    fn text(&self) -> Option<Bytes> {
+        match self {
+            Number::Said(text) => Some(text.clone()),
+            Number::Own(_) => None,
+        }
+    }
+
+    fn try_own(&mut self, of: &Own) {
+        let _ = self.be_own(of);
+    }
+
     /// The book's number.
     pub fn be_own(&mut self, of: &Own) -> Result<u64, Refused> {
         let own = match self {
@@ -95,17 +104,85 @@ impl Own {
     }
 
     /// Two that ask for one at once get the same.
-    fn number(&self, text: &Bytes) -> Result<u64, Refused> {
-        let digest: Digest = Sha256::digest(text).into();
-        // A map is sound at any time.
-        let known = self.numbers.read().unwrap_or_else(PoisonError::into_inner);
-        if let Some(own) = known.get(&digest) {
-            return Ok(*own);
+    fn number(&self, text: &[u8]) -> Result<u64, Refused> {
+        self.names()?.number_of(text)
+    }
+
+    /// Finds the numbers of these, of many at once where they have most in common. What is refused is asked for again in its turn.
+    pub fn find(&self, mut said: &mut [&mut Number]) {
+        let texts: Vec<Bytes> = said.iter().map_while(|number| number.text()).collect();
+        let mut texts = &texts[..];
+        while let Some(first) = texts.first() {
+            let around = Around::of(first).filter(Around::is_of_sum);
+            let points = around.iter().flat_map(|around| around.points(texts)).collect::<Vec<_>>();
+            let alike = points.len().max(1);
+            let (those, left) = said.split_at_mut(alike);
+            if let Some(around) = around.filter(|_| alike > 1) {
+                self.find_alike(those, &around.with(&points));
+            }
+            those.iter_mut().for_each(|number| number.try_own(self));
+            (said, texts) = (left, &texts[alike..]);
         }
-        drop(known);
-        let own = self.names()?.learn(text.clone())?;
-        let mut known = self.numbers.write().unwrap_or_else(PoisonError::into_inner);
-        known.insert(digest, own);
-        Ok(own)
+    }
+
+    /// By a request of their points, where the library says as many words of them as of sums: else they are found one by one.
+    fn find_alike(&self, said: &mut [&mut Number], request: &[u8]) {
+        let found = self.names().ok().and_then(|names| names.numbers_of(request, said.len()));
+        let found = found.into_iter().flatten();
+        said.iter_mut().zip(found).for_each(|(number, own)| **number = Number::Own(own));
+    }
+
+    /// The series of a post that was read have numbers from now on, as far as there is memory.
+    pub fn note(&self, read: &mut Read) {
+        if let Ok(names) = self.names() {
+            read.note(names);
+        }
+    }
+}
+
+#[cfg(test)]
+mod tests {
+    use super::*;
+    use crate::files::Names as _;
+    use crate::otlp::series::only;
+
+    /// Requests of a point each, which have all else in common.
+    fn texts(metric: &str, data: &str, says: &str, attributes: std::ops::Range<u8>) -> Vec<Bytes> {
+        let text = |attribute| {
+            format!(
+                r#"{{"resourceMetrics":[{{"scopeMetrics":[{{"metrics":[{{"name":"{metric}","{data}":{{"aggregationTemporality":1,"dataPoints":[{{"attributes":[{{"key":"a","value":{{"intValue":"{attribute}"}}}}],"startTimeUnixNano":"1","timeUnixNano":"2",{says}}}]}}}}]}}]}}]}}"#
+            )
+        };
+        attributes.map(|attribute| text(attribute).into()).collect()
+    }
+
+    #[test]
+    fn series_that_are_found_at_once_have_the_numbers_that_each_has_by_itself() {
+        let histogram = r#""count":"3","sum":5,"bucketCounts":["1","2"],"explicitBounds":[7]"#;
+        let all = [
+            texts("a", "sum", r#""asInt":"0""#, 0..5),
+            texts("a", "sum", r#""asInt":1.5"#, 0..3), // foreign
+            texts("h", "histogram", histogram, 0..3),
+            texts("b", "sum", r#""asInt":"0""#, 0..1),
+            texts("a", "sum", r#""asInt":"0""#, 3..9),
+        ]
+        .concat();
+        let own = Own::default();
+        let mut found: Vec<Number> = all.iter().cloned().map(Number::Said).collect();
+        own.find(&mut found.iter_mut().collect::<Vec<_>>());
+        for (number, text) in found.into_iter().zip(&all) {
+            match (number, own.number(text)) {
+                (Number::Own(number), Ok(alone)) => {
+                    assert_eq!(number, alone);
+                    let name = own.names().unwrap().text(number);
+                    assert_eq!(only(&name), only(text));
+                }
+                (Number::Said(_), Err(refused)) => {
+                    assert_eq!((refused, only(text)), (Refused::NotOne, None));
+                }
+                _ => panic!("{text:?}"),
+            }
+        }
+        assert_eq!(own.number(&texts("c", "sum", r#""asInt":"0""#, 0..1)[0]), Ok(13), "of 13 series");
     }
 }

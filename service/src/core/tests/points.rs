@@ -279,3 +279,46 @@ fn where_there_is_no_room_for_a_name_no_series_gets_a_number() {
     // Posts that have numbers go on.
     assert_eq!(put(&core, &by, "A", of([0, 1], 10, 5)), Ok(0));
 }
+
+/// As a start does it: so the points that it puts in have the books' own identities.
+#[test]
+fn series_that_a_post_was_read_of_have_numbers_before_anybody_names_them() {
+    let one = |name: &String| points(std::slice::from_ref(name), 1, 0);
+    for series in [1, 80_000] {
+        let (core, by) = (Core::new(series).unwrap(), Names::new().unwrap());
+        let all = names("s", 30);
+        let mut read = core.read("A".into(), points(&all, 10, 0).into()).unwrap();
+        read.note(&by);
+        core.lock().admit(&mut read).unwrap();
+        let new = names("t", 1);
+        for name in all.iter().chain(&new) {
+            let number = by.number_of(one(name).as_bytes()).unwrap();
+            assert_eq!((number < 30, name_of(&by, number)), (name != "t0", name.clone()));
+        }
+        assert_eq!(put(&core, &by, "A", of(0..31, 20, 5)), Ok(0));
+        let taken = taken(&core);
+        assert!(taken.len() == 31 && taken.values().all(|one| *one == (5, 30)), "{taken:?}");
+    }
+}
+
+#[test]
+fn where_a_block_is_refused_a_series_gets_its_number_later() {
+    let core = Core::new(24_000).unwrap();
+    let all = names("s", 20);
+    for blocks in 0.. {
+        let by = Names::new().unwrap();
+        let mut read = core.read("A".into(), points(&all, 10, 0).into()).unwrap();
+        memory::fail_after(Some(blocks));
+        read.note(&by);
+        let all_were_given = memory::is_to_fail();
+        memory::fail_after(None);
+        for name in &all {
+            let number = by.number_of(points(std::slice::from_ref(name), 1, 0).as_bytes()).unwrap();
+            assert!(number < 20 && name_of(&by, number) == *name, "{blocks}");
+        }
+        if all_were_given {
+            assert!(blocks > 3, "{blocks} blocks");
+            return;
+        }
+    }
+}

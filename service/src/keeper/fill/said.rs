@@ -32,7 +32,7 @@ pub(super) fn said(
     mut each: impl FnMut(Said) -> bool + Send,
 ) -> Result<(), Trouble> {
     let given = in_order(
-        |part: &mut Part| part.posts.iter_mut().for_each(|said| said.be_named(own)),
+        |part: &mut Part| part.be_named(own),
         |part| part.posts.into_iter().all(&mut each).then_some(()).ok_or(None),
         |queue| {
             let mut part = Part::default();
@@ -66,16 +66,12 @@ impl Part {
         self.posts.push(Said { named, post });
     }
 
+    fn be_named(&mut self, own: &Own) {
+        let named = self.posts.iter_mut().flat_map(|said| &mut said.named);
+        own.find(&mut named.map(|(_, number)| number).collect::<Vec<_>>());
+    }
+
     fn is_full(&self) -> bool {
         self.posts.len() >= POSTS_OF_A_PART || self.bytes >= BYTES_OF_A_PART
-    }
-}
-
-impl Said {
-    /// What is refused is asked for again in its turn.
-    fn be_named(&mut self, own: &Own) {
-        for (_, number) in &mut self.named {
-            let _ = number.be_own(own);
-        }
     }
 }

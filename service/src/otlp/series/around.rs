@@ -7,6 +7,7 @@ use bytes::Bytes;
 pub struct Around<'t> {
     before: &'t [u8],
     behind: &'t [u8],
+    is_of_sum: bool,
 }
 
 impl<'t> Around<'t> {
@@ -19,7 +20,13 @@ impl<'t> Around<'t> {
         }
         let [sum, histogram] = metric.named(["sum", "histogram"])?;
         let point = first(sum.or(histogram)?, "dataPoints")?.range();
-        Some(Around { before: &text[..point.start], behind: &text[point.end..] })
+        let (before, behind) = (&text[..point.start], &text[point.end..]);
+        Some(Around { before, behind, is_of_sum: sum.is_some() })
+    }
+
+    /// Whether all points that have it in common say as much.
+    pub fn is_of_sum(&self) -> bool {
+        self.is_of_sum
     }
 
     /// The point of another request, where all around it is the same: whatever that says, it says nothing else of it.
