@@ -43,9 +43,9 @@ DISK = 2 << 30
 # What a file of the test takes of the disk, and what is left when the alert fires.
 FILL, NEARLY_FULL = 96 << 20, 48 << 20
 SERIES = 20
-# The alert on series fires over so many of them; one book takes 10,000.
+# The alert on series fires over so many of them; one book takes 10,000: these have no room beside any other.
 MOST_SERIES, TAKES = 1_000, 10_000
-TOO_MANY = in_json([(f"more.{number}", 10, 20, 1) for number in range(TAKES + 1)])
+TOO_MANY = in_json([(f"more.{number}", 10, 20, 1) for number in range(TAKES)])
 RAISE = "update totxegun_store.slot set term = term + 9 where slot = 1"
 # Points a second that a sender may post, and of one post.
 POINTS, MUCH = 100, 3_000
@@ -201,7 +201,7 @@ class Causes:
         self.post_too_many()
 
     def post_too_many(self) -> Answer:
-        """A post that is refused, since no book has room for its series."""
+        """A post that is refused, since the book has no room for its series beside the others."""
         headers = {"Content-Type": JSON, "x-sender": "C"}
         return ask(self.service.listen, "POST", "/v1/metrics", TOO_MANY, headers)
 
