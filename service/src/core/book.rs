@@ -1,96 +1,26 @@
-//! The proved book, linked into this program. All `unsafe` code of the service is in this file and in `blocks`.
+//! The proved book, linked into this program, and the allocator. All `unsafe` code of the service is in this file.
 //!
 //! What the library was proved to do holds while its caller does what stands here beside each call: one call of a
 //! handle at a time (`&mut self`), and only of one that was made and not freed yet (`Drop`); slices as they are; numbers
-//! in the ranges that the contracts have; declarations as `crates/book_c/src/lib.rt` and `answers.rt` have them; and
-//! memory that nobody else writes to, which it gets by the three functions of `blocks`.
+//! in the ranges that the contracts have; declarations (`declared`) as `crates/book_c/src/lib.rt` and `answers.rt` have them; and
+//! memory that nobody else writes to, which it gets by the last three functions here.
 
 mod answer;
-mod blocks;
+mod declared;
 
-use super::memory;
+use super::memory::{self, Tried};
 use answer::{asked, written};
+use declared::*;
 use std::ptr::null_mut;
 
 pub(super) use answer::{Answer, NO_MEMORY};
-#[cfg(test)]
-pub(super) use blocks::{allocated, given_back};
-pub(super) use blocks::{give_back, give_back_of_thread};
 
 /// The most series of each book that one flush takes.
 pub(super) const MOST_TAKEN: usize = 1000;
 
-/// One word, that of the library's own value.
-#[repr(C)]
-struct Handle {
-    at: *mut u8,
-}
-
 /// A reader, a sender's name, a body, how many books, a window of time, an answer.
 type ReadCall =
     unsafe extern "C" fn(*mut Handle, *const u8, usize, *const u8, usize, usize, u64, u64, *mut Answer);
-
-extern "C" {
-    fn reader_new(out: *mut Handle) -> bool;
-    fn reader_free(reader: *mut Handle);
-    fn reader_read(
-        reader: *mut Handle,
-        sender: *const u8,
-        sender_length: usize,
-        body: *const u8,
-        body_length: usize,
-        books: usize,
-        from: u64,
-        until: u64,
-        out: *mut Answer,
-    );
-    fn reader_read_protobuf(
-        reader: *mut Handle,
-        sender: *const u8,
-        sender_length: usize,
-        body: *const u8,
-        body_length: usize,
-        books: usize,
-        from: u64,
-        until: u64,
-        out: *mut Answer,
-    );
-    fn reader_put(
-        reader: *mut Handle,
-        names: *mut Handle,
-        sender: *const u8,
-        sender_length: usize,
-        words: *const u64,
-        count: usize,
-        books: usize,
-        from: u64,
-        until: u64,
-        out: *mut Answer,
-    );
-    fn reader_ends(reader: *mut Handle, out: *mut Answer);
-    fn reader_words(reader: *mut Handle, names: *mut Handle, words: *mut u64, count: usize, out: *mut Answer);
-    fn names_new(out: *mut Handle) -> bool;
-    fn names_free(names: *mut Handle);
-    fn names_text(names: *mut Handle, number: u64, text: *mut u8, length: usize, out: *mut Answer);
-    fn desk_new(books: usize, out: *mut Handle) -> bool;
-    fn desk_free(desk: *mut Handle);
-    fn desk_admit(desk: *mut Handle, reader: *mut Handle, out: *mut Answer);
-    fn desk_try(desk: *mut Handle, reader: *mut Handle, out: *mut Answer);
-    fn desk_crosses(desk: *mut Handle, reader: *mut Handle, stretch: u64, first: usize, out: *mut Answer);
-    fn desk_take(desk: *mut Handle, flushes: *mut Handle, most: usize, out: *mut Answer);
-    fn desk_take_book(desk: *mut Handle, flushes: *mut Handle, book: usize, most: usize, out: *mut Answer);
-    fn desk_settle(desk: *mut Handle, flushes: *mut Handle) -> u32;
-    fn desk_give_back(desk: *mut Handle, flushes: *mut Handle) -> u32;
-    fn desk_quarantine(desk: *mut Handle, sender: *const u8, length: usize) -> u32;
-    fn desk_lift(desk: *mut Handle, sender: *const u8, length: usize) -> u32;
-    fn desk_close_round(desk: *mut Handle, book: usize, entries: usize) -> bool;
-    fn desk_series(desk: *mut Handle) -> usize;
-    fn desk_report(desk: *mut Handle, flushes: *mut Handle, book: usize, out: *mut Answer);
-    fn flushes_new(out: *mut Handle) -> bool;
-    fn flushes_free(flushes: *mut Handle);
-    fn flushes_text(flushes: *mut Handle, number: usize, out: *mut Answer);
-    fn flushes_copy(flushes: *mut Handle, out: *mut u8, length: usize) -> bool;
-}
 
 /// Reads posts: it has the one that was read last, split into a part for each book.
 pub(super) struct Reader(Handle);
@@ -319,4 +249,87 @@ impl Drop for Flushes {
         // SAFETY: the handle is live, and nobody has it after this.
         unsafe { flushes_free(&mut self.0) };
     }
+}
+
+/// Gives the system back what nobody has of the process' memory, but for what other threads keep.
+pub(super) fn give_back() {
+    give_back_of_thread();
+    // SAFETY: it may be called at any time, by any thread.
+    unsafe { release_free_memory() };
+}
+
+/// Gives all threads the free memory that this one keeps for itself.
+pub(super) fn give_back_of_thread() {
+    // SAFETY: as above.
+    unsafe { mark_thread_idle() };
+}
+
+/// How many bytes of the allocator's the system has back now.
+#[cfg(test)]
+pub(super) fn given_back() -> usize {
+    number(c"tcmalloc.pageheap_unmapped_bytes")
+}
+
+/// How many bytes the process has in blocks now.
+#[cfg(test)]
+pub(super) fn allocated() -> usize {
+    number(c"generic.current_allocated_bytes")
+}
+
+#[cfg(test)]
+fn number(property: &std::ffi::CStr) -> usize {
+    let mut number = 0;
+    // SAFETY: the name ends with a zero, and both are there through the call.
+    let is_known = unsafe { number_of(property.as_ptr(), &mut number) };
+    assert_eq!(is_known, 1, "tcmalloc has this number");
+    number
+}
+
+/// The length that the allocator gave a block, which counts.
+fn length_of(at: *mut libc::c_void) -> usize {
+    // SAFETY: `at` came from malloc or realloc and was not freed.
+    unsafe { libc::malloc_usable_size(at) }
+}
+
+/// A block of so many bytes, aligned to at most 16, as malloc aligns all. One of no bytes has an address of its own.
+#[no_mangle]
+extern "C" fn rattle_alloc(bytes: usize, align: usize) -> Tried {
+    // SAFETY: any number may be asked for.
+    let at = unsafe { libc::malloc(if bytes == 0 { align } else { bytes }) };
+    if at.is_null() {
+        return Tried::not();
+    }
+    if memory::take(length_of(at)) {
+        return Tried::of(at);
+    }
+    // SAFETY: it came from malloc just now, and nobody has it.
+    unsafe { libc::free(at) };
+    Tried::not()
+}
+
+/// Another length for a block, whose first bytes stay. Where that fails the block is as it was.
+#[no_mangle]
+extern "C" fn rattle_realloc(at: *mut u8, _kept: usize, bytes: usize, align: usize) -> Tried {
+    let (at, bytes) = (at.cast(), if bytes == 0 { align } else { bytes });
+    let before = length_of(at);
+    let more = bytes.saturating_sub(before);
+    if more > 0 && !memory::take(more) {
+        return Tried::not();
+    }
+    // SAFETY: the library gives what it has from these functions, and not freed.
+    let moved = unsafe { libc::realloc(at, bytes) };
+    if moved.is_null() {
+        memory::give(more);
+        return Tried::not();
+    }
+    memory::correct(before + more, length_of(moved));
+    Tried::of(moved)
+}
+
+#[no_mangle]
+extern "C" fn rattle_dealloc(at: *mut u8) {
+    let at = at.cast();
+    memory::give(length_of(at));
+    // SAFETY: the library gives what it has from these functions, once.
+    unsafe { libc::free(at) };
 }

@@ -8,6 +8,7 @@ mod lost;
 mod model;
 mod periods;
 mod points;
+mod readers;
 mod rivals;
 mod server;
 mod spans;

@@ -1,0 +1,179 @@
+use super::*;
+
+fn unit(name: &str) -> Unit {
+    Unit::of(name).unwrap()
+}
+
+#[test]
+fn a_metric_is_decided_once() {
+    let units = Units::default();
+    let decide = |metric, own, has_doubles| units.decide(metric, unit(own), has_doubles).name();
+    assert_eq!(decide("a", "s", true), "us");
+    assert_eq!(decide("a", "s", false), "us");
+    assert_eq!(decide("a", "ms", false), "us");
+    assert_eq!([decide("a", "us", true), decide("a", "ns", true)], ["us", "ns"]);
+    assert_eq!(decide("b", "s", false), "s");
+    assert_eq!(decide("b", "s", true), "s");
+    assert_eq!(decide("b", "ms", true), "us");
+    assert_eq!(decide("b", "s", true), "s");
+    assert_eq!(decide("c", "%", true), "[ppm]");
+    assert_eq!(decide("c", "1", false), "[ppm]");
+    assert_eq!(decide("d", "KiBy", true), "By");
+    assert_eq!(decide("d", "kBy", false), "By");
+    assert_eq!(units.decided("e", unit("s")), None);
+    assert!(Unit::of("").is_none() && Unit::of("{request}").is_none());
+}
+
+fn drawn() -> impl FnMut(usize) -> usize {
+    let mut draw = 88_172_645_463_325_252u64;
+    move |most| {
+        draw ^= draw << 13;
+        draw ^= draw >> 7;
+        draw ^= draw << 17;
+        draw as usize % most
+    }
+}
+
+/// What a start begins with; the rules are made once.
+fn fresh(all: &Arc<Units>) -> Units {
+    Units { of_all: None, ..Units::of_slot(all.clone()) }
+}
+
+/// Whatever comes, in whatever order, and whatever of it a start finds: the same unit as before.
+#[test]
+fn what_a_start_finds_decides_as_before() {
+    let (mut next, count, all) = (drawn(), all().count(), Arc::default());
+    for _ in 0..2_000 {
+        let mut units = fresh(&all);
+        let mut taken: HashMap<usize, Unit> = HashMap::new();
+        for _ in 0..40 {
+            let own = Unit(next(count));
+            let found = units.decide("a", own, next(2) == 0);
+            // A post may be refused, or lost by a kill.
+            if next(3) > 0 {
+                let before = *taken.entry(own.0).or_insert(found);
+                assert_eq!(found, before, "{}", own.name());
+            }
+            if next(8) == 0 {
+                units = fresh(&all);
+                taken.values().for_each(|unit| units.note("a", *unit));
+            }
+        }
+    }
+}
+
+/// A metric of one name, and what is on disk of it.
+struct OnDisk {
+    all: Arc<Units>,
+    units: Units,
+    series: Set,
+    beside: Vec<Named>,
+    /// In which unit points were taken, by their own.
+    taken: HashMap<usize, Unit>,
+}
+
+impl OnDisk {
+    fn new(all: &Arc<Units>) -> OnDisk {
+        let (all, units) = (all.clone(), fresh(all));
+        let mut made = OnDisk { all, units, series: 0, beside: Vec::new(), taken: HashMap::new() };
+        made.start();
+        made
+    }
+
+    fn start(&mut self) {
+        self.units = fresh(&self.all);
+        self.units.begin(self.beside.iter().map(|(metric, unit)| (metric.to_string(), *unit)));
+        units_of(self.series).for_each(|unit| self.units.note("a", unit));
+        let left = self.units.settle();
+        self.beside.retain(|one| !left.contains(one));
+    }
+
+    fn post(&mut self, own: Unit, has_doubles: bool, is_taken: bool) {
+        let found = self.units.decide("a", own, has_doubles);
+        if is_taken {
+            self.series |= bit(found);
+            let before = *self.taken.entry(own.0).or_insert(found);
+            assert_eq!(found, before, "{}", own.name());
+        }
+    }
+
+    fn post_by_rule(&mut self, unit: Unit, is_taken: bool) {
+        self.units.note_of_rule("a", unit);
+        if is_taken {
+            let unkept = self.units.unkept();
+            self.units.kept(&unkept);
+            self.beside.extend(unkept);
+            self.series |= bit(unit);
+        }
+        assert!(!is_taken || !self.units.has_unkept());
+    }
+
+    fn forget(&mut self, unit: Unit) {
+        self.series &= !bit(unit);
+        self.taken.retain(|_, taken| *taken != unit);
+    }
+}
+
+/// The same where rules bring units between, posts are refused or lost by a kill, and series are forgotten.
+#[test]
+fn what_rules_bring_between_decides_nothing_behind_a_start_either() {
+    let (mut next, count, all) = (drawn(), all().count(), Arc::default());
+    let mut beside = 0;
+    for _ in 0..3_000 {
+        let mut disk = OnDisk::new(&all);
+        for _ in 0..60 {
+            let (unit, is_taken) = (Unit(next(count)), next(3) > 0);
+            match next(10) {
+                0..=4 => disk.post(unit, next(2) == 0, is_taken),
+                5..=7 => disk.post_by_rule(unit, is_taken),
+                8 => disk.forget(unit),
+                _ => disk.start(),
+            }
+        }
+        beside += disk.beside.len();
+    }
+    assert!(beside > 3_000, "{beside}");
+}
+
+#[test]
+fn what_is_beside_nothing_any_more_decides_again() {
+    for (found, left, decided) in [(&["ms", "us"][..], &["b"][..], "us"), (&["ms"], &["a", "b"], "ms")] {
+        let units = Units::default();
+        units.begin(["a", "b"].map(|metric| (metric.to_string(), unit("ms"))));
+        found.iter().for_each(|name| units.note("a", unit(name)));
+        let mut names: Vec<_> = units.settle().into_iter().map(|(metric, _)| metric).collect();
+        names.sort();
+        assert_eq!(names, left.iter().map(|name| (*name).into()).collect::<Vec<Box<str>>>());
+        let decide = |metric, own| units.decide(metric, unit(own), false).name();
+        assert_eq!([decide("a", "s"), decide("b", "ms")], [decided, "ms"]);
+    }
+}
+
+#[test]
+fn a_slot_decides_by_what_it_has_and_else_as_the_others_here() {
+    let all = Arc::new(Units::default());
+    let slot = || Units::of_slot(all.clone());
+    let (one, other) = (slot(), slot());
+    assert!(one.number > 0 && other.number > one.number);
+    let decide = |units: &Units, own, has_doubles| units.decide("a", unit(own), has_doubles).name();
+    assert_eq!(decide(&one, "s", true), "us");
+    assert_eq!(decide(&other, "s", false), "us", "as the first one");
+    // It comes back from an instance where it was taken otherwise.
+    let back = slot();
+    back.note("a", unit("s"));
+    assert_eq!(decide(&back, "s", true), "s");
+    assert_eq!([decide(&one, "s", false), decide(&other, "s", true)], ["us", "us"]);
+    // What another slot has since been found to have changes nothing of a slot that has decided.
+    let late = slot();
+    late.note("a", unit("ms"));
+    assert_eq!(["s", "ms"].map(|own| decide(&one, own, false)), ["us", "us"]);
+    assert_eq!(["s", "ms"].map(|own| decide(&back, own, false)), ["s", "ms"]);
+}
+
+#[test]
+fn there_is_a_bound_for_names() {
+    let units = Units::default();
+    units.write().left = 2 * (ENTRY + 1);
+    let decide = |metric| units.decide(metric, unit("s"), true).name();
+    assert_eq!(["a", "b", "c", "a", "c"].map(decide), ["us", "us", "s", "us", "s"]);
+}
