@@ -33,9 +33,11 @@ struct Own {
     forwards: Cell<bool>,
     /// How many blocks it was refused.
     refusals: Cell<u64>,
-    /// So many more are given; then one is refused.
+    /// So many more are given; then one is refused, or all are.
     #[cfg(test)]
     left: Cell<Option<u64>>,
+    #[cfg(test)]
+    refuses_all: Cell<bool>,
 }
 
 impl Own {
@@ -46,6 +48,8 @@ impl Own {
             refusals: Cell::new(0),
             #[cfg(test)]
             left: Cell::new(None),
+            #[cfg(test)]
+            refuses_all: Cell::new(false),
         }
     }
 
@@ -86,8 +90,11 @@ impl Own {
     #[cfg(test)]
     fn is_told_to_fail(&self) -> bool {
         let left = self.left.get();
-        self.left.set(left.and_then(|left| left.checked_sub(1)));
-        left == Some(0)
+        let is_last = left == Some(0);
+        if !(is_last && self.refuses_all.get()) {
+            self.left.set(left.and_then(|left| left.checked_sub(1)));
+        }
+        is_last
     }
 }
 
@@ -174,16 +181,15 @@ pub fn used() -> (u64, u64) {
     (USED.load(Relaxed).max(0).unsigned_abs(), MOST.load(Relaxed).unsigned_abs())
 }
 
-/// From now on this thread gets so many more blocks, and then one is refused.
+/// What a call says while this thread gets so many blocks, and then one is refused, or all are; and whether none was refused.
 #[cfg(test)]
-pub(crate) fn fail_after(blocks: Option<u64>) {
-    OWN.with(|own| own.left.set(blocks));
-}
-
-/// Whether that one is still to come.
-#[cfg(test)]
-pub(crate) fn is_to_fail() -> bool {
-    OWN.with(|own| own.left.get().is_some())
+pub(crate) fn with_blocks<T>(blocks: u64, refuses_all: bool, call: impl FnOnce() -> T) -> (T, bool) {
+    let set = |left| OWN.with(|own| (own.left.set(left), own.refuses_all.set(refuses_all)));
+    let before = refusals();
+    set(Some(blocks));
+    let done = call();
+    set(None);
+    (done, refusals() == before)
 }
 
 /// Whether there is a block, and where. Where there is none the address is that of a byte which is always there.

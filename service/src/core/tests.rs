@@ -4,6 +4,7 @@ use super::*;
 use crate::otlp::series::{forwarded, Value};
 use std::collections::BTreeMap;
 
+mod blocks;
 mod points;
 mod protobuf;
 mod rounds;
@@ -150,21 +151,29 @@ fn the_allocator_is_the_linked_one() {
     assert!(maps.contains("/libtcmalloc_minimal.so"), "{maps}");
 }
 
-/// Lets each block that a call asks for fail in turn, until it needs no more: how many failed. It is tried again then.
+/// Gives so many blocks, one more each time, before one is refused, or all are: how many there are once none was refused.
+fn blocks_until(mut all_were_given: impl FnMut(u64, bool) -> bool) -> u64 {
+    let forms = |blocks| [(blocks, false), (blocks, true)];
+    let given = (0..).flat_map(forms).find(|(blocks, refuses_all)| all_were_given(*blocks, *refuses_all));
+    given.unwrap().0
+}
+
+/// Refuses each block that a call asks for in turn, until it needs no more: how many there were. It is tried again then.
 fn each_block_fails<T>(does_without: bool, mut call: impl FnMut() -> Result<T, Refused>) -> (u64, T) {
-    for blocks in 0.. {
-        memory::fail_after(Some(blocks));
-        let done = call();
-        let all_were_given = memory::is_to_fail();
-        memory::fail_after(None);
+    let mut whole = None;
+    let blocks = blocks_until(|blocks, refuses_all| {
+        let (done, all_were_given) = memory::with_blocks(blocks, refuses_all, &mut call);
         match done {
-            Ok(done) if all_were_given => return (blocks, done),
+            Ok(done) if all_were_given => whole = Some(done),
             // A reader keeps what it has room for.
             Ok(_) => assert!(does_without, "a block was refused, and it was done all the same"),
-            Err(refused) => assert_eq!(refused, Refused::NoMemory, "after {blocks} blocks"),
+            Err(refused) => {
+                assert_eq!((refused, all_were_given), (Refused::NoMemory, false), "{blocks} blocks")
+            }
         }
-    }
-    unreachable!()
+        all_were_given
+    });
+    (blocks, whole.unwrap())
 }
 
 #[test]
@@ -176,22 +185,15 @@ fn a_block_that_is_refused_changes_nothing() {
     let read = || core.read("A".into(), body.clone().into());
     let (blocks, _) = each_block_fails(true, read);
     assert!(blocks > 10, "{blocks} blocks to read");
-    let admit = |fails: u64| {
+    let blocks = blocks_until(|blocks, refuses_all| {
         let mut read = read().unwrap();
-        memory::fail_after(Some(fails));
-        let admitted = check(core.lock().desk.admit(read.reader.as_mut().unwrap()));
-        let all_were_given = memory::is_to_fail();
-        memory::fail_after(None);
-        (admitted.map(drop), all_were_given)
-    };
-    let blocks = (0..).find(|blocks| match admit(*blocks) {
-        (Ok(()), all_were_given) => all_were_given,
-        (Err(refused), _) => {
-            assert_eq!((refused, core.lock().series()), (Refused::NoMemory, 6));
-            false
-        }
+        let admit = || check(core.lock().desk.admit(read.reader.as_mut().unwrap())).map(drop);
+        let (admitted, all_were_given) = memory::with_blocks(blocks, refuses_all, admit);
+        let (wanted, series) = if all_were_given { (Ok(()), 12) } else { (Err(Refused::NoMemory), 6) };
+        assert_eq!((admitted, core.lock().series()), (wanted, series));
+        all_were_given
     });
-    assert!(blocks > Some(5), "{blocks:?} blocks to admit");
+    assert!(blocks > 5, "{blocks} blocks to admit");
     let (blocks, mut flushed) = each_block_fails(false, || core.lock().take_all());
     assert!(blocks > 5, "{blocks} blocks to take");
     let mut all = BTreeMap::new();

@@ -243,10 +243,7 @@ fn where_a_block_is_refused_a_text_has_no_numbers_and_no_other_has() {
     loop {
         let by = Names::new().unwrap();
         let mut read = core.read("A".into(), points(&all, 10 + 10 * blocks, 1).into()).unwrap();
-        memory::fail_after(Some(blocks));
-        let is_numbered = read.number(&by, |_| true);
-        let all_were_given = memory::is_to_fail();
-        memory::fail_after(None);
+        let (is_numbered, all_were_given) = memory::with_blocks(blocks, false, || read.number(&by, |_| true));
         assert_eq!(by.are_closed(), !is_numbered, "{blocks}");
         assert_eq!(matches!(read.post.body, Body::Points(_)), is_numbered, "{blocks}");
         core.lock().admit(&mut read).unwrap();
@@ -308,10 +305,7 @@ fn where_a_block_is_refused_a_series_gets_its_number_later() {
     for blocks in 0.. {
         let by = Names::new().unwrap();
         let mut read = core.read("A".into(), points(&all, 10, 0).into()).unwrap();
-        memory::fail_after(Some(blocks));
-        read.note(&by);
-        let all_were_given = memory::is_to_fail();
-        memory::fail_after(None);
+        let ((), all_were_given) = memory::with_blocks(blocks, false, || read.note(&by));
         for name in &all {
             let number = by.number_of(points(std::slice::from_ref(name), 1, 0).as_bytes()).unwrap();
             assert!(number < 20 && name_of(&by, number) == *name, "{blocks}");

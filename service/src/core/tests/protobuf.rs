@@ -76,11 +76,9 @@ fn where_a_block_is_refused_protobuf_is_read_whole_or_left() {
     loop {
         let by = Names::new().unwrap();
         let one = body(&all, 10 + 10 * blocks, 1);
-        memory::fail_after(Some(blocks));
-        let found = read(&core, &by, "A", one.clone());
-        let all_were_given = memory::is_to_fail();
-        memory::fail_after(None);
-        let found = found.or_else(|| read(&core, &by, "A", one));
+        let read_one = || read(&core, &by, "A", one.clone());
+        let (found, all_were_given) = memory::with_blocks(blocks, false, read_one);
+        let found = found.or_else(read_one);
         assert_eq!(found.is_none(), by.are_closed(), "{blocks}");
         if let Some(mut read) = found {
             assert_eq!((read.points(), read.post.foreign), (20, 0));

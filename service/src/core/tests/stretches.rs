@@ -174,14 +174,12 @@ fn a_post_of_several_hours_is_whole_also_without_memory() {
     put(&core, &by, "A", of(&[(0, HOUR / 2, 1), (1, HOUR / 2, 1)])).unwrap();
     let lump = of(&[(0, 2 * HOUR, 1), (1, 3 * HOUR, 1), (2, 4 * HOUR, 1)]);
     let mut half = 0;
-    for blocks in 0.. {
+    blocks_until(|blocks, refuses_all| {
         let mut read = core.read_points("A".into(), lump.clone(), by.clone(), 0).unwrap();
-        memory::fail_after(Some(blocks));
-        let admitted = core.lock().admit(&mut read);
-        let is_over = memory::is_to_fail();
-        memory::fail_after(None);
+        let admit = || core.lock().admit(&mut read);
+        let (admitted, all_were_given) = memory::with_blocks(blocks, refuses_all, admit);
         match admitted {
-            Ok(()) if is_over => break,
+            Ok(()) if all_were_given => return true,
             Ok(()) | Err(Refused::HalfTaken) => {
                 // The book of a service that ends: another one takes its place.
                 half += usize::from(admitted.is_err());
@@ -191,7 +189,8 @@ fn a_post_of_several_hours_is_whole_also_without_memory() {
             }
             Err(refused) => assert_eq!(refused, Refused::NoMemory),
         }
-    }
+        false
+    });
     assert!(half > 0);
     let sums = sums(group(&core));
     assert!(sums.len() == 5 && sums.values().all(|sum| *sum == 1), "{sums:?}");
