@@ -18,9 +18,10 @@ The last line counts the runs that passed and failed, and the status is 0 where 
 """
 import copy
 import sys
+import tempfile
 from collections.abc import Callable
 
-from testing.alloc_failures import Refusing, Run, program_named, refuse_each
+from testing.alloc_failures import Counts, Refusing, Run, in_turn, program_named
 from testing.loopback import NO_MEMORY, BackEnd, Gateway, ordered, point, posted, response, sent_points
 
 JSON = b"application/json"
@@ -210,11 +211,18 @@ def way_of(answers: list[bytes | str], bodies: list[list[tuple[int, int, int]]],
 
 
 def main(program: str) -> int:
-    def run_once(refusing: Refusing, growth: int, form: str) -> tuple[Run, str | None, object]:
-        answers, bodies, run = exchange_all(refusing, program, growth, form)
-        return run, *way_of(answers, bodies, run, form)
+    counts = Counts("gateway")
+    with tempfile.TemporaryDirectory() as folder:
+        refusing = Refusing(folder)
 
-    return refuse_each("gateway", run_once)
+        def run_once(growth: int, form: str) -> Run:
+            answers, bodies, run = exchange_all(refusing, program, growth, form)
+            way, fault = way_of(answers, bodies, run, form)
+            counts.add(run, way, f"growth {growth} {form}: {fault}")
+            return run
+
+        in_turn(run_once)
+    return counts.end()
 
 
 if __name__ == "__main__":

@@ -5,18 +5,23 @@ Call: tests/alloc_failures_play.py PROGRAM [SCRIPT..], with the path of the buil
 
 For each tests/scripts/NAME.script, and each k from 1 until a run meets no refusal, it runs the script
 while growth k alone is refused, and while all from k on are. The full run writes NAME.replies. Two
-lines are put behind each script, which show what the store has at its end.
+lines are put behind each script, which show what the store has at its end. In whose line growth k is,
+a full run counts.
   - A run that met no refusal is the full run.
-  - Else some lines, with k alone at most one, are answered `refused no-memory`, and the others as in a
-    run of the script without those lines; a `wire` may also have taken its flush and given it back.
-  - Or the run ends with `play: no memory` after whole replies, which are those of such a run.
-  - Or each line is answered as in the full run, where the program can do without what it was refused.
+  - With all from k on refused the run ends with `play: no memory` behind the replies to the lines
+    before, which are those of the full run.
+  - With k alone it ends so too, where the reply's text was refused. Or the line is answered `refused
+    no-memory`, where it may take memory, and the others as in a run of the script without it; a `wire`
+    may also have taken its flush and given it back. Or all are answered as in the full run, where the
+    line's command can do without. So a call that takes no memory has no growth but that of its reply.
 Where growth k alone has a line refused, the script is run once more with that line twice. The second time
 it is answered in full, and so are all others: as in the full run, but for what a `wire` has given back.
 The last line counts the runs that passed and failed, and the status is 0 where none failed.
 """
 from __future__ import annotations
 
+import bisect
+import collections
 import concurrent.futures
 import glob
 import itertools
@@ -24,7 +29,6 @@ import os
 import re
 import sys
 import tempfile
-from collections.abc import Sequence
 
 from testing import TESTS
 from testing.alloc_failures import FORMS, Counts, Refusing, Run, plain, program_named
@@ -32,6 +36,10 @@ from testing.alloc_failures import FORMS, Counts, Refusing, Run, plain, program_
 PROBE = [b"report", b"take 1000"]
 NO_MEMORY = b"refused no-memory\n"
 TAKES_MEMORY = {b"admit", b"post", b"take", b"wire", b"report", b"hold", b"lift", b"round", b"past"}
+# What gives back the room that an identity does not need, or asks for that of all points at once.
+DOES_WITHOUT = {b"admit", b"post"}
+# So many growths are that of all points of a body: without it each point asks for its own.
+ROOM = 2
 
 
 def lines_of(text: bytes) -> list[bytes]:
@@ -43,40 +51,12 @@ def verb(line: bytes) -> bytes:
     return line.split(b" ")[0]
 
 
-def reply_lines(line: bytes, texts: list[bytes]) -> int:
-    """How many lines the reply has to this line of a script, if these lines of text begin with it."""
-    first = texts[0]
-    if verb(line) in (b"report", b"past") and not first.startswith((b"refused ", b"bad ")):
-        return texts.index(b"end\n") + 1 if b"end\n" in texts else len(texts) + 1
-    if verb(line) == b"take" and first.startswith(b"flush "):
-        return 1 + int(first.split(b" ")[3])
-    if verb(line) == b"wire" and first.startswith(b"flush "):
-        return 2
-    return 1
-
-
-def replies_of(script: list[bytes], text: bytes) -> tuple[list[bytes], bytes]:
-    """The replies to the first lines of the script, as many as there are whole, and the text behind them."""
-    texts = text.splitlines(keepends=True)
-    replies: list[bytes] = []
-    for line in script:
-        count = reply_lines(line, texts) if texts else 1
-        if count > len(texts) or not texts[count - 1].endswith(b"\n"):
-            break
-        replies.append(b"".join(texts[:count]))
-        texts = texts[count:]
-    return replies, b"".join(texts)
-
-
-def refused_of(replies: list[bytes]) -> list[int]:
-    """The places of the lines that found no memory."""
-    return [place for place, reply in enumerate(replies) if reply == NO_MEMORY]
-
-
 class Player:
-    """A script with its full run, its runs without some lines, and itself with a line twice."""
+    """A script with its full run, its runs without a line, and itself with a line twice."""
 
-    def __init__(self, program: str, name: str, script: list[bytes], size: int | None = None) -> None:
+    def __init__(self, refusing: Refusing, program: str, name: str, script: list[bytes],
+                 size: int | None = None) -> None:
+        self.refusing = refusing
         self.program = program
         self.name = name
         # A last line, which is no command, makes the input as long as that of a script with a line twice.
@@ -85,80 +65,82 @@ class Player:
         self.size = size
         self.script = script + [pad]
         self.given = b"".join(line + b"\n" for line in self.script)
-        self.known: dict[tuple[tuple[int, ...], tuple[int, ...]], list[bytes]] = {}
+        counted = self.counted(self.script)
+        self.growths = [growths for growths, _ in counted]
+        self.replies = [reply for _, reply in counted]
+        self.known: dict[int, list[bytes]] = {}
         self.twice: dict[int, Player] = {}
-        self.full = plain([program], self.given)
+
+    def counted(self, lines: list[bytes]) -> list[tuple[int, bytes]]:
+        """The reply to each line, with how many growths there were before it was written: each is one write."""
+        pieces = self.refusing.counted([self.program], b"".join(line + b"\n" for line in lines))
+        assert len(pieces) == len(lines), self.name
+        return pieces
+
+    def run(self, growth: int, form: str) -> Run:
+        return self.refusing.run([self.program], self.given, growth, form)
+
+    def place_of(self, growth: int) -> int:
+        """The place of the line that has this growth."""
+        return bisect.bisect_left(self.growths, growth)
 
     def with_twice(self, place: int) -> Player:
         """The script with the line at this place twice."""
         if place not in self.twice:
             lines = self.script[:-1]
             script = lines[:place + 1] + lines[place:]
-            self.twice[place] = Player(self.program, f"{self.name} with line {place} twice", script, self.size)
+            name = f"{self.name} with line {place} twice"
+            self.twice[place] = Player(self.refusing, self.program, name, script, self.size)
         return self.twice[place]
 
-    def replies(self, lines: list[bytes]) -> list[bytes]:
-        text = b"".join(line + b"\n" for line in lines)
-        run = plain([self.program], text)
-        replies, rest = replies_of(lines, run.out)
-        assert run.status == 0 and not rest and len(replies) == len(lines), self.name
-        return replies
+    def stand_ins(self, place: int) -> list[list[bytes]]:
+        """What the line at this place may have done where it was refused: nothing, or, of a `wire`, a Take and
+        its GiveBack."""
+        flush = re.match(rb"flush (\d+)\n", self.replies[place])
+        if verb(self.script[place]) != b"wire" or not flush:
+            return [[]]
+        return [[], [b"take" + self.script[place][4:], b"back " + flush[1]]]
 
-    def taken_back(self, before: list[bytes], line: bytes) -> list[bytes]:
-        """The Take of a `wire` and its GiveBack, behind these lines."""
-        take = b"take" + line[4:]
-        flush = re.match(rb"flush (\d+) ", self.replies(before + [take])[-1])
-        return [take, b"back " + flush[1]] if flush else []
+    def refused(self, place: int) -> list[bytes]:
+        """What the script may write where the line at this place alone is refused."""
+        if place not in self.known:
+            self.known[place] = []
+            before, after = self.script[:place], self.script[place + 1:]
+            for stand_in in self.stand_ins(place):
+                replies = [reply for _, reply in self.counted(before + stand_in + after)]
+                whole = replies[:place] + [NO_MEMORY] + replies[place + len(stand_in):]
+                self.known[place].append(b"".join(whole))
+        return self.known[place]
 
-    def without(self, refused: Sequence[int], back: Sequence[int]) -> list[bytes]:
-        """The replies of the script without the refused lines, but for those of which a flush goes back."""
-        key = (tuple(refused), tuple(back))
-        if key not in self.known:
-            lines: list[bytes] = []
-            ours: list[bool] = []
-            for place, line in enumerate(self.script):
-                stand_in = [line] if place not in refused else []
-                if place in back:
-                    stand_in = self.taken_back(lines, line)
-                lines += stand_in
-                ours += [place not in refused] * len(stand_in)
-            others = iter([r for r, our in zip(self.replies(lines), ours) if our])
-            self.known[key] = [NO_MEMORY if place in refused else next(others)
-                               for place in range(len(self.script))]
-        return self.known[key]
-
-    def is_possible(self, replies: list[bytes], refused: Sequence[int]) -> bool:
-        wires = [place for place in refused if verb(self.script[place]) == b"wire"]
-        choices = itertools.chain.from_iterable(
-            itertools.combinations(wires, count) for count in range(len(wires) + 1))
-        return any(self.without(refused, back)[:len(replies)] == replies for back in choices)
-
-    def way_of(self, run: Run, form: str) -> tuple[str | None, str | None]:
-        """In which way the run ended, and what is wrong where it is none of them."""
+    def way_of(self, run: Run, growth: int, form: str) -> tuple[str | None, str | None]:
+        """In which way the run ended in which this growth was to be refused, and what is wrong where it is none."""
+        full = (0, b"".join(self.replies), b"")
+        ended = (run.status, run.out, run.err)
         if run.refused == 0:
-            same = (run.status, run.out, run.err) == (0, self.full.out, b"")
-            return ("without refusal", None) if same else (None, "no refusal, but not the full run")
-        ended = (run.status, run.err) == (1, b"play: no memory\n")
-        if not ended and (run.status, run.err) != (0, b""):
-            return None, f"status {run.status}, standard error {run.err!r}"
-        replies, rest = replies_of(self.script, run.out)
-        if rest or (len(replies) < len(self.script)) != ended:
-            return None, f"{len(replies)} whole replies, and then {rest!r}"
-        refused = refused_of(replies)
-        if len(refused) > 1 and form == "alone":
-            return None, f"lines {refused} are refused"
-        if any(verb(self.script[place]) not in TAKES_MEMORY for place in refused):
-            return None, f"of the lines {refused} one takes no memory"
-        if not self.is_possible(replies, refused):
-            return None, f"not the replies of the script without the lines {refused}: {replies}"
-        return ("ended" if ended else "refused a line" if refused else "did without"), None
+            return ("without refusal", None) if ended == full else (None, "no refusal, but not the full run")
+        place = self.place_of(growth)
+        if ended == (1, b"".join(self.replies[:place]), b"play: no memory\n"):
+            return "ended", None
+        command = verb(self.script[place]) if place < len(self.script) else b""
+        if form == "alone" and ended == full and command in DOES_WITHOUT:
+            return "did without", None
+        if form == "alone" and command in TAKES_MEMORY and ended in [(0, out, b"") for out in self.refused(place)]:
+            return "refused a line", None
+        return None, f"not what may be where line {place} finds no memory: {ended}"
 
-    def made_again(self, run: Run, place: int) -> tuple[str | None, str | None]:
-        """As `way_of`, of a run in which the line at this place is to be refused, and is made again."""
-        way, fault = self.way_of(run, "alone")
-        if way == "refused a line" and refused_of(replies_of(self.script, run.out)[0]) == [place]:
-            return "refused a line and made it again", None
-        return None, fault or f"not line {place} alone is refused: {run.out!r}"
+    def bodies(self) -> list[int]:
+        """The places of the bodies that are admitted."""
+        lines = enumerate(zip(self.script, self.replies))
+        return [place for place, (line, reply) in lines if verb(line) == b"post" and reply.startswith(b"batch ")]
+
+
+def play_again(counts: Counts, player: Player, growth: int) -> None:
+    """The run of the script with the line twice that this growth alone has refused."""
+    twice = player.with_twice(player.place_of(growth))
+    run = twice.run(growth, "alone")
+    way, fault = twice.way_of(run, growth, "alone")
+    made_again = "refused a line and made it again" if way == "refused a line" else None
+    counts.add(run, made_again, f"{twice.name}, growth {growth}: {fault or way}")
 
 
 def play_all(refusing: Refusing, counts: Counts, program: str, path: str) -> None:
@@ -168,23 +150,23 @@ def play_all(refusing: Refusing, counts: Counts, program: str, path: str) -> Non
         script = lines_of(file.read())
     with open(path.removesuffix(".script") + ".replies", "rb") as file:
         wanted = file.read()
-    player = Player(program, name, script + PROBE)
+    player = Player(refusing, program, name, script + PROBE)
     whole = plain([program], b"\n".join(script) + b"\n" if script else b"")
     is_right = (whole.status, whole.out, whole.err) == (0, wanted, b"")
     counts.add(whole, "without refusal" if is_right else None, f"{name}: {whole.out!r}")
+    done_without: collections.Counter[int] = collections.Counter()
     for form in FORMS:
         for growth in itertools.count(1):
-            run = refusing.run([program], player.given, growth, form)
-            way, fault = player.way_of(run, form)
+            run = player.run(growth, form)
+            way, fault = player.way_of(run, growth, form)
             counts.add(run, way, f"{name}, growth {growth} {form}: {fault}")
-            if way == "refused a line" and form == "alone":
-                [place] = refused_of(replies_of(player.script, run.out)[0])
-                twice = player.with_twice(place)
-                run = refusing.run([program], twice.given, growth)
-                way, fault = twice.made_again(run, place)
-                counts.add(run, way, f"{twice.name}, growth {growth}: {fault}")
+            done_without[player.place_of(growth)] += way == "did without"
+            if way == "refused a line":
+                play_again(counts, player, growth)
             if run.refused == 0 or run.status == "no end":
                 break
+    without_room = [place for place in player.bodies() if done_without[place] < ROOM]
+    counts.add(whole, None if without_room else "without refusal", f"{name}: lines {without_room} want room for all points")
 
 
 def main(program: str, *paths: str) -> int:

@@ -24,7 +24,6 @@ from tooling.steps import Failed, Step, Steps, end_of, end_of_lines, locked, sho
 
 PLAY = "crates/play/out/play"
 GATEWAY = "crates/gateway/out/gateway"
-ALLOC_FAILURES = "crates/alloc_failures/out/alloc_failures"
 # What the service is linked with. The prover's part proves it, and leaves no library.
 BOOK = "book_c"
 LIBRARY = f"crates/{BOOK}/out/lib{BOOK}.a"
@@ -39,7 +38,6 @@ STEPS = (
     ("protobuf_bodies.py", f"{GATEWAY} gateway", 10, False),
     ("alloc_failures_gateway.py", GATEWAY, 10, False),
     ("play_model.py", PLAY, 10, False),
-    ("alloc_failures_libraries.py", ALLOC_FAILURES, 5, False),
     ("gateway_rehearses.py", GATEWAY, 5, False),
     ("hostile_input.py", GATEWAY, 5, False),
     ("sizes.py", PLAY, 3, False),

@@ -7,7 +7,6 @@ import os
 import re
 import subprocess
 import sys
-import tempfile
 import threading
 from collections.abc import Callable, Sequence
 from typing import NamedTuple
@@ -57,13 +56,13 @@ class Refusing:
             found = None
         return (int(found[1]), int(found[2])) if found else (None, None)
 
-    def counted(self, words: Sequence[str]) -> list[tuple[int, bytes]]:
+    def counted(self, words: Sequence[str], given: bytes) -> list[tuple[int, bytes]]:
         """What a run without a refusal writes to standard output, piece by piece, each with how many growths
         there were before it was written."""
-        path = os.path.join(self.folder, "writes")
+        path = os.path.join(self.folder, f"writes{threading.get_ident()}")
         environment = dict(self.environment(0, "alone"), REFUSE_WRITES=path)
-        out = subprocess.run(words, stdout=subprocess.PIPE, timeout=SECONDS, env=environment, check=True).stdout
-        pieces = []
+        done = subprocess.run(words, input=given, stdout=subprocess.PIPE, timeout=SECONDS, env=environment, check=True)
+        out, pieces = done.stdout, []
         with open(path) as file:
             for growths, size in re.findall(r"growths (\d+) bytes (\d+)\n", file.read()):
                 pieces.append((int(growths), out[:int(size)]))
@@ -92,29 +91,10 @@ def program_named(words: Sequence[str], more: str = "") -> str:
     return words[0]
 
 
-def refuse_each(what: str, run_once: Callable[[Refusing, int, str], tuple[Run, str | None, object]],
-                check: Callable[[Refusing, Counts], None] | None = None) -> int:
-    """Calls run_once(refusing, growth, form), which returns a run, its way and what is wrong with it, for each
-    growth of the full run and those behind it, and before them check(refusing, counts). Returns the script's
-    status."""
-    counts = Counts(what)
-
-    def count_once(growth: int, form: str) -> Run:
-        run, way, fault = run_once(refusing, growth, form)
-        counts.add(run, way, f"growth {growth} {form}: {fault}")
-        return run
-
-    with tempfile.TemporaryDirectory() as folder:
-        refusing = Refusing(folder)
-        if check:
-            check(refusing, counts)
-        in_turn(count_once(0, "alone").growths or 0, count_once)
-    return counts.end()
-
-
-def in_turn(growths: int, run_once: Callable[[int, str], Run]) -> None:
+def in_turn(run_once: Callable[[int, str], Run]) -> None:
     """Makes a run for each growth of the full run and each form, side by side, and then for later growths
     until a run meets no refusal."""
+    growths = run_once(0, "alone").growths or 0
     for form in FORMS:
         with concurrent.futures.ThreadPoolExecutor(os.cpu_count()) as pool:
             list(pool.map(run_once, range(1, growths + 1), itertools.repeat(form)))
