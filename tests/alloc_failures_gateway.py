@@ -36,6 +36,16 @@ CHUNKED = (b"POST /v1/metrics HTTP/1.1\r\nContent-Type: application/json\r\nTran
            b"2\r\n{}\r\n0\r\n\r\n")
 FOREIGN = (b'{"resourceMetrics":[{"scopeMetrics":[{"metrics":[{"name":"g","gauge":{"dataPoints":['
            b'{"asInt":"1","timeUnixNano":"20"},{"asDouble":1.5,"timeUnixNano":"20"}]}}]}]}]}')
+# A histogram and a sum with attributes of each kind, and a point of the sum `a`.
+MIXED = (b'{"resourceMetrics":[{"resource":{"attributes":[{"key":"host","value":{"stringValue":"h"}}]},"scopeMetrics":['
+         b'{"scope":{"name":"s","version":"1"},"metrics":[{"name":"h","unit":"ms","histogram":{'
+         b'"aggregationTemporality":1,"dataPoints":[{"count":"7","sum":30,"explicitBounds":[0,5,10],'
+         b'"bucketCounts":["1","2","0","4"],"startTimeUnixNano":"10","timeUnixNano":"20"}]}},'
+         b'{"name":"m","sum":{"aggregationTemporality":1,"dataPoints":[{"attributes":['
+         b'{"key":"b","value":{"intValue":"1"}},{"key":"a","value":{"arrayValue":{"values":['
+         b'{"stringValue":"x"},{"boolValue":true},{}]}}}],"asInt":"5","startTimeUnixNano":"10",'
+         b'"timeUnixNano":"20"}]}}]}]},{"scopeMetrics":[{"metrics":[{"name":"a","sum":{"aggregationTemporality":1,'
+         b'"isMonotonic":true,"dataPoints":[{"asInt":"1","startTimeUnixNano":"30","timeUnixNano":"40"}]}}]}]}]}')
 PARTIAL = b'{"partialSuccess":{"errorMessage":"points outside the profile","rejectedDataPoints":"2"}}'
 MOST = 2**63 - 1
 
@@ -50,11 +60,12 @@ class Store:
         self.quarantined: set[str] = set()
         self.sent: list[list[tuple[int, int, int]]] = []
 
-    def post(self, start: int, end: int, value: int, sender: str = "A") -> bytes:
+    def post(self, start: int, end: int, value: int, sender: str = "A", place: int = 0) -> bytes:
+        """A post of a point, which has this place among those of its body."""
         if sender in self.quarantined:
             return response(b"403 Forbidden", JSON, b'{"message":"quarantined"}')
         if self.owner not in (None, sender):
-            return response(FAULT, JSON, b'{"message":"other writer: point 0"}')
+            return response(FAULT, JSON, f'{{"message":"other writer: point {place}"}}'.encode())
         if start < self.frontier:
             text = f'{{"message":"out of order: point 0, frontier {self.frontier}"}}'
             return response(FAULT, JSON, text.encode())
@@ -118,7 +129,7 @@ EXCHANGES: list[Exchange] = [
     (ordered("POST /flush"), Store.flush, True),
     (posted(point(20, 30, 7) + BLANKS), lambda store: store.post(20, 30, 7), False),
     (ordered("POST /quarantine/B"), Store.quarantine, False),
-    (posted(point(30, 40, 1), "B"), lambda store: store.post(30, 40, 1, "B"), False),
+    (posted(MIXED, "B"), lambda store: store.post(30, 40, 1, "B", 2), False),
     (posted(point(10, 20, 5)), lambda store: store.post(10, 20, 5), False),
     (ordered("POST /flush"), Store.flush, True),
     (posted(b"[1"), lambda store: response(FAULT, JSON, b'{"message":"not JSON"}'), False),
