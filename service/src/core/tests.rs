@@ -5,6 +5,7 @@ use crate::otlp::series::{forwarded, Value};
 use std::collections::BTreeMap;
 
 mod blocks;
+mod bodies;
 mod points;
 mod protobuf;
 mod rounds;

@@ -1,6 +1,6 @@
 use Rattle.std.proofs.lemmas.Option.{IfSome_then}
-use Rattle.protobuf_tests.proofs.Alone.{forwarded_alone}
-use Rattle.protobuf_tests.proofs.forward.forward_alone.Goals as goal
+use Rattle.forward_law.proofs.Alone.{forwarded_alone}
+use Rattle.forward_law.proofs.book.forward_alone.Goals as goal
 
 pub returns : goal.returns
 returns c =

@@ -2,7 +2,7 @@
 //! these say is proved from the contracts of the calls alone.
 
 ghost use Rattle.std.specs.Prelude.{IfSome};
-ghost use Rattle.desk_tests.specs.Forward.{IsForwarded};
+ghost use Rattle.forward_law.specs.Books.{IsForwarded};
 
 use book_desk::desk::Desk;
 use book_desk::flushes::Flushes;

@@ -3,7 +3,7 @@
 
 ghost use Rattle.std.specs.Prelude.{IfSome};
 ghost use Rattle.delta_book.specs.Journal.{history};
-ghost use Rattle.protobuf_tests.specs.Forward.{IsForwarded, IsSummed};
+ghost use Rattle.forward_law.specs.Book.{IsForwarded, IsSummed};
 
 use delta_book::book::Book;
 use metric_events::batch::Batch;

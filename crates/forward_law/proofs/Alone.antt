@@ -14,8 +14,8 @@ use Rattle.delta_book.specs.Journal.{Journal, history, journal_of}
 use Rattle.delta_book.specs.inner.AtHome.{home_point, home_points}
 use Rattle.delta_book.proofs.Sent.{home_points_sent}
 use Rattle.out_texts.specs.Back.{ReadsBack}
-use Rattle.protobuf_tests.specs.Forward.{and_admitted, taken_points, alone, series_sum, series_sums}
-use Rattle.protobuf_tests.specs.Forward.{IsForwarded, IsSummed}
+use Rattle.forward_law.specs.Book.{and_admitted, taken_points, alone, series_sum, series_sums}
+use Rattle.forward_law.specs.Book.{IsForwarded, IsSummed}
 
 -- all of them may be taken
 all_eligible : (sender : List ℕ) (ps : List DataPoint)
