@@ -1,12 +1,13 @@
 #!/usr/bin/env python3
-"""The program play at sizes near the limits: no reply says that there is no memory, and each is right.
+"""The program play at its limits and one past them: no reply says that there is no memory, and each is right.
 
 Call: tests/sizes.py PROGRAM, with the path of the built play.
 
 No contract excludes a false `no-memory`. So each size that a store may have stands here once: 10,000
 series in a batch and in a report, flushes of 1,000 of them, 1,000 quarantined senders over the end of a
 round, 6,000 pending points and 1,100 batches of one series, 12,000 points in a body, 64 live flushes,
-1,024 open batches, 110 rounds, texts of 4,096 bytes, 128 attributes and values of a list, 255 bounds.
+1,024 open batches, 65,536 entries, 110 rounds, texts of 4,096 bytes, 128 attributes and values of a list, 255 bounds.
+What is one more of these is refused.
 The last line counts the checks that passed and failed, and the status is 0 where none failed.
 """
 import json
@@ -78,14 +79,18 @@ class Script:
 def series(program: str, checks: Checks) -> None:
     """As many series as there may be, and quarantined senders."""
     it = Script()
+    it.say("admit A " + " ".join(f"s{i:05} 10 20 1" for i in range(10_001)), "refused too-many-series\n")
     it.admit("admit A " + " ".join(f"s{i:04} 10 20 1" for i in range(10_000)))
+    it.say("admit A s0000 20 30 1 t 20 30 1", "refused too-many-series\n")
     it.say("report", "series s0000 sum owner A frontier 20 accepted 1,1,0 ", 10_001)
     for flush in range(1, 11):
         it.flush(flush, 1_000)
         it.say(f"ok {flush}", f"settled {flush}\n")
     for i in range(1_000):
         it.say(f"hold h{i}", f"held h{i}\n")
+    it.say("hold one-more", "refused full\n")
     it.say("round", "round 2\n")
+    it.say("admit A t 20 30 1", "refused too-many-series\n")
     it.say("past", "past s0000 sum acknowledged 1,1,0 dropped 0,0,0\n", 10_001)
     for i in range(1_000):
         it.say(f"lift h{i}", f"lifted h{i}\n")
@@ -111,9 +116,10 @@ def open_ends(program: str, checks: Checks) -> None:
     """As many open batches and live flushes as there may be."""
     it = Script()
     for i in range(1_024):
-        it.bring(f"admit A s{i % 64:02} {20 + i} {21 + i} 1")
+        it.bring(f"admit A s{i % 65:02} {20 + i} {21 + i} 1")
     for flush in range(1, 65):
         it.flush(flush, 1)
+    it.say("take 1", "refused full\n")
     it.say("admit A s00 5000 5001 1", "refused full\n")
     for flush in range(1, 65):
         it.say(f"back {flush}", f"returned {flush}\n")
@@ -121,6 +127,60 @@ def open_ends(program: str, checks: Checks) -> None:
         it.say(f"undo {batch}", f"undone {batch}\n")
     it.say("report", "end\n")
     it.run(program, checks, "1,024 open batches and 64 live flushes")
+
+
+def entries(program: str, checks: Checks) -> None:
+    """As many entries as a round may have, of which the last is kept for the end of a live flush."""
+    it = Script()
+    it.admit("admit A s 10 20 1")
+    it.flush(1, 1)
+    for _ in range(65_532 // 2):
+        it.say("hold B", "held B\n")
+        it.say("lift B", "lifted B\n")
+    it.say("admit A s 20 30 1", "refused full\n")
+    it.say("hold B", "refused full\n")
+    it.say("back 1", "returned 1\n")
+    it.say("take 1", "refused full\n")
+    it.say("round", "round 2\n")
+    it.flush(2, 1)
+    it.say("ok 2", "settled 2\n")
+    it.admit("admit A s 20 30 1")
+    it.run(program, checks, "65,536 entries of a round")
+
+
+def counted(bounds: int, start: int, least: int) -> dict[str, Any]:
+    """A histogram's point whose buckets have this many points, one more, two more and so on."""
+    counts = list(range(least, least + bounds + 1))
+    return {"startTimeUnixNano": start, "timeUnixNano": start + 10, "count": sum(counts), "sum": start,
+            "explicitBounds": list(range(bounds)), "bucketCounts": counts}
+
+
+def rows(program: str, checks: Checks) -> None:
+    """Rows of each length, added, subtracted and moved."""
+    it, lines = Script(), []
+    lengths = [*range(1, 30), 255]
+    for bounds in lengths:
+        name = f"h{bounds:03}"
+        for start, least in ((10, 5), (20, 7)):
+            it.admit(post(name, [counted(bounds, start, least)], field="histogram"), " foreign 0")
+        it.bring(post(name, [counted(bounds, 30, 2**40)], field="histogram"), " foreign 0")
+        it.say(f"undo {it.batches}", f"undone {it.batches}\n")
+    it.flush(1, len(lengths))
+    it.say("back 1", "returned 1\n")
+    it.flush(2, len(lengths))
+    it.say("drop 2", "dropped 2\n")
+    for bounds in lengths:
+        name = f"h{bounds:03}"
+        it.admit(post(name, [counted(bounds, 40, 1)], field="histogram"), " foreign 0")
+        zeros = ",".join(["0"] * (bounds + 4))
+        first, again = ([*map(str, words)] for words in
+                        ([2, 0, 30, *range(12, 14 + 2 * bounds, 2)], [1, 0, 40, *range(1, 2 + bounds)]))
+        both = [str(int(one) + int(other)) for one, other in zip(first, again)]
+        lines.append(f"series {name} histogram[{';'.join(map(str, range(bounds)))}] owner A frontier 50 "
+                     f"accepted {','.join(both)} acknowledged {zeros} dropped {','.join(first)} in-flight {zeros} "
+                     f"stored {','.join(again)} quarantined {zeros}\n")
+    it.say("report", "".join(lines) + "end\n", len(lines) + 1)
+    it.run(program, checks, "rows of 5 to 33 and of 259 words")
 
 
 def texts(program: str, checks: Checks) -> None:
@@ -133,6 +193,14 @@ def texts(program: str, checks: Checks) -> None:
     named = [attribute(LONG, {"stringValue": LONG})]
     it.admit(post("w", [point(20, attributes=pairs)], unit=LONG, resource=named), " foreign 0")
     it.admit(post(LONG, [histogram], field="histogram"), " foreign 0")
+    one_more = [attribute("k128", {"stringValue": "v"})]
+    longer = attribute("k", {"arrayValue": {"values": [{}] * 129}})
+    bounds = {"explicitBounds": list(range(256)), "bucketCounts": ["1"] * 257, "count": 257}
+    for points, words in (([point(30, attributes=pairs + one_more)], {}), ([point(30, attributes=[longer])], {}),
+                          ([point(30)], {"unit": LONG + "z"}), ([{**histogram, **bounds}], {"field": "histogram"}),
+                          ([point(30, attributes=[attribute(LONG + "z", {})])], {}),
+                          ([point(30, attributes=[attribute("k", {"stringValue": LONG + "z"})])], {})):
+        it.say(post("w", points, **words), "nothing foreign 1\n")
     it.say("wire 1000", "flush 1\n{", 2)
     it.say("report", "series ", 3)
     it.run(program, checks, "texts, attributes, lists and bounds at their limits")
@@ -143,6 +211,8 @@ def main(program: str) -> int:
     series(program, checks)
     points(program, checks)
     open_ends(program, checks)
+    entries(program, checks)
+    rows(program, checks)
     texts(program, checks)
     return checks.end()
 

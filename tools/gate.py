@@ -42,6 +42,7 @@ STEPS = (
     ("hostile_input.py", GATEWAY, 5, False),
     ("sizes.py", PLAY, 3, False),
     ("play_ends.py", PLAY, 1, False),
+    ("readings.py", PLAY, 1, False),
     ("readme_examples.py", PLAY, 1, False),
     ("gateway_load.py", GATEWAY, 5, True),
 )

@@ -1,12 +1,44 @@
 //! What a cache of identities shares, and that a body is read with it as without one.
 
-use crate::reading::{first, letters, read, sum_about, sum_of};
 use ensure::{ensure, ensure_eq};
 use metric_events::point::Point;
-use otlp_read::{IdentityCache, ReadFault, Reading, read_request_with};
+use otlp_read::{IdentityCache, ReadFault, Reading, read_request, read_request_with};
 use std::alloc::{AllocError, Global};
 use std::process::Abort;
 use std::test::Fail;
+
+/// A request of one sum with these data points.
+fn sum_of(alloc: Global, points: &str) -> Result<String, AllocError> {
+    format!(in alloc;
+        r#"{{"resourceMetrics":[{{"scopeMetrics":[{{"metrics":[{{"name":"a","sum":{{"aggregationTemporality":1,"dataPoints":[{points}]}}}}]}}]}}]}}"#
+    )
+}
+
+/// A request of one sum with one data point of these attributes.
+fn sum_about(alloc: Global, attributes: &str) -> Result<String, AllocError> {
+    let point = format!(in alloc;
+        r#"{{"startTimeUnixNano":10,"timeUnixNano":20,"asInt":1,"attributes":[{attributes}]}}"#
+    )?;
+    sum_of(alloc, point.as_str())
+}
+
+/// That many letters.
+fn letters(alloc: Global, count: usize) -> Result<String, AllocError> {
+    let mut text = String::new(alloc);
+    for _ in 0..count {
+        text.push('x')?;
+    }
+    Ok(text)
+}
+
+/// As the library's call, without its contract: a test reads no more than what it answers.
+fn read(alloc: Global, body: &[u8]) -> Result<Reading, ReadFault> {
+    read_request(alloc, body)
+}
+
+fn first(reading: &Reading) -> Option<&Point> {
+    reading.points.as_slice().first()
+}
 
 /// As the library's call, without its contract: a test reads no more than what it answers.
 fn read_with(alloc: Global, body: &str, cache: &mut IdentityCache) -> Result<Reading, ReadFault> {

@@ -38,22 +38,6 @@ pub fn sum_point(
     Ok(Point::sum(alloc, series, start, start.saturating_add(length), value)?)
 }
 
-/// A point of a histogram with one bound, of this series, over ten nanoseconds: sum 9, buckets 2
-/// and 1.
-fn histogram_point(alloc: Global, name: usize, start: u64) -> Result<Point, Fail> {
-    let series = series(alloc, name, Kind::histogram([5].to_vec(alloc)?)?)?;
-    let buckets = [2, 1].to_vec(alloc)?;
-    Ok(Point::histogram(
-        alloc,
-        series,
-        start,
-        start.saturating_add(10),
-        3,
-        Some(9),
-        buckets,
-    )?)
-}
-
 pub fn sender(alloc: Global, name: usize) -> Result<SenderName, Fail> {
     let text = format!(in alloc; "sender.{name}")?;
     Ok(SenderName::new(alloc, text.as_bytes())?)
@@ -76,27 +60,6 @@ pub fn one_point(alloc: Global, sent_by: usize, start: u64, value: i64) -> Resul
     let mut points = Points::new(alloc);
     points.push(sum_point(alloc, 1, start, 10, value)?)?;
     let sender = sender(alloc, sent_by)?;
-    Ok(Batch { sender, points })
-}
-
-/// Adds a point of series 2, a histogram, and one of series 1, a sum, with these starts.
-fn push_both(
-    alloc: Global,
-    points: &mut Points,
-    starts: (u64, u64),
-    value: i64,
-) -> Result<(), Fail> {
-    points.push(histogram_point(alloc, 2, starts.0)?)?;
-    points.push(sum_point(alloc, 1, starts.1, 10, value)?)?;
-    Ok(())
-}
-
-/// A batch of two points of a histogram and two of a sum.
-pub fn both_kinds(alloc: Global) -> Result<Batch, Fail> {
-    let mut points = Points::new(alloc);
-    push_both(alloc, &mut points, (10, 10), 5)?;
-    push_both(alloc, &mut points, (30, 20), -7)?;
-    let sender = sender(alloc, 0)?;
     Ok(Batch { sender, points })
 }
 

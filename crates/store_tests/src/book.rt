@@ -1,19 +1,16 @@
-//! What no contract says of the book: at which count each limit refuses, and what shares an
-//! identity. That each call succeeds with ample memory is shown by the scripts of `tests/scripts`.
+//! What no contract says of the book: that it takes as much as each limit says, and who shares an
+//! identity. That each call succeeds with ample memory is shown by the scripts of `tests/scripts`,
+//! and by `tests/sizes.py` up to each limit and over the end of a round.
 
-ghost use Rattle.std.specs.Prelude.{◌≤◌};
-ghost use Rattle.metric_events.specs.declared.limits.TheConstants.{MAX_TAKEN};
-
-use crate::bodies::{batch_of, both_kinds, series};
-use crate::call::Call::{Close, Confirm, Entries, GiveBack, Lift, Ones, Quarantine, Settle, Take};
+use crate::bodies::{batch_of, series};
+use crate::call::Call::{Confirm, Entries, GiveBack, Lift, Ones, Quarantine, Take};
 use crate::call::{Call, admit, run};
 use crate::look;
 use delta_book::book::Book;
 use delta_book::faults::{AdmitFault, QuarantineFault, TakeFault};
-use delta_book::flush::FlushPoint;
 use ensure::ensure_eq;
 use metric_events::batch::Batch;
-use metric_events::limits::{MAX_ENTRIES, MAX_HELD, MAX_LIVE, MAX_OPEN, MAX_SERIES, MAX_TAKEN};
+use metric_events::limits::{MAX_ENTRIES, MAX_HELD, MAX_LIVE, MAX_OPEN, MAX_SERIES};
 use series_id::{Kind, SharedId};
 use std::alloc::Global;
 use std::process::Abort;
@@ -22,53 +19,6 @@ use std::test::Fail;
 /// Makes the calls on a new book.
 fn run_anew(rt: &impl Abort, alloc: Global, calls: &[Call]) -> Result<(), Fail> {
     run(rt, alloc, &mut Book::new(alloc)?, calls)
-}
-
-/// The point has this row, and covers 10 to this end.
-fn expect_point(rt: &impl Abort, point: &FlushPoint, row: &[u64], start: u64, end: u64) {
-    look::words(rt, point.row(), row, "of a point");
-    look::ends(rt, point.span(), (start, end));
-}
-
-/// One point of each series, the histogram and the sum, with its covering span.
-fn expect_two(rt: &impl Abort, sent: &[FlushPoint]) {
-    assert_eq!(rt; sent.len(), 2);
-    expect_point(rt, &sent[0], &[2, 5, 7], 10, 30);
-    expect_point(rt, &sent[1], &[2, 0, 18, 4, 2], 10, 40);
-}
-
-// A flush takes series of both kinds, and sends one point of each.
-#[test]
-fn a_flush_of_two_series(rt: HostRuntime) -> Result<(), Fail> {
-    let alloc = rt.alloc();
-    let mut book = Book::new(alloc)?;
-    ensure_eq!(admit(&rt, &mut book, both_kinds(alloc)?), Ok(1));
-    let flush = book
-        .take(7, MAX_TAKEN as usize)?
-        .ok_or("nothing was taken")?;
-    expect_two(&rt, flush.points.as_slice());
-    Ok(())
-}
-
-/// Takes at most `max` series, and expects so many points in the flush.
-fn expect_taken(rt: &impl Abort, book: &mut Book, max: usize, points: usize) -> Result<(), Fail>
-    requires low { 1 ≤ max }
-    requires high { max ≤ MAX_TAKEN }
-{
-    let flush = book.take(7, max)?.ok_or("nothing was taken")?;
-    look::count(rt, flush.points.as_slice().len(), points, "points");
-    Ok(())
-}
-
-// One series more than a flush may take: it takes the most, and the next flush the last one.
-#[test]
-fn a_flush_of_the_most_series(rt: HostRuntime) -> Result<(), Fail> {
-    let alloc = rt.alloc();
-    let mut book = Book::new(alloc)?;
-    let most = MAX_TAKEN as usize;
-    run(&rt, alloc, &mut book, &[Ones(0, most + 1, 1, Ok(1))])?;
-    expect_taken(&rt, &mut book, most, most)?;
-    expect_taken(&rt, &mut book, most, 1)
 }
 
 // With the most live flushes one more is refused; without a series left, there is nothing to take.
@@ -149,48 +99,6 @@ fn quarantined_senders_have_a_limit(rt: HostRuntime) -> Result<(), Fail> {
     }
     let more = Quarantine(MAX_HELD, Err(QuarantineFault::Full));
     run(&rt, alloc, &mut book, &[more])
-}
-
-// The series of the opening count for the limit of series.
-#[test]
-fn series_of_the_opening_have_the_limit(rt: HostRuntime) -> Result<(), Fail> {
-    run_anew(
-        &rt,
-        rt.alloc(),
-        &[
-            Ones(0, MAX_SERIES, 1, Ok(1)),
-            Confirm(1, Ok(())),
-            Close(Ok(2)),
-            Ones(
-                MAX_SERIES,
-                MAX_SERIES + 1,
-                1,
-                Err(AdmitFault::TooManySeries),
-            ),
-            Ones(0, 1, 2, Ok(2)),
-        ],
-    )
-}
-
-/// The round is closed with a full journal, and the next one has all the room.
-const CLOSED: &[Call] = &[
-    GiveBack(1, Ok(())),
-    Entries(MAX_ENTRIES),
-    Close(Ok(2)),
-    Entries(0),
-    Take(Ok(Some(2))),
-    Settle(2, Ok(())),
-    Ones(1, 2, 1, Ok(2)),
-];
-
-// A round with a full journal can be closed, and the next one has all the room.
-#[test]
-fn a_full_journal_is_closed(rt: HostRuntime) -> Result<(), Fail> {
-    let alloc = rt.alloc();
-    let mut book = Book::new(alloc)?;
-    run(&rt, alloc, &mut book, ONE_OWED)?;
-    fill_up(&rt, alloc, &mut book)?;
-    run(&rt, alloc, &mut book, CLOSED)
 }
 
 /// Admits a batch, expects this number, and so many owners of the series' identity.

@@ -1,6 +1,6 @@
-//! Tests of the store: rows of words, series, points and events, cells, and the book. They test
-//! what no contract says: worked values, that each call succeeds with ample memory, and the counts
-//! at which each limit refuses.
+//! Tests of the store: what no contract says of vector operations, identities, cells and the book;
+//! counterexamples for what the premises of the laws exclude; and histories by chance that go on in
+//! a fresh book.
 #![tactic(auto)]
 
 #[cfg(test)]
@@ -12,7 +12,9 @@ mod call;
 #[cfg(test)]
 mod cells;
 #[cfg(test)]
-mod events;
+mod faults;
+#[cfg(test)]
+mod identities;
 #[cfg(test)]
 mod lanes;
 #[cfg(test)]
@@ -23,7 +25,3 @@ mod premises;
 mod recovery;
 #[cfg(test)]
 mod rooms;
-#[cfg(test)]
-mod series;
-#[cfg(test)]
-mod shared_series;
