@@ -161,7 +161,17 @@ pub(super) fn deleted(period: &Period, from: i64) -> String {
 }
 
 /// Of corrections together, without their signs: so sums of any of them fit 64 bits.
-pub(super) const MOST_CORRECTED: i64 = 1 << 62;
+const MOST_CORRECTED: i64 = 1 << 62;
+
+/// What a sink has where a correction is asked for.
+pub(super) struct Corrected {
+    /// Whether the series has something in its hour.
+    pub(super) is_there: bool,
+    /// What all corrections come to, without their signs.
+    pub(super) so_far: i64,
+    /// The first hour that is not deleted.
+    pub(super) hours_from: i64,
+}
 
 impl Correction {
     /// Whether it is one.
@@ -181,15 +191,20 @@ impl Correction {
         }
     }
 
-    pub(super) fn of_none(&self) -> Told {
-        let Correction { series, hour, .. } = self;
-        Told::Refused(format!(
-            "series {series} has nothing in {hour}: its number is the column `series` of by_hour, which has its hours"
-        ))
-    }
-
-    pub(super) fn too_great(&self) -> Told {
-        Told::Refused(format!("corrections may come to {MOST_CORRECTED} together, without their signs"))
+    /// In which hour it counts, else why it can't be made: also not into an hour that is deleted, since no view would have it.
+    pub(super) fn counted_in(&self, known: &Corrected, closed: &Closed) -> Result<i64, Told> {
+        let Correction { series, hour, value, .. } = self;
+        let counted_in = closed.counted_in(hour.from);
+        if !known.is_there || counted_in < known.hours_from {
+            return Err(Told::Refused(format!(
+                "series {series} has nothing in {hour}: its number is the column `series` of by_hour, which has its hours"
+            )));
+        }
+        if value.unsigned_abs() > (MOST_CORRECTED - known.so_far).unsigned_abs() {
+            let why = format!("corrections may come to {MOST_CORRECTED} together, without their signs");
+            return Err(Told::Refused(why));
+        }
+        Ok(counted_in)
     }
 
     pub(super) fn made(&self, counted_in: i64) -> Told {

@@ -1,14 +1,15 @@
 //! Periods that are closed, late points and corrections, in both sinks, beside a plain list of what was done.
 
+use crate::kept::until;
 use crate::model::{Counted, Database, Model, NAMES, PLACES};
 use crate::points::{body, value, Point, Random, Value, HOUR};
 use crate::server::{sum, Server};
-use crate::{open, refused, request, taken};
+use crate::{open, open_with, refused, request, taken};
 use std::collections::BTreeSet;
 use std::sync::Arc;
 use std::time::Duration;
 use totxegun::sinks::periods::{hour_shown, Correction, Deed, Period, Told};
-use totxegun::sinks::{Fate, Sink};
+use totxegun::sinks::{Fate, Retention, Sink};
 
 fn now() -> u64 {
     let since = std::time::SystemTime::now().duration_since(std::time::UNIX_EPOCH);
@@ -237,6 +238,34 @@ async fn what_can_t_be_done_is_named_and_changes_nothing() {
     }
     let otlp = open("http://127.0.0.1:1/v1/metrics");
     not_done(&*otlp, Deed::Close(period(1, 1)), "otlp http://127.0.0.1:1/v1/metrics keeps no periods").await;
+}
+
+/// Else it is said to be done, and is on no bill.
+#[tokio::test(flavor = "multi_thread")]
+async fn an_hour_that_is_deleted_is_corrected_only_while_it_is_closed() {
+    let Some(server) = Server::start() else { return };
+    let address = server.by_socket("postgres");
+    let before = open(&address);
+    let hour = now() - 72;
+    taken(&*before, 1, sum("a", hour * HOUR, hour * HOUR + 9, 1)).await;
+    done(&*before, Deed::Close(period(hour, 1))).await;
+    taken(&*before, 2, sum("a", hour * HOUR + 9, hour * HOUR + 19, 2)).await;
+    done(&*before, Deed::Open(period(hour, 1))).await;
+    drop(before);
+    let two_days = Some(Duration::from_secs(2 * 86_400));
+    let sink = open_with(&address, Retention { hours: two_days, ..Retention::default() });
+    let billed = "select sum(total), sum(corrections) from totxegun.by_hour";
+    until(&server, billed, "2|0").await;
+    let correct = || {
+        let reason = "by hand".into();
+        Deed::Correct(Correction { series: 1, hour: period(hour, 1), value: -1, reason })
+    };
+    not_done(&*sink, correct(), "series 1 has nothing in").await;
+    assert_eq!(server.ask(billed), "2|0");
+    // What is closed is corrected where that counts.
+    done(&*sink, Deed::Close(period(hour, 1))).await;
+    done(&*sink, correct()).await;
+    assert_eq!(server.ask(billed), "2|-1");
 }
 
 /// Deliveries that were answered before a close are in the period, and those that begin behind it are late.

@@ -6,9 +6,7 @@ use super::session;
 use super::statements;
 use super::Server;
 use crate::postgres::shown;
-use crate::sinks::periods::{
-    closed, Closed, Correction, Deed, Period, Row, Told, MOST_CORRECTED, NOT_FILLED,
-};
+use crate::sinks::periods::{closed, Closed, Corrected, Correction, Deed, Period, Row, Told, NOT_FILLED};
 use crate::sinks::Memory;
 use std::time::Duration;
 use tokio::time::timeout;
@@ -25,11 +23,12 @@ const ALONE: &str = "select pg_advisory_xact_lock($1::int8)";
 const OF_CORRECTION: &str = "select who, extract(epoch from made_at)::int8 from totxegun.corrections
     where series = $1::int8 and of_hour = $2::int4 and value = $3::int8 and reason = $4::text";
 
-/// Whether the series has something in that hour; and what all corrections come to.
+/// Whether the series has something in that hour; what all corrections come to; and from when hours are there.
 const IS_THERE: &str = "select
         exists (select from totxegun.hour where series = $1::int8 and hour = $2::int4)
         or exists (select from totxegun.late_hour where series = $1::int8 and of_hour = $2::int4),
-        (select coalesce(sum(abs(value::numeric)), 0)::int8 from totxegun.corrections)";
+        (select coalesce(sum(abs(value::numeric)), 0)::int8 from totxegun.corrections), hours_from
+    from totxegun.horizon";
 
 const CORRECT: &str = "insert into totxegun.corrections (series, of_hour, hour, value, reason, who)
     values ($1::int8, $2::int4, $3::int4, $4::int8, $5::text, $6::text)";
@@ -154,14 +153,12 @@ async fn correct(
         return Ok(correction.was_there(row.get(0), row.get(1)));
     }
     let row = transaction.query_one(IS_THERE, &[series, &of_hour]).await?;
-    let (is_there, so_far): (bool, i64) = (row.get(0), row.get(1));
-    if !is_there {
-        return Ok(correction.of_none());
-    }
-    if value.unsigned_abs() > (MOST_CORRECTED - so_far).unsigned_abs() {
-        return Ok(correction.too_great());
-    }
-    let counted_in = all.counted_in(hour.from);
+    let known =
+        Corrected { is_there: row.get(0), so_far: row.get(1), hours_from: row.get::<_, i32>(2).into() };
+    let counted_in = match correction.counted_in(&known, all) {
+        Ok(hour) => hour,
+        Err(told) => return Ok(told),
+    };
     let hour = counted_in as i32;
     transaction.execute(CORRECT, &[series, &of_hour, &hour, value, reason, &who]).await?;
     add(transaction, *series, hour, *value).await?;

@@ -2,9 +2,7 @@
 
 use super::horizon::Horizon;
 use super::store::hours;
-use crate::sinks::periods::{
-    closed, Closed, Correction, Deed, Period, Row, Told, MOST_CORRECTED, NOT_FILLED,
-};
+use crate::sinks::periods::{closed, Closed, Corrected, Correction, Deed, Period, Row, Told, NOT_FILLED};
 use rusqlite::{params, Connection, OptionalExtension, Transaction, TransactionBehavior};
 
 /// What is closed, as a transaction sees it.
@@ -69,22 +67,17 @@ fn correct(transaction: &Transaction, who: &str, correction: &Correction) -> rus
     if let Some((who, at)) = made_before(transaction, correction)? {
         return Ok(correction.was_there(&who, at));
     }
-    let is_there: bool = transaction.query_row(
+    let known = transaction.query_row(
         "select exists (select 1 from metric cross join hour on hour.metric = metric.id where hour.hour = ?2 and series = ?1)
-            or exists (select 1 from late_hour where series = ?1 and of_hour = ?2)",
+            or exists (select 1 from late_hour where series = ?1 and of_hour = ?2),
+            (select coalesce(sum(abs(value)), 0) from corrections), hours_from from horizon",
         [series, &hour.from],
-        |row| row.get(0),
+        |row| Ok(Corrected { is_there: row.get(0)?, so_far: row.get(1)?, hours_from: row.get(2)? }),
     )?;
-    if !is_there {
-        return Ok(correction.of_none());
-    }
-    let so_far: i64 =
-        transaction
-            .query_row("select coalesce(sum(abs(value)), 0) from corrections", [], |row| row.get(0))?;
-    if value.unsigned_abs() > (MOST_CORRECTED - so_far).unsigned_abs() {
-        return Ok(correction.too_great());
-    }
-    let counted_in = read(transaction)?.counted_in(hour.from);
+    let counted_in = match correction.counted_in(&known, &read(transaction)?) {
+        Ok(hour) => hour,
+        Err(told) => return Ok(told),
+    };
     transaction.execute(
         "insert into corrections (series, of_hour, hour, value, reason, who, made_at)
          values (?1, ?2, ?3, ?4, ?5, ?6, cast(strftime('%s', 'now') as integer))",

@@ -108,6 +108,36 @@ fn what_came_late_is_in_one_hour_and_says_whose_it_is() {
     }
 }
 
+/// Else it is said to be done, and is on no bill: that hour is in no view for long, nor is its month.
+#[test]
+fn an_hour_that_is_deleted_is_corrected_only_while_it_is_closed() {
+    let mut trial = Trial::new();
+    let day = || "2024-02-29".parse().expect("a day");
+    trial.taken(1, sum("a", OLD, OLD + 9, 5));
+    trial.done(Deed::Close(day()));
+    trial.taken(2, sum("a", OLD + HOUR, OLD + 2 * HOUR, 7));
+    trial.done(Deed::Open(day()));
+    trial.keep(Retention { hours: Some(Duration::from_secs(86_400)), ..Retention::default() });
+    trial.keep_up(now() * HOUR);
+    let correct = || {
+        let hour = "2024-02-29T23".parse().expect("an hour");
+        Deed::Correct(Correction { series: 1, hour, value: -2, reason: "by hand".into() })
+    };
+    let told = trial.writer.settle("alice", &correct());
+    let part = "has nothing in 2024-02-29 23:00";
+    assert!(matches!(&told, Told::Refused(why) if why.contains(part)), "{told:?}");
+    let billed = "select count(*), sum(total), sum(corrections) from by_";
+    for view in ["hour", "day", "month"] {
+        assert_eq!(trial.ask(&format!("{billed}{view}")), "1|7|0", "{view}");
+    }
+    // What is closed is corrected where that counts.
+    trial.done(Deed::Close(day()));
+    trial.done(correct());
+    for view in ["hour", "day", "month"] {
+        assert_eq!(trial.ask(&format!("{billed}{view}")), "1|7|-2", "{view}");
+    }
+}
+
 /// Of totals that no integer of SQLite holds.
 #[test]
 fn what_is_billed_is_exact() {
