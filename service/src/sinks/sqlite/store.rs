@@ -5,7 +5,7 @@ use super::horizon::Horizon;
 use super::periods;
 use super::schema::{self, STEPS};
 use super::upkeep::Upkeep;
-use super::views::VIEWS;
+use super::views::views;
 use super::wide_integers::Unsigned;
 use crate::otlp::series::{self, Digest, ForwardedPoint, SeriesKey};
 use crate::sinks::left_out::{shown, LeftOut};
@@ -80,7 +80,7 @@ impl Store {
             ));
         }
         connection.execute_batch("pragma synchronous = full; pragma foreign_keys = on").map_err(fault)?;
-        schema::migrate(&mut connection, path, STEPS, VIEWS)?;
+        schema::migrate(&mut connection, path, STEPS, &views())?;
         settle(&connection, path)?;
         admit(Some(&schema::id(&connection, path)?)).map_err(SqliteFault::Another)?;
         let place =

@@ -171,7 +171,7 @@ fn all_in_the_log(path: &Path) -> Connection {
     let mut connection = Connection::open(path).expect("it is open");
     let log = "pragma wal_autocheckpoint = 0";
     connection.query_row(log, [], |_| Ok(())).expect("a pragma");
-    schema::migrate(&mut connection, path, STEPS, views::VIEWS).expect("the last version");
+    schema::migrate(&mut connection, path, STEPS, &views::views()).expect("the last version");
     let mut upkeep = Upkeep::new(KEEP);
     upkeep.step = 12;
     let steps = (0..).find(|_| !upkeep.go_on(&mut connection, NOON).expect("a step"));
