@@ -15,6 +15,8 @@ pub mod postgres;
 mod retention;
 pub(crate) mod roots;
 pub mod sqlite;
+mod sums;
+mod utc;
 
 pub use address::{Address, BadAddress};
 pub use delivery::{deliver, of_part, Delivery};

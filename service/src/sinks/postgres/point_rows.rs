@@ -1,12 +1,13 @@
 //! The rows of spans, and of what they come to.
 
-use super::rows::{InHour, OfSeries, Total};
+use super::rows::{InHour, OfSeries};
 use super::series::StoredSeries;
-use super::values::{has_rows, row, Numeric, Written};
+use super::values::{of_rows, row, Numeric, Written};
 use crate::otlp::series::{ForwardedPoint, Value};
 use crate::sinks::periods::Closed;
+use crate::sinks::sums::Sums;
 use bytes::BytesMut;
-use tokio_postgres::types::{to_sql_checked, ToSql, Type};
+use tokio_postgres::types::{ToSql, Type};
 
 /// A row of `totxegun.new_span`. Times from 2^63 on, in the year 2262, are less 2^64.
 #[derive(Debug)]
@@ -35,11 +36,7 @@ impl ToSql for SpanRow<'_> {
         row(&values, of, out)
     }
 
-    fn accepts(of: &Type) -> bool {
-        has_rows(of)
-    }
-
-    to_sql_checked!();
+    of_rows!();
 }
 
 /// A count that is not what the buckets come to.
@@ -99,6 +96,10 @@ impl Adding<'_> {
     }
 }
 
+pub(super) fn sums_of<'a>(points: impl IntoIterator<Item = &'a ForwardedPoint>) -> Sums {
+    Sums::of(points.into_iter().map(|point| &point.value))
+}
+
 fn points<'a>(hours: &'a [InHour]) -> impl Iterator<Item = &'a ForwardedPoint> {
     hours.iter().flat_map(|hour| hour.points)
 }
@@ -117,10 +118,10 @@ impl ToSql for TotalRow<'_> {
     fn to_sql(&self, of: &Type, out: &mut BytesMut) -> Written {
         let Adding { of: series, known, .. } = self.0;
         let (earlier, last) = self.0.parted();
-        let (all, before) = (Total::of(&series.points), Total::of(points(earlier)));
+        let (all, before) = (sums_of(&series.points), sums_of(points(earlier)));
         let values: [&dyn ToSql; 15] = [
             &known.id,
-            &(series.points.len() as i64),
+            &all.points,
             &first_start(&series.points),
             &last_end(&series.points),
             &Numeric(all.total),
@@ -129,7 +130,7 @@ impl ToSql for TotalRow<'_> {
             &all.buckets.map(numerics),
             &self.0.last_hour(),
             &first_start(in_time(last)),
-            &(points(earlier).count() as i64),
+            &before.points,
             &Numeric(before.total),
             &Numeric(before.count),
             &before.without_sum,
@@ -138,11 +139,7 @@ impl ToSql for TotalRow<'_> {
         row(&values, of, out)
     }
 
-    fn accepts(of: &Type) -> bool {
-        has_rows(of)
-    }
-
-    to_sql_checked!();
+    of_rows!();
 }
 
 /// A row of `totxegun.new_hour`: points of one series, at least one, that count in one hour.
@@ -154,12 +151,12 @@ pub(super) struct HourRow<'a> {
 
 impl ToSql for HourRow<'_> {
     fn to_sql(&self, of: &Type, out: &mut BytesMut) -> Written {
-        let all = Total::of(points(self.hours));
+        let all = sums_of(points(self.hours));
         let in_time = in_time(self.hours);
         let values: [&dyn ToSql; 9] = [
             &self.series,
             &self.hours.first().map(|hour| hour.hour),
-            &(points(self.hours).count() as i64),
+            &all.points,
             &first_start(in_time),
             &last_end(in_time),
             &Numeric(all.total),
@@ -170,11 +167,7 @@ impl ToSql for HourRow<'_> {
         row(&values, of, out)
     }
 
-    fn accepts(of: &Type) -> bool {
-        has_rows(of)
-    }
-
-    to_sql_checked!();
+    of_rows!();
 }
 
 /// A row of `totxegun.new_late`.
@@ -186,12 +179,12 @@ pub(super) struct LateRow<'a> {
 
 impl ToSql for LateRow<'_> {
     fn to_sql(&self, of: &Type, out: &mut BytesMut) -> Written {
-        let all = Total::of(self.late.points);
+        let all = sums_of(self.late.points);
         let values: [&dyn ToSql; 10] = [
             &self.series,
             &self.late.of,
             &self.late.hour,
-            &(self.late.points.len() as i64),
+            &all.points,
             &first_start(self.late.points),
             &last_end(self.late.points),
             &Numeric(all.total),
@@ -202,11 +195,7 @@ impl ToSql for LateRow<'_> {
         row(&values, of, out)
     }
 
-    fn accepts(of: &Type) -> bool {
-        has_rows(of)
-    }
-
-    to_sql_checked!();
+    of_rows!();
 }
 
 fn first_start(points: &[ForwardedPoint]) -> Option<Numeric> {

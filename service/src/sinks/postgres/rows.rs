@@ -4,11 +4,9 @@ use super::fault::NotTaken;
 use crate::otlp::series::{self, Digests, ForwardedPoint, SeriesKey, Value};
 use crate::sinks::left_out::shown;
 use crate::sinks::periods::Closed;
+use crate::sinks::utc;
 use sha2::{Digest, Sha256};
 use std::collections::BTreeMap;
-
-/// Of an hour, in nanoseconds.
-const HOUR: u64 = 3_600_000_000_000;
 
 /// A request as it is written down.
 #[derive(Debug)]
@@ -46,16 +44,6 @@ impl<'a> InHour<'a> {
     }
 }
 
-/// What points of a series come to. Thousands of numbers of 64 bits fit 128.
-#[derive(Default)]
-pub(super) struct Total {
-    pub(super) total: i128,
-    pub(super) count: i128,
-    pub(super) without_sum: i64,
-    /// Of a histogram.
-    pub(super) buckets: Option<Vec<i128>>,
-}
-
 /// The series are in the order of their digests: so two writers make rows in one order.
 pub(super) fn read(body: &[u8]) -> Result<Content, NotTaken> {
     let mut all: BTreeMap<SeriesKey, Vec<ForwardedPoint>> = BTreeMap::new();
@@ -72,9 +60,9 @@ pub(super) fn read(body: &[u8]) -> Result<Content, NotTaken> {
     Ok(Content { digest, all })
 }
 
-/// Hours since 1970 (UTC). A span counts in the one in which it ends; where it ends at a full hour, in the one before.
-pub(super) fn hour_of(point: &ForwardedPoint) -> i32 {
-    ((point.end - 1) / HOUR) as i32
+/// In which a span of at least a nanosecond counts.
+fn hour_of(point: &ForwardedPoint) -> i32 {
+    utc::hour_of(point.end) as i32
 }
 
 impl OfSeries {
@@ -113,25 +101,6 @@ impl OfSeries {
         let mut hours: Vec<InHour> = chunks.map(|points| InHour::of(points, closed)).collect();
         hours.sort_by_key(|in_hour| in_hour.hour);
         hours
-    }
-}
-
-impl Total {
-    pub(super) fn of<'a>(points: impl IntoIterator<Item = &'a ForwardedPoint>) -> Total {
-        let mut all = Total::default();
-        for point in points {
-            match &point.value {
-                Value::Sum(value) => all.total += i128::from(*value),
-                Value::Histogram { count, sum, buckets } => {
-                    all.count += i128::from(*count);
-                    all.total += i128::from(sum.unwrap_or(0));
-                    all.without_sum += i64::from(sum.is_none());
-                    let to = all.buckets.get_or_insert_with(|| vec![0; buckets.len()]);
-                    to.iter_mut().zip(buckets).for_each(|(all, bucket)| *all += i128::from(*bucket));
-                }
-            }
-        }
-        all
     }
 }
 

@@ -2,13 +2,13 @@
 
 use super::fault::NotTaken;
 use super::rows::OfSeries;
-use super::values::{has_rows, row, Jsonb, Written};
+use super::values::{of_rows, row, Jsonb, Written};
 use crate::otlp::series::{Kind, NotForwarded};
 use crate::sinks::attributes::object;
 use bytes::BytesMut;
 use serde_json::Value;
 use std::collections::HashMap;
-use tokio_postgres::types::{to_sql_checked, ToSql, Type};
+use tokio_postgres::types::{ToSql, Type};
 
 /// PostgreSQL's texts and jsonb hold each character but U+0000.
 const SHOWN_FOR_ZERO: &str = "\u{fffd}";
@@ -66,11 +66,7 @@ impl ToSql for SeriesRow<'_> {
         row(&values, of, out)
     }
 
-    fn accepts(of: &Type) -> bool {
-        has_rows(of)
-    }
-
-    to_sql_checked!();
+    of_rows!();
 }
 
 impl<'a> SeriesRows<'a> {

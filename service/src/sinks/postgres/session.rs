@@ -32,28 +32,43 @@ pub(super) struct Session {
     pub(super) connection: Driver,
 }
 
-pub(super) struct Statements {
-    pub(super) hold_periods: Statement,
-    pub(super) closed: Statement,
-    pub(super) key: Statement,
-    pub(super) is_taken: Statement,
-    pub(super) set_left_out: Statement,
-    pub(super) make: Statement,
-    pub(super) metrics: Statement,
-    pub(super) find: Statement,
-    pub(super) lock: Statement,
-    pub(super) hours_beside: Statement,
-    pub(super) overlap: Statement,
-    pub(super) far_overlap: Statement,
-    pub(super) deleted: Statement,
-    pub(super) spans: Statement,
-    pub(super) first_totals: Statement,
-    pub(super) hours_over: Statement,
-    pub(super) past_hours: Statement,
-    pub(super) late_hours: Statement,
-    pub(super) totals: Statement,
-    pub(super) metric_hours: Statement,
-    pub(super) before: Option<Before>,
+macro_rules! statements {
+    ($($name:ident: $text:ident,)*) => {
+        pub(super) struct Statements {
+            $(pub(super) $name: Statement,)*
+            pub(super) before: Option<Before>,
+        }
+
+        impl Statements {
+            async fn prepare(client: &Client) -> Result<Statements, tokio_postgres::Error> {
+                let before = Before::prepare(client).await?;
+                Ok(Statements { $($name: client.prepare(statements::$text).await?,)* before })
+            }
+        }
+    };
+}
+
+statements! {
+    hold_periods: HOLD_PERIODS,
+    closed: CLOSED,
+    key: KEY,
+    is_taken: IS_TAKEN,
+    set_left_out: SET_LEFT_OUT,
+    make: MAKE,
+    metrics: METRICS,
+    find: FIND,
+    lock: LOCK,
+    hours_beside: HOURS_BESIDE,
+    overlap: OVERLAP,
+    far_overlap: FAR_OVERLAP,
+    deleted: DELETED,
+    spans: SPANS,
+    first_totals: FIRST_TOTALS,
+    hours_over: HOURS_OVER,
+    past_hours: PAST_HOURS,
+    late_hours: LATE_HOURS,
+    totals: TOTALS,
+    metric_hours: METRIC_HOURS,
 }
 
 /// For spans of version 4, where there are some.
@@ -100,34 +115,6 @@ pub(super) async fn connect(server: &Server) -> Result<(Client, Driver), Postgre
     let set = client.batch_execute(SETTINGS).await;
     set.map_err(|error| PostgresFault::of(&name, &error))?;
     Ok((client, driver))
-}
-
-impl Statements {
-    async fn prepare(client: &Client) -> Result<Statements, tokio_postgres::Error> {
-        Ok(Statements {
-            hold_periods: client.prepare(statements::HOLD_PERIODS).await?,
-            closed: client.prepare(statements::CLOSED).await?,
-            key: client.prepare(statements::KEY).await?,
-            is_taken: client.prepare(statements::IS_TAKEN).await?,
-            set_left_out: client.prepare(statements::SET_LEFT_OUT).await?,
-            make: client.prepare(statements::MAKE).await?,
-            metrics: client.prepare(statements::METRICS).await?,
-            find: client.prepare(statements::FIND).await?,
-            lock: client.prepare(statements::LOCK).await?,
-            hours_beside: client.prepare(statements::HOURS_BESIDE).await?,
-            overlap: client.prepare(statements::OVERLAP).await?,
-            far_overlap: client.prepare(statements::FAR_OVERLAP).await?,
-            deleted: client.prepare(statements::DELETED).await?,
-            spans: client.prepare(statements::SPANS).await?,
-            first_totals: client.prepare(statements::FIRST_TOTALS).await?,
-            hours_over: client.prepare(statements::HOURS_OVER).await?,
-            past_hours: client.prepare(statements::PAST_HOURS).await?,
-            late_hours: client.prepare(statements::LATE_HOURS).await?,
-            totals: client.prepare(statements::TOTALS).await?,
-            metric_hours: client.prepare(statements::METRIC_HOURS).await?,
-            before: Before::prepare(client).await?,
-        })
-    }
 }
 
 impl Before {

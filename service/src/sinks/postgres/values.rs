@@ -84,10 +84,17 @@ pub(super) fn row(values: &[&dyn ToSql], of: &Type, out: &mut BytesMut) -> Writt
     Ok(IsNull::No)
 }
 
-/// Whether values of a type are rows.
-pub(super) fn has_rows(of: &Type) -> bool {
-    matches!(of.kind(), Kind::Composite(_))
+/// The rest of `ToSql` of a type whose values are rows.
+macro_rules! of_rows {
+    () => {
+        fn accepts(of: &Type) -> bool {
+            matches!(of.kind(), tokio_postgres::types::Kind::Composite(_))
+        }
+
+        tokio_postgres::types::to_sql_checked!();
+    };
 }
+pub(super) use of_rows;
 
 #[cfg(test)]
 mod tests {

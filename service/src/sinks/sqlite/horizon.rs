@@ -1,8 +1,8 @@
 //! How far back the file goes.
 
-use super::store::utc::{day_of, month_of};
 use super::wide_integers::Unsigned;
 use crate::sinks::periods::Period;
+use crate::sinks::utc::{day_of, month_of};
 use rusqlite::{params, Transaction};
 
 #[derive(Clone, Copy, Debug, PartialEq, Eq)]

@@ -24,7 +24,6 @@ mod series_row;
 pub(super) mod spans;
 pub(super) mod sums;
 mod total;
-pub(super) mod utc;
 
 pub(super) use hours::Hours;
 pub(super) use series_row::SeriesIds;

@@ -6,9 +6,9 @@ mod ended;
 mod fill;
 
 use super::horizon::Horizon;
-use super::store::utc::{day_of, month_of, HOUR_NS};
 use super::wide_integers::Unsigned;
 use crate::sinks::retention::tell_of_spans;
+use crate::sinks::utc::{day_of, month_of, HOUR_NS};
 use crate::sinks::Retention;
 use ended::Ended;
 use rusqlite::{params, Connection, OptionalExtension, Transaction, TransactionBehavior};

@@ -1,8 +1,9 @@
 //! The row of what a series' spans come to.
 
 use super::super::wide_integers::{Exact, Unsigned};
-use super::sums::{self, list, Sums};
+use super::sums::{self, list};
 use crate::otlp::series::ForwardedPoint;
+use crate::sinks::sums::Sums;
 use rusqlite::{params, OptionalExtension, Row, Transaction};
 
 /// What a series' spans come to.
@@ -32,8 +33,8 @@ impl Total {
             spans_from: row.get(9)?,
             sums: Sums {
                 points: row.get(0)?,
-                total: Exact::of_parts(row.get(3)?, row.get(4)?),
-                count: Exact::of_parts(row.get(5)?, row.get(6)?),
+                total: Exact::of_parts(row.get(3)?, row.get(4)?).0,
+                count: Exact::of_parts(row.get(5)?, row.get(6)?).0,
                 without_sum: row.get(7)?,
                 buckets: sums::buckets(row, 8)?,
             },
@@ -46,17 +47,23 @@ impl Total {
             first_start: Unsigned(point.start),
             last_end: Unsigned(point.end),
             spans_from: Unsigned(0),
-            sums: Sums::of(&point.value),
+            sums: Sums::of([&point.value]),
         }
     }
 
     /// The total with one point more.
     pub(super) fn and(self, point: &ForwardedPoint) -> Result<Total, &'static str> {
+        let (mut sums, one) = (self.sums, Sums::of([&point.value]));
+        if sums.buckets.as_ref().map(Vec::len) != one.buckets.as_ref().map(Vec::len) {
+            return Err("its value is not of the series' kind");
+        }
+        sums.merge(&one);
+        sums::parts(&sums).ok_or("the series' total is over 9 * 10^30")?;
         Ok(Total {
             first_start: self.first_start.min(Unsigned(point.start)),
             last_end: self.last_end.max(Unsigned(point.end)),
             spans_from: self.spans_from,
-            sums: self.sums.and(&point.value)?,
+            sums,
         })
     }
 
@@ -71,8 +78,7 @@ impl Total {
     }
 
     pub(super) fn write(&self, transaction: &Transaction, series: i64) -> rusqlite::Result<()> {
-        let (total_high, total_low) = self.sums.total.parts().unwrap_or_default();
-        let (count_high, count_low) = self.sums.count.parts().unwrap_or_default();
+        let [total, count] = sums::parts(&self.sums).unwrap_or_default();
         let buckets = self.sums.buckets.as_ref().map(|buckets| list(buckets));
         transaction
             .prepare_cached(
@@ -85,10 +91,10 @@ impl Total {
                 self.sums.points,
                 self.first_start,
                 self.last_end,
-                total_high,
-                total_low,
-                count_high,
-                count_low,
+                total.0,
+                total.1,
+                count.0,
+                count.1,
                 self.sums.without_sum,
                 buckets,
                 self.spans_from

@@ -1,18 +1,18 @@
-//! Hours, days and months since 1970, in UTC.
+//! Hours, days and months since 1970, in UTC: in which a span counts.
 
-pub(in super::super) const HOUR_NS: u64 = 3_600_000_000_000;
+pub(super) const HOUR_NS: u64 = 3_600_000_000_000;
 
 /// The hour in which a span counts that ends then: one that ends at a full hour, in the hour before.
-pub(in super::super) fn hour_of(end_ns: u64) -> i64 {
+pub(super) fn hour_of(end_ns: u64) -> i64 {
     (end_ns.saturating_sub(1) / HOUR_NS) as i64
 }
 
-pub(in super::super) fn day_of(hour: i64) -> i64 {
+pub(super) fn day_of(hour: i64) -> i64 {
     hour / 24
 }
 
 /// By the days of 400 years, which begin in March: so a leap day is the last of its year.
-pub(in super::super) fn month_of(day: i64) -> i64 {
+pub(super) fn month_of(day: i64) -> i64 {
     let day = day + 719_468; // since 0000-03-01
     let of_era = day % 146_097;
     let year = (of_era - of_era / 1460 + of_era / 36_524 - of_era / 146_096) / 365;
