@@ -33,8 +33,7 @@ async fn rows(
     from: u64,
 ) -> Result<Option<Vec<Row>>, PostgresFault> {
     let fault = |error| PostgresFault::of(name, &error);
-    let (client, _connection) = session::connect(server).await?;
-    client.batch_execute("set default_transaction_read_only = on").await.map_err(fault)?;
+    let (client, _connection) = session::connect_to_read(server).await?;
     let view = client.query_one("select to_regclass('totxegun.by_hour') is not null", &[]);
     if !view.await.map_err(fault)?.get::<_, bool>(0) {
         return Ok(None);

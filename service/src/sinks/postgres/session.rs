@@ -3,7 +3,7 @@
 use super::fault::PostgresFault;
 use super::fence::Fence;
 use super::series::Seen;
-use super::{schema, statements, Server};
+use super::{schema, statements, Server, PATIENCE};
 use crate::postgres::{self, Connected, Driver, NotConnected};
 use crate::sinks::Memory;
 use std::time::Duration;
@@ -108,13 +108,30 @@ impl Session {
 
 /// A connection with our settings, whatever schema is there.
 pub(super) async fn connect(server: &Server) -> Result<(Client, Driver), PostgresFault> {
-    let name = server.to_string();
-    let fault = |error: NotConnected| PostgresFault::told(&name, error.to_string());
-    let connected = postgres::connect(server, &server.config()).await.map_err(fault)?;
-    let Connected { client, driver } = connected;
-    let set = client.batch_execute(SETTINGS).await;
-    set.map_err(|error| PostgresFault::of(&name, &error))?;
+    connect_within(server, PATIENCE).await
+}
+
+/// One that only reads.
+pub(super) async fn connect_to_read(server: &Server) -> Result<(Client, Driver), PostgresFault> {
+    let (client, driver) = connect(server).await?;
+    let set = client.batch_execute("set default_transaction_read_only = on").await;
+    set.map_err(|error| PostgresFault::of(&server.to_string(), &error))?;
     Ok((client, driver))
+}
+
+/// What takes a connection and then is silent, as a proxy whose server is away, would be waited for without end.
+async fn connect_within(server: &Server, patience: Duration) -> Result<(Client, Driver), PostgresFault> {
+    let name = server.to_string();
+    let connecting = async {
+        let connected = postgres::connect(server, &server.config()).await;
+        let Connected { client, driver } =
+            connected.map_err(|error: NotConnected| PostgresFault::told(&name, error.to_string()))?;
+        let set = client.batch_execute(SETTINGS).await;
+        set.map_err(|error| PostgresFault::of(&name, &error))?;
+        Ok((client, driver))
+    };
+    let connected = timeout(patience, connecting).await;
+    connected.unwrap_or_else(|_| Err(PostgresFault::late(&name, patience)))
 }
 
 impl Before {
@@ -127,5 +144,22 @@ impl Before {
             left: client.prepare(statements::LEFT_BEFORE).await?,
             overlap: client.prepare(statements::OVERLAP_BEFORE).await?,
         }))
+    }
+}
+
+#[cfg(test)]
+mod tests {
+    use super::*;
+
+    /// Else nothing is made ahead or deleted any more, and nobody is told.
+    #[tokio::test]
+    async fn a_server_that_is_silent_is_not_waited_for_without_end() {
+        let listener = tokio::net::TcpListener::bind("127.0.0.1:0").await.expect("a port");
+        let address = format!("//u@{}/d", listener.local_addr().expect("its address"));
+        let server = Server::read(&address).expect("an address");
+        let connecting = connect_within(&server, Duration::from_millis(50));
+        let fault = timeout(Duration::from_secs(20), connecting).await.expect("an end").err();
+        let said = fault.expect("no connection").to_string();
+        assert!(said.ends_with("no answer within 0.05 s"), "{said}");
     }
 }

@@ -32,8 +32,7 @@ pub async fn read(server: &Server) -> Result<Vec<SeriesTotal>, PostgresFault> {
 /// By a connection of its own: a delivery that waits holds nothing up here.
 async fn rows(server: &Server, name: &str) -> Result<Vec<Row>, PostgresFault> {
     let fault = |error| PostgresFault::of(name, &error);
-    let (client, _connection) = session::connect(server).await?;
-    client.batch_execute("set default_transaction_read_only = on").await.map_err(fault)?;
+    let (client, _connection) = session::connect_to_read(server).await?;
     if schema::version(&client, name).await? == 0 {
         return Ok(Vec::new());
     }
