@@ -59,30 +59,22 @@ pub(super) async fn fate(response: Response<Body>, sent: Encoding, deadline: Ins
         None if body.is_object() => Encoding::Json,
         known => known.unwrap_or(sent),
     };
-    let reason = |more: String| Fate::Refused { reason: join(&head.status.to_string(), &more) };
-    match head.status.as_u16() {
-        200..=299 => taken(body, encoding),
-        408 | 425 | 429 | 502..=504 => Fate::Again {
-            reason: join(&head.status.to_string(), &message(body, encoding)),
-            after: asked(&head.headers),
-        },
-        401 | 403 => Fate::Denied {
-            reason: join(&head.status.to_string(), &message(body, encoding)),
-            after: asked(&head.headers),
-        },
-        500..=599 => Fate::Failed {
-            reason: join(&head.status.to_string(), &message(body, encoding)),
-            after: asked(&head.headers),
-        },
+    let status = head.status.as_u16();
+    let more = match status {
+        200..=299 => return taken(body, encoding),
         300..=399 => {
             let location =
                 head.headers.get(LOCATION).and_then(|value| value.to_str().ok()).unwrap_or("nowhere");
-            reason(format!(
-                "redirected to {}: give the sink's final address",
-                shown(&without_query(location))
-            ))
+            format!("redirected to {}: give the sink's final address", shown(&without_query(location)))
         }
-        _ => reason(message(body, encoding)),
+        _ => message(body, encoding),
+    };
+    let (reason, after) = (join(&head.status.to_string(), &more), asked(&head.headers));
+    match status {
+        408 | 425 | 429 | 502..=504 => Fate::Again { reason, after },
+        401 | 403 => Fate::Denied { reason, after },
+        500..=599 => Fate::Failed { reason, after },
+        _ => Fate::Refused { reason },
     }
 }
 

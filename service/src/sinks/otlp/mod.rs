@@ -9,14 +9,12 @@ mod tests;
 #[cfg(test)]
 mod tls_tests;
 
-use super::{Fate, Forwarded, Keys, Sink};
+use super::{Answer, Fate, Forwarded, Keys, Sink};
 use crate::otlp::{protobuf_of_forwarded, Encoding};
 use bytes::Bytes;
 use hyper::header::{HeaderMap, HeaderName, HeaderValue, CONTENT_ENCODING, CONTENT_TYPE, USER_AGENT};
 use hyper::{Body, Request, Uri};
-use std::future::Future;
 use std::io::Write;
-use std::pin::Pin;
 use std::time::Duration;
 use tokio::time::{timeout_at, Instant};
 
@@ -132,7 +130,7 @@ impl OtlpSink {
 }
 
 impl Sink for OtlpSink {
-    fn deliver<'a>(&'a self, request: &'a Forwarded) -> Pin<Box<dyn Future<Output = Fate> + Send + 'a>> {
+    fn deliver<'a>(&'a self, request: &'a Forwarded) -> Answer<'a, Fate> {
         Box::pin(self.send(request))
     }
 

@@ -3,8 +3,9 @@
 use super::fault::NotTaken;
 use super::rows::OfSeries;
 use super::values::{of_rows, row, Jsonb, Written};
-use crate::otlp::series::{Kind, NotForwarded};
+use crate::otlp::series::NotForwarded;
 use crate::sinks::attributes::object;
+use crate::sinks::sqlite::totals::Kind;
 use bytes::BytesMut;
 use serde_json::Value;
 use std::collections::HashMap;
@@ -72,11 +73,7 @@ impl ToSql for SeriesRow<'_> {
 impl<'a> SeriesRows<'a> {
     pub(super) fn add(&mut self, series: &'a OfSeries) -> Result<(), NotTaken> {
         let parts = series.key.parts()?;
-        let (kind, bounds) = match parts.kind {
-            Kind::Sum => ("sum", None),
-            Kind::Monotonic => ("monotonic", None),
-            Kind::Histogram { bounds } => ("histogram", Some(bounds)),
-        };
+        let (kind, bounds) = Kind::identified(parts.kind);
         series.fits(bounds.as_ref().map(|bounds| bounds.len() + 1))?;
         let (resource, scope) = (self.place(&parts.resource)?, self.place(&parts.scope_attributes)?);
         let mut is_exact = resource.is_exact && scope.is_exact;
@@ -88,7 +85,7 @@ impl<'a> SeriesRows<'a> {
             name: held(parts.name, &mut is_exact),
             name_json,
             unit: held(parts.unit, &mut is_exact),
-            kind,
+            kind: kind.name(),
             bounds,
             attributes: held_list(&parts.attributes, &mut is_exact)?,
             resource: resource.number,

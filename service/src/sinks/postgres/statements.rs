@@ -142,14 +142,10 @@ pub(super) const HOURS_OVER: &str =
         coalesce(corrections, 0)
     from totxegun.last_hour where series = any($1::int8[]) and hour is not null";
 
-/// Adds to hours that are not the last ones of their series.
-pub(super) const PAST_HOURS: &str =
-    "insert into totxegun.past_hour as h (series, hour, points, first_start_ns, last_end_ns,
-        total, count, without_sum, buckets)
-    select series, hour, points, first_start_ns, last_end_ns, total, count, without_sum, buckets
-    from unnest($1::totxegun.new_hour[])
-    on conflict (series, to_timestamp(hour * 3600::double precision)) do update set
-        points = h.points + excluded.points,
+/// What an hour `h` that is there gets more.
+macro_rules! added {
+    () => {
+        "points = h.points + excluded.points,
         first_start_ns = least(h.first_start_ns, excluded.first_start_ns),
         last_end_ns = greatest(h.last_end_ns, excluded.last_end_ns),
         total = h.total + excluded.total,
@@ -158,24 +154,30 @@ pub(super) const PAST_HOURS: &str =
         buckets = case when excluded.buckets is null then h.buckets else array(
             select coalesce(a, 0) + b from unnest(h.buckets, excluded.buckets)
                 with ordinality as both_of(a, b, place) order by place
-        ) end";
+        ) end"
+    };
+}
+pub(super) use added;
+
+/// Adds to hours that are not the last ones of their series.
+pub(super) const PAST_HOURS: &str = concat!(
+    "insert into totxegun.past_hour as h (series, hour, points, first_start_ns, last_end_ns,
+        total, count, without_sum, buckets)
+    select series, hour, points, first_start_ns, last_end_ns, total, count, without_sum, buckets
+    from unnest($1::totxegun.new_hour[])
+    on conflict (series, to_timestamp(hour * 3600::double precision)) do update set ",
+    added!()
+);
 
 /// To which closed hours it belongs, beside the hours in which it counts.
-pub(super) const LATE_HOURS: &str =
+pub(super) const LATE_HOURS: &str = concat!(
     "insert into totxegun.late_hour as h (series, of_hour, hour, points, first_start_ns, last_end_ns,
         total, count, without_sum, buckets)
     select series, of_hour, hour, points, first_start_ns, last_end_ns, total, count, without_sum, buckets
     from unnest($1::totxegun.new_late[])
-    on conflict (series, of_hour, hour) do update set
-        points = h.points + excluded.points,
-        first_start_ns = least(h.first_start_ns, excluded.first_start_ns),
-        last_end_ns = greatest(h.last_end_ns, excluded.last_end_ns),
-        total = h.total + excluded.total,
-        count = h.count + excluded.count,
-        without_sum = h.without_sum + excluded.without_sum,
-        buckets = case when excluded.buckets is null then h.buckets else array(
-            select a + b from unnest(h.buckets, excluded.buckets) with ordinality as both_of(a, b, place) order by place
-        ) end";
+    on conflict (series, of_hour, hour) do update set ",
+    added!()
+);
 
 pub(super) const METRIC_HOURS: &str =
     "insert into totxegun.metric_hour as h (metric, hour, points, total, count)

@@ -36,13 +36,7 @@ impl SqliteFault {
 
     /// Whether it stays until somebody names another file or starts another version.
     pub(super) fn is_lasting(&self) -> bool {
-        matches!(
-            self,
-            SqliteFault::Later { .. }
-                | SqliteFault::Foreign { .. }
-                | SqliteFault::Another(_)
-                | SqliteFault::Thread { .. }
-        )
+        !matches!(self, SqliteFault::File { .. })
     }
 
     /// Whether the connection, and what is cached of its file, may be used on.

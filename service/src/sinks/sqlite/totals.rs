@@ -67,6 +67,15 @@ impl Kind {
         }
     }
 
+    /// Of a series' identity, with the bounds of a histogram.
+    pub(in super::super) fn identified(kind: Identified) -> (Kind, Option<Vec<i64>>) {
+        match kind {
+            Identified::Sum => (Kind::Sum, None),
+            Identified::Monotonic => (Kind::Monotonic, None),
+            Identified::Histogram { bounds } => (Kind::Histogram, Some(bounds)),
+        }
+    }
+
     pub fn name(self) -> &'static str {
         match self {
             Kind::Sum => "sum",
@@ -90,11 +99,7 @@ impl SeriesTotal {
     /// A series as its identity says, without what came of it.
     pub fn of_none(key: &SeriesKey) -> Result<SeriesTotal, NotForwarded> {
         let parts = key.parts()?;
-        let (kind, bounds) = match parts.kind {
-            Identified::Sum => (Kind::Sum, None),
-            Identified::Monotonic => (Kind::Monotonic, None),
-            Identified::Histogram { bounds } => (Kind::Histogram, Some(bounds)),
-        };
+        let (kind, bounds) = Kind::identified(parts.kind);
         Ok(SeriesTotal {
             name: parts.name,
             unit: parts.unit,

@@ -3,18 +3,8 @@
 //! A total is two integers, `high * 1000000000000 + low`; it is shown as an integer, or as a text where no integer of SQLite
 //! holds it.
 
-const DROPPED: [&str; 10] = [
-    "by_hour",
-    "by_day",
-    "by_month",
-    "totals",
-    "totals_by_name",
-    "totals_by_hour",
-    "buckets",
-    "late",
-    "series_seen",
-    "senders",
-];
+const DROPPED: &str =
+    "by_hour by_day by_month totals totals_by_name totals_by_hour buckets late series_seen senders";
 
 fn exact(high: &str, low: &str) -> String {
     format!(
@@ -62,7 +52,7 @@ fn hour(column: &str) -> String {
 }
 
 pub(super) fn views() -> String {
-    let dropped = DROPPED.map(|view| format!("drop view if exists {view};\n")).concat();
+    let dropped: String = DROPPED.split(' ').map(|view| format!("drop view if exists {view};\n")).collect();
     let by_times = ["hour", "day", "month"].map(by_time).concat();
     let (total, count, billed) = (total(), count("kind"), billed());
     let (hour, of_hour) = (hour("hour"), hour("of_hour"));

@@ -3,6 +3,7 @@
 
 use super::STEP;
 use crate::sinks::postgres::schema::{is_filling, views};
+use crate::sinks::postgres::statements::added;
 use tokio_postgres::{Client, Error, Transaction};
 
 /// From where a step goes on.
@@ -18,7 +19,8 @@ const LOCK: &str = "select series from totxegun.series_total where series in (
 
 /// Where the last hour of a series is one of these, what was before it gets less; all is in the totals already. Spans that
 /// end far ahead are moved, since the others will go together.
-const STEP_OF: &str = "with part as materialized (
+const STEP_OF: &str = concat!(
+    "with part as materialized (
         select series, start_ns, end_ns, value, one.count, sum, buckets, div(end_ns - 1, 3600000000000)::int4 as hour
         from totxegun.span_before as one where (series, start_ns) > ($1::int8, $2::text::numeric)
         order by series, start_ns limit $3::int8
@@ -40,17 +42,9 @@ const STEP_OF: &str = "with part as materialized (
             total, count, without_sum, buckets)
         select series, hour, points, first_start_ns, last_end_ns, total, count, without_sum, buckets
         from found where hour < last_hour
-        on conflict (series, to_timestamp(hour * 3600::double precision)) do update set
-            points = h.points + excluded.points,
-            first_start_ns = least(h.first_start_ns, excluded.first_start_ns),
-            last_end_ns = greatest(h.last_end_ns, excluded.last_end_ns),
-            total = h.total + excluded.total,
-            count = h.count + excluded.count,
-            without_sum = h.without_sum + excluded.without_sum,
-            buckets = case when excluded.buckets is null then h.buckets else array(
-                select coalesce(a, 0) + b from unnest(h.buckets, excluded.buckets) with ordinality as both_of(a, b, place)
-                order by place
-            ) end
+        on conflict (series, to_timestamp(hour * 3600::double precision)) do update set ",
+    added!(),
+    "
     ), last as (
         update totxegun.series_total as t set
             hour_start_ns = least(t.hour_start_ns, found.first_start_ns),
@@ -78,7 +72,8 @@ const STEP_OF: &str = "with part as materialized (
             end_ns - case when end_ns < 9223372036854775808 then 0 else 18446744073709551616 end,
             value, ahead.count, sum, buckets::text from ahead
     )
-    select series, start_ns::text from part order by part.series desc, part.start_ns desc limit 1";
+    select series, start_ns::text from part order by part.series desc, part.start_ns desc limit 1"
+);
 
 const DONE: &str = "update totxegun.filling set series = $1::int8, start_ns = $2::text::numeric";
 

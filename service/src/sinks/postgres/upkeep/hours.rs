@@ -14,11 +14,19 @@ const FROM: &str = "select case when hours_from >= by_clock then by_clock
 
 const HORIZON: &str = "update totxegun.horizon set hours_from = $1::int4 where hours_from < $1::int4";
 
-/// By their index, which has times.
-const PAST: &str = "delete from totxegun.past_hour where ctid = any(array(
-        select ctid from totxegun.past_hour
-        where to_timestamp(hour * 3600::double precision) < to_timestamp($1::int4 * 3600::double precision) limit $2::int8
-    ))";
+/// The next rows of a table that are as old as that.
+fn some_of(table: &str, are_old: &str) -> String {
+    format!(
+        "delete from totxegun.{table} where ctid = any(array(
+            select ctid from totxegun.{table} where {are_old} limit $2::int8
+        ))"
+    )
+}
+
+/// Whether a time of a row is before this hour: by the index, which has times.
+fn is_before(time: &str) -> String {
+    format!("to_timestamp({time}::double precision) < to_timestamp($1::int4 * 3600::double precision)")
+}
 
 /// Of series that nobody posts to any more, the last hour. One that a request has just locked is left.
 const LAST: &str = "with old as (
@@ -30,27 +38,20 @@ const LAST: &str = "with old as (
         before_without_sum = without_sum, before_buckets = buckets, hour_corrections = null
     from old where old.series = t.series";
 
-/// Days of which the views have none any more.
-const DAYS: &str = "delete from totxegun.past_day where ctid = any(array(
-        select ctid from totxegun.past_day
-        where to_timestamp(day * 86400::double precision) < to_timestamp($1::int4 * 3600::double precision) limit $2::int8
-    ))";
-
-const OF_METRICS: &str = "delete from totxegun.metric_hour where ctid = any(array(
-        select ctid from totxegun.metric_hour where hour < $1::int4 limit $2::int8
-    ))";
-
-const LATE: &str = "delete from totxegun.late_hour where ctid = any(array(
-        select ctid from totxegun.late_hour where hour < $1::int4 limit $2::int8
-    ))";
-
 pub(super) async fn delete(client: &Client, kept: Option<Duration>) -> Result<(), Error> {
     let Some(kept) = seconds(kept) else {
         return Ok(());
     };
     let from: i32 = client.query_one(FROM, &[&kept]).await?.get(0);
     client.execute(HORIZON, &[&from]).await?;
-    for step in [PAST, LAST, DAYS, OF_METRICS, LATE] {
+    let steps = [
+        some_of("past_hour", &is_before("hour * 3600")),
+        LAST.into(),
+        some_of("past_day", &is_before("day * 86400")), // of which the views have none any more
+        some_of("metric_hour", "hour < $1::int4"),
+        some_of("late_hour", "hour < $1::int4"),
+    ];
+    for step in &steps {
         while client.execute(step, &[&from, &STEP]).await? == STEP as u64 {}
     }
     Ok(())

@@ -1,7 +1,8 @@
 //! The row of a series.
 
 use super::super::fault::NotTaken;
-use crate::otlp::series::{Kind, SeriesParts};
+use super::super::totals::Kind;
+use crate::otlp::series::SeriesParts;
 use crate::sinks::attributes::object;
 use rusqlite::{params, Transaction};
 use serde_json::Value;
@@ -25,15 +26,11 @@ pub(super) struct SeriesRow<'a> {
 
 impl<'a> SeriesRow<'a> {
     pub(super) fn of(parts: &'a SeriesParts) -> Result<SeriesRow<'a>, NotTaken> {
-        let (kind, bounds): (_, &[i64]) = match &parts.kind {
-            Kind::Sum => ("sum", &[]),
-            Kind::Monotonic => ("monotonic", &[]),
-            Kind::Histogram { bounds } => ("histogram", bounds),
-        };
+        let (kind, bounds) = Kind::identified(parts.kind.clone());
         Ok(SeriesRow {
             parts,
-            kind,
-            bounds: Value::from(bounds).to_string(),
+            kind: kind.name(),
+            bounds: Value::from(bounds.unwrap_or_default()).to_string(),
             attributes: text(&parts.attributes)?,
             resource: text(&parts.resource)?,
             scope_attributes: text(&parts.scope_attributes)?,
