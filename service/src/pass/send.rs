@@ -22,10 +22,8 @@ const LONGEST_ANSWER: usize = 64 << 10;
 const SHOWN: usize = 300;
 
 #[derive(Debug, thiserror::Error)]
-pub enum BadReceiver {
-    #[error("--pass takes http://HOST:PORT: {0}")]
-    Address(String),
-}
+#[error("--pass takes http://HOST:PORT: {0}")]
+pub struct BadReceiver(String);
 
 pub(super) struct Receiver {
     url: Uri,
@@ -37,7 +35,7 @@ type Said = (u64, Passed, String);
 
 impl Receiver {
     pub fn at(address: &str) -> Result<Receiver, BadReceiver> {
-        let bad = |why: &dyn std::fmt::Display| BadReceiver::Address(why.to_string());
+        let bad = |why: &dyn std::fmt::Display| BadReceiver(why.to_string());
         let url = match address.parse() {
             Ok(Address::Otlp { url, .. }) if url.starts_with("http://") => url,
             Err(error) if address.starts_with("http://") => return Err(bad(&error)),

@@ -15,6 +15,7 @@ mod spans;
 mod speed;
 mod versions;
 
+use model::both;
 use server::{histogram, sum, sum_named, Server};
 use std::time::Duration;
 use totxegun::sinks::{self, Fate, Forwarded, Retention, Sink};
@@ -106,43 +107,47 @@ async fn what_is_taken() {
 /// What stands beside it in the request is taken, once; a repeat says the same, so the rest is not lost by a kill.
 #[tokio::test(flavor = "multi_thread")]
 async fn of_a_request_the_spans_that_overlap_alone_are_left() {
-    let Some(server) = Server::start() else { return };
-    let sink = open(&server.by_socket("postgres"));
-    taken(&*sink, 1, sum("a", 100, 200, 1)).await;
-    let all = server::sums(&[("a", 150, 160, 9), ("a", 200, 210, 4), ("b", 1, 2, 8)]);
-    let left = server::sums(&[("a", 150, 160, 9)]);
-    for sink in [&sink, &open(&server.by_socket("postgres"))] {
-        match sink.deliver(&request(2, all.clone())).await {
-            Fate::TakenPartly { rejected: 1, reason, left: Some(found) } => {
-                assert!(reason.contains("(150, 160]"), "{reason}");
-                let of = |body: &[u8]| serde_json::from_slice::<serde_json::Value>(body).expect("JSON");
-                assert_eq!(of(&found), of(left.as_bytes()));
+    let server = Server::start();
+    for database in both(&server) {
+        let address = database.address();
+        let sink = open(&address);
+        taken(&*sink, 1, sum("a", 100, 200, 1)).await;
+        let all = server::sums(&[("b", 1, 2, 8), ("a", 150, 160, 9), ("a", 200, 210, 4)]);
+        let left = server::sums(&[("a", 150, 160, 9)]);
+        for sink in [&sink, &open(&address)] {
+            match sink.deliver(&request(2, all.clone())).await {
+                Fate::TakenPartly { rejected: 1, reason, left: Some(found) } => {
+                    assert!(reason.contains("(150, 160]"), "{reason}");
+                    let of = |body: &[u8]| serde_json::from_slice::<serde_json::Value>(body).expect("JSON");
+                    assert_eq!(of(&found), of(left.as_bytes()));
+                }
+                other => panic!("{other:?}"),
             }
-            other => panic!("{other:?}"),
+            let totals = database.ask("select name, points, total from t.totals order by 1");
+            assert_eq!(totals, "a|2|5\nb|1|8");
         }
-        assert_eq!(server.ask("select name, points, total from totxegun.totals order by 1"), "a|2|5\nb|1|8");
+        assert_eq!(database.ask("select points from t.request where number = 2"), "2");
+        refused(&*sink, 3, left, "overlaps").await;
     }
-    assert_eq!(server.ask("select points from totxegun.request where number = 2"), "2");
-    refused(&*sink, 3, left, "overlaps").await;
 }
 
 /// A folder was put back over itself: the key comes again with other points, some of which begin alike.
 #[tokio::test(flavor = "multi_thread")]
 async fn a_request_is_told_from_another_of_its_key_by_each_of_its_spans() {
-    let Some(server) = Server::start() else { return };
-    let sink = open(&server.by_socket("postgres"));
-    let (a, b, c) = (("a", 1, 2, 1), ("b", 1, 9, 1), ("c", 5, 6, 1));
-    taken(&*sink, 1, server::sums(&[a, b])).await;
-    taken(&*sink, 2, server::sums(&[c])).await;
-    let longer = ("a", 1, 3, 1);
-    for other in [&[longer, b][..], &[a, b, ("d", 5, 6, 1)], &[b, longer, c]] {
-        refused(&*sink, 1, server::sums(other), "key is that of another request").await;
+    let server = Server::start();
+    for database in both(&server) {
+        let sink = open(&database.address());
+        let (a, b, c) = (("a", 1, 2, 1), ("b", 1, 9, 1), ("c", 5, 6, 1));
+        taken(&*sink, 1, server::sums(&[a, b])).await;
+        taken(&*sink, 2, server::sums(&[c])).await;
+        let longer = ("a", 1, 3, 1);
+        for other in [&[longer, b][..], &[a, b, ("d", 5, 6, 1)], &[b, longer, c]] {
+            refused(&*sink, 1, server::sums(other), "key is that of another request").await;
+        }
+        taken(&*sink, 1, server::sums(&[a, b])).await;
+        let totals = database.ask("select name, points, total from t.totals order by 1");
+        assert_eq!(totals, "a|1|1\nb|1|1\nc|1|1");
     }
-    taken(&*sink, 1, server::sums(&[a, b])).await;
-    assert_eq!(
-        server.ask("select name, points, total from totxegun.totals order by 1"),
-        "a|1|1\nb|1|1\nc|1|1"
-    );
 }
 
 /// The server's certificate is looked at, by the roots of the machine.

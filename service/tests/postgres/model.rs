@@ -15,6 +15,13 @@ pub enum Database<'a> {
     Postgres(&'a Server, &'static str),
 }
 
+/// A SQLite file, and a database of the server, where there is one.
+pub fn both(server: &Option<Server>) -> Vec<Database<'_>> {
+    let lite = Database::Lite(tempfile::tempdir().unwrap());
+    let postgres = server.as_ref().map(|server| Database::Postgres(server, "postgres"));
+    std::iter::once(lite).chain(postgres).collect()
+}
+
 impl Database<'_> {
     pub fn address(&self) -> String {
         match self {

@@ -1,7 +1,7 @@
 //! Periods that are closed, late points and corrections, in both sinks, beside a plain list of what was done.
 
 use crate::kept::until;
-use crate::model::{Counted, Database, Model, NAMES, PLACES};
+use crate::model::{both, Counted, Database, Model, NAMES, PLACES};
 use crate::points::{body, value, Point, Random, Value, HOUR};
 use crate::server::{sum, Server};
 use crate::{open, open_with, refused, request, taken};
@@ -206,9 +206,7 @@ async fn what_no_standby_has_is_not_closed() {
 #[tokio::test(flavor = "multi_thread")]
 async fn what_can_t_be_done_is_named_and_changes_nothing() {
     let server = Server::start();
-    let mut all = vec![Database::Lite(tempfile::tempdir().unwrap())];
-    all.extend(server.as_ref().map(|server| Database::Postgres(server, "postgres")));
-    for database in all {
+    for database in both(&server) {
         let sink = open(&database.address());
         let (now, old) = (now(), 100);
         taken(&*sink, 1, sum("a", old * HOUR, old * HOUR + 1, 5)).await;

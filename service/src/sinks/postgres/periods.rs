@@ -4,8 +4,8 @@ use super::fault::PostgresFault;
 use super::schema::{self, is_filling};
 use super::session;
 use super::statements;
+use super::store::commit;
 use super::Server;
-use crate::postgres::shown;
 use crate::sinks::periods::{closed, Closed, Corrected, Correction, Deed, Period, Row, Told, NOT_FILLED};
 use crate::sinks::Memory;
 use std::time::Duration;
@@ -83,7 +83,7 @@ async fn settled(
     who: &str,
     deed: &Deed,
 ) -> Result<Told, PostgresFault> {
-    let fault = |error: Error| PostgresFault::told(name, shown(&error));
+    let fault = |error: Error| PostgresFault::of(name, &error);
     let (mut client, connection) = session::connect(server).await?;
     if schema::version(&client, name).await? != schema::KNOWN {
         return Err(PostgresFault::told(name, "the schema is not of this version yet: the log says why"));
@@ -95,12 +95,7 @@ async fn settled(
     let id: String = id.await.map_err(fault)?.get(0);
     memory.admit(Some(&id), false).map_err(PostgresFault::Another)?;
     let told = carried_out(&transaction, who, deed).await.map_err(fault)?;
-    connection.warnings.take(); // of before
-    transaction.commit().await.map_err(fault)?;
-    match connection.warnings.take() {
-        None => Ok(told),
-        Some(warning) => Err(PostgresFault::told(name, format!("the server warns: {warning}"))),
-    }
+    commit(transaction, &connection.warnings, name).await.map(|()| told)
 }
 
 async fn carried_out(transaction: &Transaction<'_>, who: &str, deed: &Deed) -> Result<Told, Error> {

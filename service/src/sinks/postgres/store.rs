@@ -80,17 +80,8 @@ pub(super) struct Writing<'a> {
 }
 
 impl Writing<'_> {
-    /// A warning is a doubt: as after `pg_cancel_backend` in the wait for a standby, it is on this server alone.
     async fn commit(self) -> Result<(), NotTaken> {
-        self.warnings.take(); // of before
-        let committed = self.transaction.commit().await;
-        committed.map_err(|error| PostgresFault::of(self.server, &error))?;
-        match self.warnings.take() {
-            None => Ok(()),
-            Some(warning) => {
-                Err(PostgresFault::told(self.server, format!("the server warns: {warning}")).into())
-            }
-        }
+        Ok(commit(self.transaction, self.warnings, self.server).await?)
     }
 
     pub(super) async fn rows(
@@ -205,6 +196,20 @@ impl Writing<'_> {
     async fn closed(&self) -> Result<Closed, NotTaken> {
         let rows = self.rows(&self.statements.closed, &[]).await?;
         Ok(periods::closed_of(&rows))
+    }
+}
+
+/// A warning is a doubt: as after `pg_cancel_backend` in the wait for a standby, it is on this server alone.
+pub(super) async fn commit(
+    transaction: Transaction<'_>,
+    warnings: &Warnings,
+    server: &str,
+) -> Result<(), PostgresFault> {
+    warnings.take(); // of before
+    transaction.commit().await.map_err(|error| PostgresFault::of(server, &error))?;
+    match warnings.take() {
+        None => Ok(()),
+        Some(warning) => Err(PostgresFault::told(server, format!("the server warns: {warning}"))),
     }
 }
 

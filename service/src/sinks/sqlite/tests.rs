@@ -1,7 +1,7 @@
-//! What the file has behind each request; what goes wrong around it is in `trouble`.
+//! What the file has behind each request; what goes wrong around it is in `trouble`, a request that is left in part in
+//! `service/tests/postgres/main.rs`.
 
 mod hours;
-mod left_out;
 mod older;
 mod periods;
 mod speed;

@@ -14,7 +14,6 @@ mod spans;
 use super::fault::PostgresFault;
 use super::Server;
 use super::{schema, session};
-use crate::postgres::shown;
 use crate::sinks::{Memory, Retention};
 use std::sync::atomic::{AtomicBool, Ordering::Relaxed};
 use std::sync::Arc;
@@ -101,7 +100,7 @@ async fn round(
     reader: &mut reader::Reader,
 ) -> Result<(), PostgresFault> {
     let name = server.to_string();
-    let fault = |error: Error| PostgresFault::told(&name, shown(&error));
+    let fault = |error: Error| PostgresFault::of(&name, &error);
     let (mut client, _connection) = session::connect(server).await?;
     let is_known = schema::version(&client, &name).await? == schema::KNOWN;
     if !is_known || !is_ours(&client, memory).await.map_err(fault)? {
