@@ -60,6 +60,10 @@ impl Row {
         self.from <= period.from && period.to <= self.to
     }
 
+    fn overlaps(&self, period: &Period) -> bool {
+        self.from < period.to && period.from < self.to
+    }
+
     fn shown(&self) -> String {
         format!("{}, closed by {} at {}", self.period, self.who, utc(self.at.unsigned_abs()))
     }
@@ -115,11 +119,10 @@ impl Closed {
 
     /// Whether it is opened now, else what to say.
     pub(super) fn open(&self, period: &Period) -> Result<(), Told> {
-        let is_it = |row: &&Row| (row.from, row.to) == (period.from, period.to);
-        if self.rows.iter().any(|row| is_it(&row)) {
+        if self.rows.iter().any(|row| (row.from, row.to) == (period.from, period.to)) {
             return Ok(());
         }
-        match self.rows.iter().find(|row| row.from < period.to && period.from < row.to) {
+        match self.rows.iter().find(|row| row.overlaps(period)) {
             None => Err(Told::Done(format!("{period} was open"))),
             Some(row) => Err(Told::Refused(format!(
                 "{period} was not closed by itself: open what was, {}",
@@ -130,9 +133,8 @@ impl Closed {
 
     /// What to say of one that is opened: what else is closed of it.
     pub(super) fn opened(&self, period: &Period) -> String {
-        let others = self.rows.iter().filter(|row| {
-            row.from < period.to && period.from < row.to && (row.from, row.to) != (period.from, period.to)
-        });
+        let is_it = |row: &Row| (row.from, row.to) == (period.from, period.to);
+        let others = self.rows.iter().filter(|row| row.overlaps(period) && !is_it(row));
         let still: Vec<String> = others.map(Row::shown).collect();
         let rest = match still.is_empty() {
             true => String::new(),

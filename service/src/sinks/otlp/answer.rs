@@ -184,10 +184,4 @@ mod tests {
             assert_eq!(after(bad), None, "{bad}");
         }
     }
-
-    #[test]
-    fn messages_are_one_short_line() {
-        assert_eq!(shown(" a\nb\u{1b}[2J "), "a b [2J");
-        assert_eq!(shown(&"x".repeat(1000)).len(), LONGEST_MESSAGE);
-    }
 }

@@ -1,9 +1,8 @@
 //! Reads what came of one series in its last hours, by the view `by_hour`.
 
 use super::fault::SqliteFault;
-use super::totals::{open, row, SeriesTotal, READ};
+use super::totals::{odd, open, row, SeriesTotal, READ};
 use super::wide_integers::Exact;
-use rusqlite::types::{FromSqlError, ValueRef};
 use rusqlite::{Connection, OptionalExtension, Row};
 use std::path::Path;
 
@@ -49,7 +48,7 @@ fn found(connection: &Connection, series: &SeriesTotal) -> rusqlite::Result<Opti
 /// An hour is a text there, which begins with its date.
 fn hours(connection: &Connection, id: i64, from: u64) -> rusqlite::Result<Vec<Hour>> {
     let mut query = connection.prepare(
-        "select cast(strftime('%s', hour) as integer) / 3600 as since, total, count from by_hour
+        "select cast(strftime('%s', hour) as integer) / 3600 as since, cast(total as text), cast(count as text) from by_hour
          where series = ?1 and hour >= date(?2 * 3600, 'unixepoch') and since >= ?2 order by since",
     )?;
     let rows = query.query_map([id, from as i64], |row| {
@@ -62,18 +61,9 @@ fn hours(connection: &Connection, id: i64, from: u64) -> rusqlite::Result<Vec<Ho
     rows.collect()
 }
 
-/// An integer, or a text where no integer of SQLite holds it.
 fn exact(row: &Row, column: usize) -> rusqlite::Result<Option<Exact>> {
-    let number = match row.get_ref(column)? {
-        ValueRef::Null => return Ok(None),
-        ValueRef::Integer(number) => Some(i128::from(number)),
-        ValueRef::Text(text) => std::str::from_utf8(text).ok().and_then(|text| text.parse().ok()),
-        _ => None,
-    };
-    let odd =
-        |kind| rusqlite::Error::FromSqlConversionFailure(column, kind, Box::new(FromSqlError::InvalidType));
-    let kind = row.get_ref(column)?.data_type();
-    number.map(|number| Some(Exact(number))).ok_or_else(|| odd(kind))
+    let text: Option<String> = row.get(column)?;
+    text.map(|text| text.parse().map(Exact)).transpose().map_err(|error| odd(column, error))
 }
 
 #[cfg(test)]

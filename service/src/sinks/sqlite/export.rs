@@ -3,7 +3,7 @@
 use super::fault::SqliteFault;
 use super::horizon::Horizon;
 use super::schema::{self, STEPS};
-use super::totals::{open, Kind};
+use super::totals::{json, open, Kind};
 use crate::sinks::export::{view_of, Each, Line};
 use crate::sinks::periods::{deleted, Closed, Period, NOT_FILLED};
 use rusqlite::{Row, Transaction};
@@ -56,13 +56,8 @@ fn lines(
 }
 
 fn line(row: &Row) -> rusqlite::Result<Line> {
-    let json = |column| {
-        let text: Option<String> = row.get(column)?;
-        text.map(RawValue::from_string).transpose().map_err(|error| {
-            rusqlite::Error::FromSqlConversionFailure(column, rusqlite::types::Type::Text, Box::new(error))
-        })
-    };
-    let object = |column| json(column).map(|found| found.unwrap_or_default());
+    let list = |column| json::<Box<RawValue>>(row, column);
+    let object = |column| list(column).map(|found| found.unwrap_or_default());
     let kind = Kind::of(&row.get::<_, String>(2)?);
     let is_histogram = kind == Kind::Histogram;
     Ok(Line {
@@ -80,7 +75,7 @@ fn line(row: &Row) -> rusqlite::Result<Line> {
         corrections: row.get(11)?,
         billed: row.get(12)?,
         count: row.get(13)?,
-        bounds: json(14)?.filter(|_| is_histogram),
-        buckets: json(15)?,
+        bounds: list(14)?.filter(|_| is_histogram),
+        buckets: list(15)?,
     })
 }

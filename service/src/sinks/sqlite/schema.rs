@@ -121,18 +121,6 @@ mod tests {
     }
 
     #[test]
-    fn a_later_version_is_refused_by_name() {
-        let mut connection = Connection::open_in_memory().expect("memory");
-        let path = Path::new("/var/x.db");
-        migrate(&mut connection, path, TWO, "").expect("version 2");
-        let error = migrate(&mut connection, path, &TWO[..1], "").expect_err("it is later").to_string();
-        assert!(
-            error.contains("/var/x.db") && error.contains("schema 2") && error.contains("knows 1"),
-            "{error}"
-        );
-    }
-
-    #[test]
     fn a_file_of_another_program_is_not_touched() {
         for foreign in ["create table theirs (x)", "pragma user_version = 3", "pragma application_id = 5"] {
             let mut connection = Connection::open_in_memory().expect("memory");

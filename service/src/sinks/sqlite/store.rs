@@ -22,7 +22,7 @@ pub(super) mod hours;
 mod repeat;
 mod series_row;
 pub(super) mod spans;
-pub(super) mod sums;
+mod sums;
 mod total;
 
 pub(super) use hours::Hours;

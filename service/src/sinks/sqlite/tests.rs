@@ -4,7 +4,6 @@
 mod hours;
 mod older;
 mod periods;
-mod speed;
 mod trouble;
 mod upkeep;
 

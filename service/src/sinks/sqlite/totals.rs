@@ -5,6 +5,7 @@ use super::schema::{self, STEPS};
 use super::wide_integers::{Exact, Unsigned};
 use crate::otlp::series::{Kind as Identified, NotForwarded, SeriesKey};
 use crate::sinks::attributes::object;
+use rusqlite::types::Type;
 use rusqlite::{Connection, ErrorCode, OpenFlags, Row};
 use serde::Serialize;
 use serde_json::{Map, Value};
@@ -219,11 +220,11 @@ pub(super) fn row(row: &Row) -> rusqlite::Result<SeriesTotal> {
         name: row.get(0)?,
         unit: row.get(1)?,
         kind,
-        attributes: json(row, 3)?,
-        resource: json(row, 4)?,
+        attributes: json(row, 3)?.unwrap_or_default(),
+        resource: json(row, 4)?.unwrap_or_default(),
         scope_name: row.get(5)?,
         scope_version: row.get(6)?,
-        scope_attributes: json(row, 7)?,
+        scope_attributes: json(row, 7)?.unwrap_or_default(),
         points: whole(row, 8)?,
         start_ns: whole(row, 9)?,
         end_ns: whole(row, 10)?,
@@ -233,11 +234,11 @@ pub(super) fn row(row: &Row) -> rusqlite::Result<SeriesTotal> {
 }
 
 fn histogram(row: &Row) -> rusqlite::Result<Histogram> {
-    let buckets: Vec<i128> = json(row, 17)?;
+    let buckets: Vec<i128> = json(row, 17)?.unwrap_or_default();
     Ok(Histogram {
         count: Exact::of_parts(row.get(13)?, row.get(14)?),
         points_without_sum: whole(row, 15)?,
-        bounds: json(row, 16)?,
+        bounds: json(row, 16)?.unwrap_or_default(),
         buckets: buckets.into_iter().map(Exact).collect(),
     })
 }
@@ -246,9 +247,13 @@ fn whole(row: &Row, column: usize) -> rusqlite::Result<u64> {
     row.get(column).map(|whole: Unsigned| whole.0)
 }
 
-fn json<T: serde::de::DeserializeOwned>(row: &Row, column: usize) -> rusqlite::Result<T> {
-    let text = row.get_ref(column)?.as_str()?;
-    serde_json::from_str(text).map_err(|error| {
-        rusqlite::Error::FromSqlConversionFailure(column, rusqlite::types::Type::Text, Box::new(error))
-    })
+/// A column of JSON; none where it is null.
+pub(super) fn json<T: serde::de::DeserializeOwned>(row: &Row, column: usize) -> rusqlite::Result<Option<T>> {
+    let text: Option<String> = row.get(column)?;
+    text.map(|text| serde_json::from_str(&text)).transpose().map_err(|error| odd(column, error))
+}
+
+/// A text that is not as it was written.
+pub(super) fn odd(column: usize, error: impl std::error::Error + Send + Sync + 'static) -> rusqlite::Error {
+    rusqlite::Error::FromSqlConversionFailure(column, Type::Text, Box::new(error))
 }

@@ -3,7 +3,6 @@
 //! It is written down of a series first that its spans may be gone, and in `ending` that they go. Then they go hour by hour,
 //! for many series at once: no index has a span's series, but hours say where there are some.
 
-use super::seconds;
 use std::time::Duration;
 use tokio_postgres::{Client, Error};
 
@@ -51,10 +50,10 @@ const OTHERS: &str = "delete from totxegun.span_other as s
 pub(super) async fn delete(client: &Client, kept: Option<Duration>) -> Result<(), Error> {
     // What a run that was killed has begun.
     delete_spans(client).await?;
-    let Some(kept) = seconds(kept) else {
+    let Some(kept) = kept else {
         return Ok(());
     };
-    while client.execute(BEGIN, &[&kept, &TOGETHER]).await? > 0 {
+    while client.execute(BEGIN, &[&kept.as_secs_f64(), &TOGETHER]).await? > 0 {
         delete_spans(client).await?;
     }
     Ok(())

@@ -2,7 +2,7 @@
 //!
 //! The horizon is written down first: what begins before it, and before its series' last end, is never added again.
 
-use super::{seconds, STEP};
+use super::STEP;
 use std::time::Duration;
 use tokio_postgres::{Client, Error};
 
@@ -39,10 +39,10 @@ const LAST: &str = "with old as (
     from old where old.series = t.series";
 
 pub(super) async fn delete(client: &Client, kept: Option<Duration>) -> Result<(), Error> {
-    let Some(kept) = seconds(kept) else {
+    let Some(kept) = kept else {
         return Ok(());
     };
-    let from: i32 = client.query_one(FROM, &[&kept]).await?.get(0);
+    let from: i32 = client.query_one(FROM, &[&kept.as_secs_f64()]).await?.get(0);
     client.execute(HORIZON, &[&from]).await?;
     let steps = [
         some_of("past_hour", &is_before("hour * 3600")),

@@ -128,8 +128,3 @@ async fn is_ours(client: &Client, memory: &dyn Memory) -> Result<bool, Error> {
     let row = client.query_one("select pg_try_advisory_lock($1)", &[&LOCK]).await?;
     Ok(row.get(0))
 }
-
-/// How long something is kept, in seconds; none where it is kept for ever.
-fn seconds(kept: Option<Duration>) -> Option<f64> {
-    kept.map(|kept| kept.as_secs_f64())
-}

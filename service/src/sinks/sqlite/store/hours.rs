@@ -1,5 +1,6 @@
 //! The rows of hours, days and months: what the points of a request add to them.
 
+use super::super::totals::json;
 use super::series_row::SeriesIds;
 use super::sums::{self, list};
 use crate::otlp::series::Value;
@@ -166,10 +167,9 @@ fn add_found(transaction: &Transaction, found: &str, key: [i64; 3], sums: &mut S
     if sums.buckets.is_none() {
         return Ok(());
     }
-    let found = transaction.prepare_cached(found)?.query_row(key, |row| sums::buckets(row, 0)).optional()?;
-    if let Some(before) = found.flatten() {
-        sums.add_buckets(before.into_iter());
-    }
+    let found = transaction.prepare_cached(found)?.query_row(key, |row| json(row, 0)).optional()?;
+    let before: Vec<i128> = found.flatten().unwrap_or_default();
+    sums.add_buckets(before.into_iter());
     Ok(())
 }
 

@@ -13,14 +13,3 @@ pub(super) fn list(numbers: &[impl std::fmt::Display]) -> String {
     let numbers: Vec<String> = numbers.iter().map(|number| number.to_string()).collect();
     format!("[{}]", numbers.join(","))
 }
-
-/// Numbers of such an array; a sum has none.
-pub(in super::super) fn buckets<T: serde::de::DeserializeOwned>(
-    row: &rusqlite::Row,
-    column: usize,
-) -> rusqlite::Result<Option<Vec<T>>> {
-    let text: Option<String> = row.get(column)?;
-    text.map(|text| serde_json::from_str(&text)).transpose().map_err(|error| {
-        rusqlite::Error::FromSqlConversionFailure(column, rusqlite::types::Type::Text, Box::new(error))
-    })
-}

@@ -1,5 +1,6 @@
 //! The row of what a series' spans come to.
 
+use super::super::totals::json;
 use super::super::wide_integers::{Exact, Unsigned};
 use super::sums::{self, list};
 use crate::otlp::series::ForwardedPoint;
@@ -36,7 +37,7 @@ impl Total {
                 total: Exact::of_parts(row.get(3)?, row.get(4)?).0,
                 count: Exact::of_parts(row.get(5)?, row.get(6)?).0,
                 without_sum: row.get(7)?,
-                buckets: sums::buckets(row, 8)?,
+                buckets: json(row, 8)?,
             },
         })
     }

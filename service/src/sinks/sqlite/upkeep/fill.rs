@@ -1,7 +1,8 @@
 //! Hours of a file that a version without them wrote; its spans are moved to their new form.
 
 use super::super::horizon::Horizon;
-use super::super::store::{spans, sums, Hours, SeriesIds};
+use super::super::store::{spans, Hours, SeriesIds};
+use super::super::totals::json;
 use super::super::wide_integers::Unsigned;
 use crate::otlp::series::Value;
 use crate::sinks::periods::Closed;
@@ -59,6 +60,6 @@ fn value(row: &Row) -> rusqlite::Result<Value> {
     Ok(Value::Histogram {
         count: row.get::<_, Unsigned>(4)?.0,
         sum: row.get::<_, Option<Unsigned>>(5)?.map(|sum| sum.0),
-        buckets: sums::buckets(row, 6)?.unwrap_or_default(),
+        buckets: json(row, 6)?.unwrap_or_default(),
     })
 }
