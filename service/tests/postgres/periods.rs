@@ -249,6 +249,7 @@ async fn an_hour_that_is_deleted_is_corrected_only_while_it_is_closed() {
     done(&*before, Deed::Close(period(hour, 1))).await;
     taken(&*before, 2, sum("a", hour * HOUR + 9, hour * HOUR + 19, 2)).await;
     done(&*before, Deed::Open(period(hour, 1))).await;
+    taken(&*before, 3, sum("b", now() * HOUR - 1, now() * HOUR, 0)).await;
     drop(before);
     let two_days = Some(Duration::from_secs(2 * 86_400));
     let sink = open_with(&address, Retention { hours: two_days, ..Retention::default() });
@@ -264,6 +265,22 @@ async fn an_hour_that_is_deleted_is_corrected_only_while_it_is_closed() {
     done(&*sink, Deed::Close(period(hour, 1))).await;
     done(&*sink, correct()).await;
     assert_eq!(server.ask(billed), "2|-1");
+}
+
+/// As by a clock that was ahead once: what came late then counts far behind all spans.
+#[tokio::test(flavor = "multi_thread")]
+async fn what_came_late_is_no_reason_to_leave_out_what_comes() {
+    let Some(server) = Server::start() else { return };
+    let address = server.by_socket("postgres");
+    let before = open(&address);
+    let hour = now() - 72;
+    taken(&*before, 1, sum("a", hour * HOUR, hour * HOUR + 9, 1)).await;
+    done(&*before, Deed::Close(period(hour, 1))).await;
+    taken(&*before, 2, sum("a", hour * HOUR + 9, hour * HOUR + 19, 2)).await;
+    drop(before);
+    let two_days = Some(Duration::from_secs(2 * 86_400));
+    let _sink = open_with(&address, Retention { hours: two_days, ..Retention::default() });
+    until(&server, "select hours_from from totxegun.horizon", &hour.to_string()).await;
 }
 
 /// Deliveries that were answered before a close are in the period, and those that begin behind it are late.

@@ -8,7 +8,7 @@ mod fill;
 use super::horizon::Horizon;
 use super::wide_integers::Unsigned;
 use crate::sinks::retention::tell_of_spans;
-use crate::sinks::utc::{day_of, month_of, HOUR_NS};
+use crate::sinks::utc::{day_of, hour_of, month_of, HOUR_NS};
 use crate::sinks::Retention;
 use ended::Ended;
 use rusqlite::{params, Connection, OptionalExtension, Transaction, TransactionBehavior};
@@ -133,7 +133,10 @@ const BY_TIME: [&str; 5] = [
 /// ends before the horizon is left out, and by a clock that was ahead once all that comes would be.
 fn hours(transaction: &Transaction, mut horizon: Horizon, until: u64, step: usize) -> rusqlite::Result<bool> {
     let last: Option<i64> = transaction.query_row("select max(hour) from hour", [], |row| row.get(0))?;
-    let from = last.map_or(0, |last| last.min((until / HOUR_NS) as i64));
+    let mut from = last.map_or(0, |last| last.min((until / HOUR_NS) as i64));
+    if from > horizon.hours_from {
+        from = from.min(last_hour_of_spans(transaction)?);
+    }
     if from > horizon.hours_from {
         horizon.hours_from = from;
         horizon.write(transaction)?;
@@ -151,4 +154,11 @@ fn hours(transaction: &Transaction, mut horizon: Horizon, until: u64, step: usiz
         }
     }
     Ok(false)
+}
+
+/// What came late, and corrections, count in an hour by the clock, so that one says nothing about it.
+fn last_hour_of_spans(transaction: &Transaction) -> rusqlite::Result<i64> {
+    let last = "select max(last_end_ns) from series_total";
+    let last: Option<Unsigned> = transaction.query_row(last, [], |row| row.get(0))?;
+    Ok(last.map_or(0, |end| hour_of(end.0)))
 }

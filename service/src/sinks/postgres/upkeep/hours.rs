@@ -6,10 +6,11 @@ use super::STEP;
 use std::time::Duration;
 use tokio_postgres::{Client, Error};
 
-/// The first hour that is kept: no later than the last one that there is, since by a clock that was ahead once the views would
-/// leave out all that comes until then.
-const FROM: &str = "select case when hours_from >= by_clock then by_clock
-        else least(by_clock, (select coalesce(max(hour), 0) from totxegun.series_total)) end
+/// The first hour that is kept: no later than the one in which the last span ends, since by a clock that was ahead once the
+/// views would leave out all that comes until then. What came late, and corrections, count in an hour by the clock, which
+/// says nothing about it.
+const FROM: &str = "select case when hours_from >= by_clock then by_clock else least(by_clock,
+        (select coalesce(max(div(last_end_ns - 1, 3600000000000)), 0)::int4 from totxegun.series_total)) end
     from totxegun.horizon, (select floor((extract(epoch from now()) - $1::float8) / 3600)::int4 as by_clock) as clock";
 
 const HORIZON: &str = "update totxegun.horizon set hours_from = $1::int4 where hours_from < $1::int4";

@@ -11,6 +11,8 @@ const HOUR: u64 = 3_600_000_000_000;
 /// 2024-02-29 22:00.
 const OLD: u64 = 1_709_244_000_000_000_000;
 
+const A_DAY: Retention = Retention { spans: None, hours: Some(Duration::from_secs(86_400)), series: None };
+
 impl Trial {
     fn done(&mut self, deed: Deed) {
         let told = self.writer.settle("alice", &deed);
@@ -117,7 +119,8 @@ fn an_hour_that_is_deleted_is_corrected_only_while_it_is_closed() {
     trial.done(Deed::Close(day()));
     trial.taken(2, sum("a", OLD + HOUR, OLD + 2 * HOUR, 7));
     trial.done(Deed::Open(day()));
-    trial.keep(Retention { hours: Some(Duration::from_secs(86_400)), ..Retention::default() });
+    trial.taken(3, sum("b", now() * HOUR - 1, now() * HOUR, 0));
+    trial.keep(A_DAY);
     trial.keep_up(now() * HOUR);
     let correct = || {
         let hour = "2024-02-29T23".parse().expect("an hour");
@@ -126,15 +129,31 @@ fn an_hour_that_is_deleted_is_corrected_only_while_it_is_closed() {
     let told = trial.writer.settle("alice", &correct());
     let part = "has nothing in 2024-02-29 23:00";
     assert!(matches!(&told, Told::Refused(why) if why.contains(part)), "{told:?}");
-    let billed = "select count(*), sum(total), sum(corrections) from by_";
+    let billed = "select count(distinct name), sum(total), sum(corrections) from by_";
     for view in ["hour", "day", "month"] {
-        assert_eq!(trial.ask(&format!("{billed}{view}")), "1|7|0", "{view}");
+        assert_eq!(trial.ask(&format!("{billed}{view}")), "2|7|0", "{view}");
     }
     // What is closed is corrected where that counts.
     trial.done(Deed::Close(day()));
     trial.done(correct());
     for view in ["hour", "day", "month"] {
-        assert_eq!(trial.ask(&format!("{billed}{view}")), "1|7|-2", "{view}");
+        assert_eq!(trial.ask(&format!("{billed}{view}")), "2|7|-2", "{view}");
+    }
+}
+
+/// As by a clock that was ahead once: what came late then counts far behind all spans.
+#[test]
+fn what_came_late_is_no_reason_to_leave_out_what_comes() {
+    let mut trial = Trial::new();
+    trial.taken(1, sum("a", OLD, OLD + 9, 5));
+    trial.done(Deed::Close("2024-02-29".parse().expect("a day")));
+    trial.taken(2, sum("a", OLD + HOUR, OLD + 2 * HOUR, 7));
+    trial.keep(A_DAY);
+    trial.keep_up(now() * HOUR);
+    trial.taken(3, sum("a", OLD + 2 * HOUR, OLD + 3 * HOUR, 11));
+    for view in ["hour", "day", "month"] {
+        let found = trial.ask(&format!("select sum(total) from by_{view} where {view} like '2024-03%'"));
+        assert_eq!(found, "11", "{view}");
     }
 }
 
