@@ -41,10 +41,13 @@ pub fn partial_success(answer: &[u8]) -> Option<ExportMetricsPartialSuccess> {
     })
 }
 
-pub(super) fn body(outcome: &Outcome, encoding: Encoding) -> Vec<u8> {
-    match encoding {
-        Encoding::Json => json(outcome).into_bytes(),
-        Encoding::Protobuf => protobuf(outcome),
+impl Outcome {
+    /// The answer's body: `ExportMetricsServiceResponse`, or `google.rpc.Status`.
+    pub fn body(&self, encoding: Encoding) -> Vec<u8> {
+        match encoding {
+            Encoding::Json => json(self).into_bytes(),
+            Encoding::Protobuf => protobuf(self),
+        }
     }
 }
 

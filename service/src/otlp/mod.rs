@@ -49,7 +49,12 @@ pub use outside::{Original, Outside};
 pub(crate) use plain_protobuf::is_plain;
 pub use resources::{slot_of, slot_of_series, Part, Resources, Split};
 pub use sender::{legal, sender, NO_NAME};
-pub use series::Profile;
+pub use series::{protobuf_of_forwarded, Profile};
+#[cfg(test)]
+pub(crate) use tests::{
+    a_request as a_request_of_test, plain_posts as plain_posts_of_test, posts as posts_of_test,
+    requests as requests_of_test, sums as sums_of_test,
+};
 
 use bytes::Bytes;
 
@@ -275,46 +280,6 @@ impl Outcome {
             _ => None,
         }
     }
-
-    /// The answer's body: `ExportMetricsServiceResponse`, or `google.rpc.Status`.
-    pub fn body(&self, encoding: Encoding) -> Vec<u8> {
-        answers::body(self, encoding)
-    }
-}
-
-/// A forwarded request (JSON, as the book writes it) in protobuf.
-pub fn protobuf_of_forwarded(body: &[u8]) -> Result<Vec<u8>, series::NotForwarded> {
-    series::protobuf_of_forwarded(body)
-}
-
-/// A request of one point, in protobuf.
-#[cfg(test)]
-pub(crate) fn a_request_of_test() -> Vec<u8> {
-    tests::a_request()
-}
-
-/// Protobuf drawn at random, as senders post it one body after the other.
-#[cfg(test)]
-pub(crate) fn posts_of_test(seed: u64, many: usize) -> Vec<Vec<u8>> {
-    tests::posts(seed, many)
-}
-
-/// The same, nearly all of them plain.
-#[cfg(test)]
-pub(crate) fn plain_posts_of_test(seed: u64, many: usize) -> Vec<Vec<u8>> {
-    tests::plain_posts(seed, many)
-}
-
-/// Sums in protobuf, each of its name, its start, its end and its value.
-#[cfg(test)]
-pub(crate) fn sums_of_test(sums: &[(&str, u64, u64, i64)]) -> Bytes {
-    tests::sums(sums)
-}
-
-/// Requests drawn at random in the book's form, each as it comes of protobuf and of JSON.
-#[cfg(test)]
-pub(crate) fn requests_of_test(many: usize) -> Vec<[Bytes; 2]> {
-    tests::requests(many)
 }
 
 #[cfg(test)]

@@ -11,8 +11,7 @@ mod zeros;
 
 pub use around::Around;
 pub use digest::{Digest, Digests};
-pub use forwarded::forwarded;
-pub(super) use forwarded::protobuf_of_forwarded;
+pub use forwarded::{forwarded, protobuf_of_forwarded};
 pub(super) use point::Temporality;
 pub use posted::Profile;
 pub use posted::{all_are, has_more, only, posted, posted_with, words_of};

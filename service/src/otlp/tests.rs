@@ -18,8 +18,9 @@ mod refused;
 mod speed;
 
 pub(super) use mapping::Spelling;
-pub(super) use posts::{plain_posts, posts, sums};
-pub(super) use random::{requests, Random};
+pub(crate) use posts::{plain_posts, posts, sums};
+pub(crate) use random::requests;
+pub(super) use random::Random;
 
 fn prepared(encoding: Encoding, body: impl Into<Bytes>) -> Result<Bytes, String> {
     prepare(encoding, body.into(), &Reading::default())
@@ -280,7 +281,7 @@ pub(super) fn in_json(request: &messages::ExportMetricsServiceRequest) -> String
 }
 
 /// A request of one point.
-pub(super) fn a_request() -> Vec<u8> {
+pub(crate) fn a_request() -> Vec<u8> {
     let point =
         [&[0x11][..], &1u64.to_le_bytes(), &[0x19], &2u64.to_le_bytes(), &[0x31], &5i64.to_le_bytes()]
             .concat();

@@ -13,6 +13,7 @@ use prost::Message;
 /// How many requests are drawn, of which each is posted again and again.
 const REQUESTS: usize = 12;
 
+/// Drawn at random.
 pub fn posts(seed: u64, many: usize) -> Vec<Vec<u8>> {
     let mut random = Random(seed);
     let mut clock = 1_700_000_000_000_000_000;
