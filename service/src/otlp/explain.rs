@@ -4,7 +4,8 @@ use super::causes::Cause;
 use super::clock::{Off, Window};
 use super::json::{Document, Value};
 use super::outside::is_of_no_series;
-use super::series::{visit_with, Profile, Seen, SeriesKey, What};
+use super::series::{said, visit_with, Profile, Seen, SeriesKey, What};
+use crate::log::cut;
 use serde::Serialize;
 use std::sync::Arc;
 
@@ -127,20 +128,10 @@ fn of(seen: &Seen<'_, '_>) -> Explained {
 
 /// `key=value, ..`, also of what can't be read whole.
 fn attributes(point: Value<'_>) -> String {
-    let list = point.named(["attributes"]).and_then(|[list]| list?.elements());
-    let pairs = list.into_iter().flatten().filter_map(|pair| {
+    let pairs = point.list("attributes").filter_map(|pair| {
         let [key, value] = pair.named(["key", "value"])?;
         let key = key.and_then(Value::text).unwrap_or_default();
-        Some(format!("{key}={}", value.map(shown).unwrap_or_default()))
+        Some(format!("{key}={}", cut(&value.map(said).unwrap_or_default(), SHOWN)))
     });
     pairs.collect::<Vec<String>>().join(", ")
-}
-
-fn shown(value: Value<'_>) -> String {
-    let inner = value.members().and_then(|mut members| members.next());
-    let text = match inner.map(|member| member.1) {
-        None => String::new(),
-        Some(inner) => inner.text().map_or_else(|| inner.raw().to_string(), |text| text.into_owned()),
-    };
-    text.chars().take(SHOWN).collect()
 }

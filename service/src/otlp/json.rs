@@ -157,6 +157,16 @@ impl<'d> Value<'d> {
         }
         Some(found)
     }
+
+    /// The same of one name.
+    pub fn member(self, name: &str) -> Option<Value<'d>> {
+        self.named([name])?[0]
+    }
+
+    /// The elements of the array that has this name; none where there is no such one.
+    pub fn list(self, name: &str) -> impl Iterator<Item = Value<'d>> {
+        self.member(name).and_then(Value::elements).into_iter().flatten()
+    }
 }
 
 #[derive(Clone)]

@@ -96,11 +96,7 @@ fn member<'d>(object: Value<'d>, names: [&str; 2]) -> Option<Value<'d>> {
 fn in_json<'d>(root: Value<'d>, attribute: &'d str) -> impl Iterator<Item = ResourceName<'d>> {
     let resources = member(root, ["resourceMetrics", "resource_metrics"]).and_then(Value::elements);
     resources.into_iter().flatten().map(move |resource| {
-        let attributes = resource
-            .named(["resource"])
-            .and_then(|[resource]| resource?.named(["attributes"]))
-            .and_then(|[attributes]| attributes?.elements());
-        let mut pairs = attributes.into_iter().flatten();
+        let mut pairs = resource.member("resource").into_iter().flat_map(|own| own.list("attributes"));
         let value = pairs.find_map(|pair| {
             let [key, value] = pair.named(["key", "value"])?;
             (key?.text()? == attribute).then_some(value)

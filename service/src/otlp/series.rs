@@ -15,8 +15,8 @@ pub use forwarded::{forwarded, protobuf_of_forwarded};
 pub(super) use point::Temporality;
 pub use posted::Profile;
 pub use posted::{all_are, has_more, only, posted, posted_with, words_of};
-pub(super) use posted::{first_resource, points_by_resource, visit, visit_with, Seen};
-pub(super) use why::What;
+pub(super) use posted::{first_resource, is_monotonic, points_by_resource, visit, visit_with, Seen};
+pub(super) use why::{name_shown, said, short, What};
 pub use zeros::zeros;
 
 use super::json::{Document, Value as Json};
@@ -112,6 +112,12 @@ impl SeriesKey {
             attributes: list(attributes),
         })
     }
+}
+
+/// The metrics of a request in the book's form, in order.
+pub(super) fn metrics<'d>(document: &'d Document<'_>) -> impl Iterator<Item = Json<'d>> {
+    let scopes = document.root().list("resourceMetrics").flat_map(|resource| resource.list("scopeMetrics"));
+    scopes.flat_map(|scope| scope.list("metrics"))
 }
 
 /// The parts of a key, where it is one but for its kind.

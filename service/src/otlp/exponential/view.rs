@@ -4,6 +4,7 @@ use super::edge::{COARSEST, FINEST};
 use super::{Bound, Bounds};
 use crate::otlp::json::{write_text, Document, NotJson, Value};
 use crate::otlp::number::{book_whole, mapped_double};
+use crate::otlp::series::{metrics, name_shown};
 use std::cmp::Ordering;
 use std::fmt;
 
@@ -13,8 +14,6 @@ const KINDS: [&str; 5] = ["gauge", "sum", "histogram", KIND, "summary"];
 const KEPT: [&str; 6] = ["startTimeUnixNano", "timeUnixNano", "count", "sum", "flags", "attributes"];
 /// A point that is not taken has nothing but its attributes, and why in this member.
 const WHY_NOT: &str = "exponential";
-/// How much of a metric's name stands in an answer.
-const NAME_SHOWN: usize = 100;
 
 /// A request with the view.
 pub struct View {
@@ -26,7 +25,7 @@ pub struct View {
 /// How many bytes the view of a text may have more. A count has up to 20 digits.
 pub fn most_more(text: &[u8], bounds: &Bounds) -> Result<usize, NotJson> {
     let document = Document::parse(text)?;
-    let points = metrics(&document).flat_map(|(_, data)| elements(data, "dataPoints")).count();
+    let points = exponential(&document).flat_map(|(_, data)| data.list("dataPoints")).count();
     Ok(points * (bounds.written().len() + 21 * (bounds.0.len() + 1)))
 }
 
@@ -41,7 +40,7 @@ pub fn viewed(text: &[u8], bounds: &Bounds) -> Result<View, NotJson> {
         out: String::with_capacity(text.len()),
         unfit: None,
     };
-    for (metric, data) in metrics(&document) {
+    for (metric, data) in exponential(&document) {
         viewing.metric(metric, data);
     }
     viewing.out.push_str(&viewing.text[viewing.copied..]);
@@ -51,24 +50,16 @@ pub fn viewed(text: &[u8], bounds: &Bounds) -> Result<View, NotJson> {
 
 /// Of a histogram's point that is foreign, why its view is not taken.
 pub fn why_not(point: Value<'_>) -> Option<Value<'_>> {
-    let [why] = point.named([WHY_NOT])?;
-    why
+    point.member(WHY_NOT)
 }
 
 /// The metrics with an exponential histogram, and no other data.
-fn metrics<'d>(document: &'d Document<'_>) -> impl Iterator<Item = (Value<'d>, Value<'d>)> {
-    let scopes =
-        elements(document.root(), "resourceMetrics").flat_map(|resource| elements(resource, "scopeMetrics"));
-    scopes.flat_map(|scope| elements(scope, "metrics")).filter_map(|metric| {
+fn exponential<'d>(document: &'d Document<'_>) -> impl Iterator<Item = (Value<'d>, Value<'d>)> {
+    metrics(document).filter_map(|metric| {
         let there = metric.named(KINDS)?;
         let is_one = there.iter().flatten().count() == 1;
         Some((metric, there[3].filter(|_| is_one)?))
     })
-}
-
-fn elements<'d>(object: Value<'d>, name: &str) -> impl Iterator<Item = Value<'d>> {
-    let found = object.named([name]).and_then(|[found]| found);
-    found.and_then(Value::elements).into_iter().flatten()
 }
 
 struct Viewing<'d, 'b> {
@@ -89,7 +80,7 @@ impl Viewing<'_, '_> {
         self.copy_to(name);
         self.out.push_str("histogram\":");
         self.copied = data.range().start;
-        for point in elements(data, "dataPoints") {
+        for point in data.list("dataPoints") {
             self.copy_to(point.range().start);
             self.copied = point.range().end;
             match self.bounds.counts(point) {
@@ -129,9 +120,7 @@ impl Viewing<'_, '_> {
         write_text(&mut more, &why.to_string());
         self.point(point, &["attributes"], &more);
         if self.unfit.is_none() {
-            let name = metric.named(["name"]).and_then(|[name]| name?.text()).unwrap_or_default();
-            let name: String = name.chars().take(NAME_SHOWN).collect();
-            self.unfit = Some(format!("of the exponential histogram `{name}` {why}"));
+            self.unfit = Some(format!("of the exponential histogram `{}` {why}", name_shown(metric)));
         }
     }
 }

@@ -5,7 +5,7 @@ use super::units::{Named, Unit};
 use super::FinerUnits;
 use crate::files::{Body, Fault, Journal, Outbox, UnitOfMetric};
 use crate::otlp::json::{Document, Value};
-use crate::otlp::series::{visit, Around};
+use crate::otlp::series::{metrics, visit, Around};
 use crate::work::in_order;
 use bytes::Bytes;
 
@@ -82,7 +82,7 @@ impl FinerUnits {
             return false;
         };
         // Most say what is known already, and a look at their points takes several times as long.
-        if self.is_known(&document) == Some(true) {
+        if self.is_known(&document) {
             return true;
         }
         let _ = visit(&document, |seen| {
@@ -90,28 +90,17 @@ impl FinerUnits {
                 self.know_unit(name, unit);
             }
         });
-        self.is_known(&document) == Some(true)
+        self.is_known(&document)
     }
 
-    /// Whether all metrics are, whatever points they have; none where the request is of another form.
-    fn is_known(&self, document: &Document<'_>) -> Option<bool> {
-        for resource in elements(document.root(), "resourceMetrics")? {
-            for scope in elements(resource, "scopeMetrics")? {
-                for metric in elements(scope, "metrics")? {
-                    if !self.is_unit_known(metric)? {
-                        return Some(false);
-                    }
-                }
-            }
-        }
-        Some(true)
-    }
-
-    fn is_unit_known(&self, metric: Value<'_>) -> Option<bool> {
-        let [name, unit] = metric.named(["name", "unit"])?;
-        let unit = unit.and_then(|unit| Unit::of(&unit.text()?));
-        let known = |unit| Some(self.units.as_ref()?.has(&name?.text()?, unit));
-        Some(unit.is_none_or(|unit| known(unit).unwrap_or(false)))
+    /// Whether all metrics are, whatever points they have.
+    fn is_known(&self, document: &Document<'_>) -> bool {
+        metrics(document).all(|metric| {
+            let [name, unit] = metric.named(["name", "unit"]).unwrap_or_default();
+            let unit = unit.and_then(|unit| Unit::of(&unit.text()?));
+            let known = |unit| Some(self.units.as_ref()?.has(&name?.text()?, unit));
+            unit.is_none_or(|unit| known(unit).unwrap_or(false))
+        })
     }
 
     fn know_unit(&self, name: Value<'_>, unit: Value<'_>) {
@@ -124,14 +113,4 @@ impl FinerUnits {
 
 fn named(units: &[Named]) -> Vec<UnitOfMetric> {
     units.iter().map(|(metric, unit)| (metric.to_string(), unit.name().to_string())).collect()
-}
-
-/// The elements of a list that an object has under this name, and none where it has none.
-fn elements<'d>(object: Value<'d>, name: &str) -> Option<impl Iterator<Item = Value<'d>>> {
-    let [list] = object.named([name])?;
-    let elements = match list {
-        None => None,
-        Some(list) => Some(list.elements()?),
-    };
-    Some(elements.into_iter().flatten())
 }

@@ -37,11 +37,7 @@ impl<'d> Delta<'d> {
     }
 
     pub fn points(&self) -> impl Iterator<Item = Value<'d>> {
-        elements(self.data, "dataPoints")
-    }
-
-    pub fn is_monotonic(&self) -> bool {
-        member(self.data, "isMonotonic").and_then(Value::truth) == Some(true)
+        self.data.list("dataPoints")
     }
 
     /// Whether its numbers are doubles, as far as that can be seen: those of a histogram may be whole by chance.
@@ -56,7 +52,7 @@ impl<'d> Delta<'d> {
 impl FinerUnits {
     /// Whether points are added up, by their temporality.
     pub(super) fn adds_up(&self, data: Value<'_>) -> bool {
-        match member(data, "aggregationTemporality").and_then(Value::number) {
+        match data.member("aggregationTemporality").and_then(Value::number) {
             Some("1") => true,
             Some("2") => self.profile == Profile::AlsoCumulative,
             _ => false,
@@ -76,14 +72,6 @@ fn has_fraction(point: Value<'_>) -> bool {
     };
     let bounds = bounds.and_then(Value::elements).into_iter().flatten();
     sum.into_iter().chain(bounds).any(|value| book_whole(value).is_none())
-}
-
-pub(super) fn member<'d>(object: Value<'d>, name: &str) -> Option<Value<'d>> {
-    object.named([name])?[0]
-}
-
-pub(super) fn elements<'d>(object: Value<'d>, name: &str) -> impl Iterator<Item = Value<'d>> {
-    member(object, name).and_then(Value::elements).into_iter().flatten()
 }
 
 /// How a metric is taken. Where nothing is known of its name yet, its points decide.
@@ -106,14 +94,14 @@ fn plan<'r, 'd>(
     metric: Value<'d>,
     unit_of: impl FnOnce(&Units, &str, Unit, &Delta<'d>) -> Option<Unit>,
 ) -> Option<Taken<'r>> {
-    let own = match member(metric, "unit") {
+    let own = match metric.member("unit") {
         None => Some("".into()),
         Some(unit) => unit.text(),
     };
     let Some(own) = own else {
         return Some(Taken::AsItIs);
     };
-    let name = || member(metric, "name").map_or(Some("".into()), Value::text);
+    let name = || metric.member("name").map_or(Some("".into()), Value::text);
     if let Some(rule) = finer_units.rules.get(&*own) {
         if let (Some(units), Some(to), Some(_)) =
             (&finer_units.units, Unit::of(&rule.to), Delta::of(finer_units, metric))
@@ -140,7 +128,7 @@ fn plan<'r, 'd>(
 
 /// Whether a metric is taken otherwise than it is, or has something that can't be taken.
 pub fn changes(finer_units: &FinerUnits, metric: Value<'_>) -> bool {
-    let is_about = match member(metric, "unit") {
+    let is_about = match metric.member("unit") {
         None => finer_units.has_no_unit(),
         Some(unit) => unit.text().is_some_and(|unit| finer_units.is_about(&unit)),
     };
@@ -162,7 +150,7 @@ pub(super) fn first_double<'d>(
     let delta = Delta::of(finer_units, metric)?;
     if delta.kind == "sum" {
         let point = delta.points().find(|point| is_double(*point))?;
-        return Some(("the value", member(point, "asDouble")?));
+        return Some(("the value", point.member("asDouble")?));
     }
     delta.points().find_map(|point| {
         let [sum, bounds] = point.named(["sum", "explicitBounds"])?;

@@ -4,11 +4,12 @@
 //! for a number. Nothing is changed in a metric that is foreign as a whole, but its unit.
 
 use super::decimal::Decimal;
-use super::plan::{elements, first_double, member, taken, Taken, DATA};
+use super::plan::{first_double, taken, Taken, DATA};
 use super::rounded::{resource_shown, rounded, Mark};
 use super::{FinerUnits, Rounded, Rule};
 use crate::otlp::json::{write_text, Document, NotJson, Value};
 use crate::otlp::number::{double_shown, MAX_WHOLE_DOUBLE};
+use crate::otlp::series::{is_monotonic, name_shown};
 use std::borrow::Cow;
 use std::cell::OnceCell;
 use std::ops::Range;
@@ -16,8 +17,6 @@ use std::sync::Arc;
 
 /// How a request in the book's form has the name before its value.
 const AS_DOUBLE: &str = "\"asDouble\":";
-/// How much of a metric's name stands in an answer.
-const NAME_SHOWN: usize = 100;
 
 /// The text is one that `otlp` has written.
 pub fn rewritten(text: &[u8], finer_units: &FinerUnits) -> Result<(String, Rounded), NotJson> {
@@ -50,7 +49,7 @@ struct Rewriting<'r> {
 /// A metric with a rule.
 struct Metric<'r, 'd> {
     rule: &'r Rule,
-    name: Option<Value<'d>>,
+    value: Value<'d>,
     resource: &'d Resource<'d>,
 }
 
@@ -72,12 +71,10 @@ type Edit = (Range<usize>, String);
 
 impl<'r> Rewriting<'r> {
     fn request(&mut self, document: &Document<'_>) {
-        for element in elements(document.root(), "resourceMetrics") {
-            let resource = Resource { value: member(element, "resource"), shown: OnceCell::new() };
-            for scope in elements(element, "scopeMetrics") {
-                for metric in elements(scope, "metrics") {
-                    self.metric(metric, &resource);
-                }
+        for element in document.root().list("resourceMetrics") {
+            let resource = Resource { value: element.member("resource"), shown: OnceCell::new() };
+            for metric in element.list("scopeMetrics").flat_map(|scope| scope.list("metrics")) {
+                self.metric(metric, &resource);
             }
         }
         self.out.push_str(&self.text[self.copied..]);
@@ -95,7 +92,7 @@ impl<'r> Rewriting<'r> {
             Taken::Whole(unit) => return self.first_double(value, unit.name()),
             Taken::In(rule) => rule,
         };
-        let metric = Metric { rule, name: member(value, "name"), resource };
+        let metric = Metric { rule, value, resource };
         let there = value.named(DATA).into_iter().flatten().flatten().count();
         for (name, part) in value.members().into_iter().flatten() {
             match &*name {
@@ -106,7 +103,7 @@ impl<'r> Rewriting<'r> {
                 }
                 "sum" if there == 1 && self.finer_units.adds_up(part) => self.sum(&metric, part),
                 "histogram" if there == 1 && self.finer_units.adds_up(part) => {
-                    for point in elements(part, "dataPoints") {
+                    for point in part.list("dataPoints") {
                         self.histogram_point(&metric, point);
                     }
                 }
@@ -116,8 +113,8 @@ impl<'r> Rewriting<'r> {
     }
 
     fn sum(&mut self, metric: &Metric<'r, '_>, data: Value<'_>) {
-        let is_monotonic = member(data, "isMonotonic").and_then(Value::truth) == Some(true);
-        for point in elements(data, "dataPoints") {
+        let is_monotonic = is_monotonic(data);
+        for point in data.list("dataPoints") {
             match point.named(["asInt", "asDouble"]) {
                 Some([Some(whole), None]) => self.whole(metric, whole),
                 Some([None, Some(double)]) => self.double(metric, double, is_monotonic),
@@ -202,7 +199,7 @@ impl<'r> Rewriting<'r> {
     /// Names the first double of a metric that was first taken in whole numbers of its own unit.
     fn first_double(&mut self, metric: Value<'_>, unit: &str) {
         if let (None, Some((what, value))) = (&self.unfit, first_double(self.finer_units, metric)) {
-            let name = name_shown(member(metric, "name"));
+            let name = name_shown(metric);
             let value = shown(value).unwrap_or_default();
             self.unfit = Some(format!(
                 "{what} {value} {unit} of `{name}` is a double, and it was first taken in whole {unit}"
@@ -214,17 +211,12 @@ impl<'r> Rewriting<'r> {
         let (None, Some(shown)) = (&self.unfit, shown(value)) else {
             return;
         };
-        let name = name_shown(metric.name);
+        let name = name_shown(metric.value);
         let Rule { from, to, .. } = metric.rule;
         let value = format!("{what} {shown} {from}");
         let unit = if to.is_empty() { "numbers" } else { to };
         self.unfit = Some(format!("{} of `{name}` can't be had in whole {unit}", value.trim_end()));
     }
-}
-
-fn name_shown(name: Option<Value<'_>>) -> String {
-    let name = name.and_then(Value::text).unwrap_or_default();
-    name.chars().take(NAME_SHOWN).collect()
 }
 
 /// A number or a text, which may have one.

@@ -4,10 +4,9 @@
 //! marks, the new text is read once more as the service reads it: that says which series a marked point is of, and
 //! whether it can be taken.
 
-use super::plan::{elements, member};
 use super::Rule;
 use crate::otlp::json::{Document, NotJson, Value};
-use crate::otlp::series::{visit, visit_with, Profile, Seen};
+use crate::otlp::series::{said, short, visit, visit_with, Profile, Seen};
 use std::collections::hash_map::DefaultHasher;
 use std::collections::BTreeMap;
 use std::hash::Hasher;
@@ -133,7 +132,7 @@ fn series_shown(seen: &Seen<'_, '_>, rule: Arc<str>, resource: Arc<str>) -> Show
     ShownSeries {
         rule,
         series: hash(seen.key),
-        metric: cut(&name.unwrap_or_default()),
+        metric: short(&name.unwrap_or_default(), SHOWN),
         attributes: attributes(seen.point, SHOWN_OF_POINT),
         resource,
     }
@@ -142,8 +141,8 @@ fn series_shown(seen: &Seen<'_, '_>, rule: Arc<str>, resource: Arc<str>) -> Show
 /// The series of a request of one point, in the book's form.
 pub fn shown_of(request: &[u8], rule: Arc<str>) -> Option<ShownSeries> {
     let document = Document::parse(request).ok()?;
-    let resource = elements(document.root(), "resourceMetrics").next()?;
-    let resource = member(resource, "resource").map(resource_shown).unwrap_or_default();
+    let resource = document.root().list("resourceMetrics").next()?;
+    let resource = resource.member("resource").map(resource_shown).unwrap_or_default();
     let mut series = None;
     visit(&document, |seen| {
         if seen.found.is_ok() {
@@ -208,9 +207,8 @@ pub(super) fn resource_shown(resource: Value<'_>) -> Arc<str> {
 
 /// The attributes of a point or a resource: behind so many bytes no other one begins.
 fn attributes(of: Value<'_>, most: usize) -> String {
-    let list = of.named(["attributes"]).and_then(|[list]| list?.elements());
     let mut text = String::new();
-    for pair in list.into_iter().flatten() {
+    for pair in of.list("attributes") {
         if !text.is_empty() {
             text.push_str(", ");
         }
@@ -219,36 +217,21 @@ fn attributes(of: Value<'_>, most: usize) -> String {
             break;
         }
         let [key, value] = pair.named(["key", "value"]).unwrap_or_default();
-        text.push_str(&cut(&key.and_then(Value::text).unwrap_or_default()));
+        text.push_str(&short(&key.and_then(Value::text).unwrap_or_default(), SHOWN));
         text.push('=');
         text.push_str(&value.map(shown).unwrap_or_default());
     }
     text
 }
 
-/// `{"stringValue":"a"}` is a, `{"intValue":"5"}` is 5, `{"arrayValue":{"values":[..]}}` is [..].
+/// What it says; `{"arrayValue":{"values":[..]}}` is [..].
 fn shown(value: Value<'_>) -> String {
-    match value.named(["arrayValue"]) {
-        Some([Some(array)]) => {
-            let values = array.named(["values"]).and_then(|[values]| values?.elements());
-            let values: Vec<String> = values.into_iter().flatten().map(single).collect();
-            cut(&format!("[{}]", values.join(", ")))
+    let single = |value| short(&said(value), SHOWN);
+    match value.member("arrayValue") {
+        Some(array) => {
+            let values: Vec<String> = array.list("values").map(single).collect();
+            short(&format!("[{}]", values.join(", ")), SHOWN)
         }
-        _ => single(value),
-    }
-}
-
-fn single(value: Value<'_>) -> String {
-    let inner = value.members().and_then(|mut members| members.next());
-    match inner.map(|member| member.1) {
-        None => String::new(),
-        Some(inner) => cut(&inner.text().unwrap_or(inner.raw().into())),
-    }
-}
-
-fn cut(text: &str) -> String {
-    match text.char_indices().nth(SHOWN) {
-        Some((at, _)) => format!("{}..", &text[..at]),
-        None => text.to_string(),
+        None => single(value),
     }
 }

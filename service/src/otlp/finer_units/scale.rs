@@ -1,11 +1,12 @@
 //! The numbers of a metric's points where these are read by number: as `rewrite` has them in the request's text.
 
 use super::decimal::Decimal;
-use super::plan::{decided, elements, Delta, Taken};
+use super::plan::{decided, Delta, Taken};
 use super::rewrite::{is_whole_double, is_word};
 use super::FinerUnits;
 use crate::otlp::json::Document;
 use crate::otlp::number::MAX_WHOLE_DOUBLE;
+use crate::otlp::series::{is_monotonic, metrics};
 use std::sync::Arc;
 
 /// How long the shortest decimal of a double may be.
@@ -31,13 +32,11 @@ pub enum Scaled {
 /// Of the one metric of a request in the book's form, which has no points.
 pub fn scale_of(request: &[u8], finer_units: &FinerUnits) -> Option<Scaled> {
     let document = Document::parse(request).ok()?;
-    let resource = elements(document.root(), "resourceMetrics").next()?;
-    let scope = elements(resource, "scopeMetrics").next()?;
-    let metric = elements(scope, "metrics").next()?;
+    let metric = metrics(&document).next()?;
     let Some(delta) = Delta::of(finer_units, metric) else {
         return Some(Scaled::Plain); // none of its points is taken
     };
-    let is_monotonic = delta.is_monotonic();
+    let is_monotonic = is_monotonic(delta.data);
     let (factor, rule) = match decided(finer_units, metric) {
         None => return Some(Scaled::Undecided),
         Some(Taken::AsItIs) => return Some(Scaled::Plain),

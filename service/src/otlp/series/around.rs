@@ -1,6 +1,7 @@
 //! Requests of one point, of which most have all but the point in common with the one before. So they can be read together.
 
-use crate::otlp::json::{plain_length, Document, Value};
+use super::metrics;
+use crate::otlp::json::{plain_length, Document};
 use bytes::Bytes;
 
 /// What is around the point of a request.
@@ -14,12 +15,8 @@ impl<'t> Around<'t> {
     /// None where the request is of another form.
     pub fn of(text: &'t [u8]) -> Option<Around<'t>> {
         let document = Document::parse(text).ok()?;
-        let mut metric = document.root();
-        for list in ["resourceMetrics", "scopeMetrics", "metrics"] {
-            metric = first(metric, list)?;
-        }
-        let [sum, histogram] = metric.named(["sum", "histogram"])?;
-        let point = first(sum.or(histogram)?, "dataPoints")?.range();
+        let [sum, histogram] = metrics(&document).next()?.named(["sum", "histogram"])?;
+        let point = sum.or(histogram)?.list("dataPoints").next()?.range();
         let (before, behind) = (&text[..point.start], &text[point.end..]);
         Some(Around { before, behind, is_of_sum: sum.is_some() })
     }
@@ -44,11 +41,6 @@ impl<'t> Around<'t> {
     pub fn with(&self, points: &[&[u8]]) -> Vec<u8> {
         [self.before, &points.join(&b','), self.behind].concat()
     }
-}
-
-fn first<'d>(object: Value<'d>, list: &str) -> Option<Value<'d>> {
-    let [list] = object.named([list])?;
-    list?.elements()?.next()
 }
 
 /// Whether this is one value with brackets, where it is JSON: the first of them is closed by the last byte, and by none before.

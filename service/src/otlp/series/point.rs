@@ -38,7 +38,7 @@ fn foreign<'d, T>(what: What, field: &'static str, value: Option<Value<'d>>) -> 
 
 /// Writes the kind of a sum behind a key.
 pub fn sum_kind<'d>(put: &mut Put, data: Value<'d>) -> Read<'d, ()> {
-    let [found] = data.named(["isMonotonic"]).unwrap_or_default();
+    let found = data.member("isMonotonic");
     let monotonic = match found.map(Value::truth) {
         None => false,
         Some(Some(truth)) => truth,

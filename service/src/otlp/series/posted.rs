@@ -320,9 +320,8 @@ fn part<'d>(kind: &'static str, found: Option<Value<'d>>) -> Option<Option<Part<
     Some(Some(Part { kind, whole, points }))
 }
 
-fn is_monotonic(sum: Value<'_>) -> bool {
-    let [found] = sum.named(["isMonotonic"]).unwrap_or_default();
-    found.and_then(Value::truth) == Some(true)
+pub fn is_monotonic(sum: Value<'_>) -> bool {
+    sum.member("isMonotonic").and_then(Value::truth) == Some(true)
 }
 
 fn in_words(kind: &'static str) -> &'static str {
@@ -334,7 +333,7 @@ fn in_words(kind: &'static str) -> &'static str {
 }
 
 fn temporality(data: Value<'_>, profile: Profile) -> Result<Temporality, Why<'_>> {
-    let [found] = data.named(["aggregationTemporality"]).unwrap_or_default();
+    let found = data.member("aggregationTemporality");
     match found.and_then(Value::number) {
         Some("1") => Ok(Temporality::Delta),
         Some("2") if profile == Profile::AlsoCumulative => Ok(Temporality::Cumulative),

@@ -1,11 +1,15 @@
 //! Why a point is foreign, and that in words (docs/FORMATS.md, "Reading OTLP/JSON").
 
+use crate::log::cut;
 use crate::otlp::json::{Kind, Value};
 use crate::otlp::number::{double_shown, MAX_WHOLE_DOUBLE};
+use std::borrow::Cow;
 use std::fmt;
 
 /// How much of a value stands in words.
 const SHOWN: usize = 80;
+/// The same of a metric's name.
+const NAME_SHOWN: usize = 100;
 
 /// What is wrong, where, and with which value.
 #[derive(Clone, Copy)]
@@ -64,7 +68,7 @@ impl fmt::Display for Why<'_> {
     fn fmt(&self, out: &mut fmt::Formatter<'_>) -> fmt::Result {
         let Why { what, field, .. } = *self;
         if let Some(key) = self.key.and_then(Value::text) {
-            write!(out, "{field} `{}`: ", short(&key))?;
+            write!(out, "{field} `{}`: ", short(&key, SHOWN))?;
         }
         let value = self.value.map_or_else(|| "nothing".to_string(), shown);
         match what {
@@ -125,13 +129,26 @@ fn shown(value: Value<'_>) -> String {
     };
     match text.parse::<f64>() {
         Ok(double) if text.contains(['e', 'E']) => double_shown(double),
-        _ => short(&text),
+        _ => short(&text, SHOWN),
     }
 }
 
-fn short(text: &str) -> String {
-    match text.char_indices().nth(SHOWN) {
-        Some((at, _)) => format!("{}..", &text[..at]),
-        None => text.to_string(),
+/// The first characters of a text, and that there are more.
+pub fn short(text: &str, most: usize) -> String {
+    match cut(text, most) {
+        whole if whole.len() == text.len() => text.to_string(),
+        begin => format!("{begin}.."),
     }
+}
+
+/// What the value of an attribute says: `{"stringValue":"a"}` is a, `{"intValue":"5"}` is 5.
+pub fn said(value: Value<'_>) -> Cow<'_, str> {
+    let inner = value.members().and_then(|mut members| members.next());
+    inner.map(|(_, inner)| inner.text().unwrap_or(inner.raw().into())).unwrap_or_default()
+}
+
+/// A metric's name, as it stands in an answer.
+pub fn name_shown(metric: Value<'_>) -> String {
+    let name = metric.member("name").and_then(Value::text).unwrap_or_default();
+    cut(&name, NAME_SHOWN).to_string()
 }
