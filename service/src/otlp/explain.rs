@@ -4,7 +4,7 @@ use super::causes::Cause;
 use super::clock::{Off, Window};
 use super::json::{Document, Value};
 use super::outside::is_of_no_series;
-use super::series::{said, visit_with, Profile, Seen, SeriesKey, What};
+use super::series::{said, visit_with, Profile, Seen, SeriesKey, What, LOOKED_AT};
 use crate::log::cut;
 use serde::Serialize;
 use std::sync::Arc;
@@ -113,7 +113,7 @@ pub fn second_at(body: &[u8], profile: Profile, place: u64, end: u64) -> Option<
 }
 
 fn of(seen: &Seen<'_, '_>) -> Explained {
-    let name = seen.metric.name.and_then(Value::text);
+    let name = seen.metric.name.and_then(|name| name.text_up_to(LOOKED_AT));
     Explained {
         metric: name.unwrap_or_default().into_owned(),
         kind: seen.kind,

@@ -128,6 +128,11 @@ impl<'d> Value<'d> {
         (self.kind() == Kind::Text).then(|| parser::unescaped(self.inside()))
     }
 
+    /// The same of no more than so many bytes as they are written, for who shows it.
+    pub fn text_up_to(self, most: usize) -> Option<Cow<'d, str>> {
+        (self.kind() == Kind::Text).then(|| parser::unescaped(begin(self.inside(), most)))
+    }
+
     /// What is between the quotes of a text, as it is written.
     fn inside(self) -> &'d str {
         let raw = self.raw();
@@ -214,6 +219,11 @@ impl<'d> Iterator for Members<'d> {
         let (name, value) = self.next_written()?;
         Some((parser::unescaped(name), value))
     }
+}
+
+/// The beginning of a text, of at most so many bytes.
+pub fn begin(text: &str, most: usize) -> &str {
+    &text[..text.floor_char_boundary(most)]
 }
 
 /// Whether bytes are UTF-8. Most are ASCII, which is seen sooner.

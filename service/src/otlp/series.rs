@@ -16,7 +16,7 @@ pub(super) use point::Temporality;
 pub use posted::Profile;
 pub use posted::{all_are, has_more, only, posted, posted_with, words_of};
 pub(super) use posted::{first_resource, is_monotonic, points_by_resource, visit, visit_with, Seen};
-pub(super) use why::{name_shown, said, short, What};
+pub(super) use why::{name_shown, said, short, What, LOOKED_AT};
 pub use zeros::zeros;
 
 use super::json::{Document, Value as Json};

@@ -43,7 +43,7 @@ pub(super) fn parse(text: &str) -> Result<Document<'_>, NotJson> {
     }
 }
 
-/// The text that is between the quotes, its escapes resolved; it was found sound.
+/// The text that is between the quotes, its escapes resolved; it was found sound. Of what is cut within an escape that is left out.
 pub(super) fn unescaped(raw: &str) -> Cow<'_, str> {
     if !raw.as_bytes().contains(&b'\\') {
         return Cow::Borrowed(raw);
@@ -52,7 +52,9 @@ pub(super) fn unescaped(raw: &str) -> Cow<'_, str> {
     let mut rest = raw;
     while let Some(at) = rest.find('\\') {
         text.push_str(&rest[..at]);
-        let (character, length) = escaped(&rest.as_bytes()[at..]).unwrap_or(('\u{fffd}', 2));
+        let Some((character, length)) = escaped(&rest.as_bytes()[at..]) else {
+            return Cow::Owned(text);
+        };
         text.push(character);
         rest = &rest[at + length..];
     }

@@ -132,6 +132,16 @@ fn texts_are_written_as_they_were() {
 }
 
 #[test]
+fn the_beginning_of_a_text_has_no_part_of_a_character() {
+    let document = Document::parse("\"aé\\u00e9\\ud83d\\ude00\\n\"".as_bytes()).unwrap();
+    let whole = document.root().text().unwrap();
+    let begins: Vec<_> = (0..=30).map(|most| document.root().text_up_to(most).unwrap()).collect();
+    assert!(begins.iter().all(|begin| whole.starts_with(&**begin)), "{begins:?}");
+    let lengths: Vec<usize> = begins.iter().map(|begin| begin.chars().count()).collect();
+    assert_eq!(lengths, [vec![0, 1, 1, 2, 2, 2, 2, 2, 2], vec![3; 12], vec![4; 2], vec![5; 8]].concat());
+}
+
+#[test]
 fn numbers_near_the_range_are_known() {
     for (text, near) in
         [("1e307", false), ("[1.7e308]", true), ("-1e308", true), ("1", false), ("1e-320", false)]

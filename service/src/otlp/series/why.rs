@@ -1,11 +1,13 @@
 //! Why a point is foreign, and that in words (docs/FORMATS.md, "Reading OTLP/JSON").
 
 use crate::log::cut;
-use crate::otlp::json::{Kind, Value};
+use crate::otlp::json::{begin, Value};
 use crate::otlp::number::{double_shown, MAX_WHOLE_DOUBLE};
 use std::borrow::Cow;
 use std::fmt;
 
+/// How much of a text is looked at, as it is written: many points may share it.
+pub const LOOKED_AT: usize = 4 << 10;
 /// How much of a value stands in words.
 const SHOWN: usize = 80;
 /// The same of a metric's name.
@@ -123,10 +125,7 @@ fn whole_help(field: &str) -> &'static str {
 
 /// A value as people write it.
 fn shown(value: Value<'_>) -> String {
-    let text = match value.kind() {
-        Kind::Text => value.text().unwrap_or_default().into_owned(),
-        _ => value.raw().to_string(),
-    };
+    let text = value.text_up_to(LOOKED_AT).unwrap_or_else(|| begin(value.raw(), LOOKED_AT).into());
     match text.parse::<f64>() {
         Ok(double) if text.contains(['e', 'E']) => double_shown(double),
         _ => short(&text, SHOWN),

@@ -124,6 +124,32 @@ fn each_kind_of_foreign_point_has_its_reason() {
     }
 }
 
+/// Else a post of 4 MiB, half of it one text that all its points share, took minutes of a thread.
+#[test]
+fn what_points_share_is_looked_at_no_further_than_it_is_shown() {
+    const POINTS: usize = 3_000;
+    let (points, long) = (vec!["{}"; POINTS].join(","), r"\u00e9".repeat(350_000));
+    let of = |name: &str| request(&format!(r#"{{{name}"sum":{{"dataPoints":[{points}]}}}}"#));
+    let of_metric = of(&format!(r#""name":"{long}","#));
+    let of_resource = of("").replacen(
+        r#"{"scopeMetrics""#,
+        &format!(r#"{{"resource":{{"attributes":"{long}"}},"scopeMetrics""#),
+        1,
+    );
+    let begun = std::time::Instant::now();
+    for (body, words) in [(of_metric, "metric name has more than"), (of_resource, "resource attribute is éé")]
+    {
+        let mut told = 0;
+        foreign_points(body.as_bytes(), Profile::Deltas, |point| {
+            assert!(point.foreign.unwrap().starts_with(words) && point.metric.len() < 5_000);
+            told += 1;
+            false
+        });
+        assert_eq!(told, POINTS);
+    }
+    assert!(begun.elapsed().as_secs() < 20, "{:?}", begun.elapsed());
+}
+
 #[test]
 fn a_point_that_the_book_counts_is_found_again() {
     let body = request(&format!(
