@@ -96,10 +96,10 @@ impl Levels {
         Level::try_from(self.all.len()).map_err(|_| Full)
     }
 
-    /// The level of a metric that is taken in another unit.
+    /// The level of a metric that is taken in another unit. It is there with its scale, or not at all.
     pub fn scaled(&mut self, within: Level, bytes: &[u8], scale: Scale) -> Result<Level, Full> {
+        self.take_room(&[], 0)?;
         let level = self.level(within, bytes)?;
-        self.left = self.left.checked_sub(ENTRY).ok_or(Full)?;
         self.scales.entry(level).or_insert_with(|| Arc::new(scale));
         Ok(level)
     }
