@@ -11,6 +11,9 @@ use super::{prepare, Causes, OffClock, Original, Outcome, Reading};
 use std::cell::OnceCell;
 use std::fmt::Write;
 
+/// The status of what is too long for its memory.
+const TOO_LONG: u16 = 413;
+
 /// How many reasons are named.
 const REASONS: usize = 5;
 
@@ -50,8 +53,8 @@ fn again(parts: &[OfPart]) -> Option<&Outcome> {
 struct Whole<'p> {
     parts: &'p [OfPart],
     reading: &'p Reading,
-    /// Of each resource of the request how many points of the profile it has.
-    points: OnceCell<Vec<u64>>,
+    /// Of each resource of the request how many points of the profile it has; none where that is not known.
+    points: OnceCell<Vec<Option<u64>>>,
 }
 
 impl Whole<'_> {
@@ -78,27 +81,29 @@ impl Whole<'_> {
     fn place(&self, part: &OfPart, mut place: u64) -> Option<u64> {
         let points = self.points.get_or_init(|| self.count());
         for resource in part.resources.iter().map(|resource| *resource as usize) {
-            let own = *points.get(resource)?;
+            let own = (*points.get(resource)?)?;
             if place < own {
-                return Some(points[..resource].iter().sum::<u64>() + place);
+                let before: Option<u64> = points[..resource].iter().copied().sum();
+                return Some(before? + place);
             }
             place -= own;
         }
         None
     }
 
-    /// A part that can't be read has none.
-    fn count(&self) -> Vec<u64> {
+    /// A part that can't be read has none. One that there was no memory for is not read here either.
+    fn count(&self) -> Vec<Option<u64>> {
         let resources = self.parts.iter().map(|part| part.resources.len()).sum();
-        let mut all = vec![0; resources];
-        for part in self.parts {
+        let mut all = vec![None; resources];
+        for part in self.parts.iter().filter(|part| part.outcome.status() != TOO_LONG) {
             let prepared = prepare(part.part.encoding, part.part.body.clone(), self.reading);
             let body = prepared.map(|prepared| prepared.body).unwrap_or_default();
             let points = Document::parse(&body)
                 .ok()
                 .and_then(|document| points_by_resource(&document, self.reading.profile()));
-            for (resource, points) in part.resources.iter().zip(points.unwrap_or_default()) {
-                all[*resource as usize] = points;
+            let points = points.unwrap_or_default().into_iter().chain(std::iter::repeat(0));
+            for (resource, points) in part.resources.iter().zip(points) {
+                all[*resource as usize] = Some(points);
             }
         }
         all
