@@ -2,24 +2,28 @@
 
 use super::{most, INSTANCE};
 use crate::otlp::json::{write_text, Document, Value};
-use crate::otlp::outside::json::{members, RESOURCES};
+use crate::otlp::outside::json::{put_members, RESOURCES};
 
 /// None where it can't be read.
 pub fn with(request: &[u8], name: &str) -> Option<(Vec<u8>, usize)> {
     let document = Document::parse(request).ok()?;
     let (mut count, most) = (0, most(name));
-    let text = members(document.root(), |member, value| {
+    let mut text = String::with_capacity(request.len());
+    put_members(&mut text, document.root(), |out, member, value| {
         let all = RESOURCES.contains(&member).then(|| value.elements()).flatten();
         let Some(all) = all else {
-            return Some(value.raw().to_string());
+            out.push_str(value.raw());
+            return Some(());
         };
-        let with_names = all.map(|element| {
+        out.push('[');
+        for (place, element) in all.enumerate() {
             let named = (count <= most).then(|| named(element, name)).flatten();
             count += usize::from(named.is_some());
-            named.unwrap_or_else(|| element.raw().to_string())
-        });
-        let all: Vec<String> = with_names.collect();
-        Some(format!("[{}]", all.join(",")))
+            out.push_str(if place > 0 { "," } else { "" });
+            out.push_str(named.as_deref().unwrap_or(element.raw()));
+        }
+        out.push(']');
+        Some(())
     });
     Some((text.into_bytes(), count))
 }
@@ -34,18 +38,17 @@ fn named(element: Value<'_>, name: &str) -> Option<String> {
         Some(resource) => resource.named(["attributes"])?[0],
         None => None,
     };
-    let all = match attributes {
-        Some(attributes) => attributes.elements()?.collect(),
-        None => Vec::new(),
-    };
-    for pair in &all {
-        if pair.named(["key"])?[0].and_then(Value::text).as_deref() == Some(INSTANCE) {
-            return None;
+    let mut pairs = pair(name);
+    if let Some(attributes) = attributes {
+        for other in attributes.elements()? {
+            if other.named(["key"])?[0].and_then(Value::text).as_deref() == Some(INSTANCE) {
+                return None;
+            }
+            pairs.push(',');
+            pairs.push_str(other.raw());
         }
     }
-    let mut pairs = vec![pair(name)];
-    pairs.extend(all.iter().map(|pair| pair.raw().to_string()));
-    let attributes = format!("\"attributes\":[{}]", pairs.join(","));
+    let attributes = format!("\"attributes\":[{pairs}]");
     let others = resource.map(|resource| without(resource, "attributes"));
     let resource = format!("\"resource\":{}", with_member(&attributes, &others.unwrap_or_default()));
     Some(with_member(&resource, &without(element, "resource")))
@@ -63,7 +66,8 @@ fn pair(name: &str) -> String {
 
 /// The members of an object but one.
 fn without(object: Value<'_>, left_out: &str) -> String {
-    let text = members(object, |name, value| (name != left_out).then(|| value.raw().to_string()));
+    let mut text = String::new();
+    put_members(&mut text, object, |out, name, value| (name != left_out).then(|| out.push_str(value.raw())));
     text[1..text.len() - 1].to_string()
 }
 

@@ -14,63 +14,86 @@ const POINTS: Names = ["dataPoints", "data_points"];
 /// The request with the points that are chosen; nothing where none is, or where it can't be read.
 pub fn with(request: &[u8], choose: &mut Choose<'_>) -> Option<Vec<u8>> {
     let document = Document::parse(request).ok()?;
-    let text = list(document.root(), RESOURCES, |resource| {
-        list(resource, SCOPES, |scope| list(scope, METRICS, |one| metric(one, choose)))
-    });
-    text.map(String::into_bytes)
+    let mut text = String::new();
+    put_list(&mut text, document.root(), RESOURCES, &mut |out, resource| {
+        put_list(out, resource, SCOPES, &mut |out, scope| {
+            put_list(out, scope, METRICS, &mut |out, one| put_metric(out, one, choose))
+        })
+    })?;
+    Some(text.into_bytes())
 }
 
-/// An object with what `each` makes of the elements of one list, and all else that it has; nothing where none is left.
-fn list<'d>(
+/// Puts an object with what `each` puts of the elements of one list, and all else that it has; nothing where none is left.
+fn put_list<'d>(
+    out: &mut String,
     object: Value<'d>,
     names: Names,
-    mut each: impl FnMut(Value<'d>) -> Option<String>,
-) -> Option<String> {
-    let mut is_any = false;
-    let text = members(object, |name, value| {
+    each: &mut dyn FnMut(&mut String, Value<'d>) -> Option<()>,
+) -> Option<()> {
+    let (from, mut any) = (out.len(), None);
+    put_members(out, object, |out, name, value| {
         if !names.contains(&name) {
-            return Some(value.raw().to_string());
+            out.push_str(value.raw());
+            return Some(());
         }
-        let left: Vec<String> = value.elements().into_iter().flatten().filter_map(&mut each).collect();
-        is_any |= !left.is_empty();
-        Some(format!("[{}]", left.join(",")))
+        out.push('[');
+        let inside = out.len();
+        for element in value.elements().into_iter().flatten() {
+            let from = out.len();
+            out.push_str(if from > inside { "," } else { "" });
+            match each(out, element) {
+                Some(()) => any = Some(()),
+                None => out.truncate(from),
+            }
+        }
+        out.push(']');
+        Some(())
     });
-    is_any.then_some(text)
+    if any.is_none() {
+        out.truncate(from);
+    }
+    any
 }
 
-/// An object with what `each` makes of its members.
-pub fn members<'d>(object: Value<'d>, mut each: impl FnMut(&str, Value<'d>) -> Option<String>) -> String {
-    let mut out = String::from("{");
+/// Puts an object with what `each` puts of its members, but for their names; of some that may be nothing.
+pub fn put_members<'d>(
+    out: &mut String,
+    object: Value<'d>,
+    mut each: impl FnMut(&mut String, &str, Value<'d>) -> Option<()>,
+) {
+    out.push('{');
+    let inside = out.len();
     for (name, value) in object.members().into_iter().flatten() {
-        if let Some(text) = each(&name, value) {
-            out.push_str(if out.len() > 1 { "," } else { "" });
-            write_text(&mut out, &name);
-            out.push(':');
-            out.push_str(&text);
+        let from = out.len();
+        out.push_str(if from > inside { "," } else { "" });
+        write_text(out, &name);
+        out.push(':');
+        if each(out, &name, value).is_none() {
+            out.truncate(from);
         }
     }
     out.push('}');
-    out
 }
 
-fn metric(object: Value<'_>, choose: &mut Choose<'_>) -> Option<String> {
-    let mut chosen = Vec::new();
+/// No kind is there twice: who reads it first refuses that.
+fn put_metric(out: &mut String, object: Value<'_>, choose: &mut Choose<'_>) -> Option<()> {
+    let mut chosen: [Option<String>; KINDS.len()] = Default::default();
     for (place, kind) in KINDS.iter().enumerate() {
-        let of_kind = object.members().into_iter().flatten().filter(|(name, _)| kind.is(name));
-        for (_, data) in of_kind {
-            let data = list(data, POINTS, |point| choose(place).then(|| point.raw().to_string()));
-            chosen.push((kind.name, data));
+        for (_, data) in object.members().into_iter().flatten().filter(|(name, _)| kind.is(name)) {
+            let mut text = String::new();
+            let one = put_list(&mut text, data, POINTS, &mut |out, point| {
+                choose(place).then(|| out.push_str(point.raw()))
+            });
+            chosen[place] = one.map(|()| text);
         }
     }
-    chosen.iter().any(|(_, data)| data.is_some()).then(|| {
-        members(object, |name, value| match KINDS.iter().find(|kind| kind.is(name)) {
-            None => Some(value.raw().to_string()),
-            Some(kind) => {
-                let place = chosen.iter().position(|(known, _)| *known == kind.name)?;
-                chosen.remove(place).1
-            }
-        })
-    })
+    chosen.iter().flatten().next()?;
+    put_members(out, object, |out, name, value| {
+        let kind = KINDS.iter().position(|kind| kind.is(name));
+        let text = kind.map_or_else(|| Some(value.raw()), |place| chosen[place].as_deref());
+        text.map(|text| out.push_str(text))
+    });
+    Some(())
 }
 
 impl Kind {
