@@ -59,7 +59,7 @@ fn refused(of: &Message, what: impl std::fmt::Display) -> Stop {
     Stop::Refused(Refused::Unreadable(format!("not JSON of OTLP: {}: {what}", of.name)))
 }
 
-impl Walk<'_, '_> {
+impl<'r> Walk<'_, 'r> {
     fn body(&mut self, document: &Document<'_>) -> Result<(), Stop> {
         let root = document.root();
         if root.members().is_none() {
@@ -208,15 +208,8 @@ impl Walk<'_, '_> {
 
     fn leaf(&mut self, kind: Kind, value: Value<'_>) -> Result<(), Stop> {
         match kind {
-            Kind::Text => {
-                if let Some(out) = &mut self.out {
-                    match value.text() {
-                        Some(text) => out.quoted(text.as_bytes()),
-                        None => out.push("false"),
-                    }
-                }
-            }
-            Kind::Unit => self.unit(value),
+            Kind::Text => self.put(|| value.text(), |out, text| out.quoted(text.as_bytes())),
+            Kind::Unit => self.put(|| value.text(), |out, unit| out.unit(&unit)),
             // A number is as wrong a truth as any.
             Kind::Bool => self.push(value.truth().map_or("0", |truth| if truth { "true" } else { "false" })),
             Kind::Temporality => self.temporality(value)?,
@@ -224,7 +217,8 @@ impl Walk<'_, '_> {
             Kind::Wholes | Kind::Numbers => self.list(value, Self::whole)?,
             Kind::Double => self.double(value)?,
             Kind::Doubles => self.list(value, Self::double)?,
-            Kind::Fraction => self.fraction(value),
+            // A double whose value counts for nothing but that it is there.
+            Kind::Fraction => self.put(|| mapped_double(value), Output::double),
             Kind::Foreign(_) => self.push("{}"),
             _ => self.push("\"\""),
         }
@@ -250,10 +244,11 @@ impl Walk<'_, '_> {
         Ok(())
     }
 
-    fn unit(&mut self, value: Value<'_>) {
+    /// Writes what is found, and else what is no value of any field.
+    fn put<T>(&mut self, found: impl FnOnce() -> Option<T>, put: impl FnOnce(&mut Output<'r>, T)) {
         let Some(out) = &mut self.out else { return };
-        match value.text() {
-            Some(unit) => out.unit(&unit),
+        match found() {
+            Some(found) => put(out, found),
             None => out.push("false"),
         }
     }
@@ -264,12 +259,7 @@ impl Walk<'_, '_> {
         if known.is_none() && meant.is_some() {
             self.changed()?;
         }
-        if let Some(out) = &mut self.out {
-            match meant {
-                Some(whole) => out.whole(whole),
-                None => out.push("false"),
-            }
-        }
+        self.put(|| meant, Output::whole);
         Ok(())
     }
 
@@ -289,15 +279,6 @@ impl Walk<'_, '_> {
         Ok(())
     }
 
-    /// A double whose value counts for nothing but that it is there.
-    fn fraction(&mut self, value: Value<'_>) {
-        let Some(out) = &mut self.out else { return };
-        match mapped_double(value) {
-            Some(double) => out.double(double),
-            None => out.push("false"),
-        }
-    }
-
     fn temporality(&mut self, value: Value<'_>) -> Result<(), Stop> {
         let plain = value.number().filter(|number| is_plain(number));
         let named = value.text().and_then(|name| match &*name {
@@ -311,12 +292,7 @@ impl Walk<'_, '_> {
             self.changed()?;
         }
         self.is_cumulative |= meant == Some(CUMULATIVE);
-        if let Some(out) = &mut self.out {
-            match meant {
-                Some(number) => out.temporality(number),
-                None => out.push("false"),
-            }
-        }
+        self.put(|| meant, Output::temporality);
         Ok(())
     }
 }
