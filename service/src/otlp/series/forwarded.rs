@@ -2,7 +2,7 @@
 //! "JSON that is written"), and parts of keys are copied from them.
 
 use super::{ForwardedPoint, NotForwarded, SeriesKey, Value};
-use crate::otlp::json::{Document, Value as Json};
+use crate::otlp::json::{Document, Elements, Value as Json};
 use crate::otlp::messages::{
     Any, AnyValue, ArrayValue, Data, ExportMetricsServiceRequest, Histogram, HistogramDataPoint,
     InstrumentationScope, KeyValue, Metric, Number, NumberDataPoint, Resource, ResourceMetrics, ScopeMetrics,
@@ -35,19 +35,12 @@ pub fn forwarded(body: &[u8]) -> ReadResult<Vec<ForwardedPoint>> {
 /// A forwarded request in protobuf.
 pub fn protobuf_of_forwarded(body: &[u8]) -> ReadResult<Vec<u8>> {
     let document = parsed(body)?;
-    let mut request = ExportMetricsServiceRequest::default();
-    each(document.root(), "resourceMetrics", |of_resource| {
+    let resource_metrics = all(document.root(), "resourceMetrics", |of_resource| {
         let attributes = attributes(member(of_resource, "resource")?)?;
-        let mut found =
-            ResourceMetrics { resource: Some(Resource { attributes }), scope_metrics: Vec::new() };
-        each(of_resource, "scopeMetrics", |of_scope| {
-            found.scope_metrics.push(scope_message(of_scope)?);
-            Ok(())
-        })?;
-        request.resource_metrics.push(found);
-        Ok(())
+        let scope_metrics = all(of_resource, "scopeMetrics", scope_message)?;
+        Ok(ResourceMetrics { resource: Some(Resource { attributes }), scope_metrics })
     })?;
-    Ok(request.encode_to_vec())
+    Ok(ExportMetricsServiceRequest { resource_metrics }.encode_to_vec())
 }
 
 fn missing(what: &str) -> NotForwarded {
@@ -67,12 +60,16 @@ fn optional<'d>(object: Json<'d>, name: &str) -> ReadResult<Option<Json<'d>>> {
 }
 
 fn list<'d>(object: Json<'d>, name: &str) -> ReadResult<Json<'d>> {
-    member(object, name)?.elements().ok_or_else(|| missing(name))?;
-    member(object, name)
+    let list = member(object, name)?;
+    list.elements().map(|_| list).ok_or_else(|| missing(name))
+}
+
+fn elements<'d>(object: Json<'d>, name: &str) -> ReadResult<Elements<'d>> {
+    member(object, name)?.elements().ok_or_else(|| missing(name))
 }
 
 fn each<'d>(object: Json<'d>, name: &str, mut one: impl FnMut(Json<'d>) -> ReadResult<()>) -> ReadResult<()> {
-    member(object, name)?.elements().ok_or_else(|| missing(name))?.try_for_each(&mut one)
+    elements(object, name)?.try_for_each(&mut one)
 }
 
 fn whole<T: TryFrom<i128>>(value: Json<'_>, name: &str) -> ReadResult<T> {
@@ -84,8 +81,7 @@ fn number<T: TryFrom<i128>>(object: Json<'_>, name: &str) -> ReadResult<T> {
 }
 
 fn numbers<T: TryFrom<i128>>(object: Json<'_>, name: &str) -> ReadResult<Vec<T>> {
-    let elements = member(object, name)?.elements().ok_or_else(|| missing(name))?;
-    elements.map(|element| whole(element, name)).collect()
+    all(object, name, |element| whole(element, name))
 }
 
 fn text(object: Json<'_>, name: &str) -> ReadResult<String> {
@@ -122,11 +118,7 @@ fn add_points<'d>(points: &mut Vec<ForwardedPoint>, above: &str, metric: Json<'d
 
 fn scope_message(of_scope: Json<'_>) -> ReadResult<ScopeMetrics> {
     let scope = member(of_scope, "scope")?;
-    let mut metrics = Vec::new();
-    each(of_scope, "metrics", |metric| {
-        metrics.push(metric_message(metric)?);
-        Ok(())
-    })?;
+    let metrics = all(of_scope, "metrics", metric_message)?;
     let scope = InstrumentationScope {
         name: text(scope, "name")?,
         version: text(scope, "version")?,
@@ -151,7 +143,7 @@ fn metric_message(metric: Json<'_>) -> ReadResult<Metric> {
 }
 
 fn all<T>(object: Json<'_>, name: &str, one: impl Fn(Json<'_>) -> ReadResult<T>) -> ReadResult<Vec<T>> {
-    member(object, name)?.elements().ok_or_else(|| missing(name))?.map(one).collect()
+    elements(object, name)?.map(one).collect()
 }
 
 fn sum_message(point: Json<'_>) -> ReadResult<NumberDataPoint> {
