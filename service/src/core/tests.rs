@@ -246,7 +246,7 @@ fn posts_are_read_alike_on_both_sides() {
     for (number, bodies) in crate::otlp::requests_of_test(300).into_iter().enumerate() {
         for body in bodies {
             let read = core.read("A".into(), body.clone()).unwrap();
-            let posted = crate::otlp::series::posted(&body).unwrap();
+            let posted = crate::otlp::posted_of_test(&body).unwrap();
             assert_eq!(read.post.foreign, posted.foreign, "{number}");
             let fresh = Core::new(8_000).unwrap();
             let mut read = fresh.read("A".into(), body).unwrap();

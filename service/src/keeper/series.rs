@@ -1,7 +1,7 @@
 //! The series of the journal's posts, whether they are texts or points by number.
 
 use crate::files::{Body, Points, Replayed};
-use crate::otlp::series::{only, posted, Digest};
+use crate::otlp::series::{only, posted, Digest, Digests};
 use std::collections::{HashMap, HashSet};
 
 /// Reads posts one after the other, each in its turn: a later one does not say again what a number stands for.
@@ -26,11 +26,11 @@ impl SeriesOfPosts {
         }
         Some(match &read.post.body {
             Body::Text(body) => {
-                let posted = posted(body)?;
-                OfPost {
-                    series: posted.series.keys().map(|key| key.digest()).collect(),
-                    foreign: posted.foreign,
-                }
+                let (mut series, mut digests) = (HashSet::new(), Digests::default());
+                let foreign = posted(body, |key| {
+                    series.insert(digests.of_text(key));
+                })?;
+                OfPost { series, foreign }
             }
             Body::Points(points) => OfPost { series: self.of_points(points)?, foreign: read.post.foreign },
         })

@@ -29,12 +29,10 @@ pub(super) fn causes(text: &str) -> Option<Causes> {
 /// What a receiver's answer in JSON says beside its success, by either name of a field; null is nothing.
 pub fn partial_success(answer: &[u8]) -> Option<ExportMetricsPartialSuccess> {
     let document = Document::parse(answer).ok()?;
-    let [one, other] = document.root().named(["partialSuccess", "partial_success"])?;
-    let partial = one.or(other)?;
-    let [rejected, why] = partial.named(["rejectedDataPoints", "errorMessage"])?;
-    let [other_rejected, other_why] = partial.named(["rejected_data_points", "error_message"])?;
-    let rejected = rejected.or(other_rejected).and_then(mapped_whole);
-    let why = why.or(other_why).and_then(Value::text);
+    let partial = document.root().either(["partialSuccess", "partial_success"])?;
+    partial.members()?;
+    let rejected = partial.either(["rejectedDataPoints", "rejected_data_points"]).and_then(mapped_whole);
+    let why = partial.either(["errorMessage", "error_message"]).and_then(Value::text);
     Some(ExportMetricsPartialSuccess {
         rejected_data_points: i64::try_from(rejected.unwrap_or(0)).unwrap_or(i64::MAX),
         error_message: why.unwrap_or_default().into_owned(),

@@ -1,7 +1,6 @@
 //! Why points of a request are foreign, counted by cause: what a sender is told in one line, and what is counted.
 
-use super::json::Document;
-use super::series::{visit_with, Profile, Seen, What};
+use super::series::{visit_body, Profile, Seen, What};
 use super::{Off, OffClock};
 use crate::runs::{self, Turned};
 use std::collections::BTreeMap;
@@ -52,72 +51,64 @@ impl Causes {
     /// Those points that are off by their clock.
     pub fn of_clocks(off: OffClock) -> Causes {
         let both = [(Cause::ClockAhead, off.ahead), (Cause::ClockBehind, off.behind)];
-        Causes(both.into_iter().filter(|(_, points)| *points > 0).collect())
+        both.into_iter().filter(|(_, points)| *points > 0).collect()
     }
 
     /// Of a body, of which the book did not take so many points. Where deltas are made of cumulative points these may be
     /// foreign all the same, as in a text that does not go by number: that is seen by how many there are. Where this says more
     /// or less than the book, the rest is `Other`.
     pub fn of(body: &[u8], profile: Profile, foreign: u64) -> Causes {
-        let mut all = [profile, Profile::Deltas].map(|profile| Causes::of_profile(body, profile));
-        let found = all.iter().position(|causes| causes.count() == foreign);
-        let found = found.or_else(|| all.iter().position(|causes| causes.count() < foreign));
-        let Some(found) = found else {
-            return Causes([(Cause::Other, foreign)].into());
-        };
-        let mut causes = std::mem::take(&mut all[found]);
-        match foreign - causes.count() {
-            0 => {}
-            unknown => causes.add(Cause::Other, unknown),
+        let mut causes = Causes::of_profile(body, profile);
+        if causes.count() != foreign && profile != Profile::Deltas {
+            let of_deltas = Causes::of_profile(body, Profile::Deltas);
+            if of_deltas.count() == foreign || causes.count() > foreign {
+                causes = of_deltas;
+            }
+        }
+        match foreign.checked_sub(causes.count()) {
+            None => return Causes([(Cause::Other, foreign)].into()),
+            Some(0) => {}
+            Some(unknown) => causes.add(Cause::Other, unknown),
         }
         causes
     }
 
     fn of_profile(body: &[u8], profile: Profile) -> Causes {
         let mut causes = Causes::default();
-        if let Ok(document) = Document::parse(body) {
-            let _ = visit_with(&document, profile, |seen| {
-                if let Some(cause) = Cause::of(&seen) {
-                    causes.add(cause, 1);
-                }
-            });
-        }
+        let _ = visit_body(body, profile, |seen| {
+            if let Some(cause) = Cause::of(&seen) {
+                causes.add(cause, 1);
+            }
+        });
         causes
     }
 
     /// Of cumulative points that are sound, and were not taken.
     pub fn of_runs(turned: &Turned) -> Causes {
-        let mut causes = Causes::default();
-        for (refused, points) in &turned.by {
-            let cause = match refused {
-                runs::Refused::EarlierRun => Cause::EarlierRun,
-                runs::Refused::WentDown => Cause::WentDown,
-                runs::Refused::Delta => Cause::Mixed,
-                runs::Refused::TooLarge => Cause::Leap,
-                runs::Refused::Forgotten => Cause::Forgotten,
-            };
-            causes.add(cause, *points);
-        }
-        causes
+        let of = |refused: &runs::Refused| match refused {
+            runs::Refused::EarlierRun => Cause::EarlierRun,
+            runs::Refused::WentDown => Cause::WentDown,
+            runs::Refused::Delta => Cause::Mixed,
+            runs::Refused::TooLarge => Cause::Leap,
+            runs::Refused::Forgotten => Cause::Forgotten,
+        };
+        turned.by.iter().map(|(refused, points)| (of(refused), *points)).collect()
     }
 
     /// A point of each.
     pub(super) fn of_points(points: impl Iterator<Item = Cause>) -> Causes {
-        let mut causes = Causes::default();
-        points.for_each(|cause| causes.add(cause, 1));
-        causes
+        points.map(|cause| (cause, 1)).collect()
     }
 
     /// As they are shown.
     pub(super) fn read(text: &str) -> Option<Causes> {
-        let mut causes = Causes::default();
-        for part in text.split(", ") {
+        let of = |part: &str| {
             let (points, noun) = part.split_once(' ')?;
             let mut all = <Cause as clap::ValueEnum>::value_variants().iter();
             let cause = all.find(|cause| cause.nouns().contains(&noun))?;
-            causes.add(*cause, points.parse().ok()?);
-        }
-        Some(causes)
+            Some((*cause, points.parse().ok()?))
+        };
+        text.split(", ").map(of).collect()
     }
 
     /// How many points these are.
@@ -126,11 +117,8 @@ impl Causes {
     }
 
     /// These and others.
-    pub fn and(mut self, others: &Causes) -> Causes {
-        for (cause, points) in others.iter() {
-            self.add(cause, points);
-        }
-        self
+    pub fn and(self, others: &Causes) -> Causes {
+        self.iter().chain(others.iter()).collect()
     }
 
     fn add(&mut self, cause: Cause, points: u64) {
@@ -139,6 +127,14 @@ impl Causes {
 
     pub fn iter(&self) -> impl Iterator<Item = (Cause, u64)> + '_ {
         self.0.iter().map(|(cause, points)| (*cause, *points))
+    }
+}
+
+impl FromIterator<(Cause, u64)> for Causes {
+    fn from_iter<T: IntoIterator<Item = (Cause, u64)>>(all: T) -> Causes {
+        let mut causes = Causes::default();
+        all.into_iter().for_each(|(cause, points)| causes.add(cause, points));
+        causes
     }
 }
 

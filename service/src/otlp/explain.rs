@@ -2,9 +2,9 @@
 
 use super::causes::Cause;
 use super::clock::{Off, Window};
-use super::json::{Document, Value};
+use super::json::Value;
 use super::outside::is_of_no_series;
-use super::series::{said, visit_with, Profile, Seen, SeriesKey, What, LOOKED_AT};
+use super::series::{said, visit_body, Profile, Seen, SeriesKey, What, LOOKED_AT};
 use crate::log::cut;
 use serde::Serialize;
 use std::sync::Arc;
@@ -40,9 +40,8 @@ impl Explained {
 
 /// The points of a body, in order, where it is posted within the window; `None` where the book refuses it whole.
 pub fn explained(body: &[u8], profile: Profile, window: Window) -> Option<Vec<Explained>> {
-    let document = Document::parse(body).ok()?;
     let mut all = Vec::new();
-    visit_with(&document, profile, |seen| {
+    visit_body(body, profile, |seen| {
         let off = seen.found.ok().and_then(|_| window.off(seen.end()));
         all.push(of(&seen).but(off));
     })?;
@@ -59,11 +58,8 @@ impl Explained {
 
 /// The first of its points that are foreign, until `is_enough` says so.
 pub fn foreign_points(body: &[u8], profile: Profile, mut is_enough: impl FnMut(Explained) -> bool) {
-    let Ok(document) = Document::parse(body) else {
-        return;
-    };
     let mut goes_on = true;
-    let _ = visit_with(&document, profile, |seen| {
+    let _ = visit_body(body, profile, |seen| {
         if goes_on && seen.found.is_err() {
             goes_on = !is_enough(of(&seen));
         }
@@ -72,10 +68,7 @@ pub fn foreign_points(body: &[u8], profile: Profile, mut is_enough: impl FnMut(E
 
 /// Shows each point that the book takes: its series' key, its metric's name, and its start, its end and what it says.
 pub fn taken_points(body: &[u8], mut each: impl FnMut(&str, &str, &[u64])) {
-    let Ok(document) = Document::parse(body) else {
-        return;
-    };
-    let _ = visit_with(&document, Profile::Deltas, |seen| {
+    let _ = visit_body(body, Profile::Deltas, |seen| {
         if seen.found.is_ok() {
             let name = seen.metric.name.and_then(Value::text).unwrap_or_default();
             each(seen.key, &name, seen.words);
@@ -85,9 +78,8 @@ pub fn taken_points(body: &[u8], mut each: impl FnMut(&str, &str, &[u64])) {
 
 /// A point that would be taken, counted from 0 among these alone, and its series.
 pub fn point_at(body: &[u8], profile: Profile, place: u64) -> Option<(Explained, SeriesKey)> {
-    let document = Document::parse(body).ok()?;
     let (mut taken, mut series) = (0, None);
-    visit_with(&document, profile, |seen| {
+    visit_body(body, profile, |seen| {
         if seen.found.is_ok() {
             if taken == place {
                 series = Some((of(&seen), SeriesKey(Arc::from(seen.key))));
@@ -101,9 +93,8 @@ pub fn point_at(body: &[u8], profile: Profile, place: u64) -> Option<(Explained,
 /// The same of a point whose series has another one ahead of it in the body, which ends then.
 pub fn second_at(body: &[u8], profile: Profile, place: u64, end: u64) -> Option<Explained> {
     let (second, series) = point_at(body, profile, place)?;
-    let document = Document::parse(body).ok()?;
     let (mut taken, mut has_first) = (0, false);
-    visit_with(&document, profile, |seen| {
+    visit_body(body, profile, |seen| {
         if seen.found.is_ok() {
             has_first |= taken < place && seen.end() == end && *seen.key == *series.0;
             taken += 1;

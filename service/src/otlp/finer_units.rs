@@ -62,6 +62,8 @@ pub struct Rule {
     pub from: String,
     pub factor: u64,
     pub to: String,
+    /// All of it, as it is counted.
+    text: Arc<str>,
 }
 
 impl FromStr for Rule {
@@ -70,8 +72,7 @@ impl FromStr for Rule {
     /// `s=us`, `By`, `{step}=1000:{millistep}`; `=` is of metrics without a unit.
     fn from_str(text: &str) -> Result<Rule, String> {
         if text == "=" {
-            let (from, to) = (String::new(), String::new());
-            return Ok(Rule { from, factor: 1, to });
+            return Ok(Rule::new("", 1, ""));
         }
         let (from, right) = text.split_once('=').unwrap_or((text, text));
         let (factor, to) = match right.split_once(':') {
@@ -85,12 +86,16 @@ impl FromStr for Rule {
                 ));
             }
         }
-        let (from, to) = (from.to_string(), to.to_string());
-        Ok(Rule { from, factor, to })
+        Ok(Rule::new(from, factor, to))
     }
 }
 
 impl Rule {
+    fn new(from: &str, factor: u64, to: &str) -> Rule {
+        let text = format!("{from}={factor}:{to}").into();
+        Rule { from: from.into(), factor, to: to.into(), text }
+    }
+
     /// Whether whole numbers stay as they are.
     fn is_same(&self) -> bool {
         self.factor == 1 && self.from == self.to
@@ -120,7 +125,7 @@ fn known_factor(from: &str, to: &str) -> Result<u64, String> {
 
 impl fmt::Display for Rule {
     fn fmt(&self, out: &mut fmt::Formatter<'_>) -> fmt::Result {
-        write!(out, "{}={}:{}", self.from, self.factor, self.to)
+        out.write_str(&self.text)
     }
 }
 

@@ -168,6 +168,12 @@ impl<'d> Value<'d> {
         self.named([name])?[0]
     }
 
+    /// The same by its name in JSON, or that of the `.proto` file.
+    pub fn either(self, names: [&str; 2]) -> Option<Value<'d>> {
+        let [one, other] = self.named(names)?;
+        one.or(other)
+    }
+
     /// The elements of the array that has this name; none where there is no such one.
     pub fn list(self, name: &str) -> impl Iterator<Item = Value<'d>> {
         self.member(name).and_then(Value::elements).into_iter().flatten()

@@ -52,8 +52,8 @@ pub use sender::{legal, sender, NO_NAME};
 pub use series::{protobuf_of_forwarded, Profile};
 #[cfg(test)]
 pub(crate) use tests::{
-    a_request as a_request_of_test, plain_posts as plain_posts_of_test, posts as posts_of_test,
-    requests as requests_of_test, sums as sums_of_test,
+    a_request as a_request_of_test, plain_posts as plain_posts_of_test, posted as posted_of_test,
+    posts as posts_of_test, requests as requests_of_test, sums as sums_of_test,
 };
 
 use bytes::Bytes;

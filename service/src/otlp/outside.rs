@@ -8,8 +8,7 @@ pub(super) mod json;
 pub(super) mod protobuf;
 
 use super::causes::{Cause, Causes};
-use super::json::Document;
-use super::series::{visit_with, Profile};
+use super::series::{visit_body, Profile};
 use super::Encoding;
 use bytes::Bytes;
 
@@ -90,14 +89,10 @@ impl Original {
     /// How many points it has, whatever they are, as far as it can be read.
     pub fn points(&self) -> u64 {
         let mut points = 0;
-        let mut none = |_| {
+        let _nothing = self.with(|_| {
             points += 1;
             false
-        };
-        let _nothing = match self.encoding {
-            Encoding::Protobuf => protobuf::with(&self.body, &mut none),
-            Encoding::Json => json::with(&self.body, &mut none),
-        };
+        });
         points
     }
 
@@ -142,9 +137,8 @@ impl Point {
 
 /// All points of a request in the book's form; none where it can't be read.
 fn points(text: &[u8], profile: Profile) -> Option<Vec<Point>> {
-    let document = Document::parse(text).ok()?;
     let mut points = Vec::new();
-    visit_with(&document, profile, |seen| {
+    visit_body(text, profile, |seen| {
         points.push(Point { is_of_no_series: is_of_no_series(seen.kind), cause: Cause::of(&seen) });
     })?;
     Some(points)

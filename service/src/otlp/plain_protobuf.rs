@@ -215,7 +215,7 @@ impl<'a> Look<'a> {
             };
             key_of(attribute)?;
             if let Some(last) = self.last.get_mut(place) {
-                *last = &begin[..begin.len() - fields.rest().len()];
+                *last = fields.since(begin);
             }
         }
         (before - fields.rest().len() <= LONGEST).then_some(())

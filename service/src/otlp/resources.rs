@@ -8,7 +8,7 @@ use super::from_json;
 use super::json::{Document, Value};
 use super::schema::REQUEST;
 use super::series::{self, SeriesKey};
-use super::wire::{Fields, Payload};
+use super::wire::{field, Fields, Payload};
 use super::{prepare, Encoding, Reading};
 use ahash::RandomState;
 use bytes::Bytes;
@@ -135,14 +135,14 @@ impl Resources {
             match fields.next() {
                 None => break,
                 Some(Ok((1, Payload::Bytes(bytes)))) => {
-                    parts.extend_from_slice(&here[..here.len() - fields.rest().len()]);
+                    parts.extend_from_slice(fields.since(here));
                     (resource, times) = (bytes, times + 1);
                 }
                 Some(Ok((1, _)) | Err(_)) => return UNREAD,
                 Some(Ok(_)) => {}
             }
         }
-        let hashed = || self.hashed(Encoding::Protobuf, in_request(&parts));
+        let hashed = || self.hashed(Encoding::Protobuf, field(1, &parts).into());
         match times {
             0 | 1 => self.known[0].of(resource, hashed),
             _ => hashed(), // it is there in parts
@@ -190,20 +190,6 @@ impl Resources {
         };
         identity().map_or(UNREAD, |resource| slot_of(&resource, self.slots))
     }
-}
-
-/// A request of one resource, which these fields are of.
-fn in_request(fields: &[u8]) -> Bytes {
-    let mut request = Vec::with_capacity(fields.len() + 11);
-    put_field(&mut request, fields);
-    request.into()
-}
-
-/// The first field of a message, with these bytes.
-fn put_field(out: &mut Vec<u8>, bytes: &[u8]) {
-    prost::encoding::encode_key(1, prost::encoding::WireType::LengthDelimited, out);
-    prost::encoding::encode_varint(bytes.len() as u64, out);
-    out.extend_from_slice(bytes);
 }
 
 fn parts(encoding: Encoding, body: &Bytes, found: &[PlacedResource]) -> Vec<Part> {

@@ -3,7 +3,7 @@
 use super::from_protobuf::part;
 use super::json::{Document, Value};
 use super::schema::{Message, ANY_VALUE, ONE_VALUE, RESOURCE};
-use super::wire::{Fields, Payload};
+use super::wire::{bytes_of, Fields, Payload};
 use super::{Encoding, Reading, Refused};
 use crate::slot::is_sender;
 use sha2::{Digest, Sha256};
@@ -87,14 +87,8 @@ fn is_made(name: &str) -> bool {
     digits.len() == DIGITS && digits.bytes().all(is_digit)
 }
 
-/// A member by its name or that of the `.proto` file.
-fn member<'d>(object: Value<'d>, names: [&str; 2]) -> Option<Value<'d>> {
-    let [one, other] = object.named(names)?;
-    one.or(other)
-}
-
 fn in_json<'d>(root: Value<'d>, attribute: &'d str) -> impl Iterator<Item = ResourceName<'d>> {
-    let resources = member(root, ["resourceMetrics", "resource_metrics"]).and_then(Value::elements);
+    let resources = root.either(["resourceMetrics", "resource_metrics"]).and_then(Value::elements);
     resources.into_iter().flatten().map(move |resource| {
         let mut pairs = resource.member("resource").into_iter().flat_map(|own| own.list("attributes"));
         let value = pairs.find_map(|pair| {
@@ -104,7 +98,7 @@ fn in_json<'d>(root: Value<'d>, attribute: &'d str) -> impl Iterator<Item = Reso
         match value {
             None => ResourceName::Nothing,
             Some(value) => value
-                .and_then(|value| member(value, ["stringValue", "string_value"]))
+                .and_then(|value| value.either(["stringValue", "string_value"]))
                 .and_then(Value::text)
                 .map_or(ResourceName::NoText, name),
         }
@@ -119,19 +113,12 @@ fn name(text: Cow<'_, str>) -> ResourceName<'_> {
     }
 }
 
-/// The bytes of a field, each time it is there. What is malformed is found where the request is read.
-fn bytes_of(message: &[u8], number: u32) -> impl Iterator<Item = &[u8]> {
-    Fields::of(message).filter_map(move |field| match field {
-        Ok((found, Payload::Bytes(bytes))) if found == number => Some(bytes),
-        _ => None,
-    })
-}
-
 /// The parts of a message, of which there is one as a rule: each is whole by itself, as where the request is read.
 fn parts<'m>(of: &Message, message: &'m [u8], number: u32) -> Result<Vec<&'m [u8]>, Refused> {
     bytes_of(message, number).map(|bytes| part(of, bytes)).collect()
 }
 
+/// What is malformed is found where the request is read.
 fn in_protobuf<'d>(
     body: &'d [u8],
     attribute: &'d str,

@@ -14,15 +14,13 @@ pub use digest::{Digest, Digests};
 pub use forwarded::{forwarded, protobuf_of_forwarded};
 pub(super) use point::Temporality;
 pub use posted::Profile;
-pub use posted::{all_are, has_more, only, posted, posted_with, words_of};
-pub(super) use posted::{first_resource, is_monotonic, points_by_resource, visit, visit_with, Seen};
+pub use posted::{all_are, has_more, only, posted, words_of};
+pub(super) use posted::{first_resource, is_monotonic, points_by_resource, visit, visit_body, Seen};
 pub(super) use why::{name_shown, said, short, What, LOOKED_AT};
 pub use zeros::zeros;
 
 use super::json::{Document, Value as Json};
 use super::number::book_whole;
-use std::borrow::Borrow;
-use std::collections::HashMap;
 use std::sync::Arc;
 
 /// A series' identity as compact JSON, as the book writes it:
@@ -30,12 +28,6 @@ use std::sync::Arc;
 /// attributes in key order, the kind `"sum"`, `"monotonic"` or a histogram's bounds.
 #[derive(Clone, Debug, PartialEq, Eq, Hash, PartialOrd, Ord)]
 pub struct SeriesKey(pub Arc<str>);
-
-impl Borrow<str> for SeriesKey {
-    fn borrow(&self) -> &str {
-        &self.0
-    }
-}
 
 /// The parts of a key, each as the JSON that stands in it; texts are plain.
 #[derive(Clone, Debug, PartialEq, Eq)]
@@ -81,14 +73,6 @@ pub enum Value {
 #[derive(Debug, thiserror::Error)]
 #[error("not a request that the service forwards: {0}")]
 pub struct NotForwarded(pub String);
-
-/// What a post has, read as the book reads it.
-#[derive(Debug)]
-pub struct Posted {
-    /// Each series with points of the profile, and where its last one ends.
-    pub series: HashMap<SeriesKey, u64>,
-    pub foreign: u64,
-}
 
 impl SeriesKey {
     pub fn parts(&self) -> Result<SeriesParts, NotForwarded> {

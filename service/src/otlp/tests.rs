@@ -1,9 +1,10 @@
 //! JSON and protobuf of senders, as the book gets them.
 
 use super::messages::{ExportMetricsServiceResponse, Status};
-use super::series::posted;
+use super::series::{visit_body, SeriesKey};
 use super::*;
 use prost::Message;
+use std::collections::HashMap;
 
 mod causes;
 mod explain;
@@ -17,10 +18,36 @@ mod random;
 mod refused;
 mod speed;
 
+pub(super) use super::wire::field as bytes;
 pub(super) use mapping::Spelling;
 pub(crate) use posts::{plain_posts, posts, sums};
 pub(crate) use random::requests;
 pub(super) use random::Random;
+
+/// What a post has, read as the book reads it.
+#[derive(Debug)]
+pub(crate) struct Posted {
+    /// Each series with points of the profile, and where its last one ends.
+    pub series: HashMap<SeriesKey, u64>,
+    pub foreign: u64,
+}
+
+/// None where the book refuses the body whole.
+pub(crate) fn posted(body: &[u8]) -> Option<Posted> {
+    posted_with(body, Profile::Deltas)
+}
+
+pub(super) fn posted_with(body: &[u8], profile: Profile) -> Option<Posted> {
+    let mut posted = Posted { series: HashMap::new(), foreign: 0 };
+    visit_body(body, profile, |seen| match seen.found {
+        Err(_) => posted.foreign += 1,
+        Ok(_) => {
+            let last = posted.series.entry(SeriesKey(seen.key.into())).or_default();
+            *last = seen.end().max(*last);
+        }
+    })?;
+    Some(posted)
+}
 
 fn prepared(encoding: Encoding, body: impl Into<Bytes>) -> Result<Bytes, String> {
     prepare(encoding, body.into(), &Reading::default())
@@ -41,14 +68,6 @@ fn request(metric: &str) -> String {
 
 fn sum(point: &str) -> String {
     request(&format!(r#"{{"sum":{{"aggregationTemporality":1,"dataPoints":[{point}]}}}}"#))
-}
-
-/// A field of protobuf that has a length.
-pub(super) fn bytes(number: u32, inner: &[u8]) -> Vec<u8> {
-    let mut out = varint(number << 3 | 2);
-    out.extend(varint(inner.len() as u64));
-    out.extend(inner);
-    out
 }
 
 fn varint(number: impl Into<u64>) -> Vec<u8> {

@@ -1,4 +1,4 @@
-//! The fields of a protobuf message, one after the other, where they are in its bytes.
+//! The fields of a protobuf message, one after the other, where they are in its bytes; and how one is written.
 
 /// Why bytes are no message.
 #[derive(Clone, Copy, Debug, PartialEq, Eq, thiserror::Error)]
@@ -40,6 +40,44 @@ pub fn numbers(packed: &[u8]) -> impl Iterator<Item = Result<u64, Malformed>> + 
     })
 }
 
+/// Whether all fields of a message can be read.
+pub fn is_sound(message: &[u8]) -> bool {
+    Fields::of(message).all(|field| field.is_ok())
+}
+
+/// The fields of a message, each with its bytes; none of one that can't be read. No list of them is kept: a field may be of two
+/// bytes.
+pub fn fields(message: &[u8]) -> Option<impl Iterator<Item = (u32, Payload<'_>, &[u8])>> {
+    let mut fields = Fields::of(message);
+    let next = move || {
+        let here = fields.rest();
+        let (number, payload) = fields.next()?.ok()?;
+        Some((number, payload, fields.since(here)))
+    };
+    is_sound(message).then(|| std::iter::from_fn(next))
+}
+
+/// The bytes of a field, each time it is there, up to what can't be read.
+pub fn bytes_of(message: &[u8], number: u32) -> impl Iterator<Item = &[u8]> {
+    Fields::of(message).filter_map(move |field| match field {
+        Ok((found, Payload::Bytes(bytes))) if found == number => Some(bytes),
+        _ => None,
+    })
+}
+
+/// A field that has a length.
+pub fn field(number: u32, bytes: &[u8]) -> Vec<u8> {
+    let mut out = Vec::with_capacity(bytes.len() + 6);
+    put_field(&mut out, number, bytes);
+    out
+}
+
+pub fn put_field(out: &mut Vec<u8>, number: u32, bytes: &[u8]) {
+    prost::encoding::encode_key(number, prost::encoding::WireType::LengthDelimited, out);
+    prost::encoding::encode_varint(bytes.len() as u64, out);
+    out.extend_from_slice(bytes);
+}
+
 #[derive(Clone, Copy)]
 pub struct Fields<'a> {
     rest: &'a [u8],
@@ -53,6 +91,12 @@ impl<'a> Fields<'a> {
     /// What is not read yet.
     pub fn rest(&self) -> &'a [u8] {
         self.rest
+    }
+
+    /// What was read since so much was not read yet.
+    #[inline]
+    pub fn since(&self, rest: &'a [u8]) -> &'a [u8] {
+        &rest[..rest.len() - self.rest.len()]
     }
 
     /// Passes these bytes, if they are next.

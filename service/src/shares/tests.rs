@@ -45,7 +45,7 @@ fn body(names: &[String]) -> Bytes {
 }
 
 fn posted(names: &[String]) -> Vec<SeriesKey> {
-    let read = crate::otlp::series::posted(&body(names)).unwrap();
+    let read = crate::otlp::posted_of_test(&body(names)).unwrap();
     assert_eq!(read.series.len(), names.len());
     read.series.into_keys().collect()
 }

@@ -132,7 +132,7 @@ async fn each_slot_is_asked_for_its_resources() {
         let binary = said.body(Encoding::Protobuf);
         assert!(binary.windows(why.len()).any(|part| part == why.as_bytes()) && binary.contains(&7));
         let kept = served.kept();
-        let of_slot = crate::otlp::series::posted(&kept[0].1).unwrap();
+        let of_slot = crate::otlp::posted_of_test(&kept[0].1).unwrap();
         assert_eq!((kept.len(), kept[0].0.as_str(), of_slot.series.len()), (1, "A", 1));
         let mut others = served.others();
         others.sort();

@@ -5,7 +5,7 @@ use super::units::{Named, Unit};
 use super::FinerUnits;
 use crate::files::{Body, Fault, Journal, Outbox, UnitOfMetric};
 use crate::otlp::json::{Document, Value};
-use crate::otlp::series::{metrics, visit, Around};
+use crate::otlp::series::{metrics, visit, Around, Profile};
 use crate::work::in_order;
 use bytes::Bytes;
 
@@ -85,7 +85,7 @@ impl FinerUnits {
         if self.is_known(&document) {
             return true;
         }
-        let _ = visit(&document, |seen| {
+        let _ = visit(&document, Profile::Deltas, |seen| {
             if let (Ok(_), Some(name), Some(unit)) = (seen.found, seen.metric.name, seen.metric.unit) {
                 self.know_unit(name, unit);
             }

@@ -6,7 +6,7 @@
 
 use super::Rule;
 use crate::otlp::json::{Document, NotJson, Value};
-use crate::otlp::series::{said, short, visit, visit_with, Profile, Seen};
+use crate::otlp::series::{said, short, visit, Profile, Seen};
 use std::collections::hash_map::DefaultHasher;
 use std::collections::BTreeMap;
 use std::hash::Hasher;
@@ -43,15 +43,21 @@ impl Rounded {
 
     /// Of points that are all taken.
     pub(crate) fn of_points(points: Vec<RoundedPoint>) -> Rounded {
-        let mut by_rule: BTreeMap<String, Rounding> = BTreeMap::new();
-        for point in &points {
-            match by_rule.get_mut(&*point.of.rule) {
-                Some(rounding) => rounding.add(point.by),
-                None => by_rule.entry(point.of.rule.to_string()).or_default().add(point.by),
-            }
-        }
+        let by_rule = by_rule(points.iter().map(|point| (&*point.of.rule, point.by)));
         Rounded { by_rule, points, unfit: None }
     }
+}
+
+/// Each value that was rounded has a rule, of which there are few, and what it was rounded by.
+fn by_rule<'r>(values: impl Iterator<Item = (&'r str, f64)>) -> BTreeMap<String, Rounding> {
+    let mut all: BTreeMap<String, Rounding> = BTreeMap::new();
+    for (rule, by) in values {
+        match all.get_mut(rule) {
+            Some(rounding) => rounding.add(by),
+            None => all.entry(rule.to_string()).or_default().add(by),
+        }
+    }
+    all
 }
 
 /// Values that were not whole, and what they were rounded by together, in the finer unit.
@@ -105,26 +111,23 @@ pub(super) fn rounded(text: &str, marks: Vec<Mark<'_>>, profile: Profile) -> Res
         return Ok(Rounded::default());
     }
     let document = Document::parse(text.as_bytes())?;
-    let rules = Rules::of(&marks);
+    let by_rule = by_rule(marks.iter().map(|mark| (&*mark.rule.text, mark.by)));
     let mut points = Vec::new();
     let mut marks = marks.into_iter().peekable();
-    let whole = visit_with(&document, profile, |seen| {
+    let whole = visit(&document, profile, |seen| {
         let place = seen.point.range();
         while let Some(mark) = marks.next_if(|mark| mark.at < place.end) {
             if place.contains(&mark.at) && seen.found.is_ok() {
-                points.push(point(mark, &seen, &rules));
+                let Mark { by, rule, resource, .. } = mark;
+                let of = Arc::new(series_shown(&seen, rule.text.clone(), resource));
+                points.push(RoundedPoint { of, by });
             }
         }
     });
     if whole.is_none() {
         points.clear(); // the book refuses it whole
     }
-    let by_rule = rules.0.into_iter().map(|of| (of.text.to_string(), of.sum));
-    Ok(Rounded { by_rule: by_rule.collect(), points, unfit: None })
-}
-
-fn point(mark: Mark<'_>, seen: &Seen<'_, '_>, rules: &Rules<'_>) -> RoundedPoint {
-    RoundedPoint { of: Arc::new(series_shown(seen, rules.text(mark.rule), mark.resource)), by: mark.by }
+    Ok(Rounded { by_rule, points, unfit: None })
 }
 
 fn series_shown(seen: &Seen<'_, '_>, rule: Arc<str>, resource: Arc<str>) -> ShownSeries {
@@ -144,46 +147,12 @@ pub fn shown_of(request: &[u8], rule: Arc<str>) -> Option<ShownSeries> {
     let resource = document.root().list("resourceMetrics").next()?;
     let resource = resource.member("resource").map(resource_shown).unwrap_or_default();
     let mut series = None;
-    visit(&document, |seen| {
+    visit(&document, Profile::Deltas, |seen| {
         if seen.found.is_ok() {
             series = Some(series_shown(&seen, rule.clone(), resource.clone()));
         }
     })?;
     series
-}
-
-/// The rules of a request, of which there are few.
-struct Rules<'r>(Vec<OfRule<'r>>);
-
-struct OfRule<'r> {
-    rule: &'r Rule,
-    text: Arc<str>,
-    sum: Rounding,
-}
-
-impl<'r> Rules<'r> {
-    fn of(marks: &[Mark<'r>]) -> Rules<'r> {
-        let mut rules: Vec<OfRule<'r>> = Vec::new();
-        for Mark { rule, by, .. } in marks {
-            match rules.iter_mut().find(|of| of.rule == *rule) {
-                Some(of) => of.sum.add(*by),
-                None => {
-                    let (values, together) = (1, *by);
-                    rules.push(OfRule {
-                        rule,
-                        text: rule.to_string().into(),
-                        sum: Rounding { values, together },
-                    });
-                }
-            }
-        }
-        Rules(rules)
-    }
-
-    fn text(&self, rule: &Rule) -> Arc<str> {
-        let known = self.0.iter().find(|of| of.rule == rule);
-        known.map(|of| of.text.clone()).unwrap_or_default()
-    }
 }
 
 fn hash(key: &str) -> u64 {

@@ -41,7 +41,7 @@ pub fn scale_of(request: &[u8], finer_units: &FinerUnits) -> Option<Scaled> {
         None => return Some(Scaled::Undecided),
         Some(Taken::AsItIs) => return Some(Scaled::Plain),
         Some(Taken::Whole(_)) => (None, "".into()),
-        Some(Taken::In(rule)) => (Some(rule.factor), rule.to_string().into()),
+        Some(Taken::In(rule)) => (Some(rule.factor), rule.text.clone()),
     };
     Some(Scaled::By(Scale { factor, rule, is_monotonic }))
 }

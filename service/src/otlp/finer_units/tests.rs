@@ -2,7 +2,7 @@
 
 use super::decimal::{Decimal, Nearest};
 use super::*;
-use crate::otlp::series::posted;
+use crate::otlp::tests::posted;
 use crate::otlp::{prepare, Encoding, Prepared, Reading};
 
 mod auto;

@@ -89,8 +89,7 @@ impl<'a> Writer<'a, '_> {
         let (begin, from) = (fields.rest(), self.out.text.len());
         self.out.push(",\"explicitBounds\":[");
         self.packed(fields.bytes(7)?, |out, bits| out.double(f64::from_bits(bits)))?;
-        let field = &begin[..begin.len() - fields.rest().len()];
-        self.bounds = (field, from..self.out.text.len());
+        self.bounds = (fields.since(begin), from..self.out.text.len());
         Some(())
     }
 
@@ -129,8 +128,7 @@ impl<'a> Writer<'a, '_> {
             self.out.push(",");
         }
         self.attribute(attribute)?;
-        let field = &begin[..begin.len() - fields.rest().len()];
-        let last = (field, from..self.out.text.len());
+        let last = (fields.since(begin), from..self.out.text.len());
         match self.last.get_mut(place) {
             Some(known) => *known = last,
             None => self.last.push(last),

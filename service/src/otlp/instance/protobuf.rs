@@ -1,8 +1,7 @@
 //! The same in protobuf: fields are copied as they are, but those on the way to a resource.
 
 use super::{most, INSTANCE};
-use crate::otlp::outside::protobuf::{fields, put};
-use crate::otlp::wire::Payload;
+use crate::otlp::wire::{bytes_of, field, fields, is_sound, put_field, Payload};
 
 /// A request's resources, a resource's own message, its attributes, an attribute's key and value, a text.
 const RESOURCES: u32 = 1;
@@ -22,7 +21,7 @@ pub fn with(request: &[u8], name: &str) -> Option<(Vec<u8>, usize)> {
             Payload::Bytes(element) if number == RESOURCES && !has_instance(element)? => {
                 count += 1;
                 match count <= most(name) {
-                    true => put(&mut out, RESOURCES, &named(element, &attribute)?),
+                    true => put_field(&mut out, RESOURCES, &named(element, &attribute)?),
                     false => return Some((Vec::new(), count)),
                 }
             }
@@ -34,12 +33,8 @@ pub fn with(request: &[u8], name: &str) -> Option<(Vec<u8>, usize)> {
 
 /// As a field of a resource.
 fn attribute(name: &str) -> Vec<u8> {
-    let (mut value, mut pair, mut field) = (Vec::new(), Vec::new(), Vec::new());
-    put(&mut value, TEXT, name.as_bytes());
-    put(&mut pair, KEY, INSTANCE.as_bytes());
-    put(&mut pair, VALUE, &value);
-    put(&mut field, ATTRIBUTES, &pair);
-    field
+    let value = field(TEXT, name.as_bytes());
+    field(ATTRIBUTES, &[field(KEY, INSTANCE.as_bytes()), field(VALUE, &value)].concat())
 }
 
 /// A message may come in parts: its lists are theirs together.
@@ -47,7 +42,7 @@ fn has_instance(element: &[u8]) -> Option<bool> {
     for resource in parts(element, RESOURCE)? {
         for attribute in parts(resource, ATTRIBUTES)? {
             // The last one counts.
-            if parts(attribute, KEY)?.last() == Some(&INSTANCE.as_bytes()) {
+            if parts(attribute, KEY)?.last() == Some(INSTANCE.as_bytes()) {
                 return Some(true);
             }
         }
@@ -55,13 +50,8 @@ fn has_instance(element: &[u8]) -> Option<bool> {
     Some(false)
 }
 
-fn parts(message: &[u8], wanted: u32) -> Option<Vec<&[u8]>> {
-    let all = fields(message)?.into_iter();
-    let of_it = all.filter_map(|(number, payload, _)| match payload {
-        Payload::Bytes(bytes) if number == wanted => Some(bytes),
-        _ => None,
-    });
-    Some(of_it.collect())
+fn parts(message: &[u8], wanted: u32) -> Option<impl Iterator<Item = &[u8]>> {
+    is_sound(message).then(|| bytes_of(message, wanted))
 }
 
 /// Ahead of its other attributes, so that fields stay in order.
@@ -71,17 +61,14 @@ fn named(element: &[u8], attribute: &[u8]) -> Option<Vec<u8>> {
     for (number, payload, raw) in fields(element)? {
         match payload {
             Payload::Bytes(resource) if number == RESOURCE && !is_named => {
-                put(&mut out, RESOURCE, &[attribute, resource].concat());
+                put_field(&mut out, RESOURCE, &[attribute, resource].concat());
                 is_named = true;
             }
             _ => out.extend_from_slice(raw),
         }
     }
-    if is_named {
-        return Some(out);
+    match is_named {
+        true => Some(out),
+        false => Some([field(RESOURCE, attribute), out].concat()),
     }
-    let mut first = Vec::with_capacity(element.len() + attribute.len() + 4);
-    put(&mut first, RESOURCE, attribute);
-    first.append(&mut out);
-    Some(first)
 }

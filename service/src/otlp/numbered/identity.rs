@@ -1,12 +1,12 @@
 //! What is not known yet is read once by the reader for all requests: a request that has this alone.
 
-use super::levels::{Full, Level, Levels, LookupOnly, CUMULATIVE, FOREIGN};
+use super::levels::{Full, Level, Levels, CUMULATIVE, FOREIGN};
 use super::walk::{Find, Head, Own, Path, Stop};
 use super::Learnt;
 use crate::otlp::finer_units::{rewritten, scale_of, shown_of, Scale, Scaled, ShownSeries};
 use crate::otlp::from_protobuf;
-use crate::otlp::output::Written;
-use crate::otlp::wire::{Fields, Payload};
+use crate::otlp::output::{self, Written};
+use crate::otlp::wire::{field, Fields, Payload};
 use crate::otlp::{Cumulative, Reading};
 use bytes::Bytes;
 use std::cell::Cell;
@@ -36,14 +36,10 @@ impl Find for Learner<'_> {
     }
 
     fn level(&mut self, path: &Path<'_>, within: Level, bytes: &[u8]) -> Result<Level, Stop> {
-        match LookupOnly(&self.known()).level(path, within, bytes) {
-            Err(Stop::Unknown) => {}
-            known => return known,
+        if let Some(level) = self.known().find(within, bytes) {
+            return Ok(level);
         }
-        let written = self.written(&match self.makes_deltas(path) {
-            true => as_delta(path, &[]),
-            false => request(path, &[]),
-        })?;
+        let written = self.written(path, &[])?;
         let scaled = match written.is_measured {
             true => scale_of(&written.text, &self.reading.finer_units).ok_or(Stop::Slow)?,
             false => Scaled::Plain,
@@ -69,19 +65,14 @@ impl Find for Learner<'_> {
         if let Some(number) = self.known().find(within, own.attributes) {
             return Ok(number);
         }
-        let is_cumulative = self.makes_deltas(path);
-        let points = field(1, &point(own));
-        let written = match is_cumulative {
-            true => self.written(&as_delta(path, &points))?,
-            false => self.written(&request(path, &points))?,
-        };
+        let written = self.written(path, &field(1, &point(own)))?;
         let text = match scale {
             Some(_) => self.in_finer(&written.text)?,
             None => written.text,
         };
         let series =
             scale.filter(|scale| scale.is_finer()).and_then(|scale| shown_of(&text, scale.rule.clone()));
-        let flags = if is_cumulative { CUMULATIVE } else { 0 };
+        let flags = if self.makes_deltas(path) { CUMULATIVE } else { 0 };
         let number = self.name(within, own.attributes, text, flags)?;
         if let Some(series) = series {
             self.fitting(|levels| levels.show(number, series))?;
@@ -102,7 +93,7 @@ impl Learner<'_> {
     /// Whether deltas are made of a metric's points.
     fn makes_deltas(&self, path: &Path<'_>) -> bool {
         let is_wanted = self.reading.cumulative == Cumulative::On;
-        is_wanted && path.head.is_some_and(|head| temporality(head.tail) == CUMULATIVE_OF_OTLP)
+        is_wanted && path.head.is_some_and(|head| temporality(head.tail) == output::CUMULATIVE)
     }
 
     /// The number of a series that has these bytes, by a request of one point, with these flags.
@@ -135,10 +126,14 @@ impl Learner<'_> {
         }
     }
 
-    /// A request as it is written for the book.
-    fn written(&self, request: &[u8]) -> Result<Written, Stop> {
+    /// A request of what is on a path, with these points, as it is written for the book.
+    fn written(&self, path: &Path<'_>, points: &[u8]) -> Result<Written, Stop> {
+        let request = match self.makes_deltas(path) {
+            true => as_delta(path, points),
+            false => request(path, points),
+        };
         self.left.set(self.left.get().checked_sub(request.len()).ok_or(Stop::Slow)?);
-        from_protobuf::written_plainly(request, self.reading).map_err(|_| Stop::Slow)
+        from_protobuf::written_plainly(&request, self.reading).map_err(|_| Stop::Slow)
     }
 }
 
@@ -147,7 +142,7 @@ fn request(path: &Path<'_>, points: &[u8]) -> Vec<u8> {
     let metric = path.head.map_or_else(Vec::new, |head| {
         let data = match head.data {
             0 => Vec::new(),
-            number => field(number as u8, &[points, head.tail].concat()),
+            number => field(number, &[points, head.tail].concat()),
         };
         field(2, &[head.before, &data].concat())
     });
@@ -155,17 +150,16 @@ fn request(path: &Path<'_>, points: &[u8]) -> Vec<u8> {
     field(1, &[field(1, path.resource), scope].concat())
 }
 
-/// The number of a temporality, and how it is written; of several in a message the last counts.
-const CUMULATIVE_OF_OTLP: i32 = 2;
+/// How a temporality is written; of several in a message the last counts.
 const DELTA: [u8; 2] = [TEMPORALITY << 3, 1];
 const TEMPORALITY: u8 = 2;
 
-fn temporality(tail: &[u8]) -> i32 {
+fn temporality(tail: &[u8]) -> i128 {
     let own = |field| match field {
         Ok((number, Payload::Varint(found))) if number == u32::from(TEMPORALITY) => Some(found as i32),
         _ => None,
     };
-    Fields::of(tail).filter_map(own).last().unwrap_or(0)
+    Fields::of(tail).filter_map(own).last().unwrap_or(0).into()
 }
 
 /// The same of the delta metric of its name: what deltas are made of has its series.
@@ -186,20 +180,6 @@ fn point(own: Own<'_>) -> Vec<u8> {
             [&span, &field(6, &buckets)[..], &field(7, bounds), own.attributes].concat()
         }
     }
-}
-
-/// A field with a key of one byte that has a length.
-fn field(number: u8, bytes: &[u8]) -> Vec<u8> {
-    let mut out = Vec::with_capacity(bytes.len() + 6);
-    out.push(number << 3 | 2);
-    let mut length = bytes.len();
-    while length > 127 {
-        out.push(length as u8 | 128);
-        length >>= 7;
-    }
-    out.push(length as u8);
-    out.extend_from_slice(bytes);
-    out
 }
 
 fn fixed64(number: u8, bits: u64) -> Vec<u8> {

@@ -1,13 +1,8 @@
 //! What is read by number: nearly all that encoders write. That it says the same as its JSON is tried over the book.
 
 use super::*;
-use crate::otlp::tests::bytes;
+use crate::otlp::wire::field;
 use std::cell::RefCell;
-
-fn field(number: u8, inner: &[u8]) -> Vec<u8> {
-    assert!(inner.len() < 128);
-    [&[number << 3 | 2, inner.len() as u8], inner].concat()
-}
 
 fn fixed(number: u8, bits: u64) -> Vec<u8> {
     [&[number << 3 | 1][..], &bits.to_le_bytes()].concat()
@@ -40,7 +35,7 @@ fn histograms(points: &[Vec<u8>]) -> Vec<u8> {
     request(&long(9, &[&points[..], DELTA].concat()))
 }
 
-fn attribute(number: u8, key: &[u8]) -> Vec<u8> {
+fn attribute(number: u32, key: &[u8]) -> Vec<u8> {
     field(number, &[field(1, key), field(2, &field(1, b"v"))].concat())
 }
 
@@ -58,7 +53,7 @@ impl Book {
     fn read(&self, body: &[u8]) -> Option<(Vec<u64>, u64)> {
         let read = self.series.read(body, &Reading::default(), |request| {
             let text = String::from_utf8(request.to_vec()).unwrap();
-            let posted = crate::otlp::series::posted(&request).unwrap();
+            let posted = crate::otlp::tests::posted(&request).unwrap();
             if posted.foreign == 1 {
                 return Some(Learnt::Foreign);
             }
@@ -116,7 +111,7 @@ fn points_that_are_not_taken_are_counted() {
 }
 
 /// A packed list of eight bytes each.
-fn eights(number: u8, all: &[u64]) -> Vec<u8> {
+fn eights(number: u32, all: &[u64]) -> Vec<u8> {
     let bytes: Vec<u8> = all.iter().flat_map(|one| one.to_le_bytes()).collect();
     field(number, &bytes)
 }
@@ -206,13 +201,28 @@ fn there_is_a_bound() {
     assert!(read(b'a') && !read(b'z'));
 }
 
+/// Else who finds it takes its points in its own unit.
+#[test]
+fn a_metric_in_another_unit_is_known_with_its_scale_or_not_at_all() {
+    use crate::otlp::finer_units::{scale_of, FinerUnits, Scaled};
+    let request = br#"{"resourceMetrics":[{"scopeMetrics":[{"metrics":[{"unit":"s","sum":{"aggregationTemporality":1}}]}]}]}"#;
+    let finer_units = FinerUnits::new(["s=us".parse().unwrap()]).unwrap();
+    for most in 0..1000 {
+        let Some(Scaled::By(scale)) = scale_of(request, &finer_units) else { panic!("it has a rule") };
+        let mut levels = Levels::new(most);
+        let made = levels.scaled(levels::TOP, b"m", scale);
+        let known = levels.find(levels::TOP, b"m");
+        assert_eq!((known, known.is_some()), (made.ok(), known.is_some_and(|of| levels.scale(of).is_some())));
+    }
+}
+
 /// Else a post of 4 MiB, of metrics of some bytes under a resource of 16 KiB, took a minute.
 #[test]
 fn what_a_request_may_learn_has_a_bound_and_the_next_one_goes_on() {
-    let resource = bytes(1, &bytes(1, b"").repeat(8 << 10)); // attributes without a key
+    let resource = field(1, &field(1, b"").repeat(8 << 10)); // attributes without a key
     let metrics: Vec<u8> =
-        (0..1200).flat_map(|number| bytes(2, &bytes(1, format!("{number}").as_bytes()))).collect();
-    let body = bytes(1, &[resource, bytes(2, &metrics)].concat());
+        (0..1200).flat_map(|number| field(2, &field(1, format!("{number}").as_bytes()))).collect();
+    let body = field(1, &[resource, field(2, &metrics)].concat());
     let book = Book::new(4 << 20);
     let reads: Vec<bool> = (0..4).map(|_| book.read(&body).is_some()).collect();
     assert_eq!((reads, book.series.is_full()), (vec![false, false, true, true], false));
@@ -223,13 +233,13 @@ fn what_a_request_may_learn_has_a_bound_and_the_next_one_goes_on() {
 fn what_is_long_above_points_is_read_otherwise() {
     let point = [fixed(2, 10), fixed(3, 20), fixed(6, 5)].concat();
     let body = |resource: &[u8], scope: &[u8], about: &[u8]| {
-        let sum = bytes(7, &[bytes(1, &point), DELTA.to_vec()].concat());
-        let metric = bytes(2, &[bytes(1, b"m"), bytes(2, about), sum].concat());
-        bytes(1, &[bytes(1, resource), bytes(2, &[bytes(1, scope), metric].concat())].concat())
+        let sum = field(7, &[field(1, &point), DELTA.to_vec()].concat());
+        let metric = field(2, &[field(1, b"m"), field(2, about), sum].concat());
+        field(1, &[field(1, resource), field(2, &[field(1, scope), metric].concat())].concat())
     };
     let book = Book::new(1 << 20);
     let long = vec![b'x'; crate::otlp::output::LONGEST_LIST + 1];
-    let attribute = |number| bytes(number, &[bytes(1, b"k"), bytes(2, &bytes(1, &long))].concat());
+    let attribute = |number| field(number, &[field(1, b"k"), field(2, &field(1, &long))].concat());
     assert!(book.read(&body(b"", b"", b"")).is_some());
     for body in [body(&attribute(1), b"", b""), body(b"", &attribute(3), b""), body(b"", b"", &long)] {
         assert_eq!(book.read(&body), None);

@@ -4,15 +4,11 @@ use super::identity::Learner;
 use super::levels::{FOREIGN, KEYS};
 use super::walk::Stop;
 use super::{NotNamed, Numbered};
-use crate::otlp::json::Document;
-use crate::otlp::series::{visit_with, zeros, Profile, Seen, SeriesKey, Temporality};
+use crate::otlp::series::{visit_body, zeros, Profile, Seen, SeriesKey, Temporality};
 
 pub fn read(learner: &Learner<'_>, text: &[u8]) -> Result<Option<Numbered>, NotNamed> {
-    let Ok(document) = Document::parse(text) else {
-        return Ok(None);
-    };
     let (mut read, mut goes_on) = (Numbered::default(), Ok(()));
-    let whole = visit_with(&document, Profile::AlsoCumulative, |seen| {
+    let whole = visit_body(text, Profile::AlsoCumulative, |seen| {
         if goes_on.is_ok() {
             goes_on = add(&mut read, learner, &seen);
         }

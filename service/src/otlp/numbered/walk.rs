@@ -9,7 +9,7 @@ use crate::otlp::finer_units::{InFiner, RoundedPoint, Scale, ShownSeries};
 use crate::otlp::from_protobuf::is_exemplar;
 use crate::otlp::output::LONGEST_LIST;
 use crate::otlp::schema::{Message, METRIC, REQUEST, RESOURCE_METRICS, SCOPE_METRICS};
-use crate::otlp::wire::{Fields, Payload};
+use crate::otlp::wire::{is_sound, Fields, Payload};
 use crate::otlp::{Reading, Rounded};
 use std::sync::Arc;
 
@@ -137,7 +137,7 @@ fn pass(of: &'static Message, fields: &mut Fields<'_>) -> Result<bool, Stop> {
 fn run<'b>(fields: &mut Fields<'b>, number: u8) -> &'b [u8] {
     let begin = fields.rest();
     while fields.bytes(number).is_some() {}
-    &begin[..begin.len() - fields.rest().len()]
+    fields.since(begin)
 }
 
 impl<'b, F: Find> Walk<'b, F> {
@@ -235,7 +235,7 @@ impl<'b, F: Find> Walk<'b, F> {
                 SUM => self.sum(level, scale, point)?,
                 HISTOGRAM => self.histogram(level, scale, point)?,
                 // Of no other kind a point is taken.
-                _ if Fields::of(point).all(|field| field.is_ok()) => self.foreign += 1,
+                _ if is_sound(point) => self.foreign += 1,
                 _ => return Err(Stop::Slow),
             }
         }

@@ -1,7 +1,7 @@
 //! The same in protobuf: fields are copied as they are, but the lists on the way to a point.
 
 use super::{Choose, KINDS};
-use crate::otlp::wire::{Fields, Payload};
+use crate::otlp::wire::{bytes_of, fields, put_field, Payload};
 use std::collections::VecDeque;
 
 /// The fields of lists: a request's resources, a resource's scopes, a scope's metrics, and points of any kind of data.
@@ -30,7 +30,7 @@ fn list<'b>(
             Payload::Bytes(element) if field == number => {
                 if let Some(element) = each(element) {
                     is_any = true;
-                    put(&mut out, number, &element);
+                    put_field(&mut out, number, &element);
                 }
             }
             _ => out.extend_from_slice(raw),
@@ -44,50 +44,24 @@ fn metric(message: &[u8], choose: &mut Choose<'_>) -> Option<Vec<u8>> {
     // Of each kind what becomes of its parts, in order.
     let mut chosen: [VecDeque<Option<Vec<u8>>>; KINDS.len()] = Default::default();
     for (place, kind) in KINDS.iter().enumerate() {
-        for (number, payload, _) in &fields {
-            if let (true, Payload::Bytes(data)) = (*number == kind.number, payload) {
-                chosen[place].push_back(data_with(data, &mut || choose(place)));
-            }
+        for data in bytes_of(message, kind.number) {
+            chosen[place].push_back(list(data, POINTS, |point| choose(place).then(|| point.to_vec())));
         }
     }
     if chosen.iter().flatten().all(Option::is_none) {
         return None;
     }
     let mut out = Vec::with_capacity(message.len());
-    for (number, payload, raw) in &fields {
-        let place = KINDS.iter().position(|kind| kind.number == *number);
+    for (number, payload, raw) in fields {
+        let place = KINDS.iter().position(|kind| kind.number == number);
         match (place, payload) {
             (Some(place), Payload::Bytes(_)) => {
                 if let Some(Some(data)) = chosen[place].pop_front() {
-                    put(&mut out, *number, &data);
+                    put_field(&mut out, number, &data);
                 }
             }
             _ => out.extend_from_slice(raw),
         }
     }
     Some(out)
-}
-
-fn data_with(data: &[u8], is_chosen: &mut impl FnMut() -> bool) -> Option<Vec<u8>> {
-    list(data, POINTS, |point| is_chosen().then(|| point.to_vec()))
-}
-
-/// The fields of a message, each with its bytes.
-pub fn fields(message: &[u8]) -> Option<Vec<(u32, Payload<'_>, &[u8])>> {
-    let mut fields = Fields::of(message);
-    let mut all = Vec::new();
-    loop {
-        let here = fields.rest();
-        let Some(field) = fields.next() else {
-            return Some(all);
-        };
-        let (number, payload) = field.ok()?;
-        all.push((number, payload, &here[..here.len() - fields.rest().len()]));
-    }
-}
-
-pub fn put(out: &mut Vec<u8>, number: u32, bytes: &[u8]) {
-    prost::encoding::encode_key(number, prost::encoding::WireType::LengthDelimited, out);
-    prost::encoding::encode_varint(bytes.len() as u64, out);
-    out.extend_from_slice(bytes);
 }

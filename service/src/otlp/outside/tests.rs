@@ -1,7 +1,7 @@
 //! What is handed on, against messages that are put together another way.
 
 use super::*;
-use crate::otlp::tests::bytes;
+use crate::otlp::wire::field;
 use crate::otlp::{prepare, Reading};
 use serde_json::{json, Value};
 
@@ -22,7 +22,7 @@ fn metrics(metrics: Value) -> Value {
 fn of(request: &Value, reading: &Reading) -> (Option<(Value, u64)>, Causes) {
     let body = Bytes::from(request.to_string());
     let prepared = prepare(Encoding::Json, body.clone(), reading).unwrap();
-    let foreign = crate::otlp::series::posted(&prepared.body).unwrap().foreign;
+    let foreign = crate::otlp::tests::posted(&prepared.body).unwrap().foreign;
     let original = Original { encoding: Encoding::Json, body };
     let (outside, causes) = original.outside(foreign, Profile::Deltas, || Some(prepared.body));
     let read = |outside: Outside| (serde_json::from_slice(&outside.body).unwrap(), outside.points);
@@ -53,19 +53,10 @@ fn what_is_outside_is_handed_on_as_it_came() {
     assert_eq!((found, causes.count()), (None, 1));
 }
 
-/// A field with a key of one byte.
-fn field(number: u8, bytes: &[u8]) -> Vec<u8> {
-    let length = match bytes.len() {
-        short @ ..128 => vec![short as u8],
-        long => vec![long as u8 | 128, (long >> 7) as u8],
-    };
-    [&[number << 3 | 2][..], &length, bytes].concat()
-}
-
 #[test]
 fn fields_of_protobuf_are_copied() {
     let unknown = [0xa8, 0x06, 0x05]; // a number of field 101
-    let metric = |data: u8, points: &[&[u8]], more: &[u8]| {
+    let metric = |data: u32, points: &[&[u8]], more: &[u8]| {
         let points: Vec<u8> = points.iter().flat_map(|point| field(1, point)).collect();
         [&field(1, b"m")[..], &field(data, &[&points, more].concat()), &unknown].concat()
     };
@@ -87,7 +78,7 @@ fn fields_of_protobuf_are_copied() {
     for (body, wanted) in bodies.into_iter().zip(wanted) {
         let body = Bytes::from(body);
         let prepared = prepare(Encoding::Protobuf, body.clone(), &Reading::default()).unwrap();
-        let foreign = crate::otlp::series::posted(&prepared.body).unwrap().foreign;
+        let foreign = crate::otlp::tests::posted(&prepared.body).unwrap().foreign;
         let original = Original { encoding: Encoding::Protobuf, body };
         let (outside, causes) = original.outside(foreign, Profile::Deltas, || Some(prepared.body));
         let outside = outside.unwrap();
@@ -126,11 +117,11 @@ fn random_requests_have_their_points() {
 #[test]
 fn a_metric_in_very_many_parts_takes_time_by_its_bytes() {
     let request = |gauges: &[u8]| {
-        let metric = bytes(2, &[&bytes(1, b"m")[..], gauges].concat());
-        bytes(1, &bytes(2, &metric))
+        let metric = field(2, &[&field(1, b"m")[..], gauges].concat());
+        field(1, &field(2, &metric))
     };
-    let gauge = bytes(5, &bytes(1, b""));
-    let body = Bytes::from(request(&[bytes(5, b"").repeat(200_000), gauge.clone()].concat()));
+    let gauge = field(5, &field(1, b""));
+    let body = Bytes::from(request(&[field(5, b"").repeat(200_000), gauge.clone()].concat()));
     let began = std::time::Instant::now();
     let original = Original { encoding: Encoding::Protobuf, body };
     let (outside, causes) = original.outside(1, Profile::Deltas, || None);

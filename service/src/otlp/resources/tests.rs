@@ -2,7 +2,7 @@
 
 use super::*;
 use crate::otlp::messages::*;
-use crate::otlp::series::posted;
+use crate::otlp::tests::posted;
 use crate::otlp::tests::{Random, Spelling};
 use prost::Message;
 use std::collections::BTreeMap;
@@ -28,14 +28,6 @@ fn read(resources: &Resources, encoding: Encoding, body: &Bytes) -> (BTreeMap<Se
     let prepared = prepare(encoding, body.clone(), &resources.reading).unwrap();
     let read = posted(&prepared.body).unwrap();
     (read.series.into_iter().collect(), read.foreign)
-}
-
-fn field(number: u32, inner: &[u8]) -> Vec<u8> {
-    let mut out = Vec::new();
-    prost::encoding::encode_key(number, prost::encoding::WireType::LengthDelimited, &mut out);
-    prost::encoding::encode_varint(inner.len() as u64, &mut out);
-    out.extend_from_slice(inner);
-    out
 }
 
 fn shuffle<T>(all: &mut [T], random: &mut Random) {

@@ -26,7 +26,12 @@ const BLOCK: usize = 64;
 
 impl Digests {
     pub fn of(&mut self, key: &SeriesKey) -> Digest {
-        let text = key.0.as_bytes();
+        self.of_text(&key.0)
+    }
+
+    /// The same of a key that is not kept.
+    pub fn of_text(&mut self, key: &str) -> Digest {
+        let text = key.as_bytes();
         let alike = self.last.iter().zip(text).take_while(|(one, other)| one == other);
         let alike = alike.count() / BLOCK * BLOCK;
         // One block more is not worth a beginning.

@@ -3,13 +3,12 @@
 use super::identity::{text, write_attributes};
 use super::point::{histogram_point, sum_kind, sum_point, Put, Temporality};
 use super::why::{What, Why};
-use super::{Posted, SeriesKey};
+use super::SeriesKey;
 use crate::otlp::exponential::why_not;
 use crate::otlp::json::{write_text, Document, Elements, Value};
 use ahash::RandomState;
-use std::collections::{HashMap, HashSet};
+use std::collections::HashSet;
 use std::hash::BuildHasher;
-use std::sync::Arc;
 
 /// A point where it is in its body.
 pub struct Seen<'s, 'd> {
@@ -48,30 +47,22 @@ impl Seen<'_, '_> {
     }
 }
 
-/// The series of a body that the book took; none where the book refuses the body whole.
-pub fn posted(body: &[u8]) -> Option<Posted> {
-    posted_with(body, Profile::Deltas)
-}
-
-/// The same of points of this profile.
-pub fn posted_with(body: &[u8], profile: Profile) -> Option<Posted> {
-    let document = Document::parse(body).ok()?;
-    let mut posted = Posted { series: HashMap::new(), foreign: 0 };
-    visit_with(&document, profile, |seen| match seen.found {
-        Err(_) => posted.foreign += 1,
-        Ok(_) => posted.add(seen.key, seen.end()),
+/// Shows the key of each point of a body that the book took, and counts the others; none where the book refuses the body whole.
+/// No key is kept: together they may be a thousand times as long as the body.
+pub fn posted(body: &[u8], mut each: impl FnMut(&str)) -> Option<u64> {
+    let mut foreign = 0;
+    visit_body(body, Profile::Deltas, |seen| match seen.found {
+        Err(_) => foreign += 1,
+        Ok(_) => each(seen.key),
     })?;
-    Some(posted)
+    Some(foreign)
 }
 
 /// Whether all series that a body has points of are such, looked at until one is not; false where the book refuses it whole. No
-/// key is kept: together they may be a thousand times as long as the body.
+/// key is kept.
 pub fn all_are(body: &[u8], profile: Profile, mut is_such: impl FnMut(&SeriesKey) -> bool) -> bool {
-    let Ok(document) = Document::parse(body) else {
-        return false;
-    };
     let (mut all, mut last) = (true, SeriesKey("".into()));
-    let whole = visit_with(&document, profile, |seen| {
+    let whole = visit_body(body, profile, |seen| {
         if all && seen.found.is_ok() && *last.0 != *seen.key {
             last = SeriesKey(seen.key.into());
             all = is_such(&last);
@@ -84,12 +75,9 @@ pub fn all_are(body: &[u8], profile: Profile, mut is_such: impl FnMut(&SeriesKey
 /// that the time for a point is bounded: of keys that are alike in these no more than one does.
 pub fn has_more(body: &[u8], profile: Profile, most: u64, is_such: impl Fn(&SeriesKey) -> bool) -> bool {
     const END: usize = 4 << 10;
-    let Ok(document) = Document::parse(body) else {
-        return false;
-    };
     let (mut looked_at, mut others) = (HashSet::new(), 0);
     let hasher = RandomState::new();
-    let _ = visit_with(&document, profile, |seen| {
+    let _ = visit_body(body, profile, |seen| {
         if others > most || seen.found.is_err() {
             return;
         }
@@ -104,31 +92,21 @@ pub fn has_more(body: &[u8], profile: Profile, most: u64, is_such: impl Fn(&Seri
 
 /// The series of a request of one point, by which a number has its name.
 pub fn only(text: &[u8]) -> Option<SeriesKey> {
-    let mut series = posted(text)?.series.into_keys();
-    series.next().filter(|_| series.next().is_none())
+    let (mut first, mut is_one) = (None, true);
+    posted(text, |key| is_one &= *first.get_or_insert_with(|| SeriesKey(key.into())).0 == *key)?;
+    first.filter(|_| is_one)
 }
 
 /// How many words say a point of the series of such a request, with its number.
 pub fn words_of(text: &[u8]) -> Option<usize> {
-    let document = Document::parse(text).ok()?;
     let mut words = None;
-    visit(&document, |seen| words = Some(1 + seen.words.len()))?;
+    visit_body(text, Profile::Deltas, |seen| words = Some(1 + seen.words.len()))?;
     words
-}
-
-impl Posted {
-    fn add(&mut self, key: &str, end: u64) {
-        match self.series.get_mut(key) {
-            Some(last) => *last = end.max(*last),
-            None => drop(self.series.insert(SeriesKey(Arc::from(key)), end)),
-        }
-    }
 }
 
 /// The first resource of a body as the keys of its series have it; none where no series may have it.
 pub fn first_resource(document: &Document<'_>) -> Option<String> {
-    let [resources] = document.root().named(["resourceMetrics"])?;
-    let [resource] = objects(resources)?.next()?.named(["resource"])?;
+    let [resource] = resources(document)?.next()?.named(["resource"])?;
     let [attributes] = members(resource, ["attributes"])?;
     let mut text = String::new();
     write_attributes(&mut text, "resource attribute", attributes).ok()?;
@@ -137,8 +115,7 @@ pub fn first_resource(document: &Document<'_>) -> Option<String> {
 
 /// Of each resource of a body how many points of the profile it has; none where the book refuses the body whole.
 pub fn points_by_resource(document: &Document<'_>, profile: Profile) -> Option<Vec<u64>> {
-    let [resources] = document.root().named(["resourceMetrics"])?;
-    let points = objects(resources)?.map(|resource| {
+    let points = resources(document)?.map(|resource| {
         let mut points = 0;
         let mut walk = Walk {
             each: |seen: Seen<'_, '_>| points += u64::from(seen.found.is_ok()),
@@ -152,22 +129,19 @@ pub fn points_by_resource(document: &Document<'_>, profile: Profile) -> Option<V
 }
 
 /// Shows each point of a body, in order; `None` where the book refuses the body whole.
-pub fn visit<'d>(document: &'d Document<'_>, each: impl FnMut(Seen<'_, 'd>)) -> Option<()> {
-    visit_with(document, Profile::Deltas, each)
+pub fn visit_body(body: &[u8], profile: Profile, each: impl FnMut(Seen<'_, '_>)) -> Option<()> {
+    visit(&Document::parse(body).ok()?, profile, each)
 }
 
-/// The same by another profile.
-pub fn visit_with<'d>(
-    document: &'d Document<'_>,
-    profile: Profile,
-    each: impl FnMut(Seen<'_, 'd>),
-) -> Option<()> {
+/// The same of a body that is parsed.
+pub fn visit<'d>(document: &'d Document<'_>, profile: Profile, each: impl FnMut(Seen<'_, 'd>)) -> Option<()> {
     let mut walk = Walk { each, profile, put: Put::default() };
+    resources(document)?.try_for_each(|resource| walk.resource(resource))
+}
+
+fn resources<'d>(document: &'d Document<'_>) -> Option<impl Iterator<Item = Value<'d>>> {
     let [resources] = document.root().named(["resourceMetrics"])?;
-    for resource in objects(resources)? {
-        walk.resource(resource)?;
-    }
-    Some(())
+    objects(resources)
 }
 
 /// The elements of an array of objects; `None` where the whole request is refused for them.

@@ -4,7 +4,9 @@ mod zeros;
 
 use super::*;
 use crate::otlp::messages::{Data, ExportMetricsServiceRequest, Number};
+use crate::otlp::tests::posted;
 use prost::Message;
+use std::collections::HashMap;
 
 /// A request of one metric, its parts as they are given.
 fn request(metric: &str) -> String {

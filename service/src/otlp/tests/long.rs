@@ -4,9 +4,9 @@ use super::messages::{
     Any, AnyValue, ArrayValue, Data, ExportMetricsServiceRequest, InstrumentationScope, KeyValue, Metric,
     Number, NumberDataPoint, Resource, ResourceMetrics, ScopeMetrics, Sum,
 };
-use super::{in_json, prepared};
+use super::{in_json, posted, prepared};
 use crate::otlp::output::LONGEST_LIST;
-use crate::otlp::series::{all_are, posted};
+use crate::otlp::series::all_are;
 use crate::otlp::{explained, Clock, Encoding, Profile};
 use prost::Message;
 

@@ -166,7 +166,12 @@ fn set_histogram(point: &mut HistogramDataPoint, random: &mut Random) {
 
 /// The same in another order, as encoders that write the fields of a oneof last; and with keys that are longer than they
 /// need be where `is_long` says so.
-fn written(of: &Table, message: &[u8], is_long: &mut impl FnMut(u32) -> bool, value_last: bool) -> Vec<u8> {
+pub fn written(
+    of: &Table,
+    message: &[u8],
+    is_long: &mut impl FnMut(u32) -> bool,
+    value_last: bool,
+) -> Vec<u8> {
     let (mut out, mut last) = (Vec::new(), Vec::new());
     for field in Fields::of(message) {
         let (number, payload) = field.unwrap();

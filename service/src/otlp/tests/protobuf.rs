@@ -1,7 +1,6 @@
 //! What protobuf allows beside the form that encoders write.
 
-use super::{bytes, prepared, within_request};
-use crate::otlp::series::{posted, Posted};
+use super::{bytes, posted, prepared, within_request, Posted};
 use crate::otlp::Encoding;
 
 /// A sum of these points, in a request.

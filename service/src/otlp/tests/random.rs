@@ -1,10 +1,10 @@
 //! Requests drawn at random, in both encodings.
 
 use super::mapping::Spelling;
+use super::posts::written;
 use super::*;
 use crate::otlp::messages::*;
-use crate::otlp::schema::{Kind, Message as Table, KEY_VALUE, REQUEST};
-use crate::otlp::wire::{Fields, Payload};
+use crate::otlp::schema::REQUEST;
 use std::collections::BTreeMap;
 
 /// xorshift64: the same draws in each run.
@@ -226,44 +226,14 @@ fn both_mean_the_same(reading: &Reading) -> BTreeMap<String, Rounding> {
     rounded
 }
 
-/// The same, with keys that are longer than they need be where `is_long` says so.
-fn with_long_keys(of: &Table, message: &[u8], is_long: &mut impl FnMut() -> bool) -> Vec<u8> {
-    let mut out = Vec::new();
-    for field in Fields::of(message) {
-        let (number, payload) = field.unwrap();
-        let known = of.fields.iter().find(|field| u32::from(field.number) == number);
-        let inner = match known.unwrap().kind {
-            Kind::Message(inner) | Kind::Messages(inner) | Kind::Part(inner) | Kind::Parts(inner) => {
-                Some(inner)
-            }
-            Kind::ResourceAttributes => Some(&KEY_VALUE),
-            _ => None,
-        };
-        let field = match payload {
-            Payload::Bytes(part) => {
-                let inner = inner.map(|inner| with_long_keys(inner, part, is_long));
-                bytes(number, inner.as_deref().unwrap_or(part))
-            }
-            Payload::Varint(bits) => [varint(number << 3), varint(bits)].concat(),
-            Payload::Fixed64(bits) => [&varint(number << 3 | 1)[..], &bits.to_le_bytes()].concat(),
-            Payload::Fixed32(_) | Payload::Group => panic!("no message of metrics has one"),
-        };
-        match is_long() {
-            true => out.extend([&[field[0] | 128, 0], &field[1..]].concat()),
-            false => out.extend(field),
-        }
-    }
-    out
-}
-
 /// What is written at once is as if it were written field by field, as all with long keys is.
 #[test]
 fn plain_points_are_written_as_any_other() {
     let (mut random, mut other) = (Random(0x2545_f491_4f6c_dd1d), Random(7));
     for _ in 0..2000 {
         let body = random.request().encode_to_vec();
-        let field_by_field = prepared(Encoding::Protobuf, with_long_keys(&REQUEST, &body, &mut || true));
-        let mixed = with_long_keys(&REQUEST, &body, &mut || other.below(9) == 0);
+        let field_by_field = prepared(Encoding::Protobuf, written(&REQUEST, &body, &mut |_| true, false));
+        let mixed = written(&REQUEST, &body, &mut |_| other.below(9) == 0, false);
         assert_eq!(prepared(Encoding::Protobuf, body), field_by_field);
         assert_eq!(prepared(Encoding::Protobuf, mixed), field_by_field);
     }

@@ -121,7 +121,7 @@ impl Posts {
 fn of_text(post: &Post, body: Bytes) -> Post {
     Post {
         sender: post.sender.clone(),
-        foreign: posted(&body).map_or(post.foreign, |posted| posted.foreign),
+        foreign: posted(&body, |_| {}).unwrap_or(post.foreign),
         body: Body::Text(body),
     }
 }

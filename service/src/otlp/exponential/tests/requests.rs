@@ -1,7 +1,8 @@
 //! Whole requests with exponential histograms, in both encodings.
 
 use super::bounds;
-use crate::otlp::series::posted_with;
+use crate::otlp::tests::posted_with;
+use crate::otlp::wire::field;
 use crate::otlp::{
     explained, prepare, Cause, Causes, Clock, Encoding, FinerUnits, Original, Prepared, Profile, Reading,
 };
@@ -19,13 +20,6 @@ fn in_json(points: &str, temporality: u8) -> String {
     format!(
         r#"{{"resourceMetrics":[{{"scopeMetrics":[{{"metrics":[{{"name":"m","unit":"By","exponentialHistogram":{{"dataPoints":[{points}],"aggregationTemporality":{temporality}}}}}]}}]}}]}}"#
     )
-}
-
-fn field(number: u32, inner: &[u8]) -> Vec<u8> {
-    let mut out = Vec::new();
-    prost::encoding::encode_key(number, prost::encoding::WireType::LengthDelimited, &mut out);
-    prost::encoding::encode_varint(inner.len() as u64, &mut out);
-    [out, inner.to_vec()].concat()
 }
 
 fn fixed(number: u8, bits: u64) -> Vec<u8> {

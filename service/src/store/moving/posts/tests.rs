@@ -46,7 +46,7 @@ fn a_text_is_parted_by_its_resources_with_what_is_foreign_in_each() {
     let (mut found, mut foreign) = (BTreeMap::new(), 0);
     for (slot, post) in &parts {
         let Body::Text(body) = &post.body else { panic!("{post:?}") };
-        let has = posted(body).unwrap();
+        let has = crate::otlp::posted_of_test(body).unwrap();
         assert_eq!(has.foreign, post.foreign);
         foreign += post.foreign;
         found.extend(has.series.into_keys().map(|key| (key, *slot)));
