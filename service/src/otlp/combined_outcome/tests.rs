@@ -130,7 +130,7 @@ fn a_refusal_names_the_point_s_place_in_the_request() {
     assert_eq!(said(&beyond).2, "out of order: point 9, frontier 5", "it is left as it is");
     // What was too long for its slot's memory is not read here either.
     let too_long = Outcome::Refused { status: 413, message: "body too long".into() };
-    let behind = [part(late(1), &[at(2)]), part(too_long, &[at(0)])];
+    let behind = [part(late(1), &[at(1), at(2)]), part(too_long, &[at(0)])];
     assert_eq!(said(&behind).2, "out of order: point 1, frontier 5", "nor is this one placed behind it");
 }
 
