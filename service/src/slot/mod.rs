@@ -234,20 +234,20 @@ impl Slot {
         self.phases.now()
     }
 
-    /// Takes posts from now on.
+    /// Takes posts from now on, unless the service is ending.
     pub(crate) fn open(&self) {
-        self.phases.open();
+        self.phases.go_on(Phase::Serving);
     }
 
     /// Takes none any more.
     pub(crate) fn stop(&self) {
-        self.phases.stop();
+        self.phases.go_on(Phase::Stopping);
         self.landed.notify_waiters(); // what is in flight may never land
     }
 
     /// The same, for another instance takes them.
     pub(crate) fn lose(&self) {
-        self.phases.lose();
+        self.phases.go_on(Phase::Lost);
         self.landed.notify_waiters();
     }
 

@@ -2,7 +2,7 @@
 
 use std::sync::atomic::{AtomicU8, Ordering::SeqCst};
 
-/// What is said at the door.
+/// What is said at the door. A later one is never followed by an earlier one.
 #[derive(Clone, Copy, Debug, PartialEq, Eq)]
 #[repr(u8)]
 pub(crate) enum Phase {
@@ -24,39 +24,14 @@ impl Phases {
     }
 
     pub fn now(&self) -> Phase {
-        Phase::of(self.0.load(SeqCst))
+        let byte = self.0.load(SeqCst);
+        let others = [Phase::Recovering, Phase::Serving, Phase::Stopping];
+        others.into_iter().find(|phase| *phase as u8 == byte).unwrap_or(Phase::Lost)
     }
 
-    /// Takes posts, unless the service is ending.
-    pub fn open(&self) {
-        self.go_on(|now| match now {
-            Phase::Stopping | Phase::Lost => now,
-            _ => Phase::Serving,
-        });
-    }
-
-    /// Refuses posts for ever.
-    pub fn stop(&self) {
-        self.go_on(|now| match now {
-            Phase::Lost => now,
-            _ => Phase::Stopping,
-        });
-    }
-
-    pub fn lose(&self) {
-        self.go_on(|_| Phase::Lost);
-    }
-
-    fn go_on(&self, to: impl Fn(Phase) -> Phase) {
-        let next = |now| Some(to(Phase::of(now)) as u8);
-        let _ = self.0.fetch_update(SeqCst, SeqCst, next); // there is always a next one
-    }
-}
-
-impl Phase {
-    fn of(byte: u8) -> Phase {
-        let all = [Phase::Recovering, Phase::Serving, Phase::Stopping];
-        all.into_iter().find(|phase| *phase as u8 == byte).unwrap_or(Phase::Lost)
+    /// Goes on to a phase, unless a later one has come.
+    pub fn go_on(&self, to: Phase) {
+        self.0.fetch_max(to as u8, SeqCst);
     }
 }
 
@@ -68,14 +43,14 @@ mod tests {
     fn phases_follow_one_another() {
         let phases = Phases::new();
         assert_eq!(phases.now(), Phase::Recovering);
-        phases.open();
+        phases.go_on(Phase::Serving);
         assert_eq!(phases.now(), Phase::Serving);
-        phases.stop();
-        phases.open();
+        phases.go_on(Phase::Stopping);
+        phases.go_on(Phase::Serving);
         assert_eq!(phases.now(), Phase::Stopping, "an end is for ever");
-        phases.lose();
-        phases.stop();
-        phases.open();
+        phases.go_on(Phase::Lost);
+        phases.go_on(Phase::Stopping);
+        phases.go_on(Phase::Serving);
         assert_eq!(phases.now(), Phase::Lost);
     }
 }
