@@ -56,36 +56,27 @@ pub enum Refused {
     Unknown(u32),
 }
 
-/// By their numbers: what has no place or frontier stands here with none.
-const BY_NUMBER: [Option<Refused>; 16] = [
-    None,
-    Some(Refused::Quarantined),
-    Some(Refused::Full),
-    Some(Refused::OtherWriter { point: 0 }),
-    Some(Refused::OutOfOrder { point: 0, frontier: 0 }),
-    Some(Refused::TooManySeries),
-    Some(Refused::TooLarge),
-    Some(Refused::NoMemory),
-    Some(Refused::BadSender),
-    Some(Refused::NotJson),
-    Some(Refused::WrongShape),
-    Some(Refused::Nothing),
-    Some(Refused::NoSuch),
-    Some(Refused::AlreadyQuarantined),
-    Some(Refused::NotQuarantined),
-    Some(Refused::NotEnded),
-];
-
 /// What a call says where it did what it was asked.
 pub(super) fn check(answer: Answer) -> Result<Answer, Refused> {
-    let (point, frontier) = (answer.at, answer.frontier);
-    match BY_NUMBER.get(answer.status as usize) {
-        Some(None) => Ok(answer),
-        Some(Some(Refused::OtherWriter { .. })) => Err(Refused::OtherWriter { point }),
-        Some(Some(Refused::OutOfOrder { .. })) => Err(Refused::OutOfOrder { point, frontier }),
-        Some(Some(refused)) => Err(*refused),
-        None => Err(Refused::Unknown(answer.status)),
-    }
+    Err(match answer.status {
+        0 => return Ok(answer),
+        1 => Refused::Quarantined,
+        2 => Refused::Full,
+        3 => Refused::OtherWriter { point: answer.at },
+        4 => Refused::OutOfOrder { point: answer.at, frontier: answer.frontier },
+        5 => Refused::TooManySeries,
+        6 => Refused::TooLarge,
+        7 => Refused::NoMemory,
+        8 => Refused::BadSender,
+        9 => Refused::NotJson,
+        10 => Refused::WrongShape,
+        11 => Refused::Nothing,
+        12 => Refused::NoSuch,
+        13 => Refused::AlreadyQuarantined,
+        14 => Refused::NotQuarantined,
+        15 => Refused::NotEnded,
+        other => Refused::Unknown(other),
+    })
 }
 
 impl Refused {
@@ -100,6 +91,15 @@ impl Refused {
             Refused::TooManyHours { .. } | Refused::LongSeries => 413,
             Refused::BadSender | Refused::NotJson | Refused::WrongShape => 400,
             Refused::AlreadyQuarantined | Refused::NotQuarantined => 400,
+        }
+    }
+
+    /// The same of a point that has another place for who hears of it.
+    pub fn placed(self, place: impl FnOnce(u64) -> u64) -> Refused {
+        match self {
+            Refused::OtherWriter { point } => Refused::OtherWriter { point: place(point) },
+            Refused::OutOfOrder { point, frontier } => Refused::OutOfOrder { point: place(point), frontier },
+            other => other,
         }
     }
 

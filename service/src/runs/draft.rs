@@ -247,18 +247,10 @@ impl Draft<'_> {
 
     /// A refusal that names a point, by its place there.
     pub fn refused(&self, refused: core::Refused, among_all: impl Fn(u64) -> u64) -> core::Refused {
-        let placed = |point: u64| match self.places.get(point as usize) {
+        refused.placed(|point| match self.places.get(point as usize) {
             Some(place) => self.placed(*place, &among_all),
             None => point,
-        };
-        match refused {
-            core::Refused::OtherWriter { point } => core::Refused::OtherWriter { point: placed(point) },
-            core::Refused::OutOfOrder { point, frontier } => {
-                let point = placed(point);
-                core::Refused::OutOfOrder { point, frontier }
-            }
-            other => other,
-        }
+        })
     }
 
     /// The book has taken it.

@@ -117,7 +117,7 @@ impl Slot {
     }
 
     fn not_made(&self, refused: impl Into<Outcome>) -> Put {
-        Put { journalled: Journalled::refused(refused, &self.journal), new_series: None }
+        Put { journalled: Journalled::behind_all(refused, &self.journal), new_series: None }
     }
 
     /// The same points as its text has them: of these none is foreign to the library.
@@ -141,11 +141,11 @@ impl Slot {
         }
         let foreign = by.foreign + draft.foreign();
         let said = |journalled: Journalled, draft: &Draft<'_>| {
-            journalled.without(foreign, left_out.off(), &draft.turned)
+            journalled.without(foreign, left_out.off, &draft.turned)
         };
         if draft.points.count() == 0 {
             return Ok(Tried::Put(Put {
-                journalled: said(Journalled::again(&self.journal), &draft),
+                journalled: said(Journalled::behind_all(Outcome::taken(0), &self.journal), &draft),
                 new_series: None,
             }));
         }

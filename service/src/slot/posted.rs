@@ -13,13 +13,14 @@ const MOST_PARTS: usize = 1000;
 /// A request that was read, and what of it the book is not given.
 pub struct Posted {
     pub read: Read,
-    left_out: LeftOut,
+    pub left_out: LeftOut,
 }
 
 /// Points that are off by their clock.
 #[derive(Default)]
 pub struct LeftOut {
-    off: OffClock,
+    /// How many they are, and how far off.
+    pub off: OffClock,
     /// Among all points of the profile; ascending.
     places: Vec<u64>,
 }
@@ -27,15 +28,6 @@ pub struct LeftOut {
 impl Posted {
     pub fn whole(read: Read) -> Posted {
         Posted { read, left_out: LeftOut::default() }
-    }
-
-    pub fn off(&self) -> OffClock {
-        self.left_out.off
-    }
-
-    /// A refusal, which names a point by its place in the request.
-    pub fn refused(&self, refused: Refused) -> Refused {
-        self.left_out.refused(refused)
     }
 }
 
@@ -52,21 +44,6 @@ impl LeftOut {
             }
         });
         left_out
-    }
-
-    /// How many they are, and how far off.
-    pub fn off(&self) -> OffClock {
-        self.off
-    }
-
-    /// A refusal, which names a point by its place in the request.
-    pub fn refused(&self, refused: Refused) -> Refused {
-        let placed = |point| self.place_of(point);
-        match refused {
-            Refused::OtherWriter { point } => Refused::OtherWriter { point: placed(point) },
-            Refused::OutOfOrder { point, frontier } => Refused::OutOfOrder { point: placed(point), frontier },
-            other => other,
-        }
     }
 
     /// Where among all is a point that has this place among those that are left.

@@ -5,7 +5,7 @@
 
 use super::numbers::Source;
 use super::posted::{read, Posted};
-use super::verdict::{Journalled, Taken};
+use super::verdict::Journalled;
 use super::{is_sender, Phase, Request, Slot, MOVED, NO_ROOM};
 use crate::core::{Locked, Refused};
 use crate::files::{Lost, FAILED};
@@ -58,7 +58,7 @@ impl Slot {
                             Err(over) => return over.into(),
                         }
                     }
-                    Err(refused) => Ok(Journalled::refused(refused, &self.journal)),
+                    Err(refused) => Ok(Journalled::behind_all(refused, &self.journal)),
                 }
             }
         };
@@ -129,8 +129,9 @@ impl Slot {
                 }
                 Err(Refused::InFlight) => landed.await,
                 Err(refused) => {
-                    let outcome = self.refusal(&posted.read, posted.refused(refused));
-                    return Ok(Journalled::refused(outcome, &self.journal));
+                    let refused = refused.placed(|point| posted.left_out.place_of(point));
+                    let outcome = self.refusal(&posted.read, refused);
+                    return Ok(Journalled::behind_all(outcome, &self.journal));
                 }
             }
         }
@@ -163,7 +164,7 @@ impl Slot {
         let new_series = Some(book.series().saturating_sub(before));
         self.count_post();
         // Under the lock: so the journal has the book's order, and a checkpoint finds the post in both or in neither.
-        let journalled = Taken::of(posted).journal(&self.journal);
+        let journalled = Journalled::taken(posted, &self.journal);
         drop(book);
         Ok(Ok(Put { journalled, new_series }))
     }
@@ -307,7 +308,7 @@ mod tests {
         slot.note_refusal(slot.core.lock(), Refused::HalfTaken);
         assert_eq!(slot.phase(), Phase::Lost);
         assert_eq!(slot.journal.failure(), Some(NO_REST));
-        let told = Journalled::refused(Refused::BadSender, &slot.journal);
+        let told = Journalled::behind_all(Refused::BadSender, &slot.journal);
         let told = told.durable(&slot.journal).await;
         assert!(matches!(told, Outcome::Refused { status: 503, .. }), "{told:?}");
     }

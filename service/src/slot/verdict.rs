@@ -1,25 +1,16 @@
 //! What the book said of a post, and when its sender may hear it.
 //!
-//! `Taken` can't be said to anybody: only `Journal::append` makes a `Journalled` of it, and only what is durable
-//! gives its verdict away. A refusal waits for the journal too: a repeat's `out of order` must not outrun the record
-//! of the first attempt, or the sender would drop a batch that a loss of power then takes. Where the slot was lost
-//! meanwhile neither is given: what another instance has says it.
+//! What the book took is said by a `Journalled` alone, which puts it into the journal first; and only what is durable gives its
+//! verdict away. A refusal waits for the journal too: a repeat's `out of order` must not outrun the record of the first
+//! attempt, or the sender would drop a batch that a loss of power then takes. Where the slot was lost meanwhile neither is
+//! given: what another instance has says it.
 
 use super::posted::Posted;
 use super::MOVED;
 use crate::core::Refused;
-use crate::files::{Journal, Lost, Names, Post, Ticket};
+use crate::files::{Journal, Lost, Ticket};
 use crate::otlp::{Causes, OffClock, Outcome};
 use crate::runs::Turned;
-
-/// A post that the book took, and that is in no journal yet.
-#[must_use = "what the book took has to be in the journal"]
-pub(super) struct Taken<'a> {
-    pub post: &'a Post,
-    pub names: &'a dyn Names,
-    /// Points that are not in it.
-    pub off: OffClock,
-}
 
 /// What may be said once the journal is durable up to a place.
 #[must_use = "a sender waits for it"]
@@ -28,29 +19,19 @@ pub(super) struct Journalled {
     outcome: Outcome,
 }
 
-impl Taken<'_> {
-    pub fn of(posted: &Posted) -> Taken<'_> {
-        Taken { post: &posted.read.post, names: posted.read.names(), off: posted.off() }
-    }
-
-    /// Puts the post into the journal: a short lock, and no wait for the disk.
-    pub fn journal(self, journal: &Journal) -> Journalled {
+impl Journalled {
+    /// Puts a post that the book took into the journal: a short lock, and no wait for the disk.
+    pub fn taken(posted: &Posted, journal: &Journal) -> Journalled {
+        let (post, names) = (&posted.read.post, posted.read.names());
         Journalled {
-            ticket: journal.append(self.post, self.names),
-            outcome: Outcome::taken_but(self.post.foreign, self.off),
+            ticket: journal.append(post, names),
+            outcome: Outcome::taken_but(post.foreign, posted.left_out.off),
         }
     }
-}
 
-impl Journalled {
-    /// What the book refused: all that it took before is waited for.
-    pub fn refused(refused: impl Into<Outcome>, journal: &Journal) -> Journalled {
-        Journalled { ticket: journal.now(), outcome: refused.into() }
-    }
-
-    /// What has nothing that was not taken before: this is waited for.
-    pub fn again(journal: &Journal) -> Journalled {
-        Journalled { ticket: journal.now(), outcome: Outcome::taken(0) }
+    /// What nothing was taken of now, as where the book refused it: all that it took before is waited for.
+    pub fn behind_all(said: impl Into<Outcome>, journal: &Journal) -> Journalled {
+        Journalled { ticket: journal.now(), outcome: said.into() }
     }
 
     /// The same of a post of which so many points are outside the profile, and others off by their clock or were not taken
@@ -83,7 +64,7 @@ impl From<Refused> for Outcome {
 #[cfg(test)]
 mod tests {
     use super::*;
-    use crate::files::{Body, NoNames};
+    use crate::core::Core;
     use std::sync::atomic::{AtomicBool, Ordering::SeqCst};
     use std::sync::Arc;
     use std::time::Duration;
@@ -94,12 +75,9 @@ mod tests {
         let open = Arc::new(AtomicBool::new(true));
         let journal = Arc::new(crate::files::held_journal(folder.path(), open.clone()));
         open.store(false, SeqCst);
-        let post = Post { sender: "A".into(), foreign: 0, body: Body::Text("{}".into()) };
+        let posted = Posted::whole(Core::new(1).unwrap().read("A".into(), "{}".into()).unwrap());
         let late = Refused::OutOfOrder { point: 0, frontier: 5 };
-        let both = [
-            Taken { post: &post, names: &NoNames, off: OffClock::default() }.journal(&journal),
-            Journalled::refused(late, &journal),
-        ];
+        let both = [Journalled::taken(&posted, &journal), Journalled::behind_all(late, &journal)];
         let answers = both.map(|one| {
             let journal = journal.clone();
             tokio::spawn(async move { one.durable(&journal).await })

@@ -155,9 +155,9 @@ fn a_point_of_a_plain_body_that_is_off_by_its_clock_is_left_out() {
     let request = plain(&core, &numbers, &three);
     let posted = posted::read(&core, &numbers, &clock.window(), "A".into(), request).unwrap();
     assert!(!posted.read.is_of_protobuf());
-    assert_eq!((posted.read.points(), posted.off().points()), (2, 1));
+    assert_eq!((posted.read.points(), posted.left_out.off.points()), (2, 1));
     let [among_left, among_all] = [1, 2].map(|point| Refused::OtherWriter { point });
-    assert_eq!(posted.refused(among_left), among_all);
+    assert_eq!(among_left.placed(|point| posted.left_out.place_of(point)), among_all);
 }
 
 /// The journal keeps a text that a start reads.
