@@ -1,12 +1,14 @@
 //! Series by their numbers: the library's names, each with a request that names it.
 
 use super::book::{self, Answer, Reader};
-use super::readers::with_reader;
+use super::memory;
+use super::readers::{free_spare_readers, with_reader};
 use super::refusal::{check, Refused};
 use super::texts::Texts;
 use crate::files::{self, Points};
 use crate::otlp::series::words_of;
 use bytes::Bytes;
+use std::alloc::{handle_alloc_error, Layout};
 use std::sync::atomic::{AtomicBool, AtomicU64, AtomicUsize, Ordering::Relaxed};
 use std::sync::{Arc, Mutex, MutexGuard, OnceLock, PoisonError, RwLock, RwLockReadGuard};
 
@@ -216,6 +218,21 @@ impl Names {
         lengths.sum()
     }
 
+    /// A request that is not kept. A start that goes on without one has not what the series' run had come to, and the next point
+    /// counts that again: so it may use up the reserve, and where there is none the process ends, as by any other want of memory.
+    fn unkept_text(&self, number: u64) -> Vec<u8> {
+        let asked = || memory::forwarding(|| text_of(&mut self.handle(), number));
+        let mut text = asked();
+        if text == Err(Refused::NoMemory) {
+            free_spare_readers();
+            text = asked();
+        }
+        match text {
+            Err(Refused::NoMemory) => handle_alloc_error(Layout::new::<[u8; TEXT]>()),
+            text => text.unwrap_or_default(),
+        }
+    }
+
     fn named(&self) -> RwLockReadGuard<'_, Named> {
         self.named.read().unwrap_or_else(PoisonError::into_inner) // a list is sound at any time
     }
@@ -242,6 +259,6 @@ impl files::Names for Names {
 
     fn text(&self, number: u64) -> Bytes {
         let text = usize::try_from(number).ok().and_then(|number| self.named().texts.get(number));
-        text.or_else(|| text_of(&mut self.handle(), number).ok()).unwrap_or_default().into()
+        text.unwrap_or_else(|| self.unkept_text(number)).into()
     }
 }

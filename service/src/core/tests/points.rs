@@ -1,6 +1,7 @@
 //! Points by number: what they say, what is refused, and what is read again.
 
 use super::*;
+use crate::otlp::series::only;
 use std::collections::BTreeSet;
 
 /// Names for these series of sums, in this order.
@@ -94,6 +95,18 @@ fn only_a_request_of_one_point_names_a_series() {
     use crate::files::Names as _;
     assert_eq!((names.text(0), names.text(1)), (one, Bytes::new()));
     assert_ne!(names.generation(), Names::new().unwrap().generation());
+}
+
+/// Else a start would not know what the series' run had come to, and its next point would count that twice.
+#[test]
+fn a_request_that_is_not_kept_is_said_also_where_a_block_is_refused() {
+    use crate::files::Names as _;
+    let names = Names::new().unwrap();
+    let one = points(&super::names("s", 1), 1, 0);
+    assert_eq!(names.number_of(one.as_bytes()), Ok(0));
+    let text = names.text(0);
+    assert_eq!(only(&text), only(one.as_bytes()));
+    assert_eq!(memory::with_blocks(0, false, || names.text(0)), (text, false));
 }
 
 /// Else its sender would be told 503 for ever.
