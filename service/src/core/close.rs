@@ -33,11 +33,16 @@ impl Book {
         }
     }
 
-    /// Of all books at once, since something finds no room.
+    /// Of all books at once, since something finds no room. One of which something is in flight is not closed, and has all that
+    /// came to it.
     pub(super) fn close_rounds(&mut self) {
         self.rounds.begin();
+        let entries = self.rounds.before();
         while let Some(book) = self.rounds.being_closed() {
             self.close_round(book);
+        }
+        if self.earlier.in_flight > 0 {
+            self.rounds.have_still(entries);
         }
     }
 

@@ -120,6 +120,16 @@ impl Rounds {
         }
     }
 
+    /// How many entries came before it was begun to close them, and may be there.
+    pub fn before(&self) -> u64 {
+        self.before
+    }
+
+    /// So many of these are there in a book, though others were closed.
+    pub fn have_still(&mut self, before: u64) {
+        self.before = before;
+    }
+
     /// The next ones are as long as so many series need.
     pub fn last_for(&mut self, series: usize) {
         self.most_points = (POINTS_FOR_A_SERIES * series).max(LEAST_POINTS) as u64;

@@ -152,6 +152,32 @@ fn what_is_in_flight_is_waited_for() {
     assert_eq!(group, wanted.map(|((name, hour), sum)| ((name.to_string(), hour), sum)).into());
 }
 
+/// Else a post of several hours would find no room behind its first ones, which ends the service.
+#[test]
+fn a_book_that_was_in_flight_while_others_were_closed_has_room_for_a_post_of_several_hours() {
+    let core = Core::new(24_000).unwrap();
+    let all = names("s", 30);
+    let (one, others) = all.split_at(1);
+    let each = |numbers: std::ops::RangeInclusive<u64>| {
+        for number in numbers {
+            assert_eq!(post(&core, "A", &points(one, number * 10, 1)), Ok(0), "{number}");
+        }
+    };
+    each(1..=1);
+    let mut flushed = core.lock().take_all().unwrap();
+    each(2..=16_000);
+    assert_eq!(post(&core, "A", &points(others, 10, 1)), Ok(0));
+    core.lock().close_rounds();
+    assert!(core.lock().rounds_closed() > 0);
+    each(16_001..=32_600);
+    let first = spans(&flushed.texts().unwrap());
+    core.lock().settle(flushed).unwrap();
+    let lump: Vec<_> = (1..=100).map(|hour| (0, hour * HOUR + HOUR / 2, 1)).collect();
+    assert_eq!(put(&core, &named(one), "A", of(&lump)), Ok(()));
+    let sums = sums([first, group(&core)].concat());
+    assert_eq!((sums[&("s0".to_string(), 0)], sums.len()), (32_600, 100 + 30));
+}
+
 #[test]
 fn a_released_sender_s_points_are_not_merged_with_a_later_hour() {
     let core = Core::new(1).unwrap();
