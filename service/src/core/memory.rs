@@ -1,11 +1,12 @@
-//! How much memory the book has: what the library asks for is counted, and refused over a bound. A failed allocation is an
-//! answer; a killed process has to be restored.
+//! How much memory the books of a process have: what the library asks for is counted, and refused over a bound. A failed
+//! allocation is an answer; a killed process has to be restored.
 //!
 //! Posts are read and admitted below a lower bound than what was taken is forwarded by: what lies between the two is a
 //! reserve for that. So posts are refused, and nothing of them is kept, before a flush would find too little.
 
 use std::cell::Cell;
 use std::sync::atomic::{AtomicI64, AtomicU64, Ordering::Relaxed};
+use std::sync::{Mutex, PoisonError};
 
 /// What a thread counts by itself before it counts with the others: the sum of all is off by as much for each.
 const DRIFT: i64 = 128 << 10;
@@ -20,6 +21,8 @@ static MOST: AtomicI64 = AtomicI64::new(i64::MAX);
 static MOST_OF_POSTS: AtomicI64 = AtomicI64::new(i64::MAX);
 /// Until one was written it may be as long.
 static LONGEST_TEXT: AtomicU64 = AtomicU64::new(4 << 20);
+/// How many series all books had when each was taken last. Locked while it is found what is kept back for them.
+static SERIES: Mutex<u64> = Mutex::new(0);
 
 thread_local! {
     static OWN: Own = const { Own::new() };
@@ -157,10 +160,10 @@ pub(super) fn forwarding<T>(call: impl FnOnce() -> T) -> T {
     done
 }
 
-/// From now on the book has at most so many bytes.
+/// From now on the books have at most so many bytes.
 pub(super) fn bound(most: u64) {
     MOST.store(i64::try_from(most).unwrap_or(i64::MAX), Relaxed);
-    reserve(0);
+    Reserve::default().be_for(0);
 }
 
 /// A text has so many bytes: the next one may have as many.
@@ -168,12 +171,29 @@ pub(super) fn note_text(bytes: u64) {
     LONGEST_TEXT.fetch_max(bytes, Relaxed);
 }
 
-/// Keeps back what it takes to forward so many series by texts as long as those before, up to half of all.
-pub(super) fn reserve(series: usize) {
-    let most = MOST.load(Relaxed);
-    let wanted = LEAST_RESERVE + RESERVE_OF_A_SERIES * series as u64 + TEXTS * LONGEST_TEXT.load(Relaxed);
-    let reserve = i64::try_from(wanted).unwrap_or(i64::MAX).min(most / 2);
-    MOST_OF_POSTS.store(most - reserve, Relaxed);
+/// What is kept back for a slot's book, and the one that takes its place. A process may have several slots.
+#[derive(Default)]
+pub(super) struct Reserve {
+    series: AtomicU64,
+}
+
+impl Reserve {
+    /// Keeps back what it takes to forward so many series beside those of the others, by texts as long as those before, up to
+    /// half of all.
+    pub fn be_for(&self, series: usize) {
+        let mut all = SERIES.lock().unwrap_or_else(PoisonError::into_inner); // a number is sound at any time
+        *all = *all + series as u64 - self.series.swap(series as u64, Relaxed);
+        let most = MOST.load(Relaxed);
+        let wanted = LEAST_RESERVE + RESERVE_OF_A_SERIES * *all + TEXTS * LONGEST_TEXT.load(Relaxed);
+        let reserve = i64::try_from(wanted).unwrap_or(i64::MAX).min(most / 2);
+        MOST_OF_POSTS.store(most - reserve, Relaxed);
+    }
+}
+
+impl Drop for Reserve {
+    fn drop(&mut self) {
+        self.be_for(0);
+    }
 }
 
 /// How many bytes it has, and may have.
@@ -210,5 +230,33 @@ impl Tried {
     pub(super) fn not() -> Tried {
         note_refusal();
         Tried { ok: false, at: (&raw const NO_BLOCK).cast_mut() }
+    }
+}
+
+#[cfg(test)]
+mod tests {
+    use super::super::tests::points;
+    use super::super::Core;
+    use super::*;
+    use std::sync::Arc;
+
+    /// A book from which so many series were taken.
+    fn taken(series: usize) -> Arc<Core> {
+        let core = Core::new(1).unwrap();
+        let names: Vec<String> = (0..series).map(|number| format!("s{number}")).collect();
+        let mut read = core.read("A".into(), points(&names, 10, 1).into()).unwrap();
+        core.lock().admit(&mut read).unwrap();
+        let flushed = core.lock().take_all().unwrap();
+        core.lock().settle(flushed).unwrap();
+        core
+    }
+
+    /// An instance has books of several slots, and any of them may be taken next.
+    #[test]
+    fn what_is_kept_back_is_for_the_series_of_all_books() {
+        let least = LEAST_RESERVE + TEXTS * LONGEST_TEXT.load(Relaxed) + RESERVE_OF_A_SERIES * 3_010;
+        let _books = [taken(3_000), taken(10)];
+        let kept = MOST.load(Relaxed) - MOST_OF_POSTS.load(Relaxed);
+        assert!(kept >= least as i64, "{kept} < {least}");
     }
 }

@@ -50,6 +50,7 @@ pub const MOST_SERIES: usize = 1_000_000;
 pub struct Core {
     books: usize,
     across: Across,
+    reserve: Arc<memory::Reserve>,
     book: Mutex<Book>,
 }
 
@@ -60,6 +61,7 @@ pub struct Book {
     rounds: Rounds,
     across: Across,
     earlier: Earlier,
+    reserve: Arc<memory::Reserve>,
 }
 
 /// The book, for who has its lock.
@@ -106,7 +108,9 @@ impl Core {
     /// The same, of other stretches of time.
     pub fn apart(series: usize, across: Across) -> Result<Arc<Core>, Refused> {
         let books = series.div_ceil(SERIES_OF_A_BOOK).max(1);
-        Ok(Arc::new(Core { books, across, book: Mutex::new(Book::new(books, across)?) }))
+        let reserve = Arc::<memory::Reserve>::default();
+        let book = Book::new(books, across, reserve.clone())?;
+        Ok(Arc::new(Core { books, across, reserve, book: Mutex::new(book) }))
     }
 
     /// How many books of the library it has.
@@ -121,7 +125,7 @@ impl Core {
 
     /// A book that has nothing yet, to be put in the place of this one.
     pub fn fresh(&self) -> Result<Book, Refused> {
-        Book::new(self.books, self.across)
+        Book::new(self.books, self.across, self.reserve.clone())
     }
 
     /// Reads a post. JSON may nest to 127: the thread has 2 MiB of stack, as those of the runtimes have.
@@ -164,7 +168,7 @@ impl Core {
 impl Book {
     /// What nobody has is given back first: a book has room for all that it may come to in a round, of which it uses little, and
     /// what it never uses takes no memory only where nobody has used it.
-    fn new(books: usize, across: Across) -> Result<Book, Refused> {
+    fn new(books: usize, across: Across, reserve: Arc<memory::Reserve>) -> Result<Book, Refused> {
         give_back_memory();
         Ok(Book {
             desk: Desk::new(books).ok_or(Refused::NoMemory)?,
@@ -172,6 +176,7 @@ impl Book {
             rounds: Rounds::new(books),
             across,
             earlier: Earlier::default(),
+            reserve,
         })
     }
 
@@ -237,7 +242,7 @@ impl Book {
                 }
             }
         }
-        memory::reserve(self.desk.series());
+        self.reserve.be_for(self.desk.series());
         taken.earlier = self.earlier.take();
         self.earlier.first = None;
         self.earlier.in_flight += 1;
