@@ -303,12 +303,12 @@ impl Desk {
 
 impl SlotStatus {
     fn at_work(unit: &Unit) -> SlotStatus {
-        let (journal, since) = unit.slot.journal_size();
+        let (journal, since) = unit.slot.journal.size();
         SlotStatus {
             unavailable: unit.slot.unavailable().map(String::from),
             journal: Stock::new(journal, since),
             posts: unit.slot.ungrouped(),
-            held: unit.slot.held(),
+            held: unit.slot.journal.held(),
             released: unit.slot.has_released(), // before what waits, as the journal
             ..SlotStatus::of(&unit.undelivered)
         }

@@ -157,7 +157,7 @@ impl Unit {
 }
 
 /// Waits so long for parts that were told to end: a fault of one of them.
-async fn last<E: Into<Ended> + OfSlot + 'static>(
+async fn last<E: Into<Trouble> + 'static>(
     parts: &mut JoinSet<Result<(), E>>,
     part: &str,
     until: Instant,
@@ -174,27 +174,10 @@ async fn last<E: Into<Ended> + OfSlot + 'static>(
     ended
 }
 
-/// What may end a slot and nothing else.
-trait OfSlot {
-    fn is_of_slot(&self) -> bool;
-}
-
-impl OfSlot for Trouble {
-    fn is_of_slot(&self) -> bool {
-        matches!(self, Trouble::Lost(_))
-    }
-}
-
-impl OfSlot for Fault {
-    fn is_of_slot(&self) -> bool {
-        matches!(self, Fault::Lost(_))
-    }
-}
-
 impl End {
-    fn of<E: Into<Ended> + OfSlot>(part: &str, end: Result<Result<(), E>, JoinError>) -> End {
-        match end {
-            Ok(Err(why)) if why.is_of_slot() => End::Lost,
+    fn of<E: Into<Trouble>>(part: &str, end: Result<Result<(), E>, JoinError>) -> End {
+        match end.map(|end| end.map_err(E::into)) {
+            Ok(Err(Trouble::Lost(_))) => End::Lost,
             end => End::Failed(cause(part, end)),
         }
     }

@@ -76,11 +76,7 @@ impl AtWork {
         let mut all = Ok(true);
         while let Some(stopped) = stopping.join_next().await {
             let stopped = stopped.unwrap_or_else(|error| Err(failed(error)));
-            all = match (all, stopped) {
-                (Ok(all), Ok(in_time)) => Ok(all && in_time),
-                (Err(first), _) => Err(first),
-                (Ok(_), Err(fault)) => Err(fault),
-            };
+            all = all.and_then(|all| Ok(stopped? && all));
         }
         all
     }

@@ -18,8 +18,8 @@ pub use numbers::{ByNumber, Request, Source};
 pub(crate) use phase::Phase;
 pub use slots::{Elsewhere, Place, Slots, Way, NO_OWNER};
 
-use crate::core::{Core, Refused};
-use crate::files::{FreeSpace, Held, Journal, Outbox};
+use crate::core::Core;
+use crate::files::{FreeSpace, Journal, Outbox};
 use crate::metrics::Metrics;
 use crate::otlp::{Clock, Outcome, Reading};
 use crate::runs::Runs;
@@ -102,19 +102,7 @@ impl Slot {
         metrics: Arc<Metrics>,
         core: Arc<Core>,
     ) -> Arc<Slot> {
-        Slot::by_clock(number, journal, outbox, metrics, core, Clock::default())
-    }
-
-    /// The same, for points that end not too far from the service's clock.
-    pub fn by_clock(
-        number: u16,
-        journal: Journal,
-        outbox: Arc<Outbox>,
-        metrics: Arc<Metrics>,
-        core: Arc<Core>,
-        clock: Clock,
-    ) -> Arc<Slot> {
-        Slot::of(number, journal, outbox, core, &Shared::new(metrics, clock))
+        Slot::of(number, journal, outbox, core, &Shared::new(metrics, Clock::default()))
     }
 
     /// One of several.
@@ -194,21 +182,6 @@ impl Slot {
     /// Whether the book has all accepted posts.
     pub fn is_ready(&self) -> bool {
         self.phase() == Phase::Serving
-    }
-
-    /// The book's own report.
-    pub fn report(&self) -> Result<Vec<u8>, Refused> {
-        self.core.lock().report()
-    }
-
-    /// Bytes of the journal's segments, and when the first of their posts was appended (seconds since 1970).
-    pub fn journal_size(&self) -> (u64, Option<u64>) {
-        self.journal.size()
-    }
-
-    /// What is kept back of quarantined senders.
-    pub fn held(&self) -> Held {
-        self.journal.held()
     }
 
     /// Whether posts of a sender that was released wait for a flush.

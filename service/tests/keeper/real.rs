@@ -28,7 +28,7 @@ async fn posts_and_checkpoints() {
     }
     assert_eq!(run.checkpoint().await, 1);
     assert_eq!(run.checkpoint().await, 0);
-    let report = run.slot.report().unwrap();
+    let report = run.slot.core().lock().report().unwrap();
     assert!(report.starts_with(b"series a sum owner A frontier 30"), "{report:?}");
     let (sum, spans) = run.stop().await.remove("a").unwrap();
     assert_eq!((sum, spans), (11, vec![(10, 30)]));

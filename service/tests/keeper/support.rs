@@ -15,7 +15,7 @@ use totxegun::keeper::{Done, Keeper, Order, Orders, Settings, Trouble};
 use totxegun::metrics::Metrics;
 use totxegun::otlp::series::{forwarded, Value};
 use totxegun::otlp::{protobuf_of_forwarded, Clock, Outcome, Reading};
-use totxegun::slot::{Request, Slot};
+use totxegun::slot::{Request, Shared, Slot};
 
 const PATIENCE: Duration = Duration::from_secs(120);
 
@@ -52,8 +52,8 @@ impl Place {
         let (journal, outbox) = folder.slot(0).unwrap();
         let (outbox, metrics) = (Arc::new(outbox), Arc::new(Metrics::new().unwrap()));
         let core = Core::new(self.most_series).unwrap();
-        let (of_outbox, of_metrics) = (outbox.clone(), metrics.clone());
-        let slot = Slot::by_clock(0, journal, of_outbox, of_metrics, core, self.clock);
+        let shared = Shared::new(metrics.clone(), self.clock);
+        let slot = Slot::of(0, journal, outbox.clone(), core, &shared);
         let (keeper, orders) = Keeper::new(slot.clone(), settings);
         let (stop, stopped) = watch::channel(false);
         let task = tokio::spawn(keeper.run(stopped));

@@ -48,9 +48,9 @@ async fn stall(stalled: Call, folder: &'static str) {
         assert_eq!(outcome, Outcome::Refused { status, message });
     }
     // What an operator is shown.
-    let shown = (run.slot.unavailable(), run.slot.held().posts, run.slot.outbox.stuck());
+    let shown = (run.slot.unavailable(), run.slot.journal.held().posts, run.slot.outbox.stuck());
     assert_eq!(shown, (Some(NO_ANSWER), 0, None));
-    assert!(run.slot.journal_size().0 > 0 && run.slot.outbox.waiting().0 == 0);
+    assert!(run.slot.journal.size().0 > 0 && run.slot.outbox.waiting().0 == 0);
     let call = run.slot.disk_call();
     let took = asks.elapsed();
     let waits = !first.is_finished();

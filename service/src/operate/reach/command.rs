@@ -120,7 +120,7 @@ async fn report(unit: Arc<Unit>) -> Answer {
     if !unit.slot.is_ready() {
         return Answer::told(503, unit.slot.unavailable().unwrap_or("recovering"));
     }
-    match blocking(move || unit.slot.report()).await {
+    match blocking(move || unit.slot.core().lock().report()).await {
         Ok(report) => Answer::new(200, String::from_utf8_lossy(&report)),
         Err(refused) => Answer::told(refused.status(), &refused.to_string()),
     }
