@@ -102,10 +102,8 @@ fn read_text(
         numbers.number(core, &mut read)?;
         return fits(Posted::whole(read));
     }
-    match numbers.read_text(core, &body)? {
-        Some(by) => fits(read_points(core, window, sender, by.without_cumulative())?),
-        None => Ok(Posted::whole(read)),
-    }
+    let by = numbers.read_text(core, &body)?.ok_or(Refused::WrongShape)?; // the library reads no other
+    fits(read_points(core, window, sender, by.without_cumulative())?)
 }
 
 fn read_points(
