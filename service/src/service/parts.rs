@@ -5,6 +5,7 @@ use super::instance::Joining;
 use super::operators::Operators;
 use super::running::Running;
 use super::senders::Senders;
+use super::sink::Told;
 use super::unit::{Files, Opened};
 use super::units::{taker, AtWork, Units};
 use super::{Ended, Settings};
@@ -56,14 +57,7 @@ impl Parts {
         let mut outboxes = vec![outbox.clone()];
         outboxes.extend(former.iter().map(|(_, outbox)| outbox.clone()));
         let acts = Arc::new(Acts::in_folder(&settings.data));
-        let sink = super::sink::open(
-            &folder,
-            &settings.sink,
-            settings.retention,
-            settings.new_sink,
-            outboxes,
-            acts.clone(),
-        )?;
+        let sink = told(settings, &acts).open_of_folder(&folder, outboxes)?;
         let shared = Arc::new(Shared::new(settings.metrics.clone(), settings.clock));
         let files = Files { number: 0, journal, outbox, dead, former };
         let opened = Opened::new(files, 1, settings, &shared)?;
@@ -73,13 +67,7 @@ impl Parts {
     /// The slots of a store are opened once they are taken.
     pub fn of_store(joining: Joining, settings: &Settings) -> Result<Parts, Ended> {
         let acts = Arc::new(Acts::in_folder(&settings.data));
-        let sink = super::sink::open_of_store(
-            &joining.store,
-            &settings.sink,
-            settings.retention,
-            settings.new_sink,
-            acts.clone(),
-        )?;
+        let sink = told(settings, &acts).open_of_store(&joining.store)?;
         let shared = Arc::new(Shared::new(settings.metrics.clone(), settings.clock));
         Parts::of(Of::Store(joining), settings, shared, acts, sink)
     }
@@ -200,6 +188,15 @@ impl Of {
             }
             Of::Store(joining) => (super::instance::slots(&joining, settings), Some(joining)),
         }
+    }
+}
+
+fn told<'s>(settings: &'s Settings, acts: &Arc<Acts>) -> Told<'s> {
+    Told {
+        address: &settings.sink,
+        retention: settings.retention,
+        takes_new: settings.new_sink,
+        acts: acts.clone(),
     }
 }
 

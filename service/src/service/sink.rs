@@ -47,44 +47,39 @@ struct Remembered {
     acts: Arc<Acts>,
 }
 
-/// Opens the sink of a store's instances.
-pub(super) fn open_of_store(
-    store: &Arc<PostgresStore>,
-    address: &Address,
-    retention: Retention,
-    takes_new: bool,
-    acts: Arc<Acts>,
-) -> Result<Arc<dyn Sink>, Ended> {
-    let place = InStore::open(store.clone()).context("the store can't be used")?;
-    opened(Box::new(place), address, retention, takes_new, acts)
+/// What a start was told of its sink, and where it is noted that this is a new one.
+pub(super) struct Told<'a> {
+    pub address: &'a Address,
+    pub retention: Retention,
+    pub takes_new: bool,
+    pub acts: Arc<Acts>,
 }
 
-/// Opens the sink. What waits in these outboxes goes into it.
-pub(super) fn open(
-    folder: &Arc<Folder>,
-    address: &Address,
-    retention: Retention,
-    takes_new: bool,
-    outboxes: Vec<Arc<Outbox>>,
-    acts: Arc<Acts>,
-) -> Result<Arc<dyn Sink>, Ended> {
-    let place = InFolder { folder: folder.clone(), outboxes };
-    opened(Box::new(place), address, retention, takes_new, acts)
-}
+impl Told<'_> {
+    /// Opens the sink of a store's instances.
+    pub fn open_of_store(self, store: &Arc<PostgresStore>) -> Result<Arc<dyn Sink>, Ended> {
+        let place = InStore::open(store.clone()).context("the store can't be used")?;
+        self.open(Box::new(place))
+    }
 
-fn opened(
-    place: Box<dyn Remembers>,
-    address: &Address,
-    retention: Retention,
-    takes_new: bool,
-    acts: Arc<Acts>,
-) -> Result<Arc<dyn Sink>, Ended> {
-    let memory =
-        Arc::new(Remembered { place, now: address.known(), takes_new: AtomicBool::new(takes_new), acts });
-    memory.look_at_kind()?;
-    let sink = sinks::open(address, retention, memory.clone()).context("the sink can't be opened")?;
-    memory.look_at_address()?;
-    Ok(sink)
+    /// Opens the sink of a folder. What waits in these outboxes goes into it.
+    pub fn open_of_folder(
+        self,
+        folder: &Arc<Folder>,
+        outboxes: Vec<Arc<Outbox>>,
+    ) -> Result<Arc<dyn Sink>, Ended> {
+        self.open(Box::new(InFolder { folder: folder.clone(), outboxes }))
+    }
+
+    fn open(self, place: Box<dyn Remembers>) -> Result<Arc<dyn Sink>, Ended> {
+        let (now, takes_new) = (self.address.known(), AtomicBool::new(self.takes_new));
+        let memory = Arc::new(Remembered { place, now, takes_new, acts: self.acts });
+        memory.look_at_kind()?;
+        let sink = sinks::open(self.address, self.retention, memory.clone());
+        let sink = sink.context("the sink can't be opened")?;
+        memory.look_at_address()?;
+        Ok(sink)
+    }
 }
 
 impl Remembered {

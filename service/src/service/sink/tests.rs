@@ -37,15 +37,8 @@ impl Place {
             outbox.commit(&[request], journal.turn().0).unwrap();
         }
         let acts = Arc::new(Acts::in_folder(&self.file("data")));
-        let opened = open(
-            &folder,
-            &sink.parse().unwrap(),
-            Retention::default(),
-            takes_new,
-            vec![Arc::new(outbox)],
-            acts,
-        );
-        opened.map_err(|ended| ended.to_string())
+        let told = Told { address: &sink.parse().unwrap(), retention: Retention::default(), takes_new, acts };
+        told.open_of_folder(&folder, vec![Arc::new(outbox)]).map_err(|ended| ended.to_string())
     }
 
     fn starts(&self, sink: &Path) {
