@@ -252,7 +252,7 @@ impl Drop for Flushes {
 }
 
 /// Gives the system back what nobody has of the process' memory, but for what other threads keep.
-pub(super) fn give_back() {
+pub fn give_back() {
     give_back_of_thread();
     // SAFETY: it may be called at any time, by any thread.
     unsafe { release_free_memory() };
@@ -266,13 +266,13 @@ pub(super) fn give_back_of_thread() {
 
 /// How many bytes of the allocator's the system has back now.
 #[cfg(test)]
-pub(super) fn given_back() -> usize {
+pub(crate) fn given_back() -> usize {
     number(c"tcmalloc.pageheap_unmapped_bytes")
 }
 
 /// How many bytes the process has in blocks now.
 #[cfg(test)]
-pub(super) fn allocated() -> usize {
+pub(crate) fn allocated() -> usize {
     number(c"generic.current_allocated_bytes")
 }
 

@@ -122,10 +122,7 @@ pub(super) fn take(bytes: usize) -> bool {
 }
 
 pub(super) fn give(bytes: usize) {
-    let bytes = i64::try_from(bytes).unwrap_or(i64::MAX);
-    if OWN.try_with(|own| own.give(bytes)).is_err() {
-        USED.fetch_sub(bytes, Relaxed);
-    }
+    correct(bytes, 0);
 }
 
 /// A block was refused.
@@ -161,7 +158,7 @@ pub(super) fn forwarding<T>(call: impl FnOnce() -> T) -> T {
 }
 
 /// From now on the books have at most so many bytes.
-pub(super) fn bound(most: u64) {
+pub fn bound(most: u64) {
     MOST.store(i64::try_from(most).unwrap_or(i64::MAX), Relaxed);
     Reserve::default().be_for(0);
 }

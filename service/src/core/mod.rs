@@ -21,8 +21,11 @@ mod rounds;
 mod stretch;
 mod texts;
 
+pub use book::give_back as give_back_memory;
+#[cfg(test)]
+pub(crate) use book::{allocated, given_back};
 pub use flushed::Flushed;
-pub use memory::used as memory_used;
+pub use memory::{bound as bound_memory, used as memory_used};
 pub use names::Names;
 pub use read::Read;
 pub use readers::{free_idle_readers, free_spare_readers};
@@ -67,16 +70,6 @@ pub struct Book {
 /// The book, for who has its lock.
 pub struct Locked<'a>(MutexGuard<'a, Book>);
 
-/// The most bytes that the book has from now on, of the whole process.
-pub fn bound_memory(most: u64) {
-    memory::bound(most);
-}
-
-/// Gives the system back what nobody has of the process' memory.
-pub fn give_back_memory() {
-    book::give_back();
-}
-
 /// Gives all threads what this one keeps of free memory, where it has not used the library since it was asked `before`: an
 /// allocator has a store for each thread, and takes nothing out of one that does nothing. What to ask next time.
 pub fn give_back_of_thread(before: Option<i64>) -> Option<i64> {
@@ -85,18 +78,6 @@ pub fn give_back_of_thread(before: Option<i64>) -> Option<i64> {
         book::give_back_of_thread();
     }
     now
-}
-
-/// How much of it the system has back now.
-#[cfg(test)]
-pub(crate) fn given_back() -> usize {
-    book::given_back()
-}
-
-/// How much of it is in blocks now.
-#[cfg(test)]
-pub(crate) fn allocated() -> usize {
-    book::allocated()
 }
 
 impl Core {
@@ -169,7 +150,7 @@ impl Book {
     /// What nobody has is given back first: a book has room for all that it may come to in a round, of which it uses little, and
     /// what it never uses takes no memory only where nobody has used it.
     fn new(books: usize, across: Across, reserve: Arc<memory::Reserve>) -> Result<Book, Refused> {
-        give_back_memory();
+        book::give_back();
         Ok(Book {
             desk: Desk::new(books).ok_or(Refused::NoMemory)?,
             books,
