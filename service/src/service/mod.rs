@@ -168,10 +168,7 @@ pub async fn run(settings: Settings) -> Result<(), Ended> {
     units.get_or_init(|| running.at_work.units().clone());
     let ended = tokio::select! {
         cause = running.ended() => Err(cause),
-        name = signals.received() => {
-            tracing::info!("{name}: ending");
-            Ok(())
-        }
+        () = signals.ending() => Ok(()),
     };
     watched.abort();
     supervisor.stopping();
@@ -193,9 +190,7 @@ async fn of_folder(
     let folder = Arc::new(Folder::open(&settings.data, settings.durability)?);
     folder.counts()?;
     let operators = readers.and_socket(&settings.operate).await?;
-    let keeping = settings.keeping();
-    let ending = async { tracing::info!("{}: ending", signals.received().await) };
-    match adopt::slots(&folder, settings.most_series, &keeping, ending).await? {
+    match adopt::slots(&folder, settings.most_series, &settings.keeping(), signals.ending()).await? {
         true => Ok(Some((Parts::open(folder, settings)?, senders, operators))),
         false => Ok(None),
     }
@@ -218,8 +213,7 @@ async fn of_store(
     let [senders, senders_before] = senders.twins().context(twice)?;
     let [operators, operators_before] = operators.twins().context(twice)?;
     let before = (senders_before, operators_before);
-    let ending = async { tracing::info!("{}: ending", signals.received().await) };
-    match waiting::store(settings, of, before, ending).await? {
+    match waiting::store(settings, of, before, signals.ending()).await? {
         Some(store) => {
             let joining = Joining::new(of, peers, store, &settings.metrics)?;
             let store = joining.store.clone();
@@ -244,10 +238,12 @@ impl Signals {
         Ok(Signals { terminate: one(SignalKind::terminate())?, interrupt: one(SignalKind::interrupt())? })
     }
 
-    async fn received(&mut self) -> &'static str {
-        tokio::select! {
+    /// Returns once one has come.
+    async fn ending(&mut self) {
+        let name = tokio::select! {
             _ = self.terminate.recv() => "SIGTERM",
             _ = self.interrupt.recv() => "SIGINT",
-        }
+        };
+        tracing::info!("{name}: ending");
     }
 }
