@@ -227,11 +227,11 @@ fn is_met(wanted: &Method, asked: &Method) -> bool {
     wanted == asked || *wanted == Method::GET && *asked == Method::HEAD
 }
 
-fn message(status: u16, text: &str) -> Response<Body> {
+pub(crate) fn message(status: u16, text: &str) -> Response<Body> {
     reply(status, JSON, json!({ "message": text }).to_string())
 }
 
-fn reply(status: u16, kind: &'static str, body: impl Into<Body>) -> Response<Body> {
+pub(crate) fn reply(status: u16, kind: &'static str, body: impl Into<Body>) -> Response<Body> {
     let mut response = Response::new(body.into());
     *response.status_mut() = StatusCode::from_u16(status).unwrap_or(StatusCode::INTERNAL_SERVER_ERROR);
     response.headers_mut().insert(CONTENT_TYPE, HeaderValue::from_static(kind));

@@ -9,13 +9,13 @@ use crate::cluster::NO_STORE;
 use crate::intake::connections::Handler;
 use crate::intake::{Budget, Intake, Threads};
 use crate::log::RateLimit;
+use crate::operate::{message, reply};
 use crate::otlp::{Original, Outcome, Resources};
 use crate::slot::{Elsewhere, Slot, Slots};
 use crate::store::postgres::PostgresStore;
 use crate::work::blocking;
 use anyhow::Context;
-use hyper::header::{HeaderValue, CONTENT_TYPE};
-use hyper::{Body, Request, Response, StatusCode};
+use hyper::{Body, Request, Response};
 use std::future::Future;
 use std::pin::{pin, Pin};
 use std::sync::Arc;
@@ -116,16 +116,8 @@ impl Elsewhere for NoStore {
 impl Handler for NoStore {
     async fn answer(self: Arc<Self>, request: Request<Body>) -> Response<Body> {
         match request.uri().path() {
-            "/health" => said(200, "text/plain; charset=utf-8", "ok\n".into()),
-            _ => said(503, "application/json", format!("{{\"message\":\"{NO_STORE}\"}}")),
+            "/health" => reply(200, "text/plain; charset=utf-8", "ok\n"),
+            _ => message(503, NO_STORE),
         }
     }
-}
-
-fn said(status: u16, kind: &'static str, text: String) -> Response<Body> {
-    let mut response = Response::new(Body::from(text));
-    *response.status_mut() = StatusCode::from_u16(status).unwrap_or(StatusCode::INTERNAL_SERVER_ERROR);
-    let heads = response.headers_mut();
-    heads.insert(CONTENT_TYPE, HeaderValue::from_static(kind));
-    response
 }
