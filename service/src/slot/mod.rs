@@ -92,6 +92,11 @@ impl Shared {
             numbers: Arc::default(),
         }
     }
+
+    #[cfg(test)]
+    fn of_test() -> Shared {
+        Shared::new(Arc::new(Metrics::new().unwrap()), Clock::default())
+    }
 }
 
 impl Slot {
@@ -192,6 +197,19 @@ impl Slot {
     /// The book, for who shows what it has.
     pub fn core(&self) -> &Core {
         &self.core
+    }
+}
+
+#[cfg(test)]
+impl Slot {
+    /// One that takes posts, and has its files in memory.
+    fn in_memory(shared: &Shared) -> Arc<Slot> {
+        use crate::files::drive::{self, memory::Store};
+        let (journal, outbox, _dead) =
+            drive::open(Arc::<Store>::default().take(), "00000000000000aa").unwrap();
+        let slot = Slot::of(0, journal, Arc::new(outbox), Core::new(10).unwrap(), shared);
+        slot.open();
+        slot
     }
 }
 

@@ -112,25 +112,12 @@ fn row_of(says: &[u64]) -> [u64; 4] {
 #[cfg(test)]
 mod tests {
     use super::*;
-    use crate::core::Core;
-    use crate::files::drive::{self, memory::Store};
-    use crate::metrics::Metrics;
-    use crate::otlp::Clock;
     use crate::runs::{First, Options};
     use crate::slot::{Request, Shared};
     use std::sync::Arc;
 
     const HOUR: u64 = 3_600_000_000_000;
     const HALF: i64 = 1 << 62;
-
-    fn slot() -> Arc<Slot> {
-        let (journal, outbox, _dead) =
-            drive::open(Arc::<Store>::default().take(), "00000000000000aa").unwrap();
-        let shared = Shared::new(Arc::new(Metrics::new().unwrap()), Clock::default());
-        let slot = Slot::of(0, journal, Arc::new(outbox), Core::new(10).unwrap(), &shared);
-        slot.open();
-        slot
-    }
 
     fn body(metrics: &[String]) -> String {
         format!(r#"{{"resourceMetrics":[{{"scopeMetrics":[{{"metrics":[{}]}}]}}]}}"#, metrics.join(","))
@@ -177,7 +164,7 @@ mod tests {
     /// Else its sender would repeat it for ever.
     #[tokio::test]
     async fn what_is_too_large_by_itself_is_refused_for_good() {
-        let slot = slot();
+        let slot = Slot::in_memory(&Shared::of_test());
         let most = i64::MAX as u64;
         let taken = (200, String::new());
         let histogram =
@@ -203,7 +190,7 @@ mod tests {
 
     #[tokio::test]
     async fn so_is_a_cumulative_one_and_one_without_numbers() {
-        let slot = slot();
+        let slot = Slot::in_memory(&Shared::of_test());
         slot.runs.set(Options { first: First::Count, ..Options::default() });
         let runs = sums(10, &[i64::MAX, 5]).replace(r#"Temporality":1"#, r#"Temporality":2"#);
         let by = slot.numbered_text(&runs.into()).unwrap().unwrap();
@@ -223,7 +210,7 @@ mod tests {
 
     #[tokio::test]
     async fn so_is_one_of_more_series_than_all_books_have() {
-        let slot = slot();
+        let slot = Slot::in_memory(&Shared::of_test());
         let (status, text) = said(&slot, many(SERIES_OF_A_BOOK + 1, 10)).await;
         let wanted = "too many series in a post: over 10000: post fewer series at a time";
         assert_eq!((status, &*text), (413, wanted));

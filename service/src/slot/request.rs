@@ -211,11 +211,8 @@ fn unavailable(why: &str) -> Outcome {
 #[cfg(test)]
 mod tests {
     use super::*;
-    use crate::core::Core;
-    use crate::files::drive::{self, memory::Store};
-    use crate::metrics::Metrics;
     use crate::otlp::series::SeriesKey;
-    use crate::otlp::{Clock, Profile};
+    use crate::otlp::Profile;
     use crate::shares::{Owned, Rules, Share};
     use crate::slot::Shared;
     use std::collections::HashMap;
@@ -226,11 +223,7 @@ mod tests {
     /// As where there is no memory to write it: what is in flight never lands, and the slot ends.
     #[tokio::test]
     async fn who_waits_behind_what_is_in_flight_is_told_that_the_slot_has_ended() {
-        let (journal, outbox, _dead) =
-            drive::open(Arc::<Store>::default().take(), "00000000000000aa").unwrap();
-        let shared = Shared::new(Arc::new(Metrics::new().unwrap()), Clock::default());
-        let slot = Slot::of(0, journal, Arc::new(outbox), Core::new(10).unwrap(), &shared);
-        slot.open();
+        let slot = Slot::in_memory(&Shared::of_test());
         let post = |start: u64| {
             let (slot, body) = (slot.clone(), point(start));
             async move { slot.post("A".into(), body.into()).await }
@@ -266,9 +259,7 @@ mod tests {
     /// Else all others of its thread would wait while its text is read, which may take long.
     #[tokio::test]
     async fn a_long_post_of_who_has_all_of_its_share_is_looked_at_beside_others() {
-        let (journal, outbox, _dead) =
-            drive::open(Arc::<Store>::default().take(), "00000000000000aa").unwrap();
-        let shared = Shared::new(Arc::new(Metrics::new().unwrap()), Clock::default());
+        let shared = Shared::of_test();
         let (other, done) = std::sync::mpsc::channel();
         shared.shares.begin(Rules {
             most_series: 10,
@@ -277,8 +268,7 @@ mod tests {
             profile: Profile::Deltas,
             owned: Box::new(Slow(Mutex::new(done))),
         });
-        let slot = Slot::of(0, journal, Arc::new(outbox), Core::new(10).unwrap(), &shared);
-        slot.open();
+        let slot = Slot::in_memory(&shared);
         let long = point(10) + &" ".repeat(SHORT);
         let posting = tokio::spawn(async move { slot.post("A".into(), long.into()).await });
         tokio::time::sleep(Duration::from_millis(200)).await;
@@ -300,11 +290,7 @@ mod tests {
     /// Of a folder the process ends.
     #[tokio::test]
     async fn half_a_post_ends_the_slot_alone_where_it_is_in_a_store() {
-        let (journal, outbox, _dead) =
-            drive::open(Arc::<Store>::default().take(), "00000000000000aa").unwrap();
-        let shared = Shared::new(Arc::new(Metrics::new().unwrap()), Clock::default());
-        let slot = Slot::of(0, journal, Arc::new(outbox), Core::new(10).unwrap(), &shared);
-        slot.open();
+        let slot = Slot::in_memory(&Shared::of_test());
         slot.note_refusal(slot.core.lock(), Refused::HalfTaken);
         assert_eq!(slot.phase(), Phase::Lost);
         assert_eq!(slot.journal.failure(), Some(NO_REST));
