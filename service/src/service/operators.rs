@@ -1,6 +1,6 @@
 //! Where operators come to.
 
-use super::senders::{bind, is_local, twins};
+use super::senders::{bind, is_local, twins_if_any};
 use super::{Ended, Settings};
 use crate::identity::Tokens;
 use crate::intake::connections::{serve, Handler, Limits};
@@ -71,16 +71,11 @@ async fn bind_socket(path: &Path) -> Result<UnixListener, Ended> {
 impl Operators {
     /// The same addresses twice, of which the second is for who serves them before.
     pub fn twins(self) -> std::io::Result<[Operators; 2]> {
+        let [tcp, tcp_before] = twins_if_any(self.tcp)?;
         let socket = self.socket.into_std()?;
-        let sockets = [socket.try_clone()?, socket];
-        let mut tcp = match self.tcp {
-            Some(tcp) => twins(tcp)?.map(Some),
-            None => [None, None],
-        };
-        let [one, other] = sockets.map(UnixListener::from_std);
-        let mut with =
-            |socket, place: usize| Operators { tcp: tcp[place].take(), socket, tokens: self.tokens.clone() };
-        Ok([with(one?, 0), with(other?, 1)])
+        let socket_before = UnixListener::from_std(socket.try_clone()?)?;
+        let before = Operators { tcp: tcp_before, socket: socket_before, tokens: self.tokens.clone() };
+        Ok([Operators { tcp, socket: UnixListener::from_std(socket)?, tokens: self.tokens }, before])
     }
 
     /// Where each is asked.

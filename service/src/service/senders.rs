@@ -60,26 +60,24 @@ pub(super) struct Senders {
 }
 
 /// The same socket twice. Who comes is accepted at the one or at the other.
-pub(super) fn twins(listener: TcpListener) -> std::io::Result<[TcpListener; 2]> {
+fn twins(listener: TcpListener) -> std::io::Result<[TcpListener; 2]> {
     let one = listener.into_std()?;
     let other = one.try_clone()?;
     Ok([TcpListener::from_std(one)?, TcpListener::from_std(other)?])
 }
 
+/// The same of one that may not be there.
+pub(super) fn twins_if_any(listener: Option<TcpListener>) -> std::io::Result<[Option<TcpListener>; 2]> {
+    Ok(listener.map(twins).transpose()?.map_or([None, None], |both| both.map(Some)))
+}
+
 impl Senders {
     /// The same addresses twice, of which the second is for who serves them before.
     pub fn twins(self) -> std::io::Result<[Senders; 2]> {
-        let mut callers = match self.callers {
-            Some(callers) => twins(callers)?.map(Some),
-            None => [None, None],
-        };
-        let [one, other] = twins(self.senders)?;
-        let mut with = |senders, place: usize| Senders {
-            senders,
-            callers: callers[place].take(),
-            door: self.door.clone(),
-        };
-        Ok([with(one, 0), with(other, 1)])
+        let [senders, senders_before] = twins(self.senders)?;
+        let [callers, callers_before] = twins_if_any(self.callers)?;
+        let before = Senders { senders: senders_before, callers: callers_before, door: self.door.clone() };
+        Ok([Senders { senders, callers, door: self.door }, before])
     }
 
     /// Listens at their addresses, which nobody accepts at yet.
