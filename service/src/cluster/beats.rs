@@ -18,7 +18,7 @@ pub const BEAT: Duration = Duration::from_millis(500);
 /// Between two looks at the slots.
 const LOOKS: Duration = Duration::from_millis(50);
 /// Who leaves waits so long for its slots to be handed over.
-const LEAVES_WITHIN: Duration = Duration::from_secs(60);
+pub const LEAVES_WITHIN: Duration = Duration::from_secs(60);
 /// Steps that follow from what was done: one at a time, as one slot is handed over at a time.
 const FOLLOWING: usize = 16;
 

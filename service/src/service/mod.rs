@@ -171,7 +171,7 @@ pub async fn run(settings: Settings) -> Result<(), Ended> {
         () = signals.ending() => Ok(()),
     };
     watched.abort();
-    supervisor.stopping();
+    supervisor.stopping(running.ends_within());
     match ended {
         Ok(()) => running.stop().await,
         Err(cause) => Err(cause),

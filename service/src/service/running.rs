@@ -4,6 +4,7 @@ use super::instance::Joined;
 use super::unit::{cause, End};
 use super::units::{AtWork, Ends};
 use super::Ended;
+use crate::cluster::beats::LEAVES_WITHIN;
 use crate::files::Fault;
 use crate::intake::Threads;
 use std::sync::Arc;
@@ -14,6 +15,9 @@ use tokio::task::JoinHandle;
 /// How long posts that are under way are waited for at the end, before the last checkpoint. The journal has what was
 /// taken, so what takes longer is left to the next start.
 const LAST_POSTS: Duration = Duration::from_secs(2);
+
+/// All that is waited for at the end takes less, beside slots that are handed over.
+const LAST: Duration = Duration::from_secs(30);
 
 /// The parts at work. The intake ends first, then the slots; the others have nothing to end.
 pub(super) struct Running {
@@ -55,6 +59,11 @@ impl Running {
             (End::Failed(why), None) => return Some(why),
         }
         None
+    }
+
+    /// How long the end may take.
+    pub fn ends_within(&self) -> Duration {
+        self.joined.as_ref().map_or(LAST, |_| LAST + LEAVES_WITHIN)
     }
 
     /// Nothing more is accepted, what was taken goes into the outbox.

@@ -52,8 +52,9 @@ impl Supervisor {
         }
     }
 
-    pub fn stopping(&self) {
-        self.tell("STOPPING=1");
+    /// The end takes so long at most: else a supervisor that waits for less kills what is being handed over.
+    pub fn stopping(&self, within: Duration) {
+        self.tell(&format!("STOPPING=1\nEXTEND_TIMEOUT_USEC={}", within.as_micros()));
     }
 
     /// A datagram of some bytes: it waits only where the supervisor has many that it has not read.
@@ -100,6 +101,19 @@ mod tests {
         });
         assert_eq!(told.await.unwrap(), [LONGER, "READY=1\nSTATUS=ready", "WATCHDOG=1", "WATCHDOG=1"]);
         watching.abort();
+    }
+
+    /// With `TimeoutStopSec` alone an instance of many slots would be killed while it hands them over.
+    #[test]
+    fn it_is_told_how_long_the_end_may_take() {
+        let folder = tempfile::tempdir().unwrap();
+        let path = folder.path().join("notify");
+        let socket = UnixDatagram::bind(&path).unwrap();
+        let supervisor = Supervisor { to: address(path.to_str().unwrap()), every: None };
+        supervisor.stopping(Duration::from_secs(90));
+        let mut bytes = [0; 256];
+        let length = socket.recv(&mut bytes).unwrap();
+        assert_eq!(&bytes[..length], b"STOPPING=1\nEXTEND_TIMEOUT_USEC=90000000");
     }
 
     #[test]
