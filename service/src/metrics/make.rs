@@ -124,7 +124,7 @@ fn levels(maker: &Maker) -> Result<Levels> {
             .gauge("outbox_age_seconds", "Age of the oldest request that the sink does not have")?,
         dead_requests: maker.gauge("dead_requests", "Requests that the sink refused for good, kept aside")?,
         quarantined_senders: maker
-            .gauge("quarantined_senders", "Senders whose points are kept back and whose posts are refused; of several instances the one with slot 0 says so")?,
+            .gauge("quarantined_senders", "Senders whose points are kept back and whose posts are refused; of several instances the one with the first slot that any has says so")?,
         held_posts: maker.gauge("held_posts", "Posts of quarantined senders that are kept back")?,
         held_bytes: maker.gauge("held_bytes", "Bytes on disk of these posts")?,
         delivery_stuck: maker.gauge(

@@ -267,9 +267,8 @@ impl Desk {
         levels.outbox_bytes.set(sum(|slot| slot.outbox.bytes));
         levels.outbox_age_seconds.set(oldest(|slot| &slot.outbox));
         levels.dead_requests.set(self.units.dead() as i64);
-        // A sender is in each slot. Of several instances one counts it.
-        let counts = slots.iter().any(|slot| slot.slot == 0);
-        levels.quarantined_senders.set(if counts { quarantined(&slots).len() as i64 } else { 0 });
+        let senders = if self.counts_senders() { quarantined(&slots).len() } else { 0 };
+        levels.quarantined_senders.set(senders as i64);
         levels.held_posts.set(sum(|slot| slot.held.posts));
         levels.held_bytes.set(sum(|slot| slot.held.bytes));
         let is_stuck = slots.iter().any(|slot| slot.stuck.is_some());
@@ -286,6 +285,15 @@ impl Desk {
             levels.most_series.set(most as i64);
             self.read_cluster(others);
         }
+    }
+
+    /// A sender is quarantined in each slot. Of several instances one counts it: who has the first slot that any has.
+    fn counts_senders(&self) -> bool {
+        let Some(others) = &self.others else { return true };
+        let here = self.units.all().first().map(|unit| unit.slot.number());
+        let slots = others.cluster.status().slots.into_iter();
+        let mut there = slots.filter(|slot| slot.is_served && slot.owner != others.instance);
+        here.is_some_and(|here| there.all(|slot| here < slot.slot))
     }
 
     fn read_disk(&self) {

@@ -1,6 +1,7 @@
 //! Instances that share slots: what an operator asks at one of them is done in all slots, or it is said in which it is not.
 
 mod ready;
+mod told;
 
 use super::*;
 use crate::cluster::terms::{Doing, Instance, Refused, Row, Seen};
@@ -163,11 +164,6 @@ async fn an_order_is_carried_out_in_all_slots_and_each_instance_writes_down_who_
     assert_eq!(both.post(20).await, [403, 403]);
     let again = both.b.ask("POST", "/quarantine/A").await;
     assert_eq!(again.0, 400, "all had it: {}", again.1);
-    // Who adds up what all instances say has the number.
-    for (service, count) in [(&both.a, 1), (&both.b, 0)] {
-        let (_, metrics) = service.ask("GET", "/metrics").await;
-        assert!(metrics.contains(&format!("totxegun_quarantined_senders {count}\n")), "{metrics}");
-    }
     assert_eq!(both.b.ask("POST", "/lift/A").await.0, 200);
     assert_eq!(both.post(20).await, [200, 200]);
     let at_a = acts(&both.a);

@@ -1,0 +1,29 @@
+//! What an instance among others tells who operates them.
+
+use super::*;
+
+async fn quarantined(service: &Service) -> Option<u64> {
+    let (_, metrics) = service.ask("GET", "/metrics").await;
+    let count = metrics.lines().find_map(|line| line.strip_prefix("totxegun_quarantined_senders "));
+    count.and_then(|count| count.parse().ok())
+}
+
+/// Who adds up what all instances say has the number, also while nobody has the first slot.
+#[tokio::test]
+async fn a_quarantined_sender_is_counted_once_whoever_has_which_slot() {
+    let both = Both::new().await;
+    assert_eq!(both.a.ask("POST", "/quarantine/A").await.0, 200);
+    let counted = || async { [quarantined(&both.a).await, quarantined(&both.b).await] };
+    let mut seen = seen();
+    let mut is_nobodys = |slot: usize| {
+        seen.slots[slot].owner.clear();
+        both.clusters.iter().for_each(|cluster| cluster.has_seen(seen.clone()));
+    };
+    assert_eq!(counted().await, [Some(1), Some(0)]);
+    both.a.units.hand_over(0).await.unwrap();
+    is_nobodys(0);
+    assert_eq!(counted().await, [Some(0), Some(1)]);
+    both.b.units.hand_over(1).await.unwrap();
+    is_nobodys(1);
+    assert_eq!(counted().await, [Some(1), Some(0)]);
+}
