@@ -4,18 +4,17 @@
 //! in the sink: a sink may be another receiver, or be down just when somebody acts. Where the file can't be written the
 //! log says so, and the act goes on: it may be what makes room.
 
-use super::{user, Desk};
+use super::user;
 use crate::intake::user::User;
 use crate::log::{all_shown, cut};
 use crate::work::blocking;
-use hyper::{Body, Response, StatusCode};
 use serde::Serialize;
 use std::fs::{File, OpenOptions};
 use std::future::Future;
 use std::io::{Read, Seek, SeekFrom, Write};
 use std::os::unix::fs::OpenOptionsExt;
 use std::path::{Path, PathBuf};
-use std::sync::{Mutex, PoisonError};
+use std::sync::{Arc, Mutex, PoisonError};
 
 const NAME: &str = "acts.jsonl";
 /// The lines before these.
@@ -108,6 +107,27 @@ impl Acts {
         Acts { folder: folder.into(), file: Mutex::new(()) }
     }
 
+    /// Carries out what somebody asks for, and records it with what came of it.
+    pub(super) async fn recorded<Done, Doing: Future<Output = Done>>(
+        self: &Arc<Acts>,
+        actor: Actor,
+        asked: Asked,
+        doing: impl FnOnce(String) -> Doing,
+        outcome: impl FnOnce(&Done) -> String,
+    ) -> Done {
+        let acts = self.clone();
+        let begin = move || {
+            let act = Act::new(actor, asked);
+            acts.begins(&act);
+            act
+        };
+        let act = blocking(begin).await;
+        let done = doing(act.who.clone()).await;
+        let (acts, outcome) = (self.clone(), outcome(&done));
+        blocking(move || acts.ended(&act, &outcome)).await;
+        done
+    }
+
     /// It is about to be carried out.
     pub fn begins(&self, act: &Act) {
         self.put(act, None);
@@ -172,43 +192,6 @@ fn is_cut(file: &mut File) -> std::io::Result<bool> {
         file.read_exact(&mut last)?;
     }
     Ok(last != [b'\n'])
-}
-
-impl Desk {
-    /// Carries out an act of somebody, and records it.
-    pub(super) async fn act_by<Doing: Future<Output = Response<Body>>>(
-        &self,
-        actor: Actor,
-        asked: Asked,
-        doing: impl FnOnce(String) -> Doing,
-    ) -> Response<Body> {
-        let acts = self.acts.clone();
-        let begin = move || {
-            let act = Act::new(actor, asked);
-            acts.begins(&act);
-            act
-        };
-        let act = blocking(begin).await;
-        let (response, outcome) = told(doing(act.who.clone()).await).await;
-        let acts = self.acts.clone();
-        blocking(move || acts.ended(&act, &outcome)).await;
-        response
-    }
-}
-
-/// An answer, and in short what it says.
-async fn told(response: Response<Body>) -> (Response<Body>, String) {
-    let (head, body) = response.into_parts();
-    let body = hyper::body::to_bytes(body).await.unwrap_or_default(); // it is made of bytes, which come
-    let says: serde_json::Value = serde_json::from_slice(&body).unwrap_or_default();
-    let text = |name: &str| says[name].as_str().unwrap_or_default().to_string();
-    let outcome = match (head.status, says["taken"].as_bool()) {
-        (StatusCode::OK, Some(false)) => format!("not taken: {}", text("reason")),
-        (StatusCode::OK, _) if says["message"].is_string() => format!("done: {}", text("message")),
-        (StatusCode::OK, _) => "done".to_string(),
-        (status, _) => format!("{}: {}", status.as_u16(), text("message")),
-    };
-    (Response::from_parts(head, body.into()), outcome)
 }
 
 #[cfg(test)]

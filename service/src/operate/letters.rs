@@ -5,13 +5,13 @@
 //! letter is thrown away only once the sink has it. A service that ends in between sends it again under the same key.
 
 use super::reach::{Answer, Command};
-use super::{reply, Actor, Asked, Desk, Unit, JSON};
+use super::{Actor, Asked, Desk, Unit};
 use crate::files::dead::{sent_as, Became, Letter};
 use crate::files::{Dead, Fault};
 use crate::sinks::{of_part, Fate, Forwarded};
 use crate::work::blocking;
-use hyper::{Body, Response};
 use serde::{Deserialize, Serialize};
+use serde_json::json;
 use std::sync::Arc;
 
 /// What became of a letter that was sent again.
@@ -29,14 +29,14 @@ pub struct Resent {
 
 impl Desk {
     /// Those of all slots, the oldest first.
-    pub(super) async fn letters(self: &Arc<Self>) -> Response<Body> {
+    pub(super) async fn letters(self: &Arc<Self>) -> Answer {
         let answers = match self.in_all_slots("", &Command::Letters).await.all() {
             Ok(answers) => answers,
-            Err(not_all) => return not_all.into(),
+            Err(not_all) => return not_all,
         };
         match answers.iter().find(|(_, answer)| answer.status != 200) {
-            Some((_, faulty)) => faulty.clone().into(),
-            None => reply(200, JSON, serde_json::json!(in_order(&answers)).to_string()),
+            Some((_, faulty)) => faulty.clone(),
+            None => Answer::new(200, json!(in_order(&answers)).to_string()),
         }
     }
 
@@ -46,31 +46,24 @@ impl Desk {
     }
 
     /// Asks the slot that has the letter of a key.
-    pub(super) async fn of_key(self: &Arc<Self>, who: &str, key: &str, command: Command) -> Response<Body> {
+    pub(super) async fn of_key(self: &Arc<Self>, who: &str, key: &str, command: Command) -> Answer {
         let slot = self.units.slot_of_key(key);
         match self.in_slots(who, &command, [slot]).await.all() {
-            Ok(answers) => {
-                let answer = answers.into_iter().next();
-                answer.map_or_else(no_such, |(_, answer)| answer).into()
-            }
-            Err(left) => left.into(),
+            Ok(answers) => answers.into_iter().next().map_or_else(no_such, |(_, answer)| answer),
+            Err(left) => left,
         }
     }
 
     /// The same of what is written down.
-    pub(super) async fn act_on_key(
-        self: &Arc<Self>,
-        actor: Actor,
-        command: Command,
-        key: String,
-    ) -> Response<Body> {
+    pub(super) async fn act_on_key(self: &Arc<Self>, actor: Actor, command: Command, key: String) -> Answer {
         let asked = command.act().unwrap_or_else(|| Asked::new("dead", &*key)); // each has its name
-        self.act_by(actor, asked, |who| async move { self.of_key(&who, &key, command).await }).await
+        let doing = |who: String| async move { self.of_key(&who, &key, command).await };
+        self.acts.recorded(actor, asked, doing, Answer::outcome).await
     }
 
     pub(super) async fn letters_of(&self, unit: &Unit) -> Answer {
         match all_letters(unit).await {
-            Ok(letters) => Answer::new(200, serde_json::json!(letters).to_string()),
+            Ok(letters) => Answer::new(200, json!(letters).to_string()),
             Err(fault) => faulty(&fault),
         }
     }
@@ -213,7 +206,7 @@ async fn keep_part(unit: &Unit, key: &str, left: Vec<u8>, reason: String) -> Ans
 }
 
 fn told(resent: Resent) -> Answer {
-    Answer::new(200, serde_json::json!(resent).to_string())
+    Answer::new(200, json!(resent).to_string())
 }
 
 fn no_such() -> Answer {

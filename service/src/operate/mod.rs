@@ -46,8 +46,7 @@ use hyper::header::{HeaderValue, ALLOW, CONTENT_TYPE};
 use hyper::{Body, Method, Request, Response, StatusCode};
 use pages::Page;
 use percent_encoding::percent_decode_str;
-use reach::Command;
-use serde_json::json;
+use reach::{Answer, Command};
 use std::sync::Arc;
 use std::time::Instant;
 
@@ -185,9 +184,10 @@ impl Desk {
     async fn go(self: &Arc<Self>, route: Route, actor: Actor, query: &str) -> Response<Body> {
         match route {
             Route::Order(order) => match order.act() {
-                None => self.order("", &order).await,
+                None => self.order("", &order).await.into(),
                 Some(asked) => {
-                    self.act_by(actor, asked, |who| async move { self.order(&who, &order).await }).await
+                    let doing = |who: String| async move { self.order(&who, &order).await };
+                    self.acts.recorded(actor, asked, doing, Answer::outcome).await.into()
                 }
             },
             Route::Report => self.report().await,
@@ -205,12 +205,12 @@ impl Desk {
                 Ok(status) => reply(200, JSON, status),
                 Err(error) => message(500, &error.to_string()),
             },
-            Route::Letters => self.letters().await,
-            Route::Letter(key) => self.of_key("", &key, Command::Letter(key.clone())).await,
-            Route::Resend(key) => self.act_on_key(actor, Command::Resend(key.clone()), key).await,
-            Route::Drop(key) => self.act_on_key(actor, Command::Drop(key.clone()), key).await,
-            Route::Period(parts) => self.period(actor, &parts, query).await,
-            Route::Amend(parts) => self.amend(actor, &parts, query).await,
+            Route::Letters => self.letters().await.into(),
+            Route::Letter(key) => self.of_key("", &key, Command::Letter(key.clone())).await.into(),
+            Route::Resend(key) => self.act_on_key(actor, Command::Resend(key.clone()), key).await.into(),
+            Route::Drop(key) => self.act_on_key(actor, Command::Drop(key.clone()), key).await.into(),
+            Route::Period(parts) => self.period(actor, &parts, query).await.into(),
+            Route::Amend(parts) => self.amend(actor, &parts, query).await.into(),
             Route::Page(page) => self.page(page, query).await,
         }
     }
@@ -228,7 +228,7 @@ fn is_met(wanted: &Method, asked: &Method) -> bool {
 }
 
 pub(crate) fn message(status: u16, text: &str) -> Response<Body> {
-    reply(status, JSON, json!({ "message": text }).to_string())
+    Answer::told(status, text).into()
 }
 
 pub(crate) fn reply(status: u16, kind: &'static str, body: impl Into<Body>) -> Response<Body> {

@@ -1,7 +1,7 @@
 //! What is asked of the keepers and of the books, of all slots together.
 
 use super::reach::{Answer, Command, ENDING};
-use super::{reply, Desk, JSON, TEXT};
+use super::{reply, Desk, TEXT};
 use crate::cluster::NO_STORE;
 use crate::slot::NO_OWNER;
 use hyper::{Body, Response};
@@ -32,10 +32,10 @@ impl Desk {
     }
 
     /// Has each slot carry out an order, wherever it is.
-    pub(super) async fn order(self: &Arc<Self>, who: &str, order: &Command) -> Response<Body> {
+    pub(super) async fn order(self: &Arc<Self>, who: &str, order: &Command) -> Answer {
         match self.in_all_slots(who, order).await.all() {
-            Ok(answers) => together(&answers).into(),
-            Err(not_all) => not_all.into(),
+            Ok(answers) => together(&answers),
+            Err(not_all) => not_all,
         }
     }
 
@@ -45,7 +45,7 @@ impl Desk {
             Err(not_all) => return not_all.into(),
         };
         match answers.iter().find(|(_, answer)| answer.status != 200) {
-            Some((_, refused)) => reply(refused.status, JSON, refused.body.clone()),
+            Some((_, refused)) => refused.clone().into(),
             None => {
                 let reports = answers.into_iter().map(|(_, answer)| answer.body);
                 reply(200, TEXT, reports.collect::<String>())
@@ -72,8 +72,7 @@ fn together(all: &[(u16, Answer)]) -> Answer {
 
 /// How many a flush has put into the outbox.
 fn requests(answer: &Answer) -> Option<u64> {
-    let read: serde_json::Value = serde_json::from_str(&answer.body).ok()?;
-    read["requests"].as_u64()
+    answer.says()["requests"].as_u64()
 }
 
 #[cfg(test)]

@@ -1,33 +1,28 @@
 //! Periods of the sink are closed and opened, and what it counted is corrected. A close is refused while something waits, and
 //! does not flush by itself: a biller is to know what is not in it.
 
+use super::reach::Answer;
 use super::status::Status;
-use super::{message, reply, Actor, Asked, Desk, JSON};
+use super::{Actor, Asked, Desk};
 use crate::sinks::periods::{Correction, Deed, Told};
-use hyper::{Body, Response};
-use serde_json::json;
 use std::sync::Arc;
 
 /// Closes a period although something waits that may belong to it.
 pub const ANYWAY: &str = "anyway";
 
 impl Desk {
-    pub(super) async fn period(
-        self: &Arc<Self>,
-        actor: Actor,
-        parts: &[String],
-        query: &str,
-    ) -> Response<Body> {
+    pub(super) async fn period(self: &Arc<Self>, actor: Actor, parts: &[String], query: &str) -> Answer {
         let (asked, deed) = match read(parts, query) {
             Ok(read) => read,
-            Err(why) => return message(400, &why),
+            Err(why) => return Answer::told(400, &why),
         };
         let is_anyway = matches!(deed, Deed::Close(_)) && query == ANYWAY;
         let asked = asked.with("--anyway", is_anyway);
-        self.act_by(actor, asked, |who| self.settle(who, deed, is_anyway)).await
+        let doing = |who| self.settle(who, deed, is_anyway);
+        self.acts.recorded(actor, asked, doing, Answer::outcome).await
     }
 
-    async fn settle(self: &Arc<Self>, who: String, deed: Deed, is_anyway: bool) -> Response<Body> {
+    async fn settle(self: &Arc<Self>, who: String, deed: Deed, is_anyway: bool) -> Answer {
         let status = match &deed {
             Deed::Close(_) => Some(self.status_of_all().await),
             Deed::Open(_) | Deed::Correct(_) => None,
@@ -35,19 +30,17 @@ impl Desk {
         if let (Deed::Close(period), Some(status), false) = (&deed, &status, is_anyway) {
             if let Some(what) = not_in_the_sink(status) {
                 let late = format!("{what}: what it has of {period} would come late");
-                return message(
-                    409,
-                    &format!("{late}; close it with --flush, which waits for it, or --anyway"),
-                );
+                let why = format!("{late}; close it with --flush, which waits for it, or --anyway");
+                return Answer::told(409, &why);
             }
         }
         match self.sink.settle(&who, &deed).await {
             Told::Done(told) => {
-                let told = told + &status.map_or_else(String::new, |status| kept_back(&status));
-                reply(200, JSON, json!({ "message": told }).to_string())
+                let kept_back = status.map_or_else(String::new, |status| kept_back(&status));
+                Answer::told(200, &(told + &kept_back))
             }
-            Told::Refused(why) => message(409, &why),
-            Told::Later(why) => message(503, &why),
+            Told::Refused(why) => Answer::told(409, &why),
+            Told::Later(why) => Answer::told(503, &why),
         }
     }
 }

@@ -7,14 +7,12 @@ pub(super) use sought::Sought;
 
 use super::named::named;
 use super::reach::{slots_shown, Answer, Command};
-use super::{message, reply, Actor, Desk, ANYWAY, JSON};
+use super::{Actor, Desk, ANYWAY};
 use crate::log::utc;
 use crate::otlp::series::SeriesKey;
 use crate::sinks::periods::{hour_shown, seconds_of};
 use crate::sinks::sqlite::by_hour::Hour;
 use crate::sinks::sqlite::totals::SeriesTotal;
-use hyper::{Body, Response, StatusCode};
-use serde_json::json;
 use sought::{InAllSlots, Meant};
 use std::sync::Arc;
 use std::time::{SystemTime, UNIX_EPOCH};
@@ -27,55 +25,35 @@ const NAMED: usize = 5;
 const HOURS: usize = 5;
 
 impl Desk {
-    pub(super) async fn amend(
-        self: &Arc<Self>,
-        actor: Actor,
-        parts: &[String],
-        query: &str,
-    ) -> Response<Body> {
+    pub(super) async fn amend(self: &Arc<Self>, actor: Actor, parts: &[String], query: &str) -> Answer {
         let sought = match read(parts, query) {
             Ok(read) => read,
-            Err(why) => return message(400, &why),
+            Err(why) => return Answer::told(400, &why),
         };
-        self.act_by(actor, sought.act(), |who| self.amended(who, sought)).await
+        let asked = sought.act();
+        let doing = |who| async move { self.amended(who, sought).await.unwrap_or_else(|refused| refused) };
+        self.acts.recorded(actor, asked, doing, Answer::outcome).await
     }
 
-    async fn amended(self: &Arc<Self>, who: String, sought: Sought) -> Response<Body> {
+    async fn amended(self: &Arc<Self>, who: String, sought: Sought) -> Result<Answer, Answer> {
         if self.totals.is_none() && !sought.anyway {
             let what = "can't tell what it has already, so what is posted again would count twice";
-            return message(
-                409,
-                &format!("the sink {} {what}; give --anyway where nobody posts it again", self.sink.name()),
-            );
+            let what = format!("the sink {} {what}", self.sink.name());
+            return Err(Answer::told(409, &format!("{what}; give --anyway where nobody posts it again")));
         }
         // What was posted so far is known then.
         let flushed = self.order(&who, &Command::Flush).await;
-        if flushed.status() != StatusCode::OK {
-            return flushed;
+        if flushed.status != 200 {
+            return Err(flushed);
         }
-        let found = self.in_all_slots(&who, &Command::Find(sought.clone())).await.all();
-        let found = match found.map(|answers| InAllSlots::read(&answers)) {
-            Ok(Ok(found)) => found,
-            Ok(Err(refused)) => return refused.into(),
-            Err(not_all) => return not_all.into(),
-        };
-        match found.meant(&sought) {
-            Ok(meant) => self.carried_out(&who, &sought, meant).await,
-            Err(why) => message(409, &why),
-        }
-    }
-
-    async fn carried_out(self: &Arc<Self>, who: &str, sought: &Sought, meant: Meant) -> Response<Body> {
+        let found = self.in_all_slots(&who, &Command::Find(sought.clone())).await.all()?;
+        let meant = InAllSlots::read(&found)?.meant(&sought).map_err(|why| Answer::told(409, &why))?;
         let command = Command::Amend(meant.sought.clone());
-        let answers = match self.in_slots(who, &command, meant.slots.iter().copied()).await.all() {
-            Ok(answers) => answers,
-            Err(not_all) => return not_all.into(),
-        };
-        if let Some((_, refused)) = answers.iter().find(|(_, answer)| answer.status != 200) {
-            return refused_by(refused, &answers);
+        let answers = self.in_slots(&who, &command, meant.slots.iter().copied()).await.all()?;
+        match answers.iter().find(|(_, answer)| answer.status != 200) {
+            Some((_, refused)) => Err(refused_by(refused, &answers)),
+            None => Ok(Answer::told(200, &self.told(&sought, &meant).await)),
         }
-        let told = self.told(sought, &meant).await;
-        reply(200, JSON, json!({ "message": told }).to_string())
     }
 
     async fn told(&self, sought: &Sought, meant: &Meant) -> String {
@@ -118,13 +96,14 @@ impl Desk {
 }
 
 /// What a slot has refused, and what others have done.
-fn refused_by(refused: &Answer, answers: &[(u16, Answer)]) -> Response<Body> {
+fn refused_by(refused: &Answer, answers: &[(u16, Answer)]) -> Answer {
     let done = answers.iter().filter(|(_, answer)| answer.status == 200);
     let done: Vec<u16> = done.map(|(slot, _)| *slot).collect();
     match &done[..] {
-        [] => refused.clone().into(),
+        [] => refused.clone(),
         done => {
-            message(refused.status, &format!("{}; it is done in {}", refused.message(), slots_shown(done)))
+            let why = format!("{}; it is done in {}", refused.message(), slots_shown(done));
+            Answer::told(refused.status, &why)
         }
     }
 }
@@ -213,10 +192,8 @@ mod tests {
     fn what_is_refused_in_one_slot_says_where_it_is_done() {
         let (done, held) = (Answer::new(200, "{}"), Answer::told(409, "a has posts"));
         let of = |answers: &[(u16, Answer)]| refused_by(&held, answers);
-        assert_eq!(of(&[(3, held.clone())]).status(), 409);
+        assert_eq!(of(&[(3, held.clone())]), held);
         let both = of(&[(1, done.clone()), (3, held.clone()), (4, done.clone())]);
-        let runtime = tokio::runtime::Builder::new_current_thread().build().unwrap();
-        let body = runtime.block_on(hyper::body::to_bytes(both.into_body())).unwrap();
-        assert_eq!(body, r#"{"message":"a has posts; it is done in slots 1 and 4"}"#);
+        assert_eq!(both, Answer::told(409, "a has posts; it is done in slots 1 and 4"));
     }
 }

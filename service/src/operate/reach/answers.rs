@@ -3,8 +3,7 @@
 use super::{Answer, Command, Desk};
 use crate::cluster::terms::Doing;
 use crate::cluster::Answers;
-use crate::operate::{Act, Actor};
-use crate::work::blocking;
+use crate::operate::Actor;
 use bytes::Bytes;
 use serde::{Deserialize, Serialize};
 use std::sync::Arc;
@@ -45,43 +44,48 @@ impl Desk {
         slots: Vec<u16>,
     ) -> Vec<(u16, Answer)> {
         let is_here = slots.iter().any(|slot| self.units.get(*slot).is_some());
-        let Some(asked) = command.act().filter(|_| is_here) else {
-            return self.answers_of(&command, &slots).await;
-        };
-        let acts = self.acts.clone();
-        let begin = move || {
-            let act = Act::new(Actor::Named(who), asked);
-            acts.begins(&act);
-            act
-        };
-        let act = blocking(begin).await;
-        let answers = self.answers_of(&command, &slots).await;
-        let (acts, outcome) = (self.acts.clone(), outcome(&answers));
-        blocking(move || acts.ended(&act, &outcome)).await;
-        answers
+        match command.act().filter(|_| is_here) {
+            None => self.answers_of(&command, &slots).await,
+            Some(asked) => {
+                let doing = |_| self.answers_of(&command, &slots);
+                self.acts.recorded(Actor::Named(who), asked, doing, |answers| outcome(answers)).await
+            }
+        }
     }
 
+    /// In the order of the slots.
     async fn answers_of(self: &Arc<Self>, command: &Command, slots: &[u16]) -> Vec<(u16, Answer)> {
         let done = self.here(command, slots).await.into_iter();
-        let answered = done.filter_map(|(slot, answer)| Some((slot, answer?)));
-        answered.collect()
+        let mut answers: Vec<_> = done.filter_map(|(slot, answer)| Some((slot, answer?))).collect();
+        answers.sort_unstable_by_key(|(slot, _)| *slot);
+        answers
     }
 }
 
+/// Where it is done, and the first slot that has not done it.
 fn outcome(answers: &[(u16, Answer)]) -> String {
-    let mut done: Vec<u16> =
-        answers.iter().filter(|(_, answer)| answer.status == 200).map(|(slot, _)| *slot).collect();
-    done.sort_unstable();
-    let failed = answers.iter().find(|(_, answer)| answer.status != 200);
-    let done = match &done[..] {
-        [] => String::new(),
-        done => format!("done in {}", super::ended::slots_shown(done)),
-    };
-    match failed {
-        None => done,
-        Some((slot, answer)) => {
-            let text = format!("slot {slot}: {}: {}", answer.status, answer.message());
-            [done, text].into_iter().filter(|part| !part.is_empty()).collect::<Vec<_>>().join("; ")
-        }
+    let done = answers.iter().filter(|(_, answer)| answer.is_done()).map(|(slot, _)| *slot);
+    let done: Vec<u16> = done.collect();
+    let done = (!done.is_empty()).then(|| format!("done in {}", super::slots_shown(&done)));
+    let left = answers.iter().find(|(_, answer)| !answer.is_done());
+    let left = left.map(|(slot, answer)| format!("slot {slot}: {}", answer.outcome()));
+    done.into_iter().chain(left).collect::<Vec<String>>().join("; ")
+}
+
+#[cfg(test)]
+mod tests {
+    use super::*;
+
+    #[test]
+    fn what_the_sink_does_not_take_is_not_done() {
+        let resent = |body: &str| outcome(&[(1, Answer::new(200, body))]);
+        assert_eq!(resent(r#"{"key":"1-a-7","taken":true}"#), "done in slot 1");
+        let not_taken = resent(r#"{"key":"1-a-7","taken":false,"reason":"503","later":true}"#);
+        assert_eq!(not_taken, "slot 1: not taken: 503");
+        let in_part = resent(r#"{"key":"1-a-7","taken":true,"reason":"2 points overlap"}"#);
+        assert_eq!(in_part, "slot 1: taken in part: 2 points overlap");
+        let answers = [Answer::new(200, "{}"), Answer::told(409, "held"), Answer::new(200, "{}")];
+        let answers = [1, 3, 4].into_iter().zip(answers).collect::<Vec<_>>();
+        assert_eq!(outcome(&answers), "done in slots 1 and 4; slot 3: 409: held");
     }
 }

@@ -7,7 +7,7 @@ use crate::operate::{Asked, Unit};
 use crate::otlp::Encoding;
 use crate::work::blocking;
 use serde::{Deserialize, Serialize};
-use serde_json::json;
+use serde_json::{json, Value};
 use std::sync::Arc;
 
 /// What is asked of a slot.
@@ -48,10 +48,31 @@ impl Answer {
         Answer::new(status, json!({ "message": message }).to_string())
     }
 
+    pub fn says(&self) -> Value {
+        serde_json::from_str(&self.body).unwrap_or_default()
+    }
+
     /// As it is in the body; all of that where there is none.
     pub fn message(&self) -> String {
-        let read: serde_json::Value = serde_json::from_str(&self.body).unwrap_or_default();
-        read["message"].as_str().unwrap_or(&self.body).to_string()
+        self.says()["message"].as_str().unwrap_or(&self.body).to_string()
+    }
+
+    /// Whether all was done that was asked for: what a sink has not taken of a letter was not.
+    pub fn is_done(&self) -> bool {
+        self.status == 200 && self.says()["reason"].is_null()
+    }
+
+    /// In short what came of an act.
+    pub fn outcome(&self) -> String {
+        let says = self.says();
+        let text = |name: &str| says[name].as_str().unwrap_or_default();
+        match (self.status, says["taken"].as_bool()) {
+            (200, Some(false)) => format!("not taken: {}", text("reason")),
+            (200, Some(true)) if !self.is_done() => format!("taken in part: {}", text("reason")),
+            (200, _) if says["message"].is_string() => format!("done: {}", text("message")),
+            (200, _) => "done".into(),
+            (status, _) => format!("{status}: {}", self.message()),
+        }
     }
 }
 
