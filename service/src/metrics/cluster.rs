@@ -1,10 +1,10 @@
 //! What is shown of an instance that shares a store with others: of itself, and of what it sees.
 
+use super::make::Maker;
 use crate::cluster::{Forwarded, Status};
 use crate::operate::DatabaseStatus;
 use crate::store::postgres::Counts;
-use prometheus::core::Collector;
-use prometheus::{Gauge, GaugeVec, IntCounter, IntCounterVec, IntGauge, IntGaugeVec, Opts, Registry, Result};
+use prometheus::{Gauge, GaugeVec, IntCounter, IntCounterVec, IntGauge, IntGaugeVec, Registry, Result};
 use std::sync::atomic::Ordering::Relaxed;
 use std::sync::{Mutex, PoisonError};
 
@@ -32,41 +32,9 @@ pub struct OfCluster {
     setting: Mutex<()>,
 }
 
-/// Makes and registers.
-struct Maker<'r>(&'r Registry);
-
-impl Maker<'_> {
-    fn made<C: Collector + Clone + 'static>(&self, made: Result<C>) -> Result<C> {
-        let made = made?;
-        self.0.register(Box::new(made.clone()))?;
-        Ok(made)
-    }
-
-    fn gauge(&self, name: &str, help: &str) -> Result<IntGauge> {
-        self.made(IntGauge::new(format!("totxegun_{name}"), help))
-    }
-
-    fn seconds(&self, name: &str, help: &str) -> Result<Gauge> {
-        self.made(Gauge::new(format!("totxegun_{name}"), help))
-    }
-
-    fn gauges(&self, name: &str, help: &str, label: &str) -> Result<IntGaugeVec> {
-        self.made(IntGaugeVec::new(Opts::new(format!("totxegun_{name}"), help), &[label]))
-    }
-
-    fn counter(&self, name: &str, help: &str) -> Result<IntCounter> {
-        self.made(IntCounter::new(format!("totxegun_{name}"), help))
-    }
-
-    fn counters(&self, name: &str, help: &str, label: &str) -> Result<IntCounterVec> {
-        self.made(IntCounterVec::new(Opts::new(format!("totxegun_{name}"), help), &[label]))
-    }
-}
-
 impl OfCluster {
     pub fn new(registry: &Registry) -> Result<OfCluster> {
         let maker = Maker(registry);
-        let doubt = "For how long the write of this instance that began first has not been known to be there, 0 where none is";
         Ok(OfCluster {
             slots_owned: maker.gauge("slots_owned", "Slots that are here")?,
             slot_term: maker.gauges(
@@ -76,12 +44,12 @@ impl OfCluster {
             )?,
             without_owner: maker
                 .gauge("slots_without_owner", "Slots that no instance serves, as far as this one knows")?,
-            longest_without_owner: maker.seconds(
+            longest_without_owner: maker.fraction(
                 "longest_without_owner_seconds",
                 "For how long no instance has served the slot of these for which it is longest",
             )?,
             instances: maker.gauge("instances", "Instances whose beats go on, this one among them")?,
-            beat_age: maker.seconds(
+            beat_age: maker.fraction(
                 "beat_age_seconds",
                 "Since the last beat of this instance that is known to be in the store",
             )?,
@@ -91,17 +59,20 @@ impl OfCluster {
                 "database",
             )?,
             copies_asked: maker.gauge("store_copies_asked", "On how many it has to be, by --store-copies")?,
-            doubt: maker
-                .made(GaugeVec::new(Opts::new("totxegun_store_doubt_seconds", doubt), &["database"]))?,
+            doubt: maker.fractions(
+                "store_doubt_seconds",
+                "For how long the write of this instance that began first has not been known to be there, 0 where none is",
+                &["database"],
+            )?,
             forwarded: maker.counters(
                 "forwarded_posts_total",
                 "Posts, or parts of them, that were brought to the instance of their slot, by what came back",
-                "result",
+                &["result"],
             )?,
             writes: maker.counters(
                 "store_writes_total",
                 "Writes of slots to the store, by how they ended",
-                "outcome",
+                &["outcome"],
             )?,
             takeovers: maker.counter("takeovers_total", "Slots that this instance has taken")?,
             hand_overs: maker.counter("hand_overs_total", "Slots that it has handed over")?,

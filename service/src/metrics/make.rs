@@ -2,6 +2,7 @@
 
 use super::rounding::RoundingBySeries;
 use super::{Levels, Metrics};
+use prometheus::core::Collector;
 use prometheus::{
     CounterVec, Gauge, GaugeVec, Histogram, HistogramOpts, IntCounter, IntCounterVec, IntGauge, IntGaugeVec,
     Opts, Registry, Result,
@@ -9,19 +10,17 @@ use prometheus::{
 use std::collections::HashSet;
 use std::sync::Mutex;
 
-/// Kinds of what must never be.
-const FAULTS: [&[&str]; 4] = [&["reading"], &["owner"], &["replay"], &["points_rejected_by_sink"]];
-
 const SECONDS: [f64; 10] = [0.001, 0.003, 0.01, 0.03, 0.1, 0.3, 1.0, 3.0, 10.0, 30.0];
 
 pub fn metrics() -> Result<Metrics> {
-    let maker = Maker(Registry::new());
-    maker.build_info()?;
+    let registry = Registry::new();
+    let maker = Maker(&registry);
+    let build_info = maker.gauges("build_info", "1, by the version of the program", "version")?;
+    build_info.with_label_values(&[env!("CARGO_PKG_VERSION")]).set(1);
     let posts = maker.counters(
         "posts_total",
         "Posts by the status of their answer, and by the reason of a refusal",
         &["status", "reason"],
-        &[&["200", ""]],
     )?;
     Ok(Metrics {
         taken_posts: posts.with_label_values(&["200", ""]),
@@ -30,50 +29,61 @@ pub fn metrics() -> Result<Metrics> {
             "refused_parts_total",
             "Of posts that were taken, parts for other slots that were refused, by the reason",
             &["reason"],
-            &[],
         )?,
         post_bytes: maker.counter("post_bytes_total", "Bytes of posts, unpacked")?,
         foreign_points: maker.counters(
             "foreign_points_total",
             "Points that were not taken, of posts that were, but for those of --expect-foreign",
             &["sender", "cause"],
-            &[],
         )?,
         expected_foreign_points: maker.counters(
             "expected_foreign_points_total",
             "Points that were not taken, as --expect-foreign says",
             &["cause"],
-            &[],
         )?,
-        passed_points: maker.counters(
+        passed_points: maker.counters_of(
             "passed_points_total",
             "Points outside the profile that --pass was to hand on, by what became of them",
-            &["outcome"],
-            &[&["taken"], &["refused"], &["lost"], &["dropped"]],
+            "outcome",
+            &["taken", "refused", "lost", "dropped"],
         )?,
         rounded_values: maker.counters(
             "rounded_values_total",
             "Values of posts that were taken that `--whole` has rounded, by its rule",
             &["whole"],
-            &[],
         )?,
-        rounding: maker.rounding()?,
+        rounding: maker.made(CounterVec::new(
+            options(
+                "rounding_units_total",
+                "What these values were rounded by together, in the finer unit, over all series",
+            ),
+            &["whole"],
+        ))?,
         by_series: RoundingBySeries::new(),
-        greatest_rounding: maker.greatest_rounding()?,
-        sender_share: maker.sender_share()?,
-        checkpoints: maker.counters(
+        greatest_rounding: maker.fractions(
+            "greatest_rounding_units",
+            "What the values of one series were rounded by together, in the finer unit, of all series the most: \
+             no total is further from the truth",
+            &["whole"],
+        )?,
+        sender_share: maker.fractions(
+            "sender_share_ratio",
+            "What a sender has of its share: of its series, or of a minute's points; of the ten that are nearest to it",
+            &["sender", "of"],
+        )?,
+        checkpoints: maker.counters_of(
             "checkpoints_total",
             "Checkpoints by how they ended",
-            &["outcome"],
-            &[&["done"], &["failed"]],
+            "outcome",
+            &["done", "failed"],
         )?,
         rounds_closed: maker.counter("rounds_closed_total", "Rounds of a book that were closed")?,
         forwarded_requests: maker.counter("forwarded_requests_total", "Requests put into the outbox")?,
-        deliveries: maker.counters(
+        deliveries: maker.counters_of(
             "deliveries_total",
             "Tries to deliver, by outcome",
-            &["outcome"],
-            &[&["taken"], &["partial"], &["again"], &["denied"], &["refused"]],
+            "outcome",
+            &["taken", "partial", "again", "denied", "refused"],
         )?,
         noted_runs: maker.counter(
             "noted_runs_total",
@@ -85,28 +95,32 @@ pub fn metrics() -> Result<Metrics> {
             "log_lines_lost_total",
             "Lines of the log that nobody took in time, or that could not be written",
         )?,
-        handshakes: maker.counters(
+        handshakes: maker.counters_of(
             "handshakes_total",
             "TLS handshakes of senders, by how they ended",
-            &["outcome"],
-            &[&["done"], &["failed"], &["late"]],
+            "outcome",
+            &["done", "failed", "late"],
         )?,
-        stale_files: maker.stale_files()?,
-        faults: maker.counters(
+        stale_files: maker.gauges(
+            "stale_files",
+            "1 while the file of an option has changed and can't be used: what it had before is used",
+            "option",
+        )?,
+        faults: maker.counters_of(
             "faults_total",
             "Points that the sink rejected, and faults of the program",
-            &["kind"],
-            &FAULTS,
+            "kind",
+            &["reading", "owner", "replay", "points_rejected_by_sink"],
         )?,
         checkpoint_pause_seconds: maker
-            .seconds("checkpoint_pause_seconds", "How long a checkpoint held the posts")?,
-        recovery_seconds: maker.seconds(
+            .histogram("checkpoint_pause_seconds", "How long a checkpoint held the posts")?,
+        recovery_seconds: maker.histogram(
             "recovery_seconds",
             "How long it took to prime the book and to put in the posts of the journal",
         )?,
         levels: levels(&maker)?,
         senders: Mutex::new(HashSet::new()),
-        registry: maker.0,
+        registry,
     })
 }
 
@@ -131,7 +145,10 @@ fn levels(maker: &Maker) -> Result<Levels> {
             "delivery_stuck",
             "1 while a request that waits can't be delivered since its file was changed",
         )?,
-        disk_call_seconds: maker.call_seconds()?,
+        disk_call_seconds: maker.fraction(
+            "disk_call_seconds",
+            "How long the call of the disk that began first has been under way, 0 where none is",
+        )?,
         disk_free_bytes: maker
             .gauge("disk_free_bytes", "Bytes that are free on the file system of the folder")?,
         series: maker.gauge("series", "Series that are known")?,
@@ -142,80 +159,56 @@ fn levels(maker: &Maker) -> Result<Levels> {
     })
 }
 
-/// Makes and registers. A label's known values are there from the start, so that a rate over them is right.
-struct Maker(Registry);
+/// Makes and registers.
+pub(super) struct Maker<'r>(pub &'r Registry);
 
-impl Maker {
-    fn counter(&self, name: &str, help: &str) -> Result<IntCounter> {
-        let made = IntCounter::new(format!("totxegun_{name}"), help)?;
+impl Maker<'_> {
+    fn made<C: Collector + Clone + 'static>(&self, made: Result<C>) -> Result<C> {
+        let made = made?;
         self.0.register(Box::new(made.clone()))?;
         Ok(made)
     }
 
-    fn counters(&self, name: &str, help: &str, labels: &[&str], known: &[&[&str]]) -> Result<IntCounterVec> {
-        let made = IntCounterVec::new(Opts::new(format!("totxegun_{name}"), help), labels)?;
-        for values in known {
-            made.with_label_values(values);
+    pub fn counter(&self, name: &str, help: &str) -> Result<IntCounter> {
+        self.made(IntCounter::with_opts(options(name, help)))
+    }
+
+    pub fn counters(&self, name: &str, help: &str, labels: &[&str]) -> Result<IntCounterVec> {
+        self.made(IntCounterVec::new(options(name, help), labels))
+    }
+
+    /// With a label's known values from the start, so that a rate over them is right.
+    fn counters_of(&self, name: &str, help: &str, label: &str, known: &[&str]) -> Result<IntCounterVec> {
+        let made = self.counters(name, help, &[label])?;
+        for value in known {
+            made.with_label_values(&[value]);
         }
-        self.0.register(Box::new(made.clone()))?;
         Ok(made)
     }
 
-    fn rounding(&self) -> Result<CounterVec> {
-        let help = "What these values were rounded by together, in the finer unit, over all series";
-        let made = CounterVec::new(Opts::new("totxegun_rounding_units_total", help), &["whole"])?;
-        self.0.register(Box::new(made.clone()))?;
-        Ok(made)
+    pub fn gauge(&self, name: &str, help: &str) -> Result<IntGauge> {
+        self.made(IntGauge::with_opts(options(name, help)))
     }
 
-    fn greatest_rounding(&self) -> Result<GaugeVec> {
-        let help = "What the values of one series were rounded by together, in the finer unit, of all series the most: \
-                    no total is further from the truth";
-        let made = GaugeVec::new(Opts::new("totxegun_greatest_rounding_units", help), &["whole"])?;
-        self.0.register(Box::new(made.clone()))?;
-        Ok(made)
+    pub fn gauges(&self, name: &str, help: &str, label: &str) -> Result<IntGaugeVec> {
+        self.made(IntGaugeVec::new(options(name, help), &[label]))
     }
 
-    fn sender_share(&self) -> Result<GaugeVec> {
-        let help = "What a sender has of its share: of its series, or of a minute's points; of the ten that are nearest to it";
-        let made = GaugeVec::new(Opts::new("totxegun_sender_share_ratio", help), &["sender", "of"])?;
-        self.0.register(Box::new(made.clone()))?;
-        Ok(made)
+    /// One that is not whole.
+    pub fn fraction(&self, name: &str, help: &str) -> Result<Gauge> {
+        self.made(Gauge::with_opts(options(name, help)))
     }
 
-    fn stale_files(&self) -> Result<IntGaugeVec> {
-        let help = "1 while the file of an option has changed and can't be used: what it had before is used";
-        let made = IntGaugeVec::new(Opts::new("totxegun_stale_files", help), &["option"])?;
-        self.0.register(Box::new(made.clone()))?;
-        Ok(made)
+    pub fn fractions(&self, name: &str, help: &str, labels: &[&str]) -> Result<GaugeVec> {
+        self.made(GaugeVec::new(options(name, help), labels))
     }
 
-    fn gauge(&self, name: &str, help: &str) -> Result<IntGauge> {
-        let made = IntGauge::new(format!("totxegun_{name}"), help)?;
-        self.0.register(Box::new(made.clone()))?;
-        Ok(made)
+    fn histogram(&self, name: &str, help: &str) -> Result<Histogram> {
+        let options = HistogramOpts { common_opts: options(name, help), buckets: SECONDS.to_vec() };
+        self.made(Histogram::with_opts(options))
     }
+}
 
-    fn call_seconds(&self) -> Result<Gauge> {
-        let help = "How long the call of the disk that began first has been under way, 0 where none is";
-        let made = Gauge::new("totxegun_disk_call_seconds", help)?;
-        self.0.register(Box::new(made.clone()))?;
-        Ok(made)
-    }
-
-    fn seconds(&self, name: &str, help: &str) -> Result<Histogram> {
-        let options = HistogramOpts::new(format!("totxegun_{name}"), help).buckets(SECONDS.to_vec());
-        let made = Histogram::with_opts(options)?;
-        self.0.register(Box::new(made.clone()))?;
-        Ok(made)
-    }
-
-    fn build_info(&self) -> Result<()> {
-        let made = IntGaugeVec::new(
-            Opts::new("totxegun_build_info", "1, by the version of the program"),
-            &["version"],
-        )?;
-        made.with_label_values(&[env!("CARGO_PKG_VERSION")]).set(1);
-        self.0.register(Box::new(made))
-    }
+fn options(name: &str, help: &str) -> Opts {
+    Opts::new(format!("totxegun_{name}"), help)
 }
