@@ -1,11 +1,12 @@
 //! `totxegun dead`: requests that the sink refused for good.
 
 use super::{ask::Address, client, line, table::Table, values, with_end, Form};
+use crate::files::dead::Letter;
+use crate::log::seconds;
 use crate::operate::Resent;
 use anyhow::{bail, Context, Result};
 use clap::Subcommand;
 use hyper::Method;
-use serde::Deserialize;
 
 #[derive(Subcommand)]
 pub enum Command {
@@ -45,14 +46,6 @@ pub enum Command {
 
 const NONE: &str = "the sink has refused nothing for good";
 
-#[derive(Deserialize)]
-struct Letter {
-    key: String,
-    since: u64,
-    reason: String,
-    bytes: u64,
-}
-
 impl Command {
     pub fn run(self) -> Result<Vec<u8>> {
         match self {
@@ -80,10 +73,9 @@ fn list(at: &Address, form: Form) -> Result<Vec<u8>> {
     if letters.is_empty() {
         return Ok(line(NONE));
     }
-    let now = std::time::SystemTime::now().duration_since(std::time::UNIX_EPOCH)?.as_secs();
     let mut table = Table::new(&["key", "age", "size", "reason"]);
     for letter in letters {
-        let age = values::seconds_shown(now.saturating_sub(letter.since));
+        let age = values::seconds_shown(seconds().saturating_sub(letter.since));
         table.row(&[letter.key, age, values::bytes_shown(letter.bytes), letter.reason]);
     }
     Ok(table.to_string().into())

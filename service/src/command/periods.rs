@@ -121,13 +121,12 @@ fn deliver(at: &Address) -> Result<()> {
                     status.sink
                 );
             }
-            let trouble = status.slots.iter().find_map(|slot| slot.trouble.clone());
             bail!(
                 "nothing was closed: after {} s {} for {} still: {}",
                 DELIVERED.as_secs(),
                 ask::waiting_shown(waiting),
                 status.sink,
-                trouble.unwrap_or_else(|| "`totxegun status` shows how it goes on".into())
+                status.trouble().unwrap_or("`totxegun status` shows how it goes on")
             );
         }
         std::thread::sleep(LOOK);

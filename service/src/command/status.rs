@@ -4,7 +4,7 @@ mod cluster;
 
 use super::{ask::Shown, client, table::Table, values, with_end};
 use crate::files::Held;
-use crate::operate::{quarantined, CumulativeStatus, RoundedStatus, SlotStatus, Status, Stock};
+use crate::operate::{held, quarantined, CumulativeStatus, RoundedStatus, SlotStatus, Status, Stock};
 use crate::shares::Used;
 use crate::slot::{NO_ANSWER, NO_ROOM};
 use anyhow::{Context, Result};
@@ -48,27 +48,53 @@ fn text(status: &Status) -> String {
     if !quarantined.is_empty() {
         lines.row(&["quarantined", &values::senders_shown(&quarantined)]);
     }
-    if let Some(held) = held(&status.slots) {
-        lines.row(&["kept back", &held]);
+    let Held { posts, bytes, .. } = held(&status.slots);
+    if posts > 0 {
+        let (posts, bytes) = (values::counted(posts, "post"), values::bytes_shown(bytes));
+        lines.row(&["kept back", &format!("{posts} of quarantined senders, {bytes}")]);
     }
     for rounded in &status.rounded {
         lines.row(&["rounded", &rounding(rounded)]);
     }
-    let (slots, of_cluster) = match &status.cluster {
-        None => (slots(status), String::new()),
-        Some(cluster) => (cluster::slots(status), cluster::text(cluster)),
-    };
+    let (slots, of_cluster) = (slots(status), status.cluster.as_ref().map(cluster::text));
+    let of_cluster = of_cluster.unwrap_or_default();
     let troubles: String = status.slots.iter().filter_map(trouble).collect();
     let (senders, rounded) = (shares(&status.senders), rounded_series(&status.rounded));
     format!("{lines}\n{of_cluster}{slots}{senders}{rounded}{troubles}")
 }
 
+/// Where several instances share them, also who has which.
 fn slots(status: &Status) -> Table {
-    let mut slots = Table::new(&["slot", "series", "journal", "waiting", "outbox", "quarantined"]);
+    let shown = |columns: [String; 8]| {
+        let mut columns = Vec::from(columns);
+        if status.cluster.is_none() {
+            columns.drain(1..3);
+        }
+        columns
+    };
+    let heads = ["slot", "instance", "term", "series", "journal", "waiting", "outbox", "quarantined"];
+    let mut slots = Table::new(&shown(heads.map(String::from)));
     for slot in &status.slots {
-        slots.row(&row(slot));
+        slots.row(&shown(row(slot)));
     }
     slots
+}
+
+fn row(slot: &SlotStatus) -> [String; 8] {
+    let owner = slot.owner.clone().unwrap_or_else(|| "nobody".into());
+    let term = slot.term.map_or_else(|| "-".into(), |term| term.to_string());
+    let known = match slot.unknown {
+        Some(_) => ["?"; 5].map(String::from),
+        None => [
+            slot.series.to_string(),
+            stock(&slot.journal),
+            values::counted(slot.waiting, "request"),
+            stock(&slot.outbox),
+            values::senders_shown(&slot.quarantined),
+        ],
+    };
+    let [series, journal, waiting, outbox, quarantined] = known;
+    [slot.slot.to_string(), owner, term, series, journal, waiting, outbox, quarantined]
 }
 
 /// The senders that are nearest to their share, where there are shares.
@@ -98,14 +124,6 @@ fn unavailable(status: &Status) -> Option<String> {
         NO_ANSWER => format!("{why}: look at the disk of {}", status.data),
         why => why.to_string(),
     })
-}
-
-/// Of all slots together. A sender may be in each.
-fn held(slots: &[SlotStatus]) -> Option<String> {
-    let sum = |of: fn(&Held) -> u64| slots.iter().map(|slot| of(&slot.held)).sum::<u64>();
-    let (posts, bytes) = (sum(|held| held.posts), sum(|held| held.bytes));
-    let posts = (posts > 0).then(|| values::counted(posts, "post"))?;
-    Some(format!("{posts} of quarantined senders, {}", values::bytes_shown(bytes)))
 }
 
 fn books(status: &Status) -> String {
@@ -165,17 +183,6 @@ fn units(of: &RoundedStatus, bound: f64) -> String {
     let unit = of.rule.rsplit_once(':').map_or("", |(_, unit)| unit);
     let shown = format!("{:.3} {unit}", (bound * 1000.0).ceil() / 1000.0);
     shown.trim_end().to_string()
-}
-
-fn row(slot: &SlotStatus) -> [String; 6] {
-    [
-        slot.slot.to_string(),
-        slot.series.to_string(),
-        stock(&slot.journal),
-        values::counted(slot.waiting, "request"),
-        stock(&slot.outbox),
-        values::senders_shown(&slot.quarantined),
-    ]
 }
 
 fn stock(stock: &Stock) -> String {

@@ -1,5 +1,6 @@
 //! Values of options: times and sizes as people write them.
 
+use crate::otlp::NO_NAME;
 use std::path::{Path, PathBuf};
 use std::time::Duration;
 
@@ -106,16 +107,19 @@ pub fn counted(number: u64, what: &str) -> String {
 
 /// Senders by their names, with how many there are: so `-` is not read as nobody.
 pub fn senders_shown(names: &[String]) -> String {
-    let shown = |name: &String| match name.as_str() {
-        "-" => "- (who names none)".to_string(),
-        name => name.to_string(),
-    };
     match names {
         [] => "none".to_string(),
         names => {
-            let all: Vec<String> = names.iter().map(shown).collect();
+            let all: Vec<String> = names.iter().map(|name| sender_shown(name)).collect();
             format!("{}: {}", counted(names.len() as u64, "sender"), all.join(", "))
         }
+    }
+}
+
+pub fn sender_shown(name: &str) -> String {
+    match name {
+        NO_NAME => "- (who names none)".to_string(),
+        name => name.to_string(),
     }
 }
 

@@ -10,6 +10,11 @@ pub fn now() -> String {
     written(since.unwrap_or_default()) // no clock is set before 1970
 }
 
+/// The same in seconds since 1970.
+pub fn seconds() -> u64 {
+    SystemTime::now().duration_since(SystemTime::UNIX_EPOCH).map_or(0, |since| since.as_secs())
+}
+
 /// So many seconds after 1970, in UTC: `2026-11-25 14:26:23`.
 pub fn utc(seconds: u64) -> String {
     written(Duration::from_secs(seconds))[..19].replace('T', " ")

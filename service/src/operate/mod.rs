@@ -28,7 +28,7 @@ pub use pages::Pulse;
 pub use periods::ANYWAY;
 pub use reach::Others;
 pub use status::{
-    quarantined, BooksStatus, ClusterStatus, CumulativeStatus, DatabaseStatus, InstanceStatus,
+    held, quarantined, BooksStatus, ClusterStatus, CumulativeStatus, DatabaseStatus, InstanceStatus,
     RoundedSeriesStatus, RoundedStatus, SlotStatus, Status, Stock,
 };
 pub use tcp::AtTcp;

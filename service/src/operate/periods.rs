@@ -3,7 +3,7 @@
 
 use super::reach::Answer;
 use super::status::Status;
-use super::{Actor, Asked, Desk};
+use super::{held, Actor, Asked, Desk};
 use crate::sinks::periods::{Correction, Deed, Told};
 use std::sync::Arc;
 
@@ -61,7 +61,7 @@ fn not_in_the_sink(status: &Status) -> Option<String> {
 
 /// What stays out of the sink until an operator acts.
 fn kept_back(status: &Status) -> String {
-    let held = status.slots.iter().map(|slot| slot.held.posts).sum();
+    let held = held(&status.slots).posts;
     let mut text = String::new();
     for (count, what) in [(status.dead, "requests in dead/"), (held, "posts of quarantined senders")] {
         if count > 0 {

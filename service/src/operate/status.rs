@@ -1,18 +1,19 @@
 //! What the service says of itself: in JSON for `totxegun status`, in gauges for Prometheus.
 
 mod cluster;
+mod levels;
 mod merged;
 
 pub use cluster::{ClusterStatus, DatabaseStatus, InstanceStatus};
 
 use super::{Desk, Undelivered, Unit};
 use crate::files::Held;
+use crate::log::seconds;
 use crate::metrics::RoundedSeries;
 use crate::shares::Used;
 use serde::{Deserialize, Serialize};
 use std::collections::BTreeSet;
 use std::sync::PoisonError;
-use std::time::{SystemTime, UNIX_EPOCH};
 
 /// `GET /status`.
 #[derive(Debug, Default, Serialize, Deserialize)]
@@ -53,6 +54,11 @@ impl Status {
     /// How many requests wait for the sink.
     pub fn waiting(&self) -> u64 {
         self.slots.iter().map(|slot| slot.waiting).sum()
+    }
+
+    /// Why the sink does not take what waits.
+    pub fn trouble(&self) -> Option<&str> {
+        self.slots.iter().find_map(|slot| slot.stuck.as_deref().or(slot.trouble.as_deref()))
     }
 
     /// The first slot of which nothing is known, and why.
@@ -163,7 +169,15 @@ pub struct Stock {
 
 impl Stock {
     fn new(bytes: u64, since: Option<u64>) -> Stock {
-        Stock { bytes, age_seconds: since.map(|since| now().saturating_sub(since)) }
+        Stock { bytes, age_seconds: since.map(|since| seconds().saturating_sub(since)) }
+    }
+
+    /// That of all slots together.
+    pub fn of_all(slots: &[SlotStatus], of: impl Fn(&SlotStatus) -> &Stock) -> Stock {
+        Stock {
+            bytes: slots.iter().map(|slot| of(slot).bytes).sum(),
+            age_seconds: slots.iter().filter_map(|slot| of(slot).age_seconds).max(),
+        }
     }
 }
 
@@ -249,64 +263,6 @@ impl Desk {
         }
         slots
     }
-
-    /// Sets the gauges of what is elsewhere.
-    pub(super) fn read_levels(&self) {
-        let slots = self.slot_statuses();
-        let sum = |of: fn(&SlotStatus) -> u64| slots.iter().map(of).sum::<u64>() as i64;
-        let oldest = |of: fn(&SlotStatus) -> &Stock| {
-            let ages = slots.iter().filter_map(|slot| of(slot).age_seconds);
-            ages.max().unwrap_or(0) as i64
-        };
-        let levels = &self.metrics.levels;
-        levels.ready.set(i64::from(self.unavailable().is_none()));
-        levels.post_bytes_in_flight.set(self.budget.used() as i64);
-        levels.journal_bytes.set(sum(|slot| slot.journal.bytes));
-        levels.journal_age_seconds.set(oldest(|slot| &slot.journal));
-        levels.outbox_requests.set(sum(|slot| slot.waiting));
-        levels.outbox_bytes.set(sum(|slot| slot.outbox.bytes));
-        levels.outbox_age_seconds.set(oldest(|slot| &slot.outbox));
-        levels.dead_requests.set(self.units.dead() as i64);
-        let senders = if self.counts_senders() { quarantined(&slots).len() } else { 0 };
-        levels.quarantined_senders.set(senders as i64);
-        levels.held_posts.set(sum(|slot| slot.held.posts));
-        levels.held_bytes.set(sum(|slot| slot.held.bytes));
-        let is_stuck = slots.iter().any(|slot| slot.stuck.is_some());
-        levels.delivery_stuck.set(i64::from(is_stuck));
-        self.read_disk();
-        self.metrics.shares(&self.shares.nearest());
-        levels.series.set(sum(|slot| slot.series as u64));
-        levels.cumulative_series.set(self.cumulative_series() as i64);
-        let (used, most) = crate::core::memory_used();
-        levels.book_memory_bytes.set(used as i64);
-        levels.book_memory_most_bytes.set(most as i64);
-        if let Some(others) = &self.others {
-            let most = self.units.most_series().unwrap_or(self.most_series);
-            levels.most_series.set(most as i64);
-            self.read_cluster(others);
-        }
-    }
-
-    /// A sender is quarantined in each slot. Of several instances one counts it: who has the first slot that any has.
-    fn counts_senders(&self) -> bool {
-        let Some(others) = &self.others else { return true };
-        let here = self.units.all().first().map(|unit| unit.slot.number());
-        let slots = others.cluster.status().slots.into_iter();
-        let mut there = slots.filter(|slot| slot.is_served && slot.owner != others.instance);
-        here.is_some_and(|here| there.all(|slot| here < slot.slot))
-    }
-
-    fn read_disk(&self) {
-        let levels = &self.metrics.levels;
-        // What a store has not answered is of its databases.
-        let calls = self.others.is_none().then(|| self.units.disk_call());
-        levels.disk_call_seconds.set(calls.unwrap_or_default().as_secs_f64());
-        // A disk that stalls may not say either how much it has.
-        let free = self.units.disk_answers().then(|| free_bytes(&self.data));
-        if let Some(free) = free.flatten() {
-            levels.disk_free_bytes.set(free as i64);
-        }
-    }
 }
 
 impl SlotStatus {
@@ -357,25 +313,18 @@ pub fn quarantined(slots: &[SlotStatus]) -> BTreeSet<&str> {
     slots.iter().flat_map(|slot| &slot.quarantined).map(String::as_str).collect()
 }
 
-/// What a file system has left for this process. It is asked as `files` asks before each post: some microseconds.
-fn free_bytes(folder: &str) -> Option<u64> {
-    let disk = nix::sys::statvfs::statvfs(folder).ok()?;
-    Some(disk.blocks_available() * disk.fragment_size())
-}
-
-fn now() -> u64 {
-    SystemTime::now().duration_since(UNIX_EPOCH).map_or(0, |since| since.as_secs())
+/// What is kept back of them. A sender may be in each slot, and counts in each.
+pub fn held(slots: &[SlotStatus]) -> Held {
+    slots.iter().map(|slot| slot.held).fold(Held::default(), |all, of| Held {
+        senders: all.senders + of.senders,
+        posts: all.posts + of.posts,
+        bytes: all.bytes + of.bytes,
+    })
 }
 
 #[cfg(test)]
 mod tests {
     use super::*;
-
-    #[test]
-    fn a_folder_is_on_a_disk() {
-        assert!(free_bytes("/").is_some());
-        assert_eq!(free_bytes("/no/such/folder"), None);
-    }
 
     #[test]
     fn who_is_quarantined_in_several_slots_is_one_sender() {

@@ -1,7 +1,7 @@
 //! Of several instances that share a store: who they are, how the store's databases are, and who has which slot.
 
-use super::{stock, values, Table};
-use crate::operate::{ClusterStatus, DatabaseStatus, InstanceStatus, SlotStatus, Status};
+use super::{values, Table};
+use crate::operate::{ClusterStatus, DatabaseStatus, InstanceStatus};
 
 pub fn text(cluster: &ClusterStatus) -> String {
     let mut instances =
@@ -44,36 +44,11 @@ fn database(one: &DatabaseStatus) -> [String; 4] {
     ]
 }
 
-/// All slots, wherever they are.
-pub fn slots(status: &Status) -> Table {
-    let mut slots =
-        Table::new(&["slot", "instance", "term", "series", "journal", "waiting", "outbox", "quarantined"]);
-    for slot in &status.slots {
-        slots.row(&row(slot));
-    }
-    slots
-}
-
-fn row(slot: &SlotStatus) -> [String; 8] {
-    let owner = slot.owner.clone().unwrap_or_else(|| "nobody".into());
-    let term = slot.term.map_or_else(|| "-".into(), |term| term.to_string());
-    let known = match slot.unknown {
-        Some(_) => ["?"; 5].map(String::from),
-        None => [
-            slot.series.to_string(),
-            stock(&slot.journal),
-            values::counted(slot.waiting, "request"),
-            stock(&slot.outbox),
-            values::senders_shown(&slot.quarantined),
-        ],
-    };
-    let [series, journal, waiting, outbox, quarantined] = known;
-    [slot.slot.to_string(), owner, term, series, journal, waiting, outbox, quarantined]
-}
-
 #[cfg(test)]
 mod tests {
+    use super::super::slots;
     use super::*;
+    use crate::operate::{SlotStatus, Status};
 
     #[test]
     fn instances_databases_and_slots_are_shown() {
@@ -120,6 +95,7 @@ mod tests {
         };
         let status = Status {
             slots: vec![slot(0, Some("a"), None), slot(1, None, Some("no instance has it"))],
+            cluster: Some(cluster),
             ..Status::default()
         };
         assert_eq!(

@@ -4,14 +4,14 @@ use super::html::{grouped, Cell, Html};
 use super::plot::{lines, Line};
 use super::pulse::{Rates, KEPT};
 use super::{cluster, frame, Desk, Place};
-use crate::command::values::{bytes_shown, seconds_shown};
+use crate::command::values::{bytes_shown, seconds_shown, sender_shown};
 use crate::files::dead::Letter;
+use crate::log::seconds;
 use crate::metrics::to_do;
-use crate::operate::status::{quarantined, SlotStatus, Status, Stock};
-use crate::otlp::{Cause, NO_NAME};
+use crate::operate::status::{held, quarantined, Status, Stock};
+use crate::otlp::Cause;
 use crate::post_reports::{OfReason, OfSender};
 use std::sync::Arc;
-use std::time::{SystemTime, UNIX_EPOCH};
 
 /// How many rows a table has at most.
 const ROWS: usize = 50;
@@ -30,13 +30,8 @@ struct Seen<'a> {
 impl Desk {
     pub(super) fn overview(&self, status: Status, letters: Vec<Letter>) -> String {
         self.read_levels();
-        let seen = Seen {
-            desk: self,
-            status,
-            senders: self.activity.last(usize::MAX),
-            letters,
-            now: SystemTime::now().duration_since(UNIX_EPOCH).map_or(0, |since| since.as_secs()),
-        };
+        let seen =
+            Seen { desk: self, status, senders: self.activity.last(usize::MAX), letters, now: seconds() };
         let mut html = Html::default();
         seen.tiles(&mut html);
         seen.rates(&mut html);
@@ -67,7 +62,7 @@ impl Seen<'_> {
         let class_if = |is_so: bool, class: &'static str| if is_so { class } else { "" };
         let refused = class_if(last.refused > 0.0, "refused");
         let (troubled, dead) =
-            (class_if(self.trouble().is_some(), "bad"), class_if(self.status.dead > 0, "bad"));
+            (class_if(self.status.trouble().is_some(), "bad"), class_if(self.status.dead > 0, "bad"));
         html.markup("<section class=tiles>");
         for (what, class, value) in [
             ("posts a second", "posted", grouped(last.taken.round())),
@@ -98,18 +93,13 @@ impl Seen<'_> {
         html.markup("<span><i class=delivered></i>requests delivered, a second</span></p></section>\n");
     }
 
-    /// Why the sink does not take what waits.
-    fn trouble(&self) -> Option<String> {
-        let mut slots = self.status.slots.iter();
-        slots.find_map(|slot| slot.stuck.clone().or_else(|| slot.trouble.clone()))
-    }
-
     fn waits(&self, html: &mut Html) {
         html.markup("<section><h2>What waits</h2>");
-        if let Some(trouble) = self.trouble() {
+        if let Some(trouble) = self.status.trouble() {
             html.markup("<p class=\"note bad\">The sink: ").text(trouble).markup("</p>");
         }
-        let names: Vec<&str> = quarantined(&self.status.slots).into_iter().take(ROWS).collect();
+        let names: Vec<String> =
+            quarantined(&self.status.slots).into_iter().take(ROWS).map(sender_shown).collect();
         if !names.is_empty() {
             html.markup("<p class=note>Quarantined: ").text(names.join(", "));
             html.markup("; <code>totxegun lift NAME</code> once it is repaired</p>");
@@ -120,26 +110,19 @@ impl Seen<'_> {
 
     fn waiting(&self) -> Vec<Vec<Cell>> {
         let slots = &self.status.slots;
-        let row = |what: &str, many: u64, bytes: u64, age: Option<u64>| {
-            let age = age.map_or_else(String::new, seconds_shown);
-            [what.to_string(), grouped(many), bytes_shown(bytes), age].map(Cell::Text).into()
-        };
-        let stock = |what, many, of: fn(&SlotStatus) -> &Stock| {
-            let ages = slots.iter().filter_map(|slot| of(slot).age_seconds);
-            let bytes = slots.iter().map(|slot| of(slot).bytes).sum();
-            row(what, many, bytes, ages.max())
+        let row = |what: &str, many: u64, stock: Stock| {
+            let age = stock.age_seconds.map_or_else(String::new, seconds_shown);
+            [what.to_string(), grouped(many), bytes_shown(stock.bytes), age].map(Cell::Text).into()
         };
         let posts = slots.iter().map(|slot| slot.posts).sum();
-        let requests = self.status.waiting();
-        let (held_posts, held_bytes) = slots
-            .iter()
-            .fold((0, 0), |(posts, bytes), slot| (posts + slot.held.posts, bytes + slot.held.bytes));
         let mut rows = vec![
-            stock("posts, for a flush", posts, |slot| &slot.journal),
-            stock("requests, for the sink", requests, |slot| &slot.outbox),
+            row("posts, for a flush", posts, Stock::of_all(slots, |slot| &slot.journal)),
+            row("requests, for the sink", self.status.waiting(), Stock::of_all(slots, |slot| &slot.outbox)),
         ];
-        if held_posts > 0 {
-            rows.push(row("posts of quarantined senders", held_posts, held_bytes, None));
+        let held = held(slots);
+        if held.posts > 0 {
+            let stock = Stock { bytes: held.bytes, age_seconds: None };
+            rows.push(row("posts of quarantined senders", held.posts, stock));
         }
         rows
     }
@@ -155,7 +138,7 @@ impl Seen<'_> {
         all.truncate(ROWS);
         let rows = all.into_iter().map(|(name, reason, of)| {
             vec![
-                Cell::of(sender(&name)),
+                Cell::Text(sender_shown(&name)),
                 Cell::of(of.status),
                 Cell::of(of.text),
                 Cell::of(grouped(of.posts)),
@@ -176,7 +159,7 @@ impl Seen<'_> {
         all.truncate(ROWS);
         let rows = all.into_iter().map(|(name, cause, points)| {
             let to_do = Cause::named(&cause).map_or("", Cause::to_do);
-            vec![Cell::of(sender(&name)), Cell::of(cause), Cell::of(grouped(points)), Cell::of(to_do)]
+            vec![Cell::Text(sender_shown(&name)), Cell::of(cause), Cell::of(grouped(points)), Cell::of(to_do)]
         });
         html.markup("<section><h2>Points not taken</h2>");
         html.table(&["sender", "cause", "points#", "what to do"], rows.collect());
@@ -188,7 +171,7 @@ impl Seen<'_> {
         let rows = self.senders.iter().take(ROWS).map(|(name, of)| {
             let refused: u64 = of.refused.values().map(|of| of.posts).sum();
             vec![
-                Cell::of(sender(name)),
+                Cell::Text(sender_shown(name)),
                 Cell::of(self.ago(of.last)),
                 Cell::of(grouped(of.taken)),
                 Cell::of(grouped(refused)),
@@ -255,12 +238,5 @@ fn limit(what: &str, now: u64, most: u64, shown: fn(u64) -> String, option: &str
 fn left_out(html: &mut Html, count: usize) {
     if count > ROWS {
         html.markup("<p class=note>").text(grouped(count - ROWS)).markup(" more</p>");
-    }
-}
-
-fn sender(name: &str) -> String {
-    match name {
-        NO_NAME => "- (who names none)".to_string(),
-        name => name.to_string(),
     }
 }

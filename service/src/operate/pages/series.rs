@@ -3,13 +3,12 @@
 use super::html::{grouped, Cell, Html};
 use super::plot::{bars, Bar};
 use super::{frame, Desk, Place};
-use crate::log::utc;
+use crate::log::{seconds, utc};
 use crate::operate::totals::{identity, Totals};
 use crate::sinks::sqlite::by_hour::Hour;
 use crate::sinks::sqlite::totals::{text, Histogram, Kind, SeriesTotal};
 use crate::sinks::sqlite::Exact;
 use serde_json::{Map, Value};
-use std::time::{SystemTime, UNIX_EPOCH};
 
 /// How many are shown at most.
 const ROWS: usize = 100;
@@ -212,8 +211,7 @@ fn buckets(html: &mut Html, histogram: &Histogram) {
 
 /// What came in each of the last hours: of a histogram how many values, else their sum. Nothing where the sink has no hours.
 async fn last_hours(html: &mut Html, totals: &Totals, series: &SeriesTotal) {
-    let now = SystemTime::now().duration_since(UNIX_EPOCH).map_or(0, |since| since.as_secs() / HOUR);
-    let from = (now + 1).saturating_sub(HOURS);
+    let from = (seconds() / HOUR + 1).saturating_sub(HOURS);
     match totals.hours(series.clone(), from).await {
         Ok(None) => {}
         Ok(Some(hours)) => plot_of_hours(html, &hours, from),
