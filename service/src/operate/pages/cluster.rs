@@ -29,9 +29,8 @@ fn instances(html: &mut Html, cluster: &ClusterStatus) {
             Cell::of(one.trouble.as_deref().unwrap_or_default()),
         ]
     });
-    html.markup("<section><h2>Instances</h2>");
     let heads = ["name", "address", "version", "last beat#", "slots#", "what is wrong"];
-    html.table(&heads, rows.collect()).markup("</section>\n");
+    html.section("Instances").table(&heads, rows.collect()).end_section();
 }
 
 fn databases(html: &mut Html, cluster: &ClusterStatus) {
@@ -45,22 +44,20 @@ fn databases(html: &mut Html, cluster: &ClusterStatus) {
             Cell::of(one.why.as_deref().unwrap_or_default()),
         ]
     });
-    html.markup("<section><h2>Databases of the store</h2>");
     let heads = ["database", "copies#", "asked for#", "in doubt for#", "what is wrong"];
-    html.table(&heads, rows.collect()).markup("</section>\n");
+    html.section("Databases of the store").table(&heads, rows.collect()).end_section();
 }
 
 fn slots(html: &mut Html, status: &Status) {
     let rows = status.slots.iter().take(ROWS).map(row);
-    html.markup("<section><h2>Slots</h2>");
     let heads = ["slot#", "instance", "term#", "series#", "posts#", "requests#", "oldest#", "what is wrong"];
-    html.table(&heads, rows.collect());
+    html.section("Slots").table(&heads, rows.collect());
     if status.slots.len() > ROWS {
         html.markup("<p class=note>")
             .text(grouped(status.slots.len() - ROWS))
             .markup(" more: <code>totxegun status</code></p>");
     }
-    html.markup("</section>\n");
+    html.end_section();
 }
 
 fn row(slot: &SlotStatus) -> Vec<Cell> {

@@ -6,6 +6,9 @@ use std::fmt::{Display, Write};
 /// How much of a text is shown, in characters.
 const SHOWN: usize = 400;
 
+/// How many rows a table has at most, where there may be any number.
+pub const ROWS: usize = 50;
+
 /// A page, or a part of one. Only a text of the program itself can be markup.
 #[derive(Default)]
 pub struct Html(String);
@@ -49,6 +52,29 @@ impl Html {
     /// A number that nobody else wrote.
     pub fn number(&mut self, number: f64) -> &mut Html {
         let _ = write!(self.0, "{number:.1}"); // a text takes all
+        self
+    }
+
+    /// The beginning of a section.
+    pub fn section(&mut self, title: &'static str) -> &mut Html {
+        self.markup("<section><h2>").markup(title).markup("</h2>")
+    }
+
+    pub fn end_section(&mut self) -> &mut Html {
+        self.markup("</section>\n")
+    }
+
+    /// A table of the first rows, and how many more there are.
+    pub fn first_rows(
+        &mut self,
+        heads: &[&'static str],
+        rows: impl ExactSizeIterator<Item = Vec<Cell>>,
+    ) -> &mut Html {
+        let more = rows.len().saturating_sub(ROWS);
+        self.table(heads, rows.take(ROWS).collect());
+        if more > 0 {
+            self.markup("<p class=note>").text(grouped(more)).markup(" more</p>");
+        }
         self
     }
 

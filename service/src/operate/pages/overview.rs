@@ -1,6 +1,6 @@
 //! `GET /`: what is posted and delivered, what waits, who posts, what is refused and what to do about it.
 
-use super::html::{grouped, Cell, Html};
+use super::html::{grouped, Cell, Html, ROWS};
 use super::plot::{lines, Line};
 use super::pulse::{Rates, KEPT};
 use super::{cluster, frame, Desk, Place};
@@ -13,8 +13,6 @@ use crate::otlp::Cause;
 use crate::post_reports::{OfReason, OfSender};
 use std::sync::Arc;
 
-/// How many rows a table has at most.
-const ROWS: usize = 50;
 /// More letters than that are not read for a page.
 const LETTERS: u64 = 200;
 
@@ -87,14 +85,13 @@ impl Seen<'_> {
             line("refused", |rates| rates.refused),
             line("posted", |rates| rates.taken),
         ];
-        html.markup("<section><h2>The last five minutes</h2>");
-        lines(html, &all, KEPT);
+        lines(html.section("The last five minutes"), &all, KEPT);
         html.markup("<p class=key><span><i class=posted></i>posts taken</span><span><i class=refused></i>refused</span>");
-        html.markup("<span><i class=delivered></i>requests delivered, a second</span></p></section>\n");
+        html.markup("<span><i class=delivered></i>requests delivered, a second</span></p>").end_section();
     }
 
     fn waits(&self, html: &mut Html) {
-        html.markup("<section><h2>What waits</h2>");
+        html.section("What waits");
         if let Some(trouble) = self.status.trouble() {
             html.markup("<p class=\"note bad\">The sink: ").text(trouble).markup("</p>");
         }
@@ -104,8 +101,7 @@ impl Seen<'_> {
             html.markup("<p class=note>Quarantined: ").text(names.join(", "));
             html.markup("; <code>totxegun lift NAME</code> once it is repaired</p>");
         }
-        html.table(&["what", "how many#", "on disk#", "oldest#"], self.waiting());
-        html.markup("</section>\n");
+        html.table(&["what", "how many#", "on disk#", "oldest#"], self.waiting()).end_section();
     }
 
     fn waiting(&self) -> Vec<Vec<Cell>> {
@@ -128,47 +124,38 @@ impl Seen<'_> {
     }
 
     fn refused(&self, html: &mut Html) {
-        let of = |(name, of): &'_ (String, OfSender)| -> Vec<(String, &'static str, OfReason)> {
-            let all = of.refused.iter();
-            all.map(|(reason, of)| (name.clone(), *reason, of.clone())).collect()
-        };
-        let mut all: Vec<_> = self.senders.iter().flat_map(of).collect();
+        let senders = self.senders.iter();
+        let all =
+            senders.flat_map(|(name, of)| of.refused.iter().map(move |(reason, of)| (name, *reason, of)));
+        let mut all: Vec<(&String, &str, &OfReason)> = all.collect();
         all.sort_by_key(|(_, _, of)| std::cmp::Reverse(of.last));
-        let count = all.len();
-        all.truncate(ROWS);
         let rows = all.into_iter().map(|(name, reason, of)| {
             vec![
-                Cell::Text(sender_shown(&name)),
+                Cell::Text(sender_shown(name)),
                 Cell::of(of.status),
-                Cell::of(of.text),
+                Cell::of(&of.text),
                 Cell::of(grouped(of.posts)),
                 Cell::of(self.ago(of.last)),
                 Cell::of(to_do(reason)),
             ]
         });
-        html.markup("<section><h2>Refused posts</h2>");
-        html.table(&["sender", "status", "last answer", "posts#", "last#", "what to do"], rows.collect());
-        left_out(html, count);
-        html.markup("</section>\n");
+        let heads = ["sender", "status", "last answer", "posts#", "last#", "what to do"];
+        html.section("Refused posts").first_rows(&heads, rows).end_section();
     }
 
     fn foreign(&self, html: &mut Html) {
         let mut all = self.desk.metrics.all_foreign();
         all.sort_by_key(|(_, _, points)| std::cmp::Reverse(*points));
-        let count = all.len();
-        all.truncate(ROWS);
         let rows = all.into_iter().map(|(name, cause, points)| {
             let to_do = Cause::named(&cause).map_or("", Cause::to_do);
             vec![Cell::Text(sender_shown(&name)), Cell::of(cause), Cell::of(grouped(points)), Cell::of(to_do)]
         });
-        html.markup("<section><h2>Points not taken</h2>");
-        html.table(&["sender", "cause", "points#", "what to do"], rows.collect());
-        left_out(html, count);
-        html.markup("</section>\n");
+        let heads = ["sender", "cause", "points#", "what to do"];
+        html.section("Points not taken").first_rows(&heads, rows).end_section();
     }
 
     fn senders(&self, html: &mut Html) {
-        let rows = self.senders.iter().take(ROWS).map(|(name, of)| {
+        let rows = self.senders.iter().map(|(name, of)| {
             let refused: u64 = of.refused.values().map(|of| of.posts).sum();
             vec![
                 Cell::Text(sender_shown(name)),
@@ -177,10 +164,8 @@ impl Seen<'_> {
                 Cell::of(grouped(refused)),
             ]
         });
-        html.markup("<section><h2>Senders, by their last post</h2>");
-        html.table(&["sender", "last post#", "posts taken#", "refused#"], rows.collect());
-        left_out(html, self.senders.len());
-        html.markup("</section>\n");
+        let heads = ["sender", "last post#", "posts taken#", "refused#"];
+        html.section("Senders, by their last post").first_rows(&heads, rows).end_section();
     }
 
     fn limits(&self, html: &mut Html) {
@@ -194,20 +179,18 @@ impl Seen<'_> {
             limit("memory of the book", memory, most_memory, bytes_shown, "--book-memory"),
             limit("memory of posts under way", used, most, bytes_shown, "--most-bytes"),
         ];
-        html.markup("<section><h2>Limits</h2>");
-        html.table(&["what", "now#", "at most#", "used#", "option"], rows);
+        html.section("Limits").table(&["what", "now#", "at most#", "used#", "option"], rows);
         let free = levels.disk_free_bytes.get().max(0) as u64;
-        html.markup("<p class=note>Free on the disk: ").text(bytes_shown(free));
-        html.markup("</p></section>\n");
+        html.markup("<p class=note>Free on the disk: ").text(bytes_shown(free)).markup("</p>").end_section();
     }
 
     fn dead(&self, html: &mut Html) {
-        html.markup("<section><h2>Dead requests</h2>");
+        html.section("Dead requests");
         if self.status.dead > 0 {
             html.markup("<p class=note>Refused by the sink for good. Repair it, then <code>totxegun dead resend --all</code>; ");
             html.markup("or <code>totxegun dead drop KEY</code>, and its points are lost.</p>");
         }
-        let rows = self.letters.iter().rev().take(ROWS).map(|letter| {
+        let rows = self.letters.iter().rev().map(|letter| {
             vec![
                 Cell::of(&letter.key),
                 Cell::of(self.ago(letter.since)),
@@ -217,10 +200,9 @@ impl Seen<'_> {
         });
         match self.letters.is_empty() && self.status.dead > 0 {
             true => html.markup("<p class=note><code>totxegun dead list</code> has them.</p>"),
-            false => html.table(&["key", "since#", "bytes#", "the sink's reason"], rows.collect()),
+            false => html.first_rows(&["key", "since#", "bytes#", "the sink's reason"], rows),
         };
-        left_out(html, self.letters.len());
-        html.markup("</section>\n");
+        html.end_section();
     }
 
     fn ago(&self, then: u64) -> String {
@@ -232,11 +214,4 @@ impl Seen<'_> {
 fn limit(what: &str, now: u64, most: u64, shown: fn(u64) -> String, option: &str) -> Vec<Cell> {
     let part = format!("{:.0} %", 100.0 * now as f64 / most.max(1) as f64);
     [what.to_string(), shown(now), shown(most), part, option.to_string()].map(Cell::Text).into()
-}
-
-/// That a table does not have all.
-fn left_out(html: &mut Html, count: usize) {
-    if count > ROWS {
-        html.markup("<p class=note>").text(grouped(count - ROWS)).markup(" more</p>");
-    }
 }

@@ -146,7 +146,7 @@ impl FoundRows {
                 .text(ROWS)
                 .markup(": write more of the name or an attribute.</p>");
         }
-        html.markup("</section>\n");
+        html.end_section();
     }
 }
 
@@ -171,8 +171,7 @@ fn one(html: &mut Html, series: &SeriesTotal) {
     let rows = rows.map(|(what, value)| vec![Cell::of(what), Cell::Text(value)]);
     html.markup("<section><h2>").text(&series.name).markup("</h2><p class=total>");
     html.text(grouped(series.total)).markup(" <small>").text(&series.unit);
-    html.markup("</small></p>").table(&["what", "value"], rows.collect());
-    html.markup("</section>\n");
+    html.markup("</small></p>").table(&["what", "value"], rows.collect()).end_section();
     if let Some(histogram) = &series.histogram {
         buckets(html, histogram);
     }
@@ -205,8 +204,7 @@ fn buckets(html: &mut Html, histogram: &Histogram) {
     let names = bounds.chain(["over all of them".to_string()]);
     let counts = histogram.buckets.iter().map(grouped);
     let rows = names.zip(counts).map(|(name, count)| vec![Cell::Text(name), Cell::Text(count)]);
-    html.markup("<section><h2>Buckets</h2>").table(&["values", "count#"], rows.collect());
-    html.markup("</section>\n");
+    html.section("Buckets").table(&["values", "count#"], rows.collect()).end_section();
 }
 
 /// What came in each of the last hours: of a histogram how many values, else their sum. Nothing where the sink has no hours.
@@ -228,13 +226,12 @@ fn plot_of_hours(html: &mut Html, hours: &[Hour], from: u64) {
         let value = of(wanted).map_or(Exact::default(), |hour| hour.count.unwrap_or(hour.total));
         Bar { value: value.0 as f64, text: format!("{}: {}", hour(wanted), grouped(value)) }
     };
-    html.markup("<section><h2>The last 48 hours</h2>");
-    bars(html, &(from..from + HOURS).map(bar).collect::<Vec<Bar>>());
+    bars(html.section("The last 48 hours"), &(from..from + HOURS).map(bar).collect::<Vec<Bar>>());
     let rows = hours.iter().rev().map(|one| {
         let count = one.count.map(grouped).unwrap_or_default();
         vec![Cell::Text(hour(one.hour)), Cell::of(grouped(one.total)), Cell::Text(count)]
     });
-    html.table(&["hour (UTC)", "total#", "count#"], rows.collect()).markup("</section>\n");
+    html.table(&["hour (UTC)", "total#", "count#"], rows.collect()).end_section();
 }
 
 /// Nanoseconds since 1970 to the second, in UTC.
