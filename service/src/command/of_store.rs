@@ -1,7 +1,6 @@
 //! Options of a store that several machines share.
 
 use super::values::place;
-use crate::otlp::{Choice, Cumulative};
 use crate::service::OfStore as Settings;
 use crate::sinks::Address;
 use crate::slot::is_sender;
@@ -116,33 +115,6 @@ impl OfStore {
             client_ca: Some(ca),
         }))
     }
-}
-
-/// What posts mean hangs on these, so all instances have to say the same.
-pub(super) fn likeness(
-    whole: &[Choice],
-    dropped: &[String],
-    sender_from: Option<&str>,
-    cumulative: Cumulative,
-    across: impl std::fmt::Debug,
-) -> String {
-    let choice = |choice: &Choice| match choice {
-        Choice::Auto => "auto".to_string(),
-        Choice::Off => "off".to_string(),
-        Choice::Rule(rule) => rule.to_string(),
-    };
-    let whole: Vec<String> = whole.iter().map(choice).collect();
-    format!(
-        "whole={} drop-attribute={} sender-from={} cumulative={cumulative:?} never-across={across:?}",
-        whole.join(","),
-        dropped.join(","),
-        sender_from.unwrap_or_default()
-    )
-}
-
-/// No folder is beside a store, in which a file could be the sink.
-pub(super) fn needs_sink() -> anyhow::Error {
-    anyhow!("--store has no sink of its own: give --sink postgres://.. or http://.. too")
 }
 
 #[cfg(test)]

@@ -1,7 +1,6 @@
 //! Options that say how requests are read, for what takes posts and for what explains them.
 
-use super::of_store::likeness;
-use super::values::{time_or_off, MayBeOff};
+use super::values::{time_or, MayBeNone};
 use crate::core::Across;
 use crate::otlp::{Bounds, Choice, Clock, Cumulative, FinerUnits, Reading, INSTANCE};
 use anyhow::{anyhow, bail};
@@ -27,11 +26,11 @@ pub(super) struct OfReading {
     #[arg(long, env = "TOTXEGUN_SENDER_FROM", value_name = "ATTRIBUTE", value_parser = NonEmptyStringValueParser::new())]
     sender_from: Option<String>,
     /// Leaves out points that end later than so long after this clock's time, or `off` for none
-    #[arg(long, env = "TOTXEGUN_MOST_AHEAD", value_name = "TIME", default_value = "10m", value_parser = time_or_off)]
-    most_ahead: MayBeOff,
+    #[arg(long, env = "TOTXEGUN_MOST_AHEAD", value_name = "TIME", default_value = "10m", value_parser = time_or("off"))]
+    most_ahead: MayBeNone,
     /// Leaves out points that ended earlier than so long before this clock's time, or `off` for none
-    #[arg(long, env = "TOTXEGUN_MOST_BEHIND", value_name = "TIME", default_value = "off", value_parser = time_or_off)]
-    most_behind: MayBeOff,
+    #[arg(long, env = "TOTXEGUN_MOST_BEHIND", value_name = "TIME", default_value = "off", value_parser = time_or("off"))]
+    most_behind: MayBeNone,
     /// Takes cumulative sums and histograms, as SDKs send them by default: deltas are made of them
     #[arg(long, env = "TOTXEGUN_CUMULATIVE", value_name = "WHETHER", default_value = "on", value_enum)]
     cumulative: Cumulative,
@@ -48,12 +47,24 @@ impl OfReading {
         Clock { most_ahead: self.most_ahead.0, most_behind: self.most_behind.0 }
     }
 
-    /// What the meaning of posts hangs on.
+    /// What posts mean hangs on these, so all instances have to say the same.
     pub fn likeness(&self, across: Across) -> String {
-        let sender_from = self.sender_from.as_deref();
-        let likeness = likeness(&self.whole, &self.drop_attributes, sender_from, self.cumulative, across);
-        let (instance, exponential) = (self.instance_from_sender, &self.exponential);
-        format!("{likeness} instance-from-sender={instance} exponential={exponential:?}")
+        let choice = |choice: &Choice| match choice {
+            Choice::Auto => "auto".to_string(),
+            Choice::Off => "off".to_string(),
+            Choice::Rule(rule) => rule.to_string(),
+        };
+        let whole: Vec<String> = self.whole.iter().map(choice).collect();
+        format!(
+            "whole={} drop-attribute={} sender-from={} cumulative={:?} never-across={across:?} instance-from-sender={} \
+             exponential={:?}",
+            whole.join(","),
+            self.drop_attributes.join(","),
+            self.sender_from.as_deref().unwrap_or_default(),
+            self.cumulative,
+            self.instance_from_sender,
+            self.exponential
+        )
     }
 
     pub fn reading(self) -> anyhow::Result<Reading> {
@@ -71,5 +82,31 @@ impl OfReading {
         };
         let profile = reading.profile();
         Ok(Reading { finer_units: reading.finer_units.with_profile(profile), ..reading })
+    }
+}
+
+#[cfg(test)]
+mod tests {
+    use super::*;
+    use clap::Parser;
+
+    #[derive(Parser)]
+    struct Line {
+        #[command(flatten)]
+        of_reading: OfReading,
+    }
+
+    /// A store has it: an instance that says it in other words does not start.
+    #[test]
+    fn what_instances_agree_by_keeps_its_words() {
+        let likeness = |words: &[&str]| Line::parse_from(words).of_reading.likeness(Across::Hour);
+        assert_eq!(
+            likeness(&["serve"]),
+            "whole= drop-attribute= sender-from= cumulative=On never-across=Hour instance-from-sender=false exponential=None"
+        );
+        let words = ["serve", "--whole", "auto,s=ms", "--drop-attribute", "a,b", "--sender-from", "id"];
+        let told = likeness(&words);
+        let begin = "whole=auto,s=1000:ms drop-attribute=a,b sender-from=id cumulative=On ";
+        assert!(told.starts_with(begin), "{told}");
     }
 }

@@ -1,26 +1,26 @@
 //! Options that say how long a database keeps what it has.
 
-use super::values::{time_or_forever, MayBeForever};
+use super::values::{time_or, MayBeNone};
 use crate::sinks::{Address, Retention};
 use anyhow::{bail, Result};
 use clap::Args;
 use std::time::Duration;
 
 /// Of spans, unless it is said: a month and its bill.
-const SPANS: MayBeForever = MayBeForever(Some(Duration::from_secs(35 * 86_400)));
+const SPANS: MayBeNone = MayBeNone(Some(Duration::from_secs(35 * 86_400)));
 
 #[derive(Args)]
 #[command(next_help_heading = "Options of a SQLite or PostgreSQL sink")]
 pub(super) struct OfRetention {
     /// How long the sink keeps spans (a row a flush and series), or `forever` [default: 35d]
-    #[arg(long, env = "TOTXEGUN_KEEP_SPANS", value_name = "TIME", value_parser = time_or_forever)]
-    keep_spans: Option<MayBeForever>,
+    #[arg(long, env = "TOTXEGUN_KEEP_SPANS", value_name = "TIME", value_parser = time_or("forever"))]
+    keep_spans: Option<MayBeNone>,
     /// How long the sink keeps hours (a row an hour and series), or `forever` [default: forever]
-    #[arg(long, env = "TOTXEGUN_KEEP_HOURS", value_name = "TIME", value_parser = time_or_forever)]
-    keep_hours: Option<MayBeForever>,
+    #[arg(long, env = "TOTXEGUN_KEEP_HOURS", value_name = "TIME", value_parser = time_or("forever"))]
+    keep_hours: Option<MayBeNone>,
     /// Deletes the spans of a series none of which ended within so long, or `forever` [default: forever]
-    #[arg(long, env = "TOTXEGUN_KEEP_SERIES", value_name = "TIME", value_parser = time_or_forever)]
-    keep_series: Option<MayBeForever>,
+    #[arg(long, env = "TOTXEGUN_KEEP_SERIES", value_name = "TIME", value_parser = time_or("forever"))]
+    keep_series: Option<MayBeNone>,
 }
 
 impl OfRetention {

@@ -3,11 +3,11 @@
 use super::of_book::OfBook;
 use super::of_runs::OfRuns;
 use super::of_senders::OfSenders;
-use super::of_store::{needs_sink, OfStore};
+use super::of_store::OfStore;
 use super::reading::OfReading;
 use super::retention::OfRetention;
 use super::settings::Names;
-use super::values::{operator, orders_at, place, size, time, time_or_never, MayBeNever, SOCKET};
+use super::values::{operator, orders_at, place, size, time, time_or, MayBeNone, SOCKET};
 use super::version::Versions;
 use super::Failure;
 use crate::core::{self, Across};
@@ -88,8 +88,8 @@ pub struct Options {
     #[arg(long, env = "TOTXEGUN_DURABLE", value_name = "WHAT", default_value = "disk", value_enum)]
     durable: Durability,
     /// How long a series is kept that nobody posts to where there are too many, or `never` to forget none
-    #[arg(long, env = "TOTXEGUN_FORGET_SERIES", value_name = "TIME", default_value = "7d", value_parser = time_or_never)]
-    forget_series: MayBeNever,
+    #[arg(long, env = "TOTXEGUN_FORGET_SERIES", value_name = "TIME", default_value = "7d", value_parser = time_or("never"))]
+    forget_series: MayBeNone,
     /// Writes the first N reasons why points are foreign to the log, for each sender
     #[arg(long, env = "TOTXEGUN_LOG_FOREIGN", value_name = "N", default_value_t = 0, value_parser = value_parser!(u32).range(..=1000))]
     log_foreign: u32,
@@ -243,7 +243,11 @@ impl Options {
         let data = absolute(&self.data)?;
         let sink = match self.sink {
             Some(sink) => sink,
-            None if self.of_store.is_given() => return Err(Failure::Line(needs_sink())),
+            // No folder is beside a store, in which a file could be the sink.
+            None if self.of_store.is_given() => {
+                let why = "--store has no sink of its own: give --sink postgres://.. or http://.. too";
+                return Err(Failure::Line(anyhow!(why)));
+            }
             None => Address::Sqlite(data.join("metrics.db")),
         };
         let sink = self.of_sink.put_into(sink).map_err(Failure::Line)?;

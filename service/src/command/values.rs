@@ -24,35 +24,15 @@ pub fn time(text: &str) -> Result<Duration, String> {
         .ok_or_else(|| "write a whole number and ms, s, m, h or d: 10s".to_string())
 }
 
-/// A time, or `never`.
+/// A time, or none, which has a word.
 #[derive(Clone, Copy, Debug, PartialEq, Eq)]
-pub struct MayBeNever(pub Option<Duration>);
+pub struct MayBeNone(pub Option<Duration>);
 
-pub fn time_or_never(text: &str) -> Result<MayBeNever, String> {
-    time_or("never", text).map(MayBeNever)
-}
-
-/// A time, or `forever`.
-#[derive(Clone, Copy, Debug, PartialEq, Eq)]
-pub struct MayBeForever(pub Option<Duration>);
-
-pub fn time_or_forever(text: &str) -> Result<MayBeForever, String> {
-    time_or("forever", text).map(MayBeForever)
-}
-
-/// A time, or `off`.
-#[derive(Clone, Copy, Debug, PartialEq, Eq)]
-pub struct MayBeOff(pub Option<Duration>);
-
-pub fn time_or_off(text: &str) -> Result<MayBeOff, String> {
-    time_or("off", text).map(MayBeOff)
-}
-
-fn time_or(word: &str, text: &str) -> Result<Option<Duration>, String> {
-    if text == word {
-        return Ok(None);
+pub fn time_or(word: &'static str) -> impl Fn(&str) -> Result<MayBeNone, String> + Clone {
+    move |text| match text == word {
+        true => Ok(MayBeNone(None)),
+        false => time(text).map(Some).map(MayBeNone).map_err(|error| format!("{error}, or {word}")),
     }
-    time(text).map(Some).map_err(|error| format!("{error}, or {word}"))
 }
 
 /// `256MiB`, `1G`, `1048576`: bytes.
@@ -152,8 +132,8 @@ mod tests {
     fn times_are_read() {
         assert_eq!(time("10s"), Ok(Duration::from_secs(10)));
         assert_eq!(time("250ms"), Ok(Duration::from_millis(250)));
-        assert_eq!(time_or_never("7d"), Ok(MayBeNever(Some(Duration::from_secs(7 * 86_400)))));
-        assert_eq!(time_or_never("never"), Ok(MayBeNever(None)));
+        assert_eq!(time_or("never")("7d"), Ok(MayBeNone(Some(Duration::from_secs(7 * 86_400)))));
+        assert_eq!(time_or("never")("never"), Ok(MayBeNone(None)));
         for text in
             ["", "10", "s", "0s", "-1s", "1.5s", "1 s", "99999999999999999999s", "18446744073709551615d"]
         {
