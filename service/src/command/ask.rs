@@ -82,8 +82,8 @@ pub fn order(at: &Address, path: &str) -> Result<Vec<u8>> {
 }
 
 /// Gives an order that flushes, and says what came of it.
-pub fn flush(at: &Address, path: &str) -> Result<Vec<u8>> {
-    let body = client::ask(at, Method::POST, path)?;
+pub fn flush(at: &Address) -> Result<Vec<u8>> {
+    let body = client::ask(at, Method::POST, "/flush")?;
     let read: serde_json::Value = serde_json::from_slice(&body).unwrap_or_default();
     let requests = read["requests"].as_u64();
     Ok(match requests.with_context(|| client::another(&at.place()))? {

@@ -42,14 +42,8 @@ struct Explanation {
     bytes: usize,
     taken: usize,
     foreign: usize,
-    rounded: BTreeMap<String, Rounded>,
+    rounded: BTreeMap<String, Rounding>,
     points: Vec<Explained>,
-}
-
-#[derive(Debug, Serialize)]
-struct Rounded {
-    values: u64,
-    together: f64,
 }
 
 impl Options {
@@ -89,7 +83,6 @@ fn found(body: Vec<u8>, reading: &Reading, clock: &Clock) -> anyhow::Result<Expl
     let points = otlp::explained(&prepared.body, reading.profile(), clock.window())
         .context("refused with 400: wrong shape")?;
     let foreign = points.iter().filter(|point| point.foreign.is_some()).count();
-    let rounded = prepared.rounded.by_rule.into_iter();
     Ok(Explanation {
         encoding: match encoding {
             Encoding::Json => "JSON",
@@ -101,9 +94,7 @@ fn found(body: Vec<u8>, reading: &Reading, clock: &Clock) -> anyhow::Result<Expl
         bytes,
         taken: points.len() - foreign,
         foreign,
-        rounded: rounded
-            .map(|(rule, Rounding { values, together })| (rule, Rounded { values, together }))
-            .collect(),
+        rounded: prepared.rounded.by_rule.into_iter().collect(),
         points,
     })
 }

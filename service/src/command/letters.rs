@@ -1,29 +1,20 @@
 //! `totxegun dead`: requests that the sink refused for good.
 
-use super::{ask::Address, client, line, table::Table, values, with_end, Form};
+use super::ask::{Address, Shown};
+use super::{client, line, table::Table, values, with_end, Form};
 use crate::files::dead::Letter;
 use crate::log::seconds;
 use crate::operate::Resent;
 use anyhow::{bail, Context, Result};
-use clap::Subcommand;
+use clap::{Args, Subcommand};
 use hyper::Method;
 
 #[derive(Subcommand)]
 pub enum Command {
     /// Shows which there are, and why
-    List {
-        #[command(flatten)]
-        at: Address,
-        #[command(flatten)]
-        form: Form,
-    },
+    List(Shown),
     /// Prints the body of one, in JSON
-    Show {
-        /// As `totxegun dead list` shows it
-        key: String,
-        #[command(flatten)]
-        at: Address,
-    },
+    Show(OfKey),
     /// Sends one again under its own key, or all; what the sink does not take is kept
     Resend {
         /// As `totxegun dead list` shows it
@@ -36,12 +27,15 @@ pub enum Command {
         at: Address,
     },
     /// Throws one away: its points are lost
-    Drop {
-        /// As `totxegun dead list` shows it
-        key: String,
-        #[command(flatten)]
-        at: Address,
-    },
+    Drop(OfKey),
+}
+
+#[derive(Args)]
+pub struct OfKey {
+    /// As `totxegun dead list` shows it
+    key: String,
+    #[command(flatten)]
+    at: Address,
 }
 
 const NONE: &str = "the sink has refused nothing for good";
@@ -49,14 +43,14 @@ const NONE: &str = "the sink has refused nothing for good";
 impl Command {
     pub fn run(self) -> Result<Vec<u8>> {
         match self {
-            Command::List { at, form } => list(&at, form),
-            Command::Show { key, at } => {
+            Command::List(Shown { at, form }) => list(&at, form),
+            Command::Show(OfKey { key, at }) => {
                 let body = client::ask(&at, Method::GET, &format!("/dead/{}", checked(&key)?))?;
                 Ok(with_end(body))
             }
             Command::Resend { key: Some(key), at, .. } => resend(&key, &at),
             Command::Resend { key: None, at, .. } => resend_all(&at),
-            Command::Drop { key, at } => {
+            Command::Drop(OfKey { key, at }) => {
                 client::ask(&at, Method::POST, &format!("/dead/{}/drop", checked(&key)?))?;
                 Ok(line(format_args!("done: {key} is thrown away")))
             }

@@ -173,7 +173,7 @@ impl Command {
             Command::Serve(options) => options.run().map(|()| Vec::new()),
             Command::Status(shown) => Ok(status::run(&shown)?),
             Command::Totals(options) => Ok(totals::run(&options)?),
-            Command::Flush(at) => Ok(ask::flush(&at, "/flush")?),
+            Command::Flush(at) => Ok(ask::flush(&at)?),
             Command::Quarantine(of) => Ok(ask::order(&of.at, &format!("/quarantine/{}", of.sender))?),
             Command::Lift(of) => Ok(ask::order(&of.at, &format!("/lift/{}", of.sender))?),
             Command::Dead(command) => Ok(command.run()?),

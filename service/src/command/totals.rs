@@ -2,11 +2,9 @@
 
 use super::table::Table;
 use super::{ask, client, json, line, Form};
-use crate::operate::Status;
 use crate::sinks::{sqlite, Address};
 use anyhow::{bail, Context, Result};
 use clap::Args;
-use hyper::Method;
 use rusqlite::types::Value;
 use rusqlite::Row;
 use serde_json::json;
@@ -56,10 +54,9 @@ impl Options {
             Some(_) => bail!("only a SQLite sink has totals here: ask the sink itself"),
             None => {}
         }
-        let body = client::ask(&self.at, Method::GET, "/status").context(
+        let status = client::status(&self.at).context(
             "give the sink's file by --sink sqlite:PATH: without it the running service is asked where it is",
         )?;
-        let status: Status = serde_json::from_slice(&body).context(client::OTHER_VERSION)?;
         if status.sink.starts_with("postgres ") {
             bail!(IN_POSTGRES);
         }

@@ -61,7 +61,7 @@ fn by_rule<'r>(values: impl Iterator<Item = (&'r str, f64)>) -> BTreeMap<String,
 }
 
 /// Values that were not whole, and what they were rounded by together, in the finer unit.
-#[derive(Clone, Copy, Debug, Default, PartialEq)]
+#[derive(Clone, Copy, Debug, Default, PartialEq, serde::Serialize)]
 pub struct Rounding {
     pub values: u64,
     pub together: f64,
