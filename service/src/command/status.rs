@@ -58,7 +58,7 @@ fn text(status: &Status) -> String {
     }
     let (slots, of_cluster) = (slots(status), status.cluster.as_ref().map(cluster::text));
     let of_cluster = of_cluster.unwrap_or_default();
-    let troubles: String = status.slots.iter().filter_map(trouble).collect();
+    let troubles: String = status.slots.iter().flat_map(|slot| trouble(status, slot)).flatten().collect();
     let (senders, rounded) = (shares(&status.senders), rounded_series(&status.rounded));
     format!("{lines}\n{of_cluster}{slots}{senders}{rounded}{troubles}")
 }
@@ -193,22 +193,21 @@ fn stock(stock: &Stock) -> String {
     }
 }
 
-fn trouble(slot: &SlotStatus) -> Option<String> {
-    if let Some(why) = &slot.unknown {
-        return Some(format!("\nnothing is known of slot {}: {why}\n", slot.slot));
-    }
-    if let Some(why) = &slot.stuck {
-        return Some(format!("\nthe delivery of slot {} stops: {why}\n", slot.slot));
-    }
-    let why = slot.trouble.as_ref()?;
-    if slot.tries == 0 {
-        return Some(format!("\nno request of slot {} is sent: {why}\n", slot.slot));
-    }
-    Some(format!(
-        "\nthe sink has not taken a request of slot {} in {}: {why}\n",
-        slot.slot,
-        values::counted(slot.tries, "attempt")
-    ))
+/// What is wrong with a slot. Why all posts get 503 stands above.
+fn trouble(status: &Status, slot: &SlotStatus) -> [Option<String>; 2] {
+    let number = slot.slot;
+    let unavailable = slot.unavailable.as_ref().filter(|_| status.unavailable.is_none());
+    let delivery = match (&slot.unknown, &slot.stuck, &slot.trouble) {
+        (Some(why), ..) => Some(format!("\nnothing is known of slot {number}: {why}\n")),
+        (_, Some(why), _) => Some(format!("\nthe delivery of slot {number} stops: {why}\n")),
+        (.., Some(why)) if slot.tries == 0 => Some(format!("\nno request of slot {number} is sent: {why}\n")),
+        (.., Some(why)) => {
+            let tries = values::counted(slot.tries, "attempt");
+            Some(format!("\nthe sink has not taken a request of slot {number} in {tries}: {why}\n"))
+        }
+        (None, None, None) => None,
+    };
+    [unavailable.map(|why| format!("\nposts of slot {number} get 503: {why}\n")), delivery]
 }
 
 #[cfg(test)]
@@ -310,6 +309,18 @@ mod tests {
             told.slots[0].tries = tries;
             assert!(text(&told).ends_with(wanted), "{}", text(&told));
         }
+    }
+
+    /// As where several instances share the slots, of which one is being filled.
+    #[test]
+    fn a_slot_whose_posts_get_503_is_named_where_those_of_others_are_taken() {
+        let mut told = status(&[]);
+        told.slots[0].unavailable = Some("recovering".into());
+        let shown = text(&told);
+        assert!(shown.ends_with("\nposts of slot 0 get 503: recovering\n"), "{shown}");
+        told.unavailable = Some("recovering".into());
+        let shown = text(&told);
+        assert!(shown.matches("503").count() == 1 && shown.contains("posts get 503"), "{shown}");
     }
 
     #[test]
