@@ -143,28 +143,25 @@ impl<To: Write> Out<To> {
 const UNWRITTEN: &str = "standard output can't be written: what is there is not whole";
 
 fn csv(line: &Line) -> String {
-    let series = line.series.to_string();
-    let points = line.points.to_string();
-    let raw = |json: &Option<Box<serde_json::value::RawValue>>| {
-        json.as_ref().map_or(String::new(), |it| it.to_string())
-    };
+    let [bounds, buckets] =
+        [&line.bounds, &line.buckets].map(|list| list.as_ref().map_or("", |list| list.get()));
     let cells: [Cow<str>; 16] = [
-        series.into(),
+        line.series.to_string().into(),
         cell(&line.name),
         line.kind.name().into(),
         cell(&line.unit),
-        cell(line.attributes.get()).into_owned().into(),
-        cell(line.resource.get()).into_owned().into(),
+        cell(line.attributes.get()),
+        cell(line.resource.get()),
         cell(&line.scope_name),
         cell(&line.scope_version),
-        cell(line.scope_attributes.get()).into_owned().into(),
-        points.into(),
+        cell(line.scope_attributes.get()),
+        line.points.to_string().into(),
         line.total.as_str().into(),
         line.corrections.as_str().into(),
         line.billed.as_str().into(),
         line.count.as_deref().unwrap_or_default().into(),
-        cell(&raw(&line.bounds)).into_owned().into(),
-        cell(&raw(&line.buckets)).into_owned().into(),
+        cell(bounds),
+        cell(buckets),
     ];
     cells.join(",") + "\n"
 }

@@ -2,7 +2,6 @@
 
 mod tokens;
 
-use std::io::{Read, Write};
 use std::process::{Command, Output, Stdio};
 
 fn program(words: &[&str]) -> Command {
@@ -175,29 +174,6 @@ fn an_export_that_fails_prints_nothing() {
     let output = totxegun(&nowhere);
     assert_eq!((output.status.code(), output.stdout), (Some(1), Vec::new()));
     refused(&[&export[..], &["--data", "/nowhere"]].concat(), 1, "give the sink by --sink");
-}
-
-/// Another server may answer 200 to everything.
-#[test]
-fn a_flush_is_done_once_somebody_says_so() {
-    for (answer, wanted) in [
-        ("HTTP/1.1 200 OK\r\nContent-Length: 2\r\n\r\n{}", "no operators' address"),
-        (
-            "HTTP/1.1 404 Not Found\r\nContent-Length: 26\r\n\r\n{\"message\":\"no such path\"}",
-            "no operators' address",
-        ),
-        ("", "without an answer"),
-    ] {
-        let listener = std::net::TcpListener::bind("127.0.0.1:0").unwrap();
-        let address = listener.local_addr().unwrap().to_string();
-        let server = std::thread::spawn(move || {
-            let (mut stream, _) = listener.accept().unwrap();
-            assert!(stream.read(&mut [0; 1000]).unwrap() > 0);
-            stream.write_all(answer.as_bytes()).unwrap();
-        });
-        refused(&["flush", "--operate", &address], 1, wanted);
-        server.join().unwrap();
-    }
 }
 
 /// Connections on which nobody posts would else take the files that the journal needs.
