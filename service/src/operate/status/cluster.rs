@@ -27,7 +27,7 @@ pub struct InstanceStatus {
     pub trouble: Option<String>,
 }
 
-#[derive(Debug, Default, PartialEq, Eq, Serialize, Deserialize)]
+#[derive(Clone, Debug, Default, PartialEq, Eq, Serialize, Deserialize)]
 pub struct DatabaseStatus {
     /// Its address.
     pub database: String,
