@@ -5,7 +5,7 @@
 //! letter is thrown away only once the sink has it. A service that ends in between sends it again under the same key.
 
 use super::reach::{Answer, Command};
-use super::{Actor, Asked, Desk, Unit};
+use super::{Desk, Unit};
 use crate::files::dead::{sent_as, Became, Letter};
 use crate::files::{Dead, Fault};
 use crate::sinks::{of_part, Fate, Forwarded};
@@ -13,6 +13,11 @@ use crate::work::blocking;
 use serde::{Deserialize, Serialize};
 use serde_json::json;
 use std::sync::Arc;
+use std::time::Duration;
+use tokio::time::timeout;
+
+/// A page shows letters that all slots have told within.
+const SOON: Duration = Duration::from_secs(2);
 
 /// What became of a letter that was sent again.
 #[derive(Debug, PartialEq, Eq, Serialize, Deserialize)]
@@ -30,35 +35,25 @@ pub struct Resent {
 impl Desk {
     /// Those of all slots, the oldest first.
     pub(super) async fn letters(self: &Arc<Self>) -> Answer {
-        let answers = match self.in_all_slots("", &Command::Letters).await.all() {
-            Ok(answers) => answers,
-            Err(not_all) => return not_all,
-        };
-        match answers.iter().find(|(_, answer)| answer.status != 200) {
-            Some((_, faulty)) => faulty.clone(),
-            None => Answer::new(200, json!(in_order(&answers)).to_string()),
+        match self.in_all_slots("", &Command::Letters).await.all_done() {
+            Ok(answers) => Answer::new(200, json!(in_order(&answers)).to_string()),
+            Err(refused) => refused,
         }
     }
 
-    /// The same of the slots that can be asked now.
-    pub(super) async fn letters_there(self: &Arc<Self>) -> Vec<Letter> {
-        in_order(&self.in_all_slots("", &Command::Letters).await.answers())
+    /// The same of the slots that can be asked; none where that takes long.
+    pub(super) async fn letters_soon(self: &Arc<Self>) -> Vec<Letter> {
+        let all = timeout(SOON, self.in_all_slots("", &Command::Letters)).await;
+        all.map_or_else(|_| Vec::new(), |all| in_order(&all.answers()))
     }
 
     /// Asks the slot that has the letter of a key.
-    pub(super) async fn of_key(self: &Arc<Self>, who: &str, key: &str, command: Command) -> Answer {
+    pub(super) async fn of_key(self: &Arc<Self>, who: &str, key: &str, command: &Command) -> Answer {
         let slot = self.units.slot_of_key(key);
-        match self.in_slots(who, &command, [slot]).await.all() {
+        match self.in_slots(who, command, [slot]).await.all() {
             Ok(answers) => answers.into_iter().next().map_or_else(no_such, |(_, answer)| answer),
             Err(left) => left,
         }
-    }
-
-    /// The same of what is written down.
-    pub(super) async fn act_on_key(self: &Arc<Self>, actor: Actor, command: Command, key: String) -> Answer {
-        let asked = command.act().unwrap_or_else(|| Asked::new("dead", &*key)); // each has its name
-        let doing = |who: String| async move { self.of_key(&who, &key, command).await };
-        self.acts.recorded(actor, asked, doing, Answer::outcome).await
     }
 
     pub(super) async fn letters_of(&self, unit: &Unit) -> Answer {

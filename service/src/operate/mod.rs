@@ -84,6 +84,7 @@ pub struct Desk {
 
 /// A route of the operator's address.
 enum Route {
+    /// Of slots, or of a key.
     Order(Command),
     Report,
     Metrics,
@@ -92,9 +93,6 @@ enum Route {
     Ready,
     Status,
     Letters,
-    Letter(String),
-    Resend(String),
-    Drop(String),
     /// `close`, `open` or `correct`, and the parts of the path behind it.
     Period(Vec<String>),
     /// `repair` or `forget`, and the part of the path behind it.
@@ -117,9 +115,9 @@ impl Route {
             ["ready"] => (Method::GET, Route::Ready),
             ["status"] => (Method::GET, Route::Status),
             ["dead"] => (Method::GET, Route::Letters),
-            ["dead", key] => (Method::GET, Route::Letter(key.into())),
-            ["dead", key, "resend"] => (Method::POST, Route::Resend(key.into())),
-            ["dead", key, "drop"] => (Method::POST, Route::Drop(key.into())),
+            ["dead", key] => (Method::GET, Route::Order(Command::Letter(key.into()))),
+            ["dead", key, "resend"] => (Method::POST, Route::Order(Command::Resend(key.into()))),
+            ["dead", key, "drop"] => (Method::POST, Route::Order(Command::Drop(key.into()))),
             ["close" | "open" | "correct", _, ..] => (Method::POST, Route::Period(owned(&parts))),
             ["repair", _] | ["forget"] => (Method::POST, Route::Amend(owned(&parts))),
             [""] => (Method::GET, Route::Page(Page::Overview)),
@@ -135,7 +133,7 @@ impl Route {
     /// Whether it changes something, or shows what senders have sent.
     fn is_order(&self) -> bool {
         use Route::*;
-        matches!(self, Order(_) | Letters | Letter(_) | Resend(_) | Drop(_) | Period(_) | Amend(_))
+        matches!(self, Order(_) | Letters | Period(_) | Amend(_))
     }
 }
 
@@ -184,9 +182,9 @@ impl Desk {
     async fn go(self: &Arc<Self>, route: Route, actor: Actor, query: &str) -> Response<Body> {
         match route {
             Route::Order(order) => match order.act() {
-                None => self.order("", &order).await.into(),
+                None => self.carry_out("", order).await.into(),
                 Some(asked) => {
-                    let doing = |who: String| async move { self.order(&who, &order).await };
+                    let doing = |who: String| async move { self.carry_out(&who, order).await };
                     self.acts.recorded(actor, asked, doing, Answer::outcome).await.into()
                 }
             },
@@ -206,9 +204,6 @@ impl Desk {
                 Err(error) => message(500, &error.to_string()),
             },
             Route::Letters => self.letters().await.into(),
-            Route::Letter(key) => self.of_key("", &key, Command::Letter(key.clone())).await.into(),
-            Route::Resend(key) => self.act_on_key(actor, Command::Resend(key.clone()), key).await.into(),
-            Route::Drop(key) => self.act_on_key(actor, Command::Drop(key.clone()), key).await.into(),
             Route::Period(parts) => self.period(actor, &parts, query).await.into(),
             Route::Amend(parts) => self.amend(actor, &parts, query).await.into(),
             Route::Page(page) => self.page(page, query).await,
@@ -242,34 +237,37 @@ pub(crate) fn reply(status: u16, kind: &'static str, body: impl Into<Body>) -> R
 mod tests {
     use super::*;
 
+    /// Orders, and what shows bodies, are taken at the socket, or with a token.
     #[test]
     fn each_path_has_one_method() {
-        for (path, method) in [
-            ("/flush", Method::POST),
-            ("/checkpoint", Method::POST),
-            ("/quarantine/A", Method::POST),
-            ("/lift/A", Method::POST),
-            ("/report", Method::GET),
-            ("/metrics", Method::GET),
-            ("/totals", Method::GET),
-            ("/health", Method::GET),
-            ("/ready", Method::GET),
-            ("/status", Method::GET),
-            ("/dead", Method::GET),
-            ("/dead/0-a-1", Method::GET),
-            ("/dead/0-a-1/resend", Method::POST),
-            ("/dead/0-a-1/drop", Method::POST),
-            ("/close/2026-11", Method::POST),
-            ("/open/2026-11", Method::POST),
-            ("/correct/7/2026-11-05T13/-1", Method::POST),
-            ("/repair/2026-11-05T13", Method::POST),
-            ("/forget", Method::POST),
-            ("/", Method::GET),
-            ("/series", Method::GET),
-            ("/page.css", Method::GET),
-            ("/page.js", Method::GET),
+        let (order, read) = (true, false);
+        for (path, method, is_order) in [
+            ("/flush", Method::POST, order),
+            ("/checkpoint", Method::POST, order),
+            ("/quarantine/A", Method::POST, order),
+            ("/lift/A", Method::POST, order),
+            ("/report", Method::GET, read),
+            ("/metrics", Method::GET, read),
+            ("/totals", Method::GET, read),
+            ("/health", Method::GET, read),
+            ("/ready", Method::GET, read),
+            ("/status", Method::GET, read),
+            ("/dead", Method::GET, order),
+            ("/dead/0-a-1", Method::GET, order),
+            ("/dead/0-a-1/resend", Method::POST, order),
+            ("/dead/0-a-1/drop", Method::POST, order),
+            ("/close/2026-11", Method::POST, order),
+            ("/open/2026-11", Method::POST, order),
+            ("/correct/7/2026-11-05T13/-1", Method::POST, order),
+            ("/repair/2026-11-05T13", Method::POST, order),
+            ("/forget", Method::POST, order),
+            ("/", Method::GET, read),
+            ("/series", Method::GET, read),
+            ("/page.css", Method::GET, read),
+            ("/page.js", Method::GET, read),
         ] {
-            assert_eq!(Route::of(path).map(|(method, _)| method), Some(method), "{path}");
+            let found = Route::of(path).map(|(method, route)| (method, route.is_order()));
+            assert_eq!(found, Some((method, is_order)), "{path}");
         }
     }
 
@@ -281,32 +279,6 @@ mod tests {
         };
         assert_eq!(parts("/repair/2026-11-05T13%3A30%3A15"), ["repair", "2026-11-05T13:30:15"]);
         assert_eq!(parts("/correct/2/2026-11-05%2013:00/5"), ["correct", "2", "2026-11-05 13:00", "5"]);
-    }
-
-    /// The first are taken at the socket, or with a token.
-    #[test]
-    fn orders_and_bodies_are_told_from_what_is_read() {
-        let is_order = |path| Route::of(path).unwrap().1.is_order();
-        for path in [
-            "/flush",
-            "/checkpoint",
-            "/quarantine/A",
-            "/lift/A",
-            "/dead",
-            "/dead/k",
-            "/dead/k/resend",
-            "/dead/k/drop",
-            "/close/2026-11",
-            "/open/2026-11",
-            "/correct/7/2026-11-05T13/-1",
-            "/repair/2026-11-05T13",
-            "/forget",
-        ] {
-            assert!(is_order(path), "{path}");
-        }
-        for path in ["/report", "/metrics", "/totals", "/health", "/ready", "/status"] {
-            assert!(!is_order(path), "{path}");
-        }
     }
 
     #[test]

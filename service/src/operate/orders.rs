@@ -31,6 +31,16 @@ impl Desk {
         }
     }
 
+    /// Does what is asked of slots, or of a key.
+    pub(super) async fn carry_out(self: &Arc<Self>, who: &str, command: Command) -> Answer {
+        match &command {
+            Command::Letter(key) | Command::Resend(key) | Command::Drop(key) => {
+                self.of_key(who, key, &command).await
+            }
+            _ => self.order(who, &command).await,
+        }
+    }
+
     /// Has each slot carry out an order, wherever it is.
     pub(super) async fn order(self: &Arc<Self>, who: &str, order: &Command) -> Answer {
         match self.in_all_slots(who, order).await.all() {
@@ -40,16 +50,12 @@ impl Desk {
     }
 
     pub(super) async fn report(self: &Arc<Self>) -> Response<Body> {
-        let answers = match self.in_all_slots("", &Command::Report).await.all() {
-            Ok(answers) => answers,
-            Err(not_all) => return not_all.into(),
-        };
-        match answers.iter().find(|(_, answer)| answer.status != 200) {
-            Some((_, refused)) => refused.clone().into(),
-            None => {
+        match self.in_all_slots("", &Command::Report).await.all_done() {
+            Ok(answers) => {
                 let reports = answers.into_iter().map(|(_, answer)| answer.body);
                 reply(200, TEXT, reports.collect::<String>())
             }
+            Err(refused) => refused.into(),
         }
     }
 }

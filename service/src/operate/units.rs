@@ -9,7 +9,7 @@ use crate::slot::Slot;
 use std::collections::hash_map::DefaultHasher;
 use std::collections::{BTreeMap, HashMap};
 use std::hash::{Hash, Hasher};
-use std::sync::{Arc, Mutex, PoisonError, RwLock};
+use std::sync::{Arc, Mutex, PoisonError, RwLock, RwLockReadGuard};
 use std::time::Duration;
 
 /// A slot with what belongs to it.
@@ -51,16 +51,18 @@ impl Units {
         here.remove(&slot)
     }
 
+    fn here(&self) -> RwLockReadGuard<'_, BTreeMap<u16, Arc<Unit>>> {
+        self.here.read().unwrap_or_else(PoisonError::into_inner)
+    }
+
     /// By their numbers, ascending.
     pub fn all(&self) -> Vec<Arc<Unit>> {
-        let here = self.here.read().unwrap_or_else(PoisonError::into_inner);
-        here.values().cloned().collect()
+        self.here().values().cloned().collect()
     }
 
     /// Whether none is here.
     pub fn is_empty(&self) -> bool {
-        let here = self.here.read().unwrap_or_else(PoisonError::into_inner);
-        here.is_empty()
+        self.here().is_empty()
     }
 
     /// How many slots there are, here and elsewhere.
@@ -70,8 +72,7 @@ impl Units {
 
     /// One that is here.
     pub fn get(&self, slot: u16) -> Option<Arc<Unit>> {
-        let here = self.here.read().unwrap_or_else(PoisonError::into_inner);
-        here.get(&slot).cloned()
+        self.here().get(&slot).cloned()
     }
 
     /// Why posts of the slots that are here, and none of these, are answered 503, where those of all of them are.

@@ -1,6 +1,6 @@
 //! Markup that is put together: what stands in the program goes in as it is, and all else escaped.
 
-use crate::log::all_shown;
+use crate::log::{all_shown, cut};
 use std::fmt::{Display, Write};
 
 /// How much of a text is shown, in characters.
@@ -19,13 +19,15 @@ impl Html {
         self
     }
 
+    pub fn put(&mut self, part: Html) -> &mut Html {
+        self.0.push_str(&part.0);
+        self
+    }
+
     /// A text, also within the quotes of an attribute: one line, and nothing that is markup.
     pub fn text(&mut self, text: impl Display) -> &mut Html {
         let text = text.to_string();
-        let (shown, is_cut) = match text.char_indices().nth(SHOWN) {
-            Some((end, _)) => (&text[..end], true),
-            None => (&text[..], false),
-        };
+        let shown = cut(&text, SHOWN);
         for char in all_shown(shown).chars() {
             match char {
                 '&' => self.0.push_str("&amp;"),
@@ -36,7 +38,7 @@ impl Html {
                 other => self.0.push(other),
             }
         }
-        if is_cut {
+        if shown.len() < text.len() {
             self.0.push_str("..");
         }
         self

@@ -98,14 +98,9 @@ fn frame(place: Place, status: &Status, body: Html) -> String {
     html.markup("<a href=series")
         .markup(current(Place::Series))
         .markup(">Series</a></nav></header>\n<main id=main>");
-    let mut whole = html.into_text();
-    whole.push_str(&body.into_text());
-    let mut end = Html::default();
-    end.markup("</main><footer>totxegun ")
-        .text(&status.version)
-        .markup(", up ")
-        .text(seconds_shown(status.uptime_seconds));
-    end.markup("; senders post to ").text(&status.listen).markup("; sink ").text(&status.sink);
-    end.markup("</footer></body></html>\n");
-    whole + &end.into_text()
+    html.put(body).markup("</main><footer>totxegun ").text(&status.version);
+    html.markup(", up ").text(seconds_shown(status.uptime_seconds));
+    html.markup("; senders post to ").text(&status.listen).markup("; sink ").text(&status.sink);
+    html.markup("</footer></body></html>\n");
+    html.into_text()
 }

@@ -43,12 +43,12 @@ impl Desk {
         frame(Place::Overview, &seen.status, html)
     }
 
-    /// None where there are many, or the disk is not to be asked.
+    /// None where there are many, the disk is not to be asked, or a slot does not answer.
     pub(super) async fn few_letters(self: &Arc<Self>, dead: u64) -> Vec<Letter> {
         if dead == 0 || dead > LETTERS || !self.units.disk_answers() {
             return Vec::new();
         }
-        self.letters_there().await
+        self.letters_soon().await
     }
 }
 

@@ -93,25 +93,21 @@ impl Wanted {
         }
         let has = |words: &str| {
             let wanted = words.to_lowercase();
-            pairs(&series.attributes, series).any(|pair| pair.to_lowercase().contains(&wanted))
+            let mut all = pairs(&series.attributes).chain(pairs(&series.resource));
+            all.any(|pair| pair.to_lowercase().contains(&wanted))
         };
         series.name.to_lowercase().contains(&self.name.to_lowercase())
             && self.attribute.split_whitespace().all(has)
     }
 }
 
-/// Each attribute of a point and its resource as `key=value`.
-fn pairs<'s>(
-    attributes: &'s Map<String, Value>,
-    series: &'s SeriesTotal,
-) -> impl Iterator<Item = String> + 's {
-    let all = attributes.iter().chain(&series.resource);
-    all.map(|(key, value)| format!("{key}={}", text(value)))
+/// Each attribute as `key=value`.
+fn pairs(attributes: &Map<String, Value>) -> impl Iterator<Item = String> + '_ {
+    attributes.iter().map(|(key, value)| format!("{key}={}", text(value)))
 }
 
 fn joined(attributes: &Map<String, Value>) -> String {
-    let all = attributes.iter().map(|(key, value)| format!("{key}={}", text(value)));
-    all.collect::<Vec<String>>().join(", ")
+    pairs(attributes).collect::<Vec<String>>().join(", ")
 }
 
 fn form(html: &mut Html, wanted: &Wanted) {

@@ -79,15 +79,7 @@ impl Answer {
 impl Command {
     /// Whether it changes something.
     pub fn changes(&self) -> bool {
-        match self {
-            Command::Flush
-            | Command::Quarantine(_)
-            | Command::Lift(_)
-            | Command::Resend(_)
-            | Command::Drop(_)
-            | Command::Amend(_) => true,
-            Command::Report | Command::Letters | Command::Letter(_) | Command::Find(_) => false,
-        }
+        !matches!(self, Command::Report | Command::Letters | Command::Letter(_) | Command::Find(_))
     }
 
     /// What is written down of it.

@@ -3,24 +3,15 @@
 use super::{Answer, Command, ENDING};
 use std::collections::BTreeMap;
 
-/// Why a slot has not done it.
-#[derive(Clone, Debug, PartialEq, Eq)]
-pub struct NotDone {
-    why: String,
-}
-
-impl NotDone {
-    pub fn because(why: impl Into<String>) -> NotDone {
-        NotDone { why: why.into() }
-    }
-}
+/// What a slot has said, or why it has not done it.
+pub type Done = Result<Answer, String>;
 
 /// By slot.
 pub struct Ended {
     is_act: bool,
     /// Of how many slots.
     of: usize,
-    in_slot: BTreeMap<u16, Result<Answer, NotDone>>,
+    in_slot: BTreeMap<u16, Done>,
 }
 
 impl Ended {
@@ -28,7 +19,7 @@ impl Ended {
         Ended { is_act: command.changes(), of: slots, in_slot: BTreeMap::new() }
     }
 
-    pub fn note(&mut self, slot: u16, done: Result<Answer, NotDone>) {
+    pub fn note(&mut self, slot: u16, done: Done) {
         self.in_slot.insert(slot, done);
     }
 
@@ -52,6 +43,15 @@ impl Ended {
         }
     }
 
+    /// The same, where each slot answers 200; the error may be what the first other one says.
+    pub fn all_done(self) -> Result<Vec<(u16, Answer)>, Answer> {
+        let mut answers = self.all()?;
+        match answers.iter().position(|(_, answer)| answer.status != 200) {
+            None => Ok(answers),
+            Some(refused) => Err(answers.swap_remove(refused).1),
+        }
+    }
+
     /// Slots by why they have not done it.
     fn left(&self) -> BTreeMap<String, Vec<u16>> {
         let mut left: BTreeMap<String, Vec<u16>> = BTreeMap::new();
@@ -59,7 +59,7 @@ impl Ended {
             let why = match done {
                 Ok(answer) if answer.status >= 500 && self.of > 1 => answer.message(),
                 Ok(_) => continue,
-                Err(left) => left.why.clone(),
+                Err(why) => why.clone(),
             };
             left.entry(why).or_default().push(*slot);
         }

@@ -15,7 +15,7 @@ pub(super) use ended::{slots_shown, Ended};
 pub use places::Others;
 
 use super::{reply, Desk};
-use ended::NotDone;
+use ended::Done;
 use hyper::{Body, Response};
 use places::Place;
 use std::collections::BTreeSet;
@@ -38,8 +38,8 @@ const NOBODY: &str = "no instance has it";
 /// Where there are no others.
 pub(super) const ENDING: &str = "stopping";
 
-/// What came of it in a slot, or why nothing did.
-type InSlot = (u16, Result<Answer, NotDone>);
+/// What came of it in a slot.
+type InSlot = (u16, Done);
 
 impl Desk {
     /// Has each slot do it, wherever it is.
@@ -97,7 +97,7 @@ impl Desk {
             Place::Here => {
                 let why = self.others.as_ref().map_or(ENDING, |_| MOVED);
                 let done = self.here(&command, &slots).await.into_iter();
-                done.map(|(slot, answer)| (slot, answer.ok_or_else(|| NotDone::because(why)))).collect()
+                done.map(|(slot, answer)| (slot, answer.ok_or_else(|| why.into()))).collect()
             }
             Place::At { name, address } => self.there(&name, &address, who, command, slots).await,
             Place::Nobody => all_left(&slots, NOBODY),
@@ -152,7 +152,7 @@ impl Desk {
 }
 
 fn all_left(slots: &[u16], why: &str) -> Vec<InSlot> {
-    let left = |slot: &u16| (*slot, Err(NotDone::because(why)));
+    let left = |slot: &u16| (*slot, Err(why.into()));
     slots.iter().map(left).collect()
 }
 

@@ -1,6 +1,6 @@
 //! What all instances say of themselves, as one status.
 
-use super::{BooksStatus, CumulativeStatus, Desk, InstanceStatus, RoundedStatus, SlotStatus, Status};
+use super::{Desk, InstanceStatus, RoundedStatus, SlotStatus, Status};
 use crate::cluster::status::{OtherInstance, OwnedSlot};
 use crate::cluster::Refusal;
 use crate::metrics::SHOWN_OF_RULE;
@@ -100,7 +100,10 @@ impl Status {
             shown.trouble = own.trouble.or(shown.trouble.take());
         }
         self.dead += dead;
-        self.books.add(&books);
+        // There may be as many series in each slot.
+        self.books.count += books.count;
+        self.books.memory_bytes += books.memory_bytes;
+        self.books.most_memory_bytes += books.most_memory_bytes;
         self.slots.extend(slots);
         self.senders.extend(senders);
         self.senders.sort_by(|one, other| other.part().total_cmp(&one.part()));
@@ -108,7 +111,8 @@ impl Status {
         for one in rounded {
             self.add_rounded(one);
         }
-        self.cumulative.add(&cumulative);
+        self.cumulative.series += cumulative.series;
+        self.cumulative.noted += cumulative.noted;
     }
 
     fn add_rounded(&mut self, other: RoundedStatus) {
@@ -151,22 +155,6 @@ fn shown(other: &OtherInstance, slots: &[OwnedSlot]) -> InstanceStatus {
         beat_seconds: Some(u64::from(other.still) * BEAT / 1000),
         slots: slots.iter().filter(|slot| slot.owner == other.name).count(),
         trouble: other.leaves.then(|| "it is ending, and hands over its slots".to_string()),
-    }
-}
-
-impl BooksStatus {
-    /// There may be as many series in each slot.
-    fn add(&mut self, other: &BooksStatus) {
-        self.count += other.count;
-        self.memory_bytes += other.memory_bytes;
-        self.most_memory_bytes += other.most_memory_bytes;
-    }
-}
-
-impl CumulativeStatus {
-    fn add(&mut self, other: &CumulativeStatus) {
-        self.series += other.series;
-        self.noted += other.noted;
     }
 }
 

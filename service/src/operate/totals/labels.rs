@@ -24,8 +24,8 @@ pub fn of_series(series: &SeriesTotal) -> Labels {
     let mut labels = Labels::new();
     add(&mut labels, "", &series.attributes, &[]);
     add(&mut labels, "otel_scope_", &series.scope_attributes, &[]);
-    put(&mut labels, "otel_scope_name", series.scope_name.clone());
-    put(&mut labels, "otel_scope_version", series.scope_version.clone());
+    labels.insert("otel_scope_name".into(), series.scope_name.clone());
+    labels.insert("otel_scope_version".into(), series.scope_version.clone());
     identify(&mut labels, &series.resource);
     labels.retain(|_, value| !value.is_empty()); // to Prometheus, one without a value is not there
     labels
@@ -65,7 +65,9 @@ fn add(labels: &mut Labels, prefix: &str, attributes: &Map<String, Value>, but: 
                 found.push(';');
                 found.push_str(&value);
             }
-            None => put(labels, &name, value),
+            None => {
+                labels.insert(name, value);
+            }
         }
     }
 }
@@ -77,15 +79,11 @@ fn identify(labels: &mut Labels, resource: &Map<String, Value>) {
             Some(namespace) => format!("{namespace}/{name}"),
             None => name,
         };
-        put(labels, "job", job);
+        labels.insert("job".into(), job);
     }
     if let Some(instance) = of(INSTANCE) {
-        put(labels, "instance", instance);
+        labels.insert("instance".into(), instance);
     }
-}
-
-fn put(labels: &mut Labels, name: &str, value: String) {
-    labels.insert(name.into(), value);
 }
 
 /// `{a="b",c="d"}`, or nothing. To Prometheus a zero byte is the end of the page, so it is replaced.

@@ -15,6 +15,7 @@ use crate::sinks::postgres::{self, Server};
 use crate::sinks::sqlite::by_hour::Hour;
 use crate::sinks::sqlite::totals::{Filter, SeriesTotal};
 use crate::sinks::{sqlite, Address};
+use crate::work::blocking;
 use hyper::{Body, Response};
 use std::path::PathBuf;
 use std::sync::Arc;
@@ -53,7 +54,7 @@ impl Totals {
         match self.source.clone() {
             Source::Sqlite(path) => {
                 let read = move || sqlite::by_hour::read(&path, &series, from);
-                beside(move || read().map_err(|fault| fault.to_string())).await
+                blocking(move || read().map_err(|fault| fault.to_string())).await
             }
             Source::Postgres(server) => {
                 let read = postgres::by_hour::read(&server, &series, from).await;
@@ -71,7 +72,7 @@ impl Totals {
         let source = self.source.clone();
         let reading = tokio::spawn(async move {
             let totals = source.read().await;
-            let made = beside(move || make(totals?)).await;
+            let made = blocking(move || make(totals?)).await;
             drop(turn);
             made
         });
@@ -84,7 +85,7 @@ impl Source {
         match self {
             Source::Sqlite(path) => {
                 let read = move || sqlite::totals::read(&path, &Filter::default());
-                beside(move || read().map_err(|fault| fault.to_string())).await
+                blocking(move || read().map_err(|fault| fault.to_string())).await
             }
             Source::Postgres(server) => {
                 let read = postgres::totals::read(&server).await;
@@ -92,14 +93,6 @@ impl Source {
             }
         }
     }
-}
-
-/// Beside the runtime: it waits for a disk, or works for long.
-async fn beside<T: Send + 'static>(
-    call: impl FnOnce() -> Result<T, String> + Send + 'static,
-) -> Result<T, String> {
-    let done = tokio::task::spawn_blocking(call).await;
-    done.unwrap_or_else(|error| Err(error.to_string()))
 }
 
 fn made(totals: &[SeriesTotal]) -> Result<String, String> {
