@@ -10,6 +10,7 @@ mod damaged;
 mod moved;
 mod open;
 mod owned;
+mod parts;
 mod reading;
 mod rows;
 mod snapshot;

@@ -4,6 +4,7 @@
 //! when they are delivered. The last segment is read whole, for a crash may have torn its last group.
 
 use super::changes::{Change, Group};
+use super::parts;
 use super::rows::{self, GroupHead};
 use super::snapshot::Snapshot;
 use super::state::{Batch, State};
@@ -22,7 +23,6 @@ pub(super) struct Reading {
     disk: Disk,
     pub reader: Reader,
     number: u64,
-    next: Next,
     /// The last epoch, which most groups share.
     epoch: Arc<str>,
 }
@@ -42,23 +42,17 @@ enum Items {
 impl Reading {
     pub fn open(disk: &Disk, folder: &Path, number: u64) -> Result<Reading, Fault> {
         let path = segment::path(folder, number);
-        let (mut reader, first) = Reader::open(disk, &path, Which::Outbox, number, None)?;
+        let (reader, first) = Reader::open(disk, &path, Which::Outbox, number, None)?;
         if first == Next::Stop {
             return Err(reader.damaged(0, CHANGED));
         }
-        let next = reader.next()?;
-        Ok(Reading { disk: disk.clone(), reader, number, next, epoch: "".into() })
-    }
-
-    fn step(&mut self) -> Result<Next, Fault> {
-        let next = self.reader.next()?;
-        Ok(std::mem::replace(&mut self.next, next))
+        Ok(Reading { disk: disk.clone(), reader, number, epoch: "".into() })
     }
 
     /// Finds the groups of a closed segment.
     pub fn pass_over(mut self, batches: &mut Vec<Batch>) -> Result<(), Fault> {
         loop {
-            match std::mem::replace(&mut self.next, Next::Stop) {
+            match parts::next(&mut self.reader)? {
                 Next::Closed => return Ok(()),
                 Next::Stop => return Err(self.reader.damaged(self.reader.at, CHANGED)),
                 Next::Record { at, kind: rows::GROUP, bytes } => {
@@ -70,7 +64,6 @@ impl Reading {
                 }
                 Next::Record { .. } => {}
             }
-            self.next = self.reader.next()?;
         }
     }
 
@@ -103,7 +96,7 @@ impl Reading {
             return Ok(Items::Torn(self.reader.at));
         }
         let to = self.reader.at;
-        match self.reader.next()? {
+        match parts::next(&mut self.reader)? {
             Next::Record { at, kind: rows::COMMIT, bytes } => match rows::commit_of(&bytes, head) {
                 Some((journal, ends))
                     if to == from + head.length && (!whole || number == head.first + head.count) =>
@@ -137,12 +130,12 @@ impl Reading {
 
     /// The state that the last segment tells, and where it has to be closed, where it was not.
     pub fn read_last(&mut self) -> Result<(State, Option<u64>), Fault> {
-        let Next::Record { at, kind: rows::SNAPSHOT, bytes } = self.step()? else {
+        let Next::Record { at, kind: rows::SNAPSHOT, bytes } = parts::next(&mut self.reader)? else {
             return Err(self.reader.damaged(self.reader.at, CHANGED));
         };
         let mut state = Snapshot::read(&bytes).ok_or_else(|| self.reader.damaged(at, NOT_WRITTEN))?;
         loop {
-            match std::mem::replace(&mut self.next, Next::Stop) {
+            match parts::next(&mut self.reader)? {
                 Next::Closed => return Ok((state, None)),
                 Next::Stop => {
                     check_torn(&self.disk, &self.reader.path, self.reader.at)?;
@@ -160,7 +153,6 @@ impl Reading {
                 }
                 Next::Record { at, kind, bytes } => self.apply(&mut state, at, kind, &bytes)?,
             }
-            self.next = self.reader.next()?;
         }
     }
 

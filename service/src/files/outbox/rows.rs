@@ -11,11 +11,13 @@
 //! | 22 quarantine, 23 lift | the sender's name |
 //! | 24 forget | packed `[id, ..]` |
 //! | 25 beside | packed `[[metric, unit], ..]` |
+//! | 26 part | the first bytes of the snapshot or the commit behind it, where that is longer than a record (`parts`) |
 //!
 //! Packed is deflated; but bodies it is JSON. A series has the id of the snapshot, or the next free one from the
 //! commit that first has it.
 
 use super::changes::{Change, End, Group};
+use super::parts::put_long;
 use super::snapshot::RunRow;
 use super::state::Front;
 use super::table::Table;
@@ -46,6 +48,7 @@ pub const QUARANTINE: u8 = OWN + 6;
 pub const LIFT: u8 = OWN + 7;
 pub const FORGET: u8 = OWN + 8;
 pub const BESIDE: u8 = OWN + 9;
+pub const PART: u8 = OWN + 10;
 
 /// How much is done to pack.
 const LEVEL: u32 = 5;
@@ -222,8 +225,9 @@ pub fn group(group: &Group, items: &[Vec<u8>]) -> GroupBytes {
     put(&mut out, GROUP, &[&head, group.epoch.as_bytes()]);
     let items = out.len()..out.len() + bodies.len();
     out.append(&mut bodies);
-    let ends = packed(&ends(group));
-    put(&mut out, COMMIT, &[&numbers([group.first, count, group.journal]), &ends]);
+    let mut commit = numbers([group.first, count, group.journal]);
+    commit.append(&mut packed(&ends(group)));
+    put_long(&mut out, COMMIT, &commit);
     GroupBytes { records: out, items }
 }
 

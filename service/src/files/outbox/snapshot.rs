@@ -1,12 +1,12 @@
 //! What a segment begins with: all that the outbox knows, but its requests.
 
 use super::changes::UnitOfMetric;
+use super::parts::put_long;
 use super::rows::{each_row, packed_long, unpacked, SNAPSHOT};
 use super::state::State;
 use super::table::{KnownSeries, Table};
 use super::texts::Texts;
 use super::Series;
-use crate::files::records::put;
 use crate::otlp::series::SeriesKey;
 use crate::runs::{Run, Since};
 use serde::{Deserialize, Deserializer, Serialize, Serializer};
@@ -69,7 +69,7 @@ impl RunRow {
 }
 
 impl Snapshot {
-    pub fn record(&self) -> Vec<u8> {
+    pub fn records(&self) -> Vec<u8> {
         let run = |(id, series): (u32, &Series)| {
             let run = series.run.as_ref()?;
             Some(RunRow::of(id, series.frontier, run))
@@ -86,7 +86,7 @@ impl Snapshot {
             beside: self.beside.clone(),
         };
         let mut out = Vec::new();
-        put(&mut out, SNAPSHOT, &[&packed_long(&content)]);
+        put_long(&mut out, SNAPSHOT, &packed_long(&content));
         out
     }
 

@@ -223,7 +223,7 @@ pub(super) fn begin(disk: &Disk, folder: &Path, number: u64, snapshot: &Snapshot
         disk.remove(&draft)?;
     }
     let mut segment = Segment::create(disk, draft.clone(), Which::Outbox, number, Ahead::Nothing, None)?;
-    segment.put(&[&snapshot.record()])?;
+    segment.put(&[&snapshot.records()])?;
     segment.order()?;
     disk.rename(&draft, &path)?;
     disk.order_folder(folder)?;

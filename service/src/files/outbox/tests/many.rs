@@ -74,7 +74,29 @@ fn a_snapshot_has_one_form() {
     assert_eq!((b.frontier, b.seen, b.owner.as_deref()), (9, 8, Some("me")));
     assert_eq!(b.run, Some(run_of(3, 5, &[5, 6])));
     assert_eq!(state.beside, [unit_of("m", "ms")].into());
-    let record = state.snapshot().record();
+    let record = state.snapshot().records();
     let written = rows::inflated(&record[crate::files::records::HEAD..]).unwrap();
     assert_eq!(String::from_utf8(written).unwrap(), text);
+}
+
+/// Else it was written, and no start could read it.
+#[test]
+fn a_commit_and_a_snapshot_may_be_longer_than_a_record() {
+    let folder = tempfile::tempdir().unwrap();
+    let mut numbers = TestRandom(1);
+    let mut noise = || (0..48_000).map(|_| char::from(b'0' + numbers.below(64) as u8)).collect::<String>();
+    let keys: Vec<String> = (0..150).map(|_| noise()).collect();
+    let ends: Vec<(&str, u64)> = keys.iter().map(|key| (&**key, 7)).collect();
+    let outbox = open(folder.path());
+    outbox.commit(&[body(&ends, "")], 2).unwrap();
+    let wanted: HashMap<SeriesKey, u64> = ends.iter().map(|(key, end)| (key_of(key), *end)).collect();
+    kill(outbox);
+    // The first start reads the commit, the others the snapshot that it wrote.
+    for _ in 0..3 {
+        let outbox = open(folder.path());
+        assert_eq!(found(&outbox), wanted);
+        let snapshot = std::fs::metadata(last_segment(folder.path())).unwrap().len();
+        assert!(snapshot > records::LARGEST as u64, "{snapshot}");
+        kill(outbox);
+    }
 }
