@@ -42,26 +42,13 @@ type End = dyn Fn(&Fault) + Send + Sync;
 /// The disk as it is, or as a test wants it to fail.
 #[derive(Clone, Default)]
 pub struct Disk {
-    place: Place,
+    /// Where files are kept; none where they are in folders.
+    drive: Option<Arc<Owned>>,
+    /// What locks a folder is held as long as anything can be written there.
+    _locks: Option<Arc<super::folder::Locks>>,
     hook: Option<Arc<Hook>>,
     end: Option<Arc<End>>,
     under_way: Arc<UnderWay>,
-}
-
-/// Where files are kept.
-#[derive(Clone)]
-enum Place {
-    /// What locks it is held as long as anything can be written there.
-    Folder {
-        _locks: Option<Arc<super::folder::Locks>>,
-    },
-    Drive(Arc<Owned>),
-}
-
-impl Default for Place {
-    fn default() -> Place {
-        Place::Folder { _locks: None }
-    }
 }
 
 /// The exit status of a process that ends by its disk.
@@ -77,12 +64,12 @@ pub fn io_fault(path: &Path) -> impl FnOnce(io::Error) -> Fault + '_ {
 impl Disk {
     /// The files of a slot whose drive was taken just now.
     pub fn of_drive(drive: Arc<dyn Drive>) -> Disk {
-        Disk { place: Place::Drive(Arc::new(Owned::new(drive))), ..Disk::default() }
+        Disk { drive: Some(Arc::new(Owned::new(drive))), ..Disk::default() }
     }
 
     /// A folder that is locked so.
     pub fn locked(&self, locks: &Arc<super::folder::Locks>) -> Disk {
-        Disk { place: Place::Folder { _locks: Some(locks.clone()) }, ..self.clone() }
+        Disk { _locks: Some(locks.clone()), ..self.clone() }
     }
 
     /// Asks `hook` before each call.
@@ -116,48 +103,39 @@ impl Disk {
 
     /// How long the call that began first has been under way; zero where none is.
     pub fn under_way(&self) -> Duration {
-        let longest = self.under_way.longest();
-        match &self.place {
-            Place::Folder { .. } => longest,
-            Place::Drive(owned) => longest.max(owned.under_way()),
-        }
+        let of_drive = self.drive.as_ref().map_or(Duration::ZERO, |owned| owned.under_way());
+        self.under_way.longest().max(of_drive)
     }
 
     /// Whether what is done is done in order, without a sync between, and is never torn.
     pub fn keeps_order(&self) -> bool {
-        matches!(self.place, Place::Drive(_))
+        self.drive.is_some()
     }
 
     /// Whether something was changed that is not durable, and that no caller may wait for.
     pub fn is_behind(&self) -> bool {
-        matches!(&self.place, Place::Drive(owned) if owned.is_behind())
+        self.drive.as_ref().is_some_and(|owned| owned.is_behind())
     }
 
     /// How long ago the slot was certainly this instance's. A folder is until the process ends.
     pub fn ours_before(&self) -> Duration {
-        match &self.place {
-            Place::Folder { .. } => Duration::ZERO,
-            Place::Drive(owned) => owned.ours_before(),
-        }
+        self.drive.as_ref().map_or(Duration::ZERO, |owned| owned.ours_before())
     }
 
     /// Under which the slot is this instance's.
     pub fn term(&self) -> Option<u64> {
-        match &self.place {
-            Place::Folder { .. } => None,
-            Place::Drive(owned) => owned.term(),
-        }
+        self.drive.as_ref()?.term()
     }
 
     pub fn is_lost(&self) -> bool {
-        matches!(&self.place, Place::Drive(owned) if owned.is_lost())
+        self.drive.as_ref().is_some_and(|owned| owned.is_lost())
     }
 
     /// Returns once the slot is lost. A folder never is.
     pub async fn lost(&self) -> Lost {
-        match &self.place {
-            Place::Folder { .. } => std::future::pending().await,
-            Place::Drive(owned) => owned.lost().await,
+        match &self.drive {
+            None => std::future::pending().await,
+            Some(owned) => owned.lost().await,
         }
     }
 
@@ -172,21 +150,15 @@ impl Disk {
 
     /// Nothing of a drive is changed any more: its slot ends, for this reason. False of a folder, which is the process's.
     pub fn close(&self, why: &str) -> bool {
-        match &self.place {
-            Place::Folder { .. } => false,
-            Place::Drive(owned) => {
-                owned.close(why);
-                true
-            }
+        if let Some(owned) = &self.drive {
+            owned.close(why);
         }
+        self.drive.is_some()
     }
 
     /// Why it was closed.
     pub fn failure(&self) -> Option<&str> {
-        match &self.place {
-            Place::Folder { .. } => None,
-            Place::Drive(owned) => owned.failure(),
-        }
+        self.drive.as_ref()?.failure()
     }
 
     /// Ends the process: what is on disk is not known then, and only a start reads just that.
@@ -216,20 +188,20 @@ impl Disk {
 
     /// A drive needs none.
     pub fn make_folder(&self, path: &Path) -> Result<(), Fault> {
-        match &self.place {
-            Place::Folder { .. } => self.call(Call::MakeFolder, path, || {
-                let is_new = !path.exists();
-                DirBuilder::new().recursive(true).mode(0o700).create(path)?;
-                if is_new {
-                    // Who has the folder above may have put a link in its place.
-                    let itself = (OFlag::O_NOFOLLOW | OFlag::O_DIRECTORY).bits();
-                    let made = OpenOptions::new().read(true).custom_flags(itself).open(path)?;
-                    give_to_owner(&made, path);
-                }
-                Ok(())
-            }),
-            Place::Drive(_) => Ok(()),
+        if self.drive.is_some() {
+            return Ok(());
         }
+        self.call(Call::MakeFolder, path, || {
+            let is_new = !path.exists();
+            DirBuilder::new().recursive(true).mode(0o700).create(path)?;
+            if is_new {
+                // Who has the folder above may have put a link in its place.
+                let itself = (OFlag::O_NOFOLLOW | OFlag::O_DIRECTORY).bits();
+                let made = OpenOptions::new().read(true).custom_flags(itself).open(path)?;
+                give_to_owner(&made, path);
+            }
+            Ok(())
+        })
     }
 
     /// The same, with a name that is durable, as those of the folders above.
@@ -250,13 +222,13 @@ impl Disk {
     pub fn create(&self, path: &Path) -> Result<File, Fault> {
         let mut how = OpenOptions::new();
         how.read(true).write(true).create_new(true).mode(0o600);
-        self.call(Call::Create, path, || match &self.place {
-            Place::Folder { .. } => {
+        self.call(Call::Create, path, || match &self.drive {
+            None => {
                 let file = how.open(path)?;
                 give_to_owner(&file, path);
                 Ok(File::OfFolder(file))
             }
-            Place::Drive(owned) => {
+            Some(owned) => {
                 let number = owned.change(|drive| drive.create(path))?;
                 Ok(File::OfDrive(owned.clone(), number))
             }
@@ -297,17 +269,14 @@ impl Disk {
 
     /// Of a drive, once a sync may begin, which follows at once: what this returns is kept until then.
     pub fn board(&self) -> Option<Aboard> {
-        match &self.place {
-            Place::Folder { .. } => None,
-            Place::Drive(owned) => Some(owned.board()),
-        }
+        self.drive.as_ref().map(Owned::board)
     }
 
     /// Makes a folder's names durable; of a drive all that was done.
     pub fn sync_folder(&self, path: &Path) -> Result<(), Fault> {
-        self.call(Call::SyncFolder, path, || match &self.place {
-            Place::Folder { .. } => std::fs::File::open(path)?.sync_all(),
-            Place::Drive(owned) => owned.sync(),
+        self.call(Call::SyncFolder, path, || match &self.drive {
+            None => std::fs::File::open(path)?.sync_all(),
+            Some(owned) => owned.sync(),
         })
     }
 
@@ -328,22 +297,22 @@ impl Disk {
     }
 
     pub fn rename(&self, from: &Path, to: &Path) -> Result<(), Fault> {
-        self.call(Call::Rename, to, || match &self.place {
-            Place::Folder { .. } => std::fs::rename(from, to),
-            Place::Drive(owned) => owned.change(|drive| drive.rename(from, to)),
+        self.call(Call::Rename, to, || match &self.drive {
+            None => std::fs::rename(from, to),
+            Some(owned) => owned.change(|drive| drive.rename(from, to)),
         })
     }
 
     pub fn remove(&self, path: &Path) -> Result<(), Fault> {
-        self.call(Call::Remove, path, || match &self.place {
-            Place::Folder { .. } => std::fs::remove_file(path),
-            Place::Drive(owned) => owned.change(|drive| drive.remove(path)),
+        self.call(Call::Remove, path, || match &self.drive {
+            None => std::fs::remove_file(path),
+            Some(owned) => owned.change(|drive| drive.remove(path)),
         })
     }
 
     /// Removes what nobody needs, where that can be done.
     pub fn discard(&self, path: &Path) {
-        if let Place::Folder { .. } = &self.place {
+        if self.drive.is_none() {
             let _ = std::fs::remove_file(path);
         }
     }

@@ -1,6 +1,6 @@
 //! What is read of a disk.
 
-use super::{io_fault, Disk, File, Place};
+use super::{io_fault, Disk, File};
 use crate::files::Fault;
 use std::ffi::OsString;
 use std::fs::OpenOptions;
@@ -11,11 +11,11 @@ use std::time::SystemTime;
 impl Disk {
     /// The names in a folder.
     pub fn names(&self, folder: &Path) -> Result<Vec<OsString>, Fault> {
-        let names = match &self.place {
-            Place::Folder { .. } => {
+        let names = match &self.drive {
+            None => {
                 std::fs::read_dir(folder).and_then(|all| all.map(|entry| Ok(entry?.file_name())).collect())
             }
-            Place::Drive(owned) => owned.call(|drive| drive.list(folder)),
+            Some(owned) => owned.call(|drive| drive.list(folder)),
         };
         names.map_err(io_fault(folder))
     }
@@ -38,9 +38,9 @@ impl Disk {
     }
 
     fn open_with(&self, path: &Path, how: &OpenOptions) -> io::Result<File> {
-        match &self.place {
-            Place::Folder { .. } => Ok(File::OfFolder(how.open(path)?)),
-            Place::Drive(owned) => {
+        match &self.drive {
+            None => Ok(File::OfFolder(how.open(path)?)),
+            Some(owned) => {
                 let number = owned.call(|drive| drive.open(path))?;
                 Ok(File::OfDrive(owned.clone(), number))
             }
@@ -49,17 +49,17 @@ impl Disk {
 
     /// Whether there is one. Of a folder, where that can't be known there is none, and who makes it finds out.
     pub fn has(&self, path: &Path) -> Result<bool, Fault> {
-        match &self.place {
-            Place::Folder { .. } => Ok(path.exists()),
-            Place::Drive(_) => Ok(self.find(path)?.is_some()),
+        match &self.drive {
+            None => Ok(path.exists()),
+            Some(_) => Ok(self.find(path)?.is_some()),
         }
     }
 
     /// A file's length; none where there is none.
     pub fn length(&self, path: &Path) -> Result<Option<u64>, Fault> {
-        let length = match &self.place {
-            Place::Folder { .. } => std::fs::metadata(path).map(|about| about.len()),
-            Place::Drive(owned) => owned.call(|drive| drive.length(drive.open(path)?)),
+        let length = match &self.drive {
+            None => std::fs::metadata(path).map(|about| about.len()),
+            Some(owned) => owned.call(|drive| drive.length(drive.open(path)?)),
         };
         match length {
             Err(error) if error.kind() == ErrorKind::NotFound => Ok(None),
@@ -69,9 +69,9 @@ impl Disk {
 
     /// When a file was written last, where that is known.
     pub fn written(&self, path: &Path) -> Option<SystemTime> {
-        match &self.place {
-            Place::Folder { .. } => std::fs::metadata(path).ok()?.modified().ok(),
-            Place::Drive(_) => None,
+        match &self.drive {
+            None => std::fs::metadata(path).ok()?.modified().ok(),
+            Some(_) => None,
         }
     }
 }
