@@ -190,20 +190,14 @@ impl Outbox {
     }
 
     fn forget_of(&self, age: Age, keep: &HashSet<Digest>) -> Result<Vec<SeriesKey>, Fault> {
-        self.leave_out(|series| {
-            let keep: HashSet<u32> = keep.iter().filter_map(|digest| series.id_of(digest)).collect();
-            let old = series.iter().filter(|(_, known)| known.may_be_forgotten(age));
-            old.map(|(id, _)| id).filter(|id| !keep.contains(id)).collect()
-        })
+        self.leave_out(|series| series.old(age, keep).collect())
     }
 
     /// Whether there is a series to forget, but those in `keep`.
     pub fn has_any_of(&self, age: Duration, keep: &HashSet<Digest>) -> bool {
-        let age = Age::from_now(age);
         let state = lock(&self.state);
-        let keep: HashSet<u32> = keep.iter().filter_map(|digest| state.series.id_of(digest)).collect();
-        let mut all = state.series.iter();
-        all.any(|(id, known)| known.may_be_forgotten(age) && !keep.contains(&id))
+        let any = state.series.old(Age::from_now(age), keep).next().is_some();
+        any
     }
 
     /// How many requests wait, how many bytes they take on disk, and the first of them.

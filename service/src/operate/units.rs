@@ -145,7 +145,7 @@ impl Owned for Arc<Units> {
         let mut all = HashMap::new();
         for unit in self.all() {
             for (owner, series) in unit.slot.outbox.series_by_owner() {
-                *all.entry(owner).or_default() += series;
+                *all.entry(owner.to_string()).or_default() += series;
             }
         }
         all

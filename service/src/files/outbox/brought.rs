@@ -2,9 +2,9 @@
 
 use super::changes::{Change, Group, UnitOfMetric};
 use super::rows;
-use super::state::{Batch, Front};
+use super::state::Batch;
 use super::texts::Texts;
-use super::{Outbox, Series, Waiting};
+use super::{Outbox, Series};
 use crate::files::{lock, segment, Fault};
 use crate::otlp::series::SeriesKey;
 use crate::runs::Since;
@@ -49,17 +49,15 @@ impl Outbox {
         batches.into_iter().try_for_each(|batch| each(self.waits(batch)?))
     }
 
-    fn waits(&self, batch: Batch) -> Result<Waits, Fault> {
+    fn waits(&self, mut batch: Batch) -> Result<Waits, Fault> {
         let path = segment::path(&self.folder, batch.segment);
-        let (mut at, mut bodies) = (batch.at, Vec::new());
-        for number in batch.first..batch.first + batch.count {
-            let waiting = Waiting { number, since: batch.since };
-            let segment = batch.segment;
-            let (packed, length) = rows::packed_item(&self.disk, &path, &Front { waiting, segment, at })?;
+        let (first, mut bodies) = (batch.first, Vec::new());
+        while batch.count > 0 {
+            let (packed, length) = rows::packed_item(&self.disk, &path, &batch.front())?;
             bodies.push(packed);
-            at += length;
+            batch.pass(1, batch.at + length);
         }
-        Ok(Waits { first: batch.first, epoch: batch.epoch, since: batch.since, bodies })
+        Ok(Waits { first, epoch: batch.epoch, since: batch.since, bodies })
     }
 
     /// Begins with this, in an outbox that has had nothing yet. Ordered before all that follows, and all or none of it.

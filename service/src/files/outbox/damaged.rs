@@ -2,8 +2,8 @@
 //! on, and so does each start.
 
 use super::rows;
-use super::state::{Batch, Front};
-use super::{lock, Outbox, Waiting};
+use super::state::Batch;
+use super::{lock, Outbox};
 use crate::files::{segment, Fault};
 use std::time::Duration;
 
@@ -46,20 +46,17 @@ impl Outbox {
     fn find_changed_of(&self, mut batch: Batch, changed: &mut Vec<Fault>) -> Result<(), Fault> {
         let path = segment::path(&self.folder, batch.segment);
         while batch.count > 0 {
-            let (number, since) = (batch.first, batch.since);
-            let front = Front { waiting: Waiting { number, since }, segment: batch.segment, at: batch.at };
-            let (mut next, fault) = match rows::read_item(&self.disk, &path, &front) {
-                Ok(_) => (Some(batch.at + rows::sound_length(&self.disk, &path, &front)?), None),
-                Err(fault @ Fault::Damaged { .. }) => (None, Some(fault)),
+            let front = batch.front();
+            let next = match rows::read_item(&self.disk, &path, &front) {
+                Ok(_) => Some(batch.at + rows::item_length(&self.disk, &path, &front)?),
+                Err(fault @ Fault::Damaged { .. }) => {
+                    changed.push(fault);
+                    rows::find_item(&self.disk, &path, batch.at..batch.end, batch.first + 1)?
+                }
                 Err(fault) => return Err(fault),
             };
-            changed.extend(fault);
-            (batch.first, batch.count) = (batch.first + 1, batch.count - 1);
-            if next.is_none() && batch.count > 0 {
-                next = rows::find_item(&self.disk, &path, batch.at..batch.end, batch.first)?;
-            }
             // Where none is found each of the others is as that one.
-            batch.at = next.unwrap_or(batch.at);
+            batch.pass(1, next.unwrap_or(batch.at));
         }
         Ok(())
     }

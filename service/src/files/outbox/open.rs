@@ -2,9 +2,9 @@
 
 use super::reading::Reading;
 use super::rows;
-use super::state::{Batch, Front, State};
+use super::state::{Batch, State};
 use super::written::begin;
-use super::{ends, Outbox, ReadEnds, Waiting, Writer, SEGMENT};
+use super::{ends, Outbox, ReadEnds, Writer, SEGMENT};
 use crate::files::disk::Disk;
 use crate::files::free_space::FreeSpace;
 use crate::files::records::Reader;
@@ -130,19 +130,15 @@ fn lost(folder: &Path, numbers: &[u64], last: &Reader) -> Fault {
 fn skip_taken(disk: &Disk, folder: &Path, mut batch: Batch, acknowledged: u64) -> Result<Batch, Fault> {
     let path = segment::path(folder, batch.segment);
     while batch.first <= acknowledged {
-        let waiting = Waiting { number: batch.first, since: batch.since };
-        let (segment, at) = (batch.segment, batch.at);
-        let front = Front { waiting, segment, at };
-        let (taken, at) = match rows::sound_length(disk, &path, &front) {
-            Ok(length) => (1, batch.at + length),
+        match rows::packed_item(disk, &path, &batch.front()) {
+            Ok((_, length)) => batch.pass(1, batch.at + length),
             // One that the sink has was changed: the next one is looked for.
             Err(Fault::Damaged { .. }) => {
                 let next = rows::find_item(disk, &path, batch.at..batch.end, acknowledged + 1)?;
-                (acknowledged + 1 - batch.first, next.unwrap_or(batch.at))
+                batch.pass(acknowledged + 1 - batch.first, next.unwrap_or(batch.at));
             }
             Err(fault) => return Err(fault),
-        };
-        (batch.first, batch.count, batch.at) = (batch.first + taken, batch.count - taken, at);
+        }
     }
     Ok(batch)
 }

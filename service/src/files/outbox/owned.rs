@@ -45,15 +45,11 @@ impl Outbox {
     }
 
     /// Of those whose owner is known: each is, a moment after its first group.
-    pub fn series_by_owner(&self) -> HashMap<String, u64> {
+    pub fn series_by_owner(&self) -> HashMap<Arc<str>, u64> {
         let mut counts = HashMap::new();
         for (_, known) in lock(&self.state).series.iter() {
-            let Some(owner) = &known.series.owner else {
-                continue;
-            };
-            match counts.get_mut(&**owner) {
-                Some(count) => *count += 1,
-                None => drop(counts.insert(owner.to_string(), 1)),
+            if let Some(owner) = &known.series.owner {
+                *counts.entry(owner.clone()).or_default() += 1;
             }
         }
         counts

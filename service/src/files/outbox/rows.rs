@@ -52,7 +52,7 @@ pub const PART: u8 = OWN + 10;
 
 /// How much is done to pack.
 const LEVEL: u32 = 5;
-/// Of what is packed in pieces each has so many bytes, or some more.
+/// Of what is packed in pieces each has so many bytes, or somewhat fewer or more.
 const PIECE: usize = if cfg!(test) { 4 << 10 } else { 256 << 10 };
 
 /// What a group did to series.
@@ -128,7 +128,7 @@ pub fn packed_long(value: &impl Serialize) -> Vec<u8> {
         |piece| *piece = deflated_piece(piece),
         put,
         |queue| {
-            let mut pieces = Pieces { queue, piece: Vec::new() };
+            let mut pieces = BufWriter::with_capacity(PIECE, Pieces(queue));
             let _ = serde_json::to_writer(&mut pieces, value); // as above
             let _ = pieces.flush();
             Ok(())
@@ -138,23 +138,16 @@ pub fn packed_long(value: &impl Serialize) -> Vec<u8> {
     out
 }
 
-/// What is written, in pieces to be packed.
-struct Pieces<'q> {
-    queue: &'q WorkQueue<Vec<u8>>,
-    piece: Vec<u8>,
-}
+/// Where each piece is packed that is written.
+struct Pieces<'q>(&'q WorkQueue<Vec<u8>>);
 
 impl Write for Pieces<'_> {
-    fn write(&mut self, bytes: &[u8]) -> io::Result<usize> {
-        self.piece.extend_from_slice(bytes);
-        if self.piece.len() >= PIECE {
-            self.flush()?;
-        }
-        Ok(bytes.len())
+    fn write(&mut self, piece: &[u8]) -> io::Result<usize> {
+        self.0.push(piece.to_vec());
+        Ok(piece.len())
     }
 
     fn flush(&mut self) -> io::Result<()> {
-        self.queue.push(std::mem::take(&mut self.piece));
         Ok(())
     }
 }
@@ -328,27 +321,17 @@ pub fn change_of(kind: u8, bytes: &[u8], series: &Table) -> Option<Change> {
 
 /// The body of a waiting request, as it was committed.
 pub fn read_item(disk: &Disk, path: &Path, front: &Front) -> Result<Vec<u8>, Fault> {
-    let packed = read_packed(disk, path, front)?.0;
-    inflated(&packed[8..]).ok_or_else(|| changed(path, front))
+    let (packed, _) = packed_item(disk, path, front)?;
+    inflated(&packed).ok_or_else(|| changed(path, front))
 }
 
-/// The length of its record, of which each byte is as it was.
-pub fn sound_length(disk: &Disk, path: &Path, front: &Front) -> Result<u64, Fault> {
-    Ok(read_packed(disk, path, front)?.1)
-}
-
-/// A waiting request, packed as it is there, and the length of its record.
+/// A waiting request, packed as it is there, and the length of its record, of which each byte is as it was.
 pub fn packed_item(disk: &Disk, path: &Path, front: &Front) -> Result<(Vec<u8>, u64), Fault> {
-    let (mut numbered, length) = read_packed(disk, path, front)?;
-    Ok((numbered.split_off(8), length))
-}
-
-fn read_packed(disk: &Disk, path: &Path, front: &Front) -> Result<(Vec<u8>, u64), Fault> {
     let number = front.waiting.number.to_le_bytes();
     let read = records::read_at(disk, path, front.at)?;
     let read = read.filter(|(kind, bytes, _)| *kind == ITEM && bytes.starts_with(&number));
-    let (_, bytes, length) = read.ok_or_else(|| changed(path, front))?;
-    Ok((bytes, length))
+    let (_, mut bytes, length) = read.ok_or_else(|| changed(path, front))?;
+    Ok((bytes.split_off(number.len()), length))
 }
 
 /// Where the record of a request begins, between these places; `None` where none is whole.

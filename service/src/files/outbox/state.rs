@@ -4,9 +4,9 @@ use super::changes::{Change, Group, UnitOfMetric};
 use super::snapshot::Snapshot;
 use super::table::{KnownSeries, Table};
 use super::{Series, Waiting};
-use crate::otlp::series::SeriesKey;
+use crate::otlp::series::{Digest, SeriesKey};
 use crate::runs::Since;
-use std::collections::{BTreeSet, VecDeque};
+use std::collections::{BTreeSet, HashSet, VecDeque};
 use std::sync::Arc;
 use std::time::{Duration, SystemTime, UNIX_EPOCH};
 
@@ -27,10 +27,19 @@ impl Age {
     }
 }
 
+impl Table {
+    /// Those that may be forgotten, but these.
+    pub fn old(&self, age: Age, keep: &HashSet<Digest>) -> impl Iterator<Item = u32> + '_ {
+        let keep: HashSet<u32> = keep.iter().filter_map(|digest| self.id_of(digest)).collect();
+        let old = self.iter().filter(move |(id, known)| known.may_be_forgotten(age) && !keep.contains(id));
+        old.map(|(id, _)| id)
+    }
+}
+
 impl KnownSeries {
     /// One whose owner is unknown stays: the journal may still have its owner's posts. So does one that ends ahead of the clock:
     /// else no run that begins before that would count.
-    pub fn may_be_forgotten(&self, age: Age) -> bool {
+    fn may_be_forgotten(&self, age: Age) -> bool {
         self.series.owner.is_some()
             && self.series.seen < age.before
             && self.series.frontier / 1_000_000_000 < age.before
@@ -49,6 +58,18 @@ pub struct Batch {
     /// Where the record of the first begins, and where that of the last ends.
     pub at: u64,
     pub end: u64,
+}
+
+impl Batch {
+    pub fn front(&self) -> Front {
+        let waiting = Waiting { number: self.first, since: self.since };
+        Front { waiting, segment: self.segment, at: self.at }
+    }
+
+    /// So many of them wait no more; the record of the next one begins there.
+    pub fn pass(&mut self, count: u64, at: u64) {
+        (self.first, self.count, self.at) = (self.first + count, self.count - count, at);
+    }
 }
 
 /// Where the first waiting request is.
@@ -97,9 +118,7 @@ impl State {
     }
 
     pub fn front(&self) -> Option<Front> {
-        let batch = self.batches.front()?;
-        let waiting = Waiting { number: batch.first, since: batch.since };
-        Some(Front { waiting, segment: batch.segment, at: batch.at })
+        self.batches.front().map(Batch::front)
     }
 
     /// The series get the ids that they have in a snapshot.
@@ -212,7 +231,7 @@ impl State {
             self.batches.pop_front();
         } else {
             self.bytes -= length;
-            (batch.first, batch.count, batch.at) = (batch.first + 1, batch.count - 1, batch.at + length);
+            batch.pass(1, batch.at + length);
         }
     }
 }
