@@ -88,7 +88,7 @@ impl Folder {
         let free_space = Arc::new(FreeSpace::new(path)?);
         let known = Version::read(path)?;
         if known.is_none() {
-            check_new(path)?;
+            check_new(&disk, path)?;
         }
         let folder = Folder {
             disk: disk.locked(&locks),
@@ -234,8 +234,7 @@ impl Folder {
     /// The slots that have files, or had them, also those that there are no more, ascending.
     pub fn slots_with_files(&self) -> Result<Vec<u16>, Fault> {
         let mut found = Vec::new();
-        for entry in std::fs::read_dir(&self.path).map_err(io_fault(&self.path))? {
-            let name = entry.map_err(io_fault(&self.path))?.file_name();
+        for name in self.disk.names(&self.path)? {
             let number = name.to_str().and_then(|name| name.strip_prefix("slot-")?.parse().ok());
             found.extend(number.filter(|number| self.of_slot(*number).ends_with(&name)));
         }
@@ -295,9 +294,8 @@ fn take_lock(file: &File) -> Result<(), Errno> {
 }
 
 /// A folder without a version has no slot either.
-fn check_new(folder: &Path) -> Result<(), Fault> {
-    for entry in std::fs::read_dir(folder).map_err(io_fault(folder))? {
-        let name = entry.map_err(io_fault(folder))?.file_name();
+fn check_new(disk: &Disk, folder: &Path) -> Result<(), Fault> {
+    for name in disk.names(folder)? {
         if name.to_str().is_some_and(|name| name.starts_with("slot-") || name == "dead") {
             let what = "this file is missing, and the folder is not new: put it back".into();
             return Err(Fault::Damaged { path: folder.join("version"), at: 0, what });

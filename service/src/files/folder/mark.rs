@@ -1,6 +1,7 @@
 //! A folder whose content is on its way into a store, or out of one: it does not count then, or only the store says whether
 //! it does.
 
+use super::version::is_hexadecimal;
 use super::{io_fault, lock, Fault, Folder, FolderFault};
 use std::path::Path;
 
@@ -39,7 +40,7 @@ impl Mark {
         let (way, rest) = line.split_once(' ')?;
         let (id, store) = rest.split_once(' ')?;
         let way = WAYS.iter().find(|(_, name)| *name == way)?.0;
-        let is_id = !id.is_empty() && id.bytes().all(|byte| byte.is_ascii_hexdigit());
+        let is_id = !id.is_empty() && is_hexadecimal(id);
         (is_id && !store.is_empty()).then(|| Mark { way, id: id.into(), store: store.into() })
     }
 

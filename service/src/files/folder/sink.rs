@@ -1,5 +1,6 @@
 //! Which sink the folder's requests go to.
 
+use super::version::is_hexadecimal;
 use super::{lock, Fault, Folder};
 use std::fmt::{Display, Formatter};
 
@@ -58,7 +59,7 @@ impl KnownSink {
     pub(super) fn read(line: &str) -> Option<KnownSink> {
         let (id, rest) = line.split_once(' ')?;
         let (kind, address) = rest.split_once(' ')?;
-        let is_id = !id.is_empty() && id.bytes().all(|byte| byte.is_ascii_hexdigit());
+        let is_id = !id.is_empty() && is_hexadecimal(id);
         if !(id == "-" || is_id) || kind.is_empty() || address.is_empty() {
             return None;
         }

@@ -1,6 +1,6 @@
 //! Whether this user can have a folder: a fault here is none of the disk, and nothing is changed by it.
 
-use super::{io_fault, Fault, FolderFault};
+use super::{io_fault, Disk, Fault, FolderFault};
 use nix::errno::Errno;
 use nix::unistd::{access, AccessFlags};
 use std::io::ErrorKind;
@@ -11,7 +11,7 @@ use std::path::Path;
 pub fn look_at(folder: &Path) -> Result<(), FolderFault> {
     match std::fs::metadata(folder) {
         Ok(about) if about.is_dir() => {}
-        Ok(_) => return Err(no_folder(folder)),
+        Ok(_) => return Err(unusable(folder, "is a file, and --data has to name a folder: give another")),
         Err(error) if error.kind() == ErrorKind::NotFound => return Ok(()),
         Err(error) => return Err(named(io_fault(folder)(error), folder)),
     }
@@ -22,8 +22,7 @@ pub fn look_at(folder: &Path) -> Result<(), FolderFault> {
             return Err(unusable(&path, "is a folder, and has to be a file: remove it"));
         }
     }
-    for entry in std::fs::read_dir(folder).map_err(io_fault(folder))? {
-        let name = entry.map_err(io_fault(folder))?.file_name();
+    for name in Disk::default().names(folder)? {
         let is_ours = |name: &str| ["lock", "version", "dead"].contains(&name) || name.starts_with("slot-");
         if name.to_str().is_some_and(is_ours) {
             all_have_rights(&folder.join(name))?;
@@ -36,8 +35,8 @@ pub fn look_at(folder: &Path) -> Result<(), FolderFault> {
 fn all_have_rights(path: &Path) -> Result<(), FolderFault> {
     has_rights(path)?;
     if path.is_dir() {
-        for entry in std::fs::read_dir(path).map_err(io_fault(path))? {
-            all_have_rights(&entry.map_err(io_fault(path))?.path())?;
+        for name in Disk::default().names(path)? {
+            all_have_rights(&path.join(name))?;
         }
     }
     Ok(())
@@ -57,10 +56,6 @@ fn has_rights(path: &Path) -> Result<(), FolderFault> {
 
 fn unusable(path: &Path, what: &str) -> FolderFault {
     FolderFault::Unusable { path: path.into(), what: what.into() }
-}
-
-fn no_folder(path: &Path) -> FolderFault {
-    unusable(path, "is a file, and --data has to name a folder: give another")
 }
 
 /// What an operator can mend is said; all else is a fault of the disk.

@@ -11,6 +11,7 @@ use std::time::UNIX_EPOCH;
 const VERSION: u32 = 2;
 /// Of one with a mark: no earlier totxegun may start on it.
 const MARKED: u32 = 3;
+const UNREADABLE: &str = "has no epoch, no inode of the lock, no number of slots, or says otherwise what was begun, which sink it has or where it was moved: put a copy of this file in its place";
 
 /// Its lines.
 #[derive(Clone, Default)]
@@ -74,54 +75,53 @@ impl Version {
             Err(error) if error.kind() == std::io::ErrorKind::NotFound => return Ok(None),
             text => text.map_err(io_fault(&path))?,
         };
-        let damaged = |what: String| Err(Fault::Damaged { path: path.clone(), at: 0, what });
         let text = String::from_utf8_lossy(&text);
-        let mut lines = text.lines();
-        let mut value = |name: &str| lines.next()?.strip_prefix(name)?.strip_prefix(' ').map(String::from);
-        let version: Option<u32> = value("totxegun").and_then(|version| version.parse().ok());
-        match version {
-            Some(1..=MARKED) => {}
-            Some(version) if version > MARKED => {
-                return damaged(format!(
-                    "the folder is of format version {version}, and this totxegun reads up to {MARKED}: start the later totxegun that wrote it"
-                ))
-            }
-            _ => return damaged("is no version of a folder of totxegun: put a copy of this file in its place".into()),
-        }
-        let epoch = value("epoch")
-            .filter(|epoch| epoch.len() == 16 && epoch.bytes().all(|byte| byte.is_ascii_hexdigit()));
-        let inode = value("lock").and_then(|inode| inode.parse().ok());
-        let slots = match version {
-            Some(1) => Some(None),
-            _ => value("slots")
-                .and_then(|slots| slots.parse().ok())
-                .filter(|slots| (1..=MOST_SLOTS).contains(slots))
-                .map(Some),
+        let first = text.lines().next();
+        let number: Option<u32> = first.and_then(|line| line.strip_prefix("totxegun ")?.parse().ok());
+        let what = match number {
+            Some(number @ 1..=MARKED) => match Version::of(number, &text) {
+                Some(version) => return Ok(Some(version)),
+                None => UNREADABLE.into(),
+            },
+            Some(number) if number > MARKED => format!(
+                "the folder is of format version {number}, and this totxegun reads up to {MARKED}: start the later totxegun that wrote it"
+            ),
+            _ => "is no version of a folder of totxegun: put a copy of this file in its place".into(),
+        };
+        Err(Fault::Damaged { path, at: 0, what })
+    }
+
+    /// By the lines behind the first.
+    fn of(number: u32, text: &str) -> Option<Version> {
+        let mut lines = text.lines().skip(1);
+        let mut value = |name: &str| lines.next()?.strip_prefix(name)?.strip_prefix(' ');
+        let epoch = value("epoch").filter(|epoch| epoch.len() == 16 && is_hexadecimal(epoch))?;
+        let inode = value("lock")?.parse().ok()?;
+        let slots = match number {
+            1 => None,
+            _ => Some(value("slots")?.parse().ok().filter(|slots| (1..=MOST_SLOTS).contains(slots))?),
         };
         let last = |name: &str| text.lines().find_map(|line| line.strip_prefix(name));
         let born = last("born ").and_then(|born| born.parse().ok());
-        let begun = last("begun ").map_or(Some(BTreeMap::new()), |begun| {
-            let of_slot = |one: &str| {
-                Some((one.split_once(':')?.0.parse().ok()?, one.split_once(':')?.1.parse().ok()?))
-            };
-            begun.split(' ').map(of_slot).collect()
-        });
-        let sink = last("sink ").map_or(Some(None), |line| KnownSink::read(line).map(Some));
-        let mark = last("move ").map_or(Some(None), |line| Mark::read(line).map(Some));
-        let mark = mark.filter(|mark| mark.is_some() == (version == Some(MARKED)));
-        match (epoch, inode, slots, begun, sink, mark) {
-            (Some(epoch), Some(inode), Some(slots), Some(begun), Some(sink), Some(mark)) => Ok(Some(Version {
-                epoch,
-                lock: Identity { inode, born },
-                slots,
-                begun,
-                sink,
-                mark,
-            })),
-            _ => damaged(
-                "has no epoch, no inode of the lock, no number of slots, or says otherwise what was begun, which sink it has or where it was moved: put a copy of this file in its place"
-                    .into(),
-            ),
-        }
+        let begun = last("begun ").map_or(Some(BTreeMap::new()), begun_of)?;
+        let sink = last("sink ").map_or(Some(None), |line| KnownSink::read(line).map(Some))?;
+        let mark = last("move ").map_or(Some(None), |line| Mark::read(line).map(Some))?;
+        let version =
+            Version { epoch: epoch.into(), lock: Identity { inode, born }, slots, begun, sink, mark };
+        (version.mark.is_some() == (number == MARKED)).then_some(version)
     }
+}
+
+/// Of what follows `begun `.
+fn begun_of(text: &str) -> Option<BTreeMap<u16, u64>> {
+    let of_slot = |one: &str| {
+        let (slot, segment) = one.split_once(':')?;
+        Some((slot.parse().ok()?, segment.parse().ok()?))
+    };
+    text.split(' ').map(of_slot).collect()
+}
+
+/// Each of its characters.
+pub(super) fn is_hexadecimal(text: &str) -> bool {
+    text.bytes().all(|byte| byte.is_ascii_hexdigit())
 }
