@@ -61,8 +61,8 @@ impl Dead {
         Ok(dead)
     }
 
-    fn path(&self, key: &str) -> Option<PathBuf> {
-        is_key(key).then(|| self.folder.join(format!("{key}.json")))
+    fn path(&self, key: &str) -> PathBuf {
+        self.folder.join(format!("{key}.json"))
     }
 
     /// What is there now, and is counted so: an operator moves letters out of the folder, and back, by hand.
@@ -98,7 +98,7 @@ impl Dead {
     }
 
     fn write(&self, name: &str, reason: &str, body: &[u8]) -> Result<(), Fault> {
-        let path = self.folder.join(format!("{name}.json"));
+        let path = self.path(name);
         let letter = Letter {
             key: name.into(),
             since: seconds(),
@@ -157,7 +157,7 @@ impl Dead {
 
     /// What is told of a letter by its file alone.
     fn unreadable(&self, key: String, fault: &Fault) -> Letter {
-        let path = self.folder.join(format!("{key}.json"));
+        let path = self.path(&key);
         let written = self.disk.written(&path);
         let since = written.and_then(|time| time.duration_since(UNIX_EPOCH).ok());
         Letter {
@@ -172,7 +172,7 @@ impl Dead {
         let Some((letter, mut file)) = self.read(key)? else {
             return Ok(None);
         };
-        let path = self.folder.join(format!("{key}.json"));
+        let path = self.path(key);
         let mut body = Vec::new();
         file.read_to_end(&mut body).map_err(io_fault(&path))?;
         if body.len() as u64 != letter.bytes {
@@ -183,9 +183,10 @@ impl Dead {
 
     /// A letter's head, and the file behind it.
     fn read(&self, key: &str) -> Result<Option<(Letter, BufReader<Cursor>)>, Fault> {
-        let Some(path) = self.path(key) else {
+        if !is_key(key) {
             return Ok(None);
-        };
+        }
+        let path = self.path(key);
         let Some(file) = self.disk.find(&path)? else {
             return Ok(None);
         };
@@ -206,11 +207,8 @@ impl Dead {
 
     /// Removes it, of which this has become. Whether there was one.
     pub fn end(&self, key: &str, became: Became) -> Result<bool, Fault> {
-        let Some(path) = self.path(key) else {
-            return Ok(false);
-        };
         let _one = lock(&self.changing);
-        if !self.disk.has(&path)? {
+        if !is_key(key) || !self.disk.has(&self.path(key))? {
             return Ok(false);
         }
         self.remove(key, became)?;
@@ -220,7 +218,7 @@ impl Dead {
     /// By who holds `changing`.
     fn remove(&self, name: &str, became: Became) -> Result<(), Fault> {
         self.note_gone(name, became)?;
-        self.disk.remove(&self.folder.join(format!("{name}.json")))?;
+        self.disk.remove(&self.path(name))?;
         self.disk.sync_folder(&self.folder)?;
         self.keys().map(drop)
     }
@@ -228,7 +226,7 @@ impl Dead {
     /// Gives each letter as its file has it, also one that can't be read.
     pub fn each(&self, mut each: impl FnMut(&str, Vec<u8>) -> Result<(), Fault>) -> Result<(), Fault> {
         for key in self.keys()? {
-            let path = self.folder.join(format!("{key}.json"));
+            let path = self.path(&key);
             let bytes = self.disk.open(&path)?.read_from(0).map_err(io_fault(&path))?;
             each(&key, bytes)?;
         }
@@ -238,7 +236,7 @@ impl Dead {
     /// Puts a letter as another's file has it. Durable when this returns.
     pub fn put(&self, key: &str, bytes: &[u8]) -> Result<(), Fault> {
         let _one = lock(&self.changing);
-        self.disk.put_file(&self.folder.join(format!("{key}.json")), bytes)?;
+        self.disk.put_file(&self.path(key), bytes)?;
         self.keys().map(drop)
     }
 

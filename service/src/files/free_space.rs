@@ -56,20 +56,17 @@ impl FreeSpace {
 
     /// Of a slot that has no disk: what keeps its files says itself that it is full.
     pub fn endless() -> FreeSpace {
-        FreeSpace {
-            look: Box::new(|| Ok((u64::MAX >> 2, 0, u64::MAX))),
-            began: Instant::now(),
-            looked: AtomicU64::new(0),
-            left: AtomicI64::new(i64::MAX >> 2),
-            reserved: AtomicI64::new(0),
-            is_full: AtomicBool::new(false),
-        }
+        FreeSpace::of(|| Ok((u64::MAX >> 2, 0, u64::MAX)))
     }
 
     pub(super) fn with(
         look: impl Fn() -> std::io::Result<(u64, u64, u64)> + Send + Sync + 'static,
     ) -> std::io::Result<FreeSpace> {
         look()?;
+        Ok(FreeSpace::of(look))
+    }
+
+    fn of(look: impl Fn() -> std::io::Result<(u64, u64, u64)> + Send + Sync + 'static) -> FreeSpace {
         let space = FreeSpace {
             look: Box::new(look),
             began: Instant::now(),
@@ -79,7 +76,7 @@ impl FreeSpace {
             is_full: AtomicBool::new(false),
         };
         space.look_again();
-        Ok(space)
+        space
     }
 
     /// As it was a moment ago, less what was written since, and what posts under way will write.
