@@ -1,6 +1,6 @@
 //! The points that the book is asked to take of a post.
 
-use super::{added_by, Added, Entry, Kind, Locked, Names, Options, Points};
+use super::{added_by, Added, Entry, Kind, Locked, Names, Points};
 use super::{Refused, Run, Runs, SeriesPlace};
 use crate::core;
 use crate::files::OfRun;
@@ -98,7 +98,7 @@ impl Runs {
         for (place, point) in (0..).zip(points.each()) {
             match cumulative.next_if_eq(&place) {
                 None => draft.add_delta(point),
-                Some(_) => draft.add(self.options(), posted.names, (place, point), &frontier),
+                Some(_) => draft.add(posted.names, (place, point), &frontier),
             }
             draft.places.resize(draft.points.count(), place);
         }
@@ -114,26 +114,20 @@ impl Draft<'_> {
         *end = point[2].max(*end);
     }
 
-    fn add(
-        &mut self,
-        options: Options,
-        names: &Names,
-        (place, point): (u32, &[u64]),
-        frontier: impl Fn(&Digest) -> u64,
-    ) {
+    fn add(&mut self, names: &Names, (place, point): (u32, &[u64]), frontier: impl Fn(&Digest) -> u64) {
         let mut run = std::mem::take(&mut self.run);
-        run.put(point);
-        self.add_run(options, names, (place, point[0], &run), frontier);
+        run.set(point[1], point[2], &point[3..]);
+        self.add_run(names, (place, point[0], &run), frontier);
         self.run = run;
     }
 
     fn add_run(
         &mut self,
-        options: Options,
         names: &Names,
         (place, number, run): (u32, u64, &Run),
         frontier: impl Fn(&Digest) -> u64,
     ) {
+        let options = self.of.options();
         let deltas = self.deltas.get(&number).copied().unwrap_or(0);
         if let Some((kind, frontier)) = self.runs.untaken.get(&number).copied() {
             if !run.is_sound(kind) {
@@ -160,7 +154,8 @@ impl Draft<'_> {
             self.unsound.push(place);
             return;
         }
-        match series.entry(options, self.runs.since, run, deltas) {
+        let (known, frontier) = (series.run.as_deref(), series.frontier.max(deltas));
+        match added_by(options, self.runs.since, series.kind, known, frontier, run) {
             Ok(None) => {
                 let digest = series.digest;
                 match self.is_of_another(&found, run) {
@@ -301,11 +296,6 @@ impl Turned {
 }
 
 impl Run {
-    /// Makes it a cumulative point, by its words.
-    fn put(&mut self, point: &[u64]) {
-        self.set(point[1], point[2], &point[3..]);
-    }
-
     fn set(&mut self, start: u64, time: u64, words: &[u64]) {
         (self.start, self.time) = (start, time);
         self.words.clear();

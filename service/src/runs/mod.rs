@@ -113,15 +113,11 @@ impl State {
             let found = self.find(names, point[0], |_| 0);
             let place = found.map(|found| self.place(found, point[0]));
             let Some(place) = place else { continue }; // each name that was written is that of a series
-            let series = &self.series[place as usize];
+            let series = &mut self.series[place as usize];
             let after = Entry::of(of_run, point).after(series.kind, series.run.as_deref());
-            self.set(place, after.map(Arc::new));
+            series.run = after.map(Arc::new);
+            self.note_change(place);
         }
-    }
-
-    fn set(&mut self, place: u32, run: Option<Arc<Run>>) {
-        self.series[place as usize].run = run;
-        self.note_change(place);
     }
 
     /// Has a series' run come to a point. Who has the run as it was keeps it so.
@@ -246,17 +242,6 @@ impl Series {
             series::Kind::Histogram { .. } => Kind::Histogram,
         };
         Some(Series { digest, kind, run: None, is_changed: false, frontier })
-    }
-
-    /// What a point of it adds; the delta points ahead of it in its post end at `deltas`.
-    fn entry(
-        &self,
-        options: Options,
-        since: Since,
-        point: &Run,
-        deltas: u64,
-    ) -> Result<Option<Entry>, Refused> {
-        added_by(options, since, self.kind, self.run.as_deref(), self.frontier.max(deltas), point)
     }
 }
 
