@@ -235,6 +235,14 @@ impl Disk {
         })
     }
 
+    /// The same in the place of what an earlier start may have left.
+    pub fn create_anew(&self, path: &Path) -> Result<File, Fault> {
+        if self.has(path)? {
+            self.remove(path)?;
+        }
+        self.create(path)
+    }
+
     /// Writes parts one behind the other, as a rule by one call.
     pub fn write_at<const N: usize>(
         &self,
@@ -320,10 +328,7 @@ impl Disk {
     /// Puts a whole file in the place of what may be there: durable when this returns, and never seen in part.
     pub fn put_file(&self, path: &Path, bytes: &[u8]) -> Result<(), Fault> {
         let draft = path.with_extension("draft");
-        if self.has(&draft)? {
-            self.remove(&draft)?;
-        }
-        let file = self.create(&draft)?;
+        let file = self.create_anew(&draft)?;
         self.write_at(&file, &draft, &[bytes], 0)?;
         self.order(&file, &draft)?;
         self.rename(&draft, path)?;

@@ -135,24 +135,15 @@ impl Journal {
     /// Puts a post behind the others, and writes nothing yet. `names` says what its numbers stand for, where the segment has not
     /// said that.
     pub fn append(&self, post: &Post, names: &dyn Names) -> Ticket {
-        let shared = &*self.shared;
-        let now = seconds();
-        match &post.body {
-            Body::Text(body) => {
-                let numbers = record::numbers(now, post);
-                let (numbers, sender) = (numbers.as_flattened(), post.sender.as_bytes());
-                let head = records::head(POST, &[numbers, sender, body]);
-                let mut place = lock(&shared.place);
-                shared.put(&mut place, post, now, &[&head, numbers, sender, body])
-            }
-            Body::Points(points) => {
-                let mut record = Vec::new();
-                record::put(&mut record, now, post);
-                let mut place = lock(&shared.place);
-                let names = place.said.say(points, names);
-                shared.put(&mut place, post, now, &[&names, &record])
-            }
-        }
+        let (shared, now) = (&*self.shared, seconds());
+        let mut record = Vec::new();
+        record::put(&mut record, now, post);
+        let mut place = lock(&shared.place);
+        let names = match &post.body {
+            Body::Text(_) => Vec::new(),
+            Body::Points(points) => place.said.say(points, names),
+        };
+        shared.put(&mut place, post, now, &[&names, &record])
     }
 
     /// Begins a segment: its number, and a ticket for all before it. Its name is durable with that ticket.
@@ -278,7 +269,7 @@ impl Journal {
 }
 
 impl Shared {
-    fn put<const N: usize>(&self, place: &mut Place, post: &Post, now: u64, parts: &[&[u8]; N]) -> Ticket {
+    fn put(&self, place: &mut Place, post: &Post, now: u64, parts: &[&[u8]; 2]) -> Ticket {
         let length = parts.iter().map(|part| part.len() as u64).sum();
         self.free_space.use_up(length);
         // What a drive has is in memory until its sync anyway.
@@ -311,7 +302,7 @@ impl Shared {
             }
         };
         drop(prepared);
-        name(&self.disk, &self.folder, &mut next)?;
+        next.name()?;
         let ended = std::mem::replace(&mut place.segment, next);
         place.ended.push((ended.file, ended.path));
         place.named = false;
@@ -331,22 +322,10 @@ fn prepare(
     durability: Durability,
     forgotten: u64,
 ) -> Result<Segment, Fault> {
-    let draft = segment::path(folder, number).with_extension("draft");
-    if disk.has(&draft)? {
-        disk.remove(&draft)?;
-    }
-    let (ahead, which) = (ahead(disk, durability), Which::Journal);
-    let segment = Segment::create(disk, draft.clone(), which, number, ahead, Some(forgotten))?;
-    disk.order(&segment.file, &draft)?;
+    let ahead = ahead(disk, durability);
+    let segment = Segment::create(disk, folder, Which::Journal, number, ahead, Some(forgotten))?;
+    disk.order(&segment.file, &segment.path)?;
     Ok(segment)
-}
-
-/// Gives a segment its name; durable with the next sync of the folder.
-fn name(disk: &Disk, folder: &Path, segment: &mut Segment) -> Result<(), Fault> {
-    let path = segment::path(folder, segment.number);
-    disk.rename(&segment.path, &path)?;
-    segment.path = path;
-    Ok(())
 }
 
 /// What a segment has ahead. A drive is written by its syncs, and not in place.

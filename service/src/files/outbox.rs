@@ -195,9 +195,7 @@ impl Outbox {
 
     /// Whether there is a series to forget, but those in `keep`.
     pub fn has_any_of(&self, age: Duration, keep: &HashSet<Digest>) -> bool {
-        let state = lock(&self.state);
-        let any = state.series.old(Age::from_now(age), keep).next().is_some();
-        any
+        lock(&self.state).series.old(Age::from_now(age), keep).next().is_some()
     }
 
     /// How many requests wait, how many bytes they take on disk, and the first of them.
@@ -300,7 +298,7 @@ impl Outbox {
             return Err(Fault::Io { path: self.folder.clone(), source });
         };
         let length = rows::item_length(&self.disk, &segment::path(&self.folder, front.segment), &front)?;
-        let taken = self.change(false, |state| {
+        let taken = self.change(|state| {
             (number > state.acknowledged).then_some(Change::Acknowledge { number, length })
         })?;
         if taken && lock(&self.state).front().map(|now| now.segment) != Some(front.segment) {

@@ -50,20 +50,14 @@ impl Which {
 
 /// Appends a record made of parts.
 pub fn put(out: &mut Vec<u8>, kind: u8, parts: &[&[u8]]) {
-    out.extend_from_slice(&head(kind, parts));
-    parts.iter().for_each(|part| out.extend_from_slice(part));
-}
-
-/// What goes before a record's parts: its length, checksum and kind.
-pub fn head(kind: u8, parts: &[&[u8]]) -> [u8; HEAD] {
     let length = 1 + parts.iter().map(|part| part.len()).sum::<usize>();
     let mut sum = crc32fast::Hasher::new();
     sum.update(&[kind]);
     parts.iter().for_each(|part| sum.update(part));
-    let mut head = [kind; HEAD];
-    head[..4].copy_from_slice(&(length as u32).to_le_bytes());
-    head[4..8].copy_from_slice(&sum.finalize().to_le_bytes());
-    head
+    out.extend_from_slice(&(length as u32).to_le_bytes());
+    out.extend_from_slice(&sum.finalize().to_le_bytes());
+    out.push(kind);
+    parts.iter().for_each(|part| out.extend_from_slice(part));
 }
 
 pub fn header(which: Which, number: u64) -> Vec<u8> {
@@ -112,9 +106,8 @@ pub struct Reader {
     pub path: PathBuf,
     /// Where the next record begins.
     pub at: u64,
-    /// Whether a mark was passed: something of the file was durable, and so all that was written before the file.
-    pub has_marks: bool,
-    /// All before it was durable once, by the marks that were passed.
+    /// All before it was durable once, by the marks that were passed; where there is one, so was all that was written before
+    /// the file.
     pub durable: u64,
     /// So long was the file once, and durably, by its marks.
     pub made: u64,
@@ -133,16 +126,12 @@ impl Reader {
         number: u64,
         end: Option<u64>,
     ) -> Result<(Reader, Next), Fault> {
-        let mut reader = Reader::bare(disk, path, end)?;
+        let mut reader = Reader::from(disk, path, 0, end, 1 << 16)?;
         let first = reader.next()?;
         if let Next::Record { kind, bytes, .. } = &first {
             reader.check_header(*kind, bytes, which, number)?;
         }
         Ok((reader, first))
-    }
-
-    fn bare(disk: &Disk, path: &Path, end: Option<u64>) -> Result<Reader, Fault> {
-        Reader::from(disk, path, 0, end, 1 << 16)
     }
 
     /// From a place on, so many bytes at a time.
@@ -154,7 +143,6 @@ impl Reader {
             file: BufReader::with_capacity(piece, Cursor { file, at }),
             path: path.into(),
             at,
-            has_marks: false,
             durable: 0,
             made: 0,
             forgotten: 0,
@@ -206,7 +194,6 @@ impl Reader {
 
     fn pass_mark(&mut self, mut bytes: &[u8]) {
         self.durable = self.durable.max(take_number(&mut bytes).unwrap_or(0));
-        self.has_marks |= self.durable > 0;
         self.made = self.made.max(take_number(&mut bytes).unwrap_or(0));
         self.forgotten = self.forgotten.max(take_number(&mut bytes).unwrap_or(0));
     }

@@ -153,18 +153,19 @@ pub struct Says {
 }
 
 impl Segment {
-    /// Makes a segment that has its header alone. With a number of segments that are in groups its marks say that, and
-    /// how long it is, and the first mark is ahead of the header: so also a segment that was cut anywhere has it, and
-    /// an earlier totxegun passes over it. That mark holds once the segment is synced: it may have no name before.
+    /// Makes a segment that has its header alone, and no name yet. With a number of segments that are in groups its marks
+    /// say that, and how long it is, and the first mark is ahead of the header: so also a segment that was cut anywhere has
+    /// it, and an earlier totxegun passes over it. That mark holds once the segment is synced: it may have no name before.
     pub fn create(
         disk: &Disk,
-        path: PathBuf,
+        folder: &Path,
         which: Which,
         number: u64,
         ahead: Ahead,
         forgotten: Option<u64>,
     ) -> Result<Segment, Fault> {
-        let file = Arc::new(disk.create(&path)?);
+        let path = path(folder, number).with_extension("draft");
+        let file = Arc::new(disk.create_anew(&path)?);
         let mut made = Segment {
             disk: disk.clone(),
             file,
@@ -185,6 +186,14 @@ impl Segment {
         let first = first.map_or(Vec::new(), |()| made.mark(MARK));
         made.put(&[&first, &header])?;
         Ok(made)
+    }
+
+    /// Gives it its name; durable with the next sync of the folder.
+    pub fn name(&mut self) -> Result<(), Fault> {
+        let path = self.path.with_extension("seg");
+        self.disk.rename(&self.path, &path)?;
+        self.path = path;
+        Ok(())
     }
 
     /// How long the file was made, where it is longer than its records.

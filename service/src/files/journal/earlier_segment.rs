@@ -18,7 +18,6 @@ pub(super) struct EarlierSegment {
     /// Where its last whole record ends.
     pub end: u64,
     pub closed: bool,
-    pub has_marks: bool,
     /// All before it was durable once.
     pub durable: u64,
     has_header: bool,
@@ -52,7 +51,6 @@ pub(super) fn read(disk: &Disk, folder: &Path, number: u64) -> Result<EarlierSeg
                     size,
                     end: reader.at,
                     closed: next == Next::Closed,
-                    has_marks: reader.has_marks,
                     durable: reader.durable,
                     has_header,
                     length,

@@ -55,7 +55,7 @@ impl Journal {
         };
         if !due.is_empty() {
             let mut moving = Moving::new(shared, &mut list);
-            shared.posts(first, next, Wanted::All, false, &mut |since, Replayed { post, named }| {
+            shared.posts(first, next, Wanted::All, &mut |since, Replayed { post, named }| {
                 moving.names.extend(named);
                 if due.contains(&post.sender) {
                     moving.append(since, &post)?;
@@ -166,10 +166,9 @@ fn posts_of(
     part: &Part,
     each: &mut impl FnMut(u64, Replayed) -> Result<bool, Fault>,
 ) -> Result<bool, Fault> {
-    let (mut reader, first) = Reader::open(disk, &path(folder, sender), Which::Held, 0, Some(part.end))?;
+    let (mut reader, _) = Reader::open(disk, &path(folder, sender), Which::Held, 0, Some(part.end))?;
     let (mut posts, mut left) = (Posts::new(Wanted::All), part.posts);
-    let mut next = if first == Next::Stop { first } else { reader.next()? };
-    while let Next::Record { at, kind, bytes } = next {
+    while let Next::Record { at, kind, bytes } = reader.next()? {
         let read = posts.read(kind, bytes);
         if let Some((since, post)) = read.map_err(|what| reader.damaged(at, what))? {
             if post.post.sender != sender {
@@ -180,7 +179,6 @@ fn posts_of(
                 return Ok(false);
             }
         }
-        next = reader.next()?;
     }
     match (left, reader.at == part.end) {
         (0, true) => Ok(true),
@@ -262,11 +260,8 @@ impl<'a> Moving<'a> {
         let (file, at, waiting) = match self.list.get(sender) {
             Some(part) => (disk.open_to_write(&path)?, part.end, Vec::new()),
             None => {
-                if disk.has(&path)? {
-                    disk.remove(&path)?;
-                }
                 self.is_new = true;
-                (disk.create(&path)?, 0, records::header(Which::Held, 0))
+                (disk.create_anew(&path)?, 0, records::header(Which::Held, 0))
             }
         };
         Ok(Writer { file, path, at, waiting, said: HashMap::new(), names: NameWriter::default() })

@@ -1,7 +1,7 @@
 //! What an earlier run left in the journal.
 
 use super::earlier_segment::{self, EarlierSegment};
-use super::{name, prepare, Expected, Journal, NamedNumbers, Place, Shared, Size, Waiters};
+use super::{prepare, Expected, Journal, NamedNumbers, Place, Shared, Size, Waiters};
 use crate::files::disk::{io_fault, Disk};
 use crate::files::free_space::FreeSpace;
 use crate::files::segment::{self, Dropped};
@@ -27,7 +27,7 @@ impl Journal {
         let (mut found, dropped) = close(disk, folder, expected)?;
         let number = drop_empty(disk, folder, &mut found, expected)?;
         let mut segment = prepare(disk, folder, number, durability, expected.reach)?;
-        name(disk, folder, &mut segment)?;
+        segment.name()?;
         let lists = found.iter_mut().map(|one| (one.size.number, std::mem::take(&mut one.held)));
         let held = lists.filter(|(_, list)| !list.is_empty()).collect();
         let mut sizes: Vec<Size> = found.into_iter().map(|one| one.size).collect();
@@ -111,7 +111,7 @@ fn cut(
     dropped: &mut Vec<Dropped>,
 ) -> Result<(), Fault> {
     let (path, end) = (segment::path(folder, found[torn].size.number), found[torn].end);
-    if found[torn + 1..].iter().any(|later| later.has_marks) {
+    if found[torn + 1..].iter().any(|later| later.durable > 0) {
         return Err(Fault::Damaged { path, at: end, what: CHANGED.into() });
     }
     dropped.extend(segment::keep_aside(disk, &path, end)?);

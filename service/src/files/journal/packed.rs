@@ -13,7 +13,6 @@
 //! with 32. So no byte is the kind of a record, and points have no record in them, whatever a sender sends. Where a number
 //! may be negative, as a difference or a word, n is written as 2n, and -n as 2n-1. All wraps, so any 64 bits can be written.
 //! Points have one form alone.
-
 //!
 //! Where points are of runs, `runs` has what is ahead of them.
 

@@ -8,29 +8,40 @@ use crate::files::{segment, Fault};
 impl Journal {
     /// Gives the posts of the segments from `first` to before `end` that count, in order, until `each` is false. Those of
     /// quarantined senders' own files are among them where the segment `first` is there and says so.
-    pub fn posts(&self, first: u64, end: u64, mut each: impl FnMut(Replayed) -> bool) -> Result<(), Fault> {
-        self.shared.posts(first, end, Wanted::All, true, &mut |_, post| Ok(each(post)))
+    pub fn posts(&self, first: u64, end: u64, each: impl FnMut(Replayed) -> bool) -> Result<(), Fault> {
+        self.read(first, end, Wanted::All, each)
     }
 
     /// The same without their points, for who looks at requests alone: those that are posts, and those that name series.
-    pub fn requests(
+    pub fn requests(&self, first: u64, end: u64, each: impl FnMut(Replayed) -> bool) -> Result<(), Fault> {
+        self.read(first, end, Wanted::Requests, each)
+    }
+
+    fn read(
         &self,
         first: u64,
         end: u64,
+        wanted: Wanted,
         mut each: impl FnMut(Replayed) -> bool,
     ) -> Result<(), Fault> {
-        self.shared.posts(first, end, Wanted::Requests, true, &mut |_, post| Ok(each(post)))
+        let shared = &*self.shared;
+        let mut each = |_: u64, post: Replayed| Ok(each(post));
+        // Ahead of the segments: behind some of their posts these files would say otherwise what their numbers stand for.
+        let list = lock(&shared.held).get(&first).filter(|_| first < end).cloned();
+        match held::posts(&shared.disk, &shared.folder, &list.unwrap_or_default(), &mut each)? {
+            true => shared.posts(first, end, wanted, &mut each),
+            false => Ok(()),
+        }
     }
 }
 
 impl Shared {
-    /// The same with the time of each, with or without those of the senders' own files.
+    /// The posts of the segments alone, with the time of each.
     pub(super) fn posts(
         &self,
         first: u64,
         end: u64,
         wanted: Wanted,
-        with_held: bool,
         each: &mut impl FnMut(u64, Replayed) -> Result<bool, Fault>,
     ) -> Result<(), Fault> {
         let up_to = self.written(|place| (place.segment.number, place.segment.at));
@@ -39,13 +50,8 @@ impl Shared {
             if !(first..end).contains(&number) || number > last {
                 continue;
             }
-            let segment = Read {
-                number,
-                written: (number == last).then_some(at),
-                is_first: number == first,
-                wanted,
-                with_held,
-            };
+            let written = (number == last).then_some(at);
+            let segment = Read { number, written, is_first: number == first, wanted };
             if !self.posts_of(segment, each)? {
                 break;
             }
@@ -59,13 +65,6 @@ impl Shared {
         segment: Read,
         each: &mut impl FnMut(u64, Replayed) -> Result<bool, Fault>,
     ) -> Result<bool, Fault> {
-        // Ahead of its own posts: behind some of them these files would say otherwise what their numbers stand for.
-        if segment.is_first && segment.with_held {
-            let list = lock(&self.held).get(&segment.number).cloned();
-            if !held::posts(&self.disk, &self.folder, &list.unwrap_or_default(), each)? {
-                return Ok(false);
-            }
-        }
         let path = segment::path(&self.folder, segment.number);
         let (number, written) = (segment.number, segment.written);
         let (mut reader, mut next) = Reader::open(&self.disk, &path, Which::Journal, number, written)?;
@@ -102,5 +101,4 @@ struct Read {
     written: Option<u64>,
     is_first: bool,
     wanted: Wanted,
-    with_held: bool,
 }

@@ -13,24 +13,17 @@ const NO_NAME: &str = "has points of a series that this file names nowhere befor
 /// Points of the bytes behind the sender.
 type ReadPoints = fn(&[u8]) -> Option<Points>;
 
-/// What is ahead of sender and body in the record of a text.
-pub(super) fn numbers(since: u64, post: &Post) -> [[u8; 8]; 3] {
-    [since, post.foreign, post.sender.len() as u64].map(u64::to_le_bytes)
-}
-
 /// Appends the record of a post, but not the names that it needs.
 pub(super) fn put(out: &mut Vec<u8>, since: u64, post: &Post) {
     let sender = post.sender.as_bytes();
+    let numbers = [since, post.foreign, sender.len() as u64];
     match &post.body {
         Body::Text(body) => {
-            let numbers = numbers(since, post);
-            records::put(out, POST, &[numbers.as_flattened(), sender, body]);
+            records::put(out, POST, &[numbers.map(u64::to_le_bytes).as_flattened(), sender, body]);
         }
         Body::Points(points) => {
             let mut head = Vec::new();
-            for number in [since, post.foreign, sender.len() as u64] {
-                packed::put_number(&mut head, number);
-            }
+            numbers.iter().for_each(|number| packed::put_number(&mut head, *number));
             let kind = if points.runs().is_empty() { POINTS } else { RUNS };
             records::put(out, kind, &[&head, sender, points.packed()]);
         }
@@ -104,25 +97,20 @@ impl Posts {
 
 fn text(bytes: Bytes) -> Option<(u64, Post)> {
     let mut rest = &bytes[..];
-    let since = records::take_number(&mut rest)?;
-    let foreign = records::take_number(&mut rest)?;
-    let length = records::take_number(&mut rest)?;
-    let sender = take_text(&mut rest, length)?;
+    let (since, foreign, sender) = head(&mut rest, records::take_number)?;
     let body = Body::Text(bytes.slice_ref(rest));
     Some((since, Post { sender, foreign, body }))
 }
 
 fn points(mut rest: &[u8], read: ReadPoints) -> Option<(u64, Post)> {
-    let since = packed::take_number(&mut rest)?;
-    let foreign = packed::take_number(&mut rest)?;
-    let length = packed::take_number(&mut rest)?;
-    let sender = take_text(&mut rest, length)?;
+    let (since, foreign, sender) = head(&mut rest, packed::take_number)?;
     let body = Body::Points(read(rest)?);
     Some((since, Post { sender, foreign, body }))
 }
 
-fn take_text(bytes: &mut &[u8], length: u64) -> Option<String> {
-    let (text, rest) = bytes.split_at_checked(usize::try_from(length).ok()?)?;
-    *bytes = rest;
-    Some(std::str::from_utf8(text).ok()?.to_string())
+/// What is ahead of the body: when, how many foreign points, the sender.
+fn head(bytes: &mut &[u8], take: fn(&mut &[u8]) -> Option<u64>) -> Option<(u64, u64, String)> {
+    let (since, foreign, length) = (take(bytes)?, take(bytes)?, take(bytes)?);
+    let sender = bytes.split_off(..usize::try_from(length).ok()?)?;
+    Some((since, foreign, std::str::from_utf8(sender).ok()?.to_string()))
 }

@@ -57,7 +57,8 @@ fn append(journal: &Journal, text: &str) -> Ticket {
 /// As totxegun 0.5.0 wrote posts of quarantined senders into the next segment.
 fn append_copy(journal: &Journal, text: &str) {
     let post = post(text);
-    let (numbers, name) = (record::numbers(seconds(), &post), post.sender.as_bytes());
+    let name = post.sender.as_bytes();
+    let numbers = [seconds(), post.foreign, name.len() as u64].map(u64::to_le_bytes);
     let mut record = Vec::new();
     records::put(&mut record, COPY, &[numbers.as_flattened(), name, text.as_bytes()]);
     let mut place = lock(&journal.shared.place);

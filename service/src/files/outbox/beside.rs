@@ -12,7 +12,7 @@ impl Outbox {
 
     /// Ordered before all that follows; in a folder it is durable when this returns.
     pub fn put_beside(&self, units: &[UnitOfMetric]) -> Result<(), Fault> {
-        self.change(true, |state| {
+        self.change(|state| {
             let new = units.iter().filter(|unit| !state.beside.contains(*unit));
             let new: Vec<UnitOfMetric> = new.cloned().collect();
             (!new.is_empty()).then_some(Change::Beside(new))

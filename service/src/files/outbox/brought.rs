@@ -1,6 +1,6 @@
 //! What an outbox has, brought into another that goes on from it.
 
-use super::changes::{Change, Group, UnitOfMetric};
+use super::changes::{Group, UnitOfMetric};
 use super::rows;
 use super::state::Batch;
 use super::texts::Texts;
@@ -85,13 +85,6 @@ impl Outbox {
                 new: Texts::default(),
             }
         };
-        let bytes = rows::group(&group, &waits.bodies);
-        let count = waits.bodies.len() as u64;
-        self.write(&mut writer, &bytes.records, true, |begin| Change::Group {
-            group,
-            count,
-            segment: 0,
-            items: begin + bytes.items.start as u64..begin + bytes.items.end as u64,
-        })
+        self.put_group(&mut writer, group, &waits.bodies)
     }
 }

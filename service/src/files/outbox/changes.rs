@@ -55,12 +55,3 @@ pub struct End {
     pub end: u64,
     pub run: Option<Arc<Run>>,
 }
-
-impl Change {
-    pub fn in_segment(mut self, number: u64) -> Change {
-        if let Change::Group { segment, .. } = &mut self {
-            *segment = number;
-        }
-        self
-    }
-}

@@ -45,13 +45,11 @@ impl Outbox {
     /// How many series end after this time, and the last of them.
     pub fn ahead_of(&self, time: u64) -> (usize, Option<SeriesKey>) {
         let state = lock(&self.state);
-        let ahead = || {
-            let all = state.series.iter();
-            all.filter(|(_, known)| known.series.frontier > time)
-        };
-        let last = ahead().max_by_key(|(_, known)| known.series.frontier);
-        let last = state.series.keys(last.map(|(id, _)| id).into_iter()).next();
-        (ahead().count(), last)
+        let ends = state.series.iter().map(|(id, known)| (known.series.frontier, id));
+        let ahead: Vec<(u64, u32)> = ends.filter(|(end, _)| *end > time).collect();
+        let last = ahead.iter().max().map(|(_, id)| *id);
+        let last = state.series.keys(last.into_iter()).next();
+        (ahead.len(), last)
     }
 
     /// Leaves these out.
@@ -66,7 +64,7 @@ impl Outbox {
         to_leave: impl FnOnce(&Table) -> BTreeSet<u32>,
     ) -> Result<Vec<SeriesKey>, Fault> {
         let mut left = Vec::new();
-        self.change(true, |state| {
+        self.change(|state| {
             let ids = to_leave(&state.series);
             left = state.series.keys(ids.iter().copied()).collect();
             (!ids.is_empty()).then(|| Change::Forget(ids.into_iter().collect()))

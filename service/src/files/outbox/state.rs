@@ -4,11 +4,12 @@ use super::changes::{Change, Group, UnitOfMetric};
 use super::snapshot::Snapshot;
 use super::table::{KnownSeries, Table};
 use super::{Series, Waiting};
+use crate::files::seconds;
 use crate::otlp::series::{Digest, SeriesKey};
 use crate::runs::Since;
 use std::collections::{BTreeSet, HashSet, VecDeque};
 use std::sync::Arc;
-use std::time::{Duration, SystemTime, UNIX_EPOCH};
+use std::time::Duration;
 
 /// How long ago something was.
 #[derive(Clone, Copy)]
@@ -21,9 +22,7 @@ pub struct Age {
 
 impl Age {
     pub fn from_now(age: Duration) -> Age {
-        let now = SystemTime::now().duration_since(UNIX_EPOCH).unwrap_or_default();
-        let before = now.saturating_sub(age).as_secs();
-        Age { before, age }
+        Age { before: seconds().saturating_sub(age.as_secs()), age }
     }
 }
 

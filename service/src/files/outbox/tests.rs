@@ -259,27 +259,6 @@ fn what_was_forgotten_is_known_by_when_it_ended() {
     }
 }
 
-/// All of it is durable before a post may hang on it.
-#[test]
-fn units_beside_others_last_until_they_are_left() {
-    let folder = tempfile::tempdir().unwrap();
-    let [a, b] = ["a", "b"].map(|metric| unit_of(metric, "ms"));
-    let outbox = open(folder.path());
-    outbox.put_beside(std::slice::from_ref(&a)).unwrap();
-    outbox.put_beside(&[a.clone(), b.clone()]).unwrap();
-    kill(outbox);
-    // The first start reads the records, the others the snapshot that it wrote.
-    for _ in 0..3 {
-        let outbox = open(folder.path());
-        assert_eq!(outbox.beside(), [a.clone(), b.clone()].into());
-        kill(outbox);
-    }
-    let outbox = open(folder.path());
-    outbox.leave_beside(&[b, unit_of("c", "ms")]).unwrap();
-    kill(outbox);
-    assert_eq!(open(folder.path()).beside(), [a].into());
-}
-
 /// It has what says that it is of version 2.
 #[test]
 fn an_outbox_of_version_2_has_no_units_beside_others() {

@@ -54,13 +54,23 @@ impl Outbox {
                 new,
             }
         };
-        let bytes = rows::group(&group, &items);
-        self.write(&mut writer, &bytes.records, true, |begin| {
-            let items = begin + bytes.items.start as u64..begin + bytes.items.end as u64;
-            Change::Group { group, count: bodies.len() as u64, segment: 0, items }
-        })?;
+        self.put_group(&mut writer, group, &items)?;
         self.arrived.notify_one();
         Ok(runs)
+    }
+
+    /// Makes durable a group of these, which are packed.
+    pub(super) fn put_group(
+        &self,
+        writer: &mut Writer,
+        group: Group,
+        packed: &[Vec<u8>],
+    ) -> Result<(), Fault> {
+        let (bytes, count) = (rows::group(&group, packed), packed.len() as u64);
+        self.write(writer, &bytes.records, |begin, segment| {
+            let items = begin + bytes.items.start as u64..begin + bytes.items.end as u64;
+            Change::Group { group, count, segment, items }
+        })
     }
 
     fn unreadable(&self, error: NotForwarded) -> Fault {
@@ -70,7 +80,7 @@ impl Outbox {
 
     /// Makes durable who owns series.
     pub fn own(&self, owners: HashMap<Digest, String>) -> Result<(), Fault> {
-        self.change(true, |state| {
+        self.change(|state| {
             let by_id = |(digest, owner)| Some((state.series.id_of(&digest)?, owner));
             let owners: Vec<_> = owners.into_iter().filter_map(by_id).collect();
             (!owners.is_empty()).then_some(Change::Own(owners))
@@ -80,20 +90,16 @@ impl Outbox {
 
     pub fn quarantine(&self, sender: &str) -> Result<(), Fault> {
         let change = || Change::Quarantine(sender.into());
-        self.change(true, |state| (!state.quarantined.contains(sender)).then(change)).map(drop)
+        self.change(|state| (!state.quarantined.contains(sender)).then(change)).map(drop)
     }
 
     pub fn lift(&self, sender: &str) -> Result<(), Fault> {
         let change = || Change::Lift(sender.into());
-        self.change(true, |state| state.quarantined.contains(sender).then(change)).map(drop)
+        self.change(|state| state.quarantined.contains(sender).then(change)).map(drop)
     }
 
     /// Writes what is to be changed, and then changes it; whether there was something.
-    pub(super) fn change(
-        &self,
-        sync: bool,
-        make: impl FnOnce(&State) -> Option<Change>,
-    ) -> Result<bool, Fault> {
+    pub(super) fn change(&self, make: impl FnOnce(&State) -> Option<Change>) -> Result<bool, Fault> {
         let mut writer = lock(&self.writer);
         let (change, record) = {
             let state = lock(&self.state);
@@ -103,24 +109,26 @@ impl Outbox {
             let record = rows::record(&change);
             (change, record)
         };
-        self.write(&mut writer, &record, sync, |_| change)?;
+        self.write(&mut writer, &record, |_, _| change)?;
         Ok(true)
     }
 
-    pub(super) fn write(
+    /// What is changed then is told by where the bytes begin, and in which segment. It is durable when this returns, with a
+    /// drive once it is settled; but for what the sink has: lost, that is sent again.
+    fn write(
         &self,
         writer: &mut Writer,
         bytes: &[u8],
-        sync: bool,
-        change: impl FnOnce(u64) -> Change,
+        change: impl FnOnce(u64, u64) -> Change,
     ) -> Result<(), Fault> {
         writer.begin(&self.disk)?;
         self.free_space.use_up(bytes.len() as u64);
         let begin = writer.segment.put(&[bytes])?;
-        if sync {
+        let change = change(begin, writer.segment.number);
+        if !matches!(change, Change::Acknowledge { .. }) {
             writer.segment.order()?;
         }
-        lock(&self.state).apply(change(begin).in_segment(writer.segment.number));
+        lock(&self.state).apply(change);
         // Else a change of this record can't be told from one that was torn.
         writer.segment.mark_last()?;
         if writer.is_full(self.longest) {
@@ -163,7 +171,7 @@ impl Outbox {
 
 /// Where the last points of series end.
 #[derive(Default)]
-pub(super) struct Ends {
+struct Ends {
     /// With its place among the new ones, where it is new.
     of: HashMap<Digest, (u64, Option<u32>)>,
     /// The others' keys are known: all together may be very long.
@@ -173,7 +181,7 @@ pub(super) struct Ends {
 }
 
 impl Ends {
-    pub fn note(&mut self, key: SeriesKey, end: u64, is_known: impl FnOnce(&Digest) -> bool) {
+    fn note(&mut self, key: SeriesKey, end: u64, is_known: impl FnOnce(&Digest) -> bool) {
         let digest = self.digests.of(&key);
         let (last, _) = self.of.entry(digest).or_insert_with(|| {
             let place = (!is_known(&digest)).then(|| self.new.count());
@@ -200,7 +208,7 @@ impl Ends {
     }
 
     /// What they do to these series, and the keys of those that are new; none where other series are known than before.
-    pub fn by_id(self, runs: &Runs, series: &Table) -> Option<(Vec<End>, Texts)> {
+    fn by_id(self, runs: &Runs, series: &Table) -> Option<(Vec<End>, Texts)> {
         let mut all = Vec::with_capacity(self.of.len());
         for (digest, (end, new)) in self.of {
             let id = match (series.id_of(&digest), new) {
@@ -217,17 +225,11 @@ impl Ends {
 
 /// Makes a segment that begins with a snapshot. It has another name until it is whole.
 pub(super) fn begin(disk: &Disk, folder: &Path, number: u64, snapshot: &Snapshot) -> Result<Segment, Fault> {
-    let path = segment::path(folder, number);
-    let draft = path.with_extension("draft");
-    if disk.has(&draft)? {
-        disk.remove(&draft)?;
-    }
-    let mut segment = Segment::create(disk, draft.clone(), Which::Outbox, number, Ahead::Nothing, None)?;
+    let mut segment = Segment::create(disk, folder, Which::Outbox, number, Ahead::Nothing, None)?;
     segment.put(&[&snapshot.records()])?;
     segment.order()?;
-    disk.rename(&draft, &path)?;
+    segment.name()?;
     disk.order_folder(folder)?;
-    segment.path = path;
     Ok(segment)
 }
 

@@ -10,10 +10,11 @@ use std::sync::atomic::{AtomicUsize, Ordering::SeqCst};
 #[test]
 fn blocks_that_are_taken_ahead_are_no_part_of_the_file() {
     let folder = tempfile::tempdir().unwrap();
-    let path = path(folder.path(), 1);
     let ahead = Ahead::Blocks(0);
     let mut segment =
-        Segment::create(&Disk::default(), path.clone(), Which::Journal, 1, ahead, None).unwrap();
+        Segment::create(&Disk::default(), folder.path(), Which::Journal, 1, ahead, None).unwrap();
+    segment.name().unwrap();
+    let path = path(folder.path(), 1);
     let parts: [&[u8]; 3] = [b"a", &[b'b'; 9_999], b""];
     for number in 0..300 {
         let at = segment.at;

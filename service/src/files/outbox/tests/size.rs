@@ -1,7 +1,6 @@
 //! How many bytes it takes, and how long a start with a long backlog.
 
 use super::*;
-use crate::files::outbox::changes::Group;
 
 /// A request as the service forwards it, of that many series.
 fn request(series: usize, end: u64) -> Vec<u8> {
@@ -94,13 +93,13 @@ fn a_long_snapshot_is_not_written_with_each_change() {
 #[ignore]
 fn backlog() {
     for in_group in [1000, 1] {
-        let folder = tempfile::tempdir().unwrap();
+        // In memory nothing waits for a sync: the time is that of a start.
+        let folder = crate::files::power::place();
         let outbox = open(folder.path());
         let bodies: Vec<_> =
             (0..in_group).map(|n| body(&[(&format!("key {n}"), 5)], &format!("{n}").repeat(100))).collect();
-        // Nothing is synced here: the time is that of a start.
         for round in 0..1_000_000 / in_group as u64 {
-            commit_without_sync(&outbox, &bodies, round + 2);
+            outbox.commit(&bodies, round + 2).unwrap();
         }
         kill(outbox);
         let began = std::time::Instant::now();
@@ -113,32 +112,4 @@ fn backlog() {
         );
         assert_eq!(outbox.waiting().0, 1_000_000);
     }
-}
-
-fn commit_without_sync(outbox: &Outbox, bodies: &[Vec<u8>], journal: u64) {
-    let items: Vec<_> = bodies.iter().map(|body| rows::deflated(body)).collect();
-    let mut writer = lock(&outbox.writer);
-    let group = {
-        let state = lock(&outbox.state);
-        let mut ends = written::Ends::default();
-        for (key, end) in bodies.iter().flat_map(|body| read_ends(body).unwrap()) {
-            ends.note(key, end, |digest| state.series.id_of(digest).is_some());
-        }
-        let (ends, new) = ends.by_id(&Runs::new(), &state.series).unwrap();
-        Group {
-            first: state.next,
-            epoch: state.next_epoch.clone(),
-            since: 1,
-            heard: None,
-            journal,
-            ends,
-            new,
-        }
-    };
-    let bytes = rows::group(&group, &items);
-    let change = |begin: u64| {
-        let items = begin + bytes.items.start as u64..begin + bytes.items.end as u64;
-        Change::Group { group, count: bodies.len() as u64, segment: 0, items }
-    };
-    outbox.write(&mut writer, &bytes.records, false, change).unwrap();
 }
