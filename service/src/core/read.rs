@@ -165,8 +165,8 @@ impl Read {
     }
 
     /// By which its points have numbers, where they have.
-    pub fn named(&self) -> Option<&Names> {
-        self.names.as_deref()
+    pub fn named(&self) -> Option<&Arc<Names>> {
+        self.names.as_ref()
     }
 
     /// Says what its numbers stand for.

@@ -1,9 +1,16 @@
-//! How many series each sender has: by the owners that are known since the last flush, and what came since.
+//! How many series each sender has: by the owners that are known since the last flush, by what came since, and by what posts
+//! that are under way may bring.
 
-use super::Owned;
-use std::collections::HashMap;
+use super::{Named, Owned};
+use crate::otlp::series::only;
+use std::collections::{HashMap, HashSet};
 use std::sync::atomic::{AtomicU64, Ordering::Relaxed};
-use std::sync::{Mutex, MutexGuard, PoisonError};
+use std::sync::{Arc, Mutex, MutexGuard, PoisonError, Weak};
+use std::time::{Duration, Instant};
+
+/// What came, and is in no flush for so long, is not counted any more: its sender may be quarantined, or its slot another
+/// instance's.
+const LONGEST: Duration = Duration::from_secs(600);
 
 #[derive(Default)]
 pub struct Counted {
@@ -15,7 +22,27 @@ pub struct Counted {
 struct State {
     /// What was counted.
     of: Option<(u64, usize)>,
-    each: HashMap<String, u64>,
+    each: HashMap<String, Has>,
+    /// Series that are there: those that came since, and, as none, those that were looked for and are in a flush.
+    there: HashMap<Number, Option<Came>>,
+}
+
+/// The numbering of a series, and its number.
+type Number = (u64, u64);
+
+/// How many series a sender has.
+#[derive(Clone, Copy, Debug, Default, PartialEq, Eq)]
+pub struct Has {
+    pub series: u64,
+    /// How many more it may have by posts that are under way.
+    pub claimed: u64,
+}
+
+/// A series that is in no flush yet. Who has its number may take much memory, and is not kept for it.
+struct Came {
+    sender: Arc<str>,
+    names: Weak<Named>,
+    at: Instant,
 }
 
 impl Counted {
@@ -25,23 +52,103 @@ impl Counted {
         if self.state().of == Some(found) {
             return;
         }
-        let each = owned.by_owner();
-        let all = each.values().sum();
+        // Ahead of the owners: what comes into a flush meanwhile is counted twice until the next time, and nothing is left out.
+        let gone = self.not_waited_for(owned);
+        let by_owner = owned.by_owner();
+        let of_owners: u64 = by_owner.values().sum();
+        let of_owner = |(sender, series)| (sender, Has { series, claimed: 0 });
+        let mut each: HashMap<String, Has> = by_owner.into_iter().map(of_owner).collect();
         let mut state = self.state();
-        self.all.store(all, Relaxed);
+        state.there.retain(|number, came| came.is_some() && !gone.contains(number));
+        state.there.shrink_to_fit();
+        for came in state.there.values().flatten() {
+            each.entry(came.sender.to_string()).or_default().series += 1;
+        }
+        self.all.store(each.values().map(|has| has.series).sum(), Relaxed);
+        for (sender, has) in state.each.iter().filter(|(_, has)| has.claimed > 0) {
+            each.entry(sender.clone()).or_default().claimed = has.claimed;
+        }
         // A commit may have come whose owners are not known yet.
-        let of = (all == found.1 as u64).then_some(found);
-        *state = State { of, each };
+        state.of = (of_owners == found.1 as u64).then_some(found);
+        state.each = each;
     }
 
-    /// So many came of a sender.
-    pub fn add(&self, sender: &str, series: u64) {
-        let mut state = self.state();
-        self.all.fetch_add(series, Relaxed);
-        match state.each.get_mut(sender) {
-            Some(known) => *known += series,
-            None => drop(state.each.insert(sender.to_string(), series)),
+    /// Of what came since it was counted last what is in a flush, or can't be looked for.
+    fn not_waited_for(&self, owned: &dyn Owned) -> HashSet<Number> {
+        let state = self.state();
+        let came = |(number, came): (&Number, &Option<Came>)| {
+            let came = came.as_ref()?;
+            Some((*number, came.names.clone(), came.at))
+        };
+        let came: Vec<_> = state.there.iter().filter_map(came).collect();
+        drop(state);
+        let is_gone = |(number, names, at): &(Number, Weak<Named>, Instant)| {
+            let names = names.upgrade();
+            names.is_none_or(|names| at.elapsed() > LONGEST || is_flushed(owned, &*names, number.1))
+        };
+        came.into_iter().filter(is_gone).map(|(number, ..)| number).collect()
+    }
+
+    /// Lets a sender have so many more by a post that is under way, unless it would have more than so many.
+    pub fn claim(&self, sender: &str, new: u64, most: u64) -> Result<(), Has> {
+        if new == 0 {
+            return Ok(());
         }
+        let mut state = self.state();
+        let has = state.each.get(sender).copied().unwrap_or_default();
+        if has.series + has.claimed + new > most {
+            return Err(has);
+        }
+        state.each.entry(sender.to_string()).or_default().claimed += new;
+        Ok(())
+    }
+
+    /// A post is under way no more. Names are made up: nothing is kept of who has nothing.
+    pub fn give_back(&self, sender: &str, claimed: u64) {
+        let mut state = self.state();
+        if let Some(has) = state.each.get_mut(sender) {
+            has.claimed = has.claimed.saturating_sub(claimed);
+            if *has == Has::default() {
+                state.each.remove(sender);
+            }
+        }
+    }
+
+    /// So many came of a sender. They are among these numbers, where they have some, of which others were there already.
+    pub fn add(&self, sender: &str, series: u64, numbered: Option<(Arc<Named>, Vec<u64>)>) {
+        let mut state = self.state();
+        state.each.entry(sender.to_string()).or_default().series += series;
+        self.all.fetch_add(series, Relaxed);
+        let Some((names, numbers)) = numbered else { return };
+        let (sender, generation, at): (Arc<str>, _, _) = (sender.into(), names.generation(), Instant::now());
+        for number in numbers {
+            let came = || Some(Came { sender: sender.clone(), names: Arc::downgrade(&names), at });
+            state.there.entry((generation, number)).or_insert_with(came);
+        }
+    }
+
+    /// How many of these series are not there, looked at until they are one more than `most`.
+    pub fn new_of(&self, owned: &dyn Owned, names: &Named, mut numbers: Vec<u64>, most: u64) -> u64 {
+        let generation = names.generation();
+        let is_there = |state: &State, number: u64| state.there.contains_key(&(generation, number));
+        let state = self.state();
+        numbers.retain(|number| !is_there(&state, *number));
+        drop(state);
+        let (mut new, mut flushed) = (0, Vec::new());
+        for number in numbers {
+            match is_flushed(owned, names, number) {
+                true => flushed.push(number),
+                false => new += 1,
+            }
+            if new > most {
+                break;
+            }
+        }
+        let mut state = self.state();
+        for number in flushed {
+            state.there.entry((generation, number)).or_insert(None);
+        }
+        new
     }
 
     pub fn all(&self) -> u64 {
@@ -49,14 +156,18 @@ impl Counted {
     }
 
     pub fn of(&self, sender: &str) -> u64 {
-        self.state().each.get(sender).copied().unwrap_or(0)
+        self.state().each.get(sender).map_or(0, |has| has.series)
     }
 
     pub fn each(&self) -> HashMap<String, u64> {
-        self.state().each.clone()
+        self.state().each.iter().map(|(sender, has)| (sender.clone(), has.series)).collect()
     }
 
     fn state(&self) -> MutexGuard<'_, State> {
         self.state.lock().unwrap_or_else(PoisonError::into_inner) // counts are sound at any time
     }
+}
+
+fn is_flushed(owned: &dyn Owned, names: &Named, number: u64) -> bool {
+    only(&names.text(number)).is_some_and(|key| owned.has(&key))
 }

@@ -1,8 +1,8 @@
 //! What each sender may have of what all share: series, and points a second.
 //!
-//! A post asks for its points once it is read, before the book is: over a sender's share it is answered 429, and nothing of
-//! it is anywhere; 413 where no repeat could be within it. `bucket` counts points. Series are counted by their owners at each
-//! flush, and by what a post has added since; `rules` says how many each may have.
+//! A post asks for its points and its series once it is read, before the book is: over a sender's share it is answered 429, and
+//! nothing of it is anywhere; 413 where no repeat could be within it. `bucket` counts points, `count` series: by their owners at
+//! each flush, and by what posts have added since, or may add; `rules` says how many each may have.
 
 mod bucket;
 mod count;
@@ -10,10 +10,12 @@ mod rules;
 
 pub use rules::{Owned, Rules, Share, MOST_POINTS};
 
+use crate::files::Names;
+use crate::otlp::series::others;
 use crate::otlp::Outcome;
 use bucket::{Buckets, BURST};
 use bytes::Bytes;
-use count::Counted;
+use count::{Counted, Has};
 use serde::{Deserialize, Serialize};
 use std::future::Future;
 use std::sync::{Arc, Mutex, MutexGuard, OnceLock, PoisonError, Weak};
@@ -22,8 +24,13 @@ use std::time::{Duration, Instant};
 /// How often it is looked whether series came or went.
 const LOOK: Duration = Duration::from_secs(1);
 
-/// When a sender is to come again that may have no more series: one that is in no flush yet counts as new until then.
+/// When a sender is to come again that may have no more series: one that has no number and is in no flush yet counts as new until
+/// then.
 const AGAIN: u64 = 10;
+
+/// How long it is waited for posts of the same sender that are under way, and how often at most.
+const PAUSE: Duration = Duration::from_millis(20);
+const PAUSES: usize = 10;
 
 /// How many senders are shown.
 pub const SHOWN: usize = 10;
@@ -47,13 +54,24 @@ pub enum Over {
     Alone { sender: String, most: u64 },
 }
 
-/// How many series the sender of a post has, and may have, and how many points that has.
-#[derive(Clone, Debug)]
-pub struct Limit {
-    sender: String,
-    series: u64,
-    most: u64,
-    points: u64,
+/// Says what numbers of series stand for.
+pub type Named = dyn Names + Send + Sync;
+
+/// The series of a post.
+pub enum Series {
+    /// By their numbers, each once.
+    Numbered(Arc<Named>, Vec<u64>),
+    /// They have none, and are looked for in its text.
+    Text(Bytes),
+}
+
+impl Series {
+    pub fn numbered(names: Arc<Named>, numbers: impl Iterator<Item = u64>) -> Series {
+        let mut numbers: Vec<u64> = numbers.collect();
+        numbers.sort_unstable();
+        numbers.dedup();
+        Series::Numbered(names, numbers)
+    }
 }
 
 impl From<Over> for Outcome {
@@ -97,11 +115,14 @@ fn part(used: u64, most: Option<u64>) -> f64 {
     most.map_or(0.0, |most| used as f64 / most.max(1) as f64)
 }
 
-/// A post's points, which are given back unless it is taken.
+/// What a post has of its sender's share: its points are given back unless it is taken, and what it may bring of series once it is
+/// known how many these are.
 #[must_use = "the points of what is taken have to be kept"]
 pub struct Claim<'s> {
     shares: &'s Shares,
-    points: Option<(String, Duration)>,
+    sender: String,
+    points: Duration,
+    series: u64,
 }
 
 impl Shares {
@@ -113,46 +134,26 @@ impl Shares {
         }
     }
 
-    /// Whether the series of a post have to be looked at, which it takes its text for; none where all may be new. Who has all of
-    /// its share gets no new series, and nobody more by one post than a whole share: that is looked at only where the post has
-    /// more points.
-    pub fn limit(&self, sender: &str, points: u64) -> Option<Limit> {
-        let rules = self.rules.get()?;
-        let share = rules.of(sender);
-        if share.series.is_none() && self.counted.all() < rules.kept_for_others() {
-            return None; // nobody can be over what is left to all
-        }
-        let series = self.counted.of(sender);
-        let has_others = self.counted.all() > series;
-        let most = share.series.or(has_others.then(|| rules.kept_for_others()))?;
-        let sender = || sender.to_string();
-        (series >= most || points > most).then(|| Limit { sender: sender(), series, most, points })
-    }
-
-    /// Looks whether a post that says this is within it. So many series that are no new ones may look so, since they are in no
-    /// flush yet.
-    pub fn look(&self, limit: Limit, text: Option<Bytes>, unflushed: u64) -> Result<(), Over> {
-        let Limit { sender, series, most, points } = limit;
-        let Some(rules) = self.rules.get() else { return Ok(()) };
-        let is_within = match series >= most {
-            true => rules.knows_all(text.clone()),
-            false => !rules.has_more(text.clone(), most),
+    /// Asks for a post's points, and for room for its series. `look` says how many of these are new: it is not asked where there is
+    /// room for as many as there are points.
+    pub async fn claim<F: Future<Output = Result<u64, Over>>>(
+        &self,
+        sender: &str,
+        points: u64,
+        look: impl Fn() -> F,
+    ) -> Result<Claim<'_>, Over> {
+        let mut claim = Claim { shares: self, sender: String::new(), points: Duration::ZERO, series: 0 };
+        let Some(rules) = self.rules.get() else {
+            return Ok(claim);
         };
-        if is_within {
-            return Ok(());
+        claim.sender = sender.into();
+        if let Some(most) = self.most_series(rules, sender, points) {
+            claim.series = match self.counted.claim(sender, points, most) {
+                Ok(()) => points,
+                Err(has) => self.claim_new(sender, most, has, look).await?,
+            };
         }
-        let alone = most.saturating_add(unflushed);
-        Err(match points > alone && rules.has_more(text, alone) {
-            true => Over::Alone { sender, most },
-            false => Over::Series { sender, series, most },
-        })
-    }
-
-    /// Asks for a post's points.
-    pub fn claim(&self, sender: &str, points: u64) -> Result<Claim<'_>, Over> {
-        let mut claim = Claim { shares: self, points: None };
-        let most = self.rules.get().and_then(|rules| rules.of(sender).points);
-        if let Some(most) = most {
+        if let Some(most) = rules.of(sender).points {
             let cost = bucket::cost(points, most);
             let waits = self.buckets().take(sender, cost, Instant::now());
             waits.map_err(|wait| Over::Points {
@@ -160,9 +161,72 @@ impl Shares {
                 points: most,
                 seconds: wait.as_secs() + 1,
             })?;
-            claim.points = Some((sender.to_string(), cost));
+            claim.points = cost;
         }
         Ok(claim)
+    }
+
+    /// How many series a sender may have, where it could come over that by a post of so many points. Of a service's a tenth is left
+    /// to others, once these have some.
+    fn most_series(&self, rules: &Rules, sender: &str, points: u64) -> Option<u64> {
+        let (all, for_one) = (self.counted.all(), rules.kept_for_others());
+        let is_near = || all.saturating_add(points) > for_one && all > self.counted.of(sender);
+        rules.of(sender).series.or_else(|| is_near().then_some(for_one))
+    }
+
+    /// Asks for room where there is none for as many series as there are points. Posts of the same sender that are under way have
+    /// claimed as many as they have points, or bring the same series: these are waited for.
+    async fn claim_new<F: Future<Output = Result<u64, Over>>>(
+        &self,
+        sender: &str,
+        most: u64,
+        mut has: Has,
+        look: impl Fn() -> F,
+    ) -> Result<u64, Over> {
+        for _ in 0..PAUSES {
+            let new = look().await?;
+            let before = has;
+            match self.counted.claim(sender, new, most) {
+                Ok(()) => return Ok(new),
+                Err(now) => has = now,
+            }
+            if has == before && has.claimed == 0 {
+                break;
+            }
+            tokio::time::sleep(PAUSE).await;
+        }
+        Err(Over::Series { sender: sender.into(), series: has.series, most })
+    }
+
+    /// How many new series a post has. Of those that have no numbers so many that are none may look so, since they are in no flush
+    /// yet.
+    pub fn look(&self, sender: &str, points: u64, series: Series, unflushed: u64) -> Result<u64, Over> {
+        let Some(rules) = self.rules.get() else { return Ok(0) };
+        let Some(most) = self.most_series(rules, sender, points) else {
+            return Ok(0);
+        };
+        let alone = most.saturating_add(unflushed);
+        let new = match series {
+            Series::Numbered(names, numbers) => self.counted.new_of(&*rules.owned, &*names, numbers, alone),
+            Series::Text(text) => others(&text, rules.profile, alone, |key| rules.owned.has(key)),
+        };
+        match new > alone {
+            true => Err(Over::Alone { sender: sender.into(), most }),
+            false => Ok(new),
+        }
+    }
+
+    /// A post is in the book, with so many series that were not there.
+    pub fn came(&self, sender: &str, new_series: usize, series: impl FnOnce() -> Series) {
+        let Some(rules) = self.rules.get().filter(|_| new_series > 0) else {
+            return;
+        };
+        let is_asked = self.most_series(rules, sender, 0).is_some();
+        let numbered = match is_asked.then(series) {
+            Some(Series::Numbered(names, numbers)) => Some((names, numbers)),
+            Some(Series::Text(_)) | None => None,
+        };
+        self.counted.add(sender, new_series as u64, numbered);
     }
 
     /// Those that are nearest to their share, the nearest first.
@@ -202,25 +266,25 @@ impl Shares {
 impl Claim<'_> {
     /// Waits for what goes on also where nobody waits for it any more: so the points are kept then.
     pub async fn during<T>(&mut self, work: impl Future<Output = T>) -> T {
-        let points = self.points.take();
+        let points = std::mem::take(&mut self.points);
         let done = work.await;
         self.points = points;
         done
     }
 
-    /// The post is in the book, with so many series that were not there.
-    pub fn keep(&mut self, sender: &str, new_series: usize) {
-        self.points = None;
-        if new_series > 0 && self.shares.rules.get().is_some() {
-            self.shares.counted.add(sender, new_series as u64);
-        }
+    /// The post is in the book.
+    pub fn keep(&mut self) {
+        self.points = Duration::ZERO;
     }
 }
 
 impl Drop for Claim<'_> {
     fn drop(&mut self) {
-        if let Some((sender, cost)) = self.points.take() {
-            self.shares.buckets().give_back(&sender, cost);
+        if self.series > 0 {
+            self.shares.counted.give_back(&self.sender, self.series);
+        }
+        if !self.points.is_zero() {
+            self.shares.buckets().give_back(&self.sender, self.points);
         }
     }
 }

@@ -1,9 +1,8 @@
 //! How much each sender may have.
 
 use crate::identity::Tokens;
-use crate::otlp::series::{all_are, has_more, Profile, SeriesKey};
+use crate::otlp::series::{Profile, SeriesKey};
 use crate::reloaded::Reloaded;
-use bytes::Bytes;
 use std::collections::HashMap;
 use std::sync::Arc;
 
@@ -56,15 +55,5 @@ impl Rules {
     /// How many series one sender may have where others have some too: a tenth is left to them.
     pub fn kept_for_others(&self) -> u64 {
         self.most_series - self.most_series / 10
-    }
-
-    /// Whether a post has no series but those of an earlier flush.
-    pub fn knows_all(&self, text: Option<Bytes>) -> bool {
-        text.is_some_and(|text| all_are(&text, self.profile, |key| self.owned.has(key)))
-    }
-
-    /// Whether it has more new ones than so many.
-    pub fn has_more(&self, text: Option<Bytes>, most: u64) -> bool {
-        text.is_some_and(|text| has_more(&text, self.profile, most, |key| self.owned.has(key)))
     }
 }

@@ -54,10 +54,45 @@ fn names(of: &str, count: usize) -> Vec<String> {
     (0..count).map(|number| format!("{of}.{number}")).collect()
 }
 
-/// Shares of a service for 100 series.
-fn shares(of_each: Share, flushed: &Flushed) -> Arc<Shares> {
-    let shares = Arc::<Shares>::default();
-    shares.counted.count(flushed);
+/// Each series has a number, in the order in which they came.
+#[derive(Default)]
+struct Numbers(Mutex<Vec<String>>);
+
+impl Numbers {
+    fn of(&self, names: &[String]) -> Vec<u64> {
+        let mut all = self.0.lock().unwrap();
+        let mut of = |name: &String| {
+            let place = all.iter().position(|known| known == name);
+            place.unwrap_or_else(|| {
+                all.push(name.clone());
+                all.len() - 1
+            }) as u64
+        };
+        names.iter().map(&mut of).collect()
+    }
+}
+
+impl Names for Numbers {
+    fn generation(&self) -> u64 {
+        1
+    }
+
+    fn text(&self, number: u64) -> Bytes {
+        body(&[self.0.lock().unwrap()[number as usize].clone()])
+    }
+}
+
+/// A service for 100 series.
+struct Service {
+    shares: Arc<Shares>,
+    flushed: Flushed,
+    book: Mutex<HashMap<String, String>>,
+    numbers: Arc<Numbers>,
+}
+
+fn service(of_each: Share) -> Service {
+    let (shares, flushed) = (Arc::<Shares>::default(), Flushed::default());
+    shares.counted.count(&flushed);
     let rules = Rules {
         most_series: 100,
         of_each,
@@ -66,115 +101,198 @@ fn shares(of_each: Share, flushed: &Flushed) -> Arc<Shares> {
         owned: Box::new(flushed.clone()),
     };
     assert!(shares.rules.set(rules).is_ok());
-    shares
+    Service { shares, flushed, book: Mutex::default(), numbers: Arc::default() }
 }
 
-/// Whether a post of these is let in. It is taken then.
-fn post(shares: &Shares, sender: &str, names: &[String]) -> Result<(), Over> {
-    let known = |key: &SeriesKey| shares.rules.get().is_some_and(|rules| rules.owned.has(key));
-    let new = posted(names).iter().filter(|key| !known(key)).count();
-    let points = names.len() as u64;
-    if let Some(limit) = shares.limit(sender, points) {
-        shares.look(limit, Some(body(names)), 0)?;
+fn of_series(series: u64) -> Service {
+    service(Share { series: Some(series), points: None })
+}
+
+impl Service {
+    /// What a post of these has, which is let in; its series are found by their numbers.
+    async fn claim(&self, sender: &str, names: &[String]) -> Result<Claim<'_>, Over> {
+        let numbers = self.numbers.of(names).into_iter();
+        self.claim_by(sender, names, || Series::numbered(self.numbers.clone(), numbers.clone()), 0).await
     }
-    shares.claim(sender, points)?.keep(sender, new);
-    Ok(())
+
+    async fn claim_by(
+        &self,
+        sender: &str,
+        names: &[String],
+        series: impl Fn() -> Series,
+        unflushed: u64,
+    ) -> Result<Claim<'_>, Over> {
+        let points = names.len() as u64;
+        let look = || std::future::ready(self.shares.look(sender, points, series(), unflushed));
+        self.shares.claim(sender, points, look).await
+    }
+
+    /// Whether a post of these is let in. It is taken then.
+    async fn post(&self, sender: &str, names: &[String]) -> Result<(), Over> {
+        self.take(sender, names, self.claim(sender, names).await?);
+        Ok(())
+    }
+
+    fn take(&self, sender: &str, names: &[String], mut claim: Claim<'_>) {
+        let mut book = self.book.lock().unwrap();
+        let before = book.len();
+        book.extend(names.iter().map(|name| (name.clone(), sender.into())));
+        let numbers = self.numbers.of(names).into_iter();
+        let series = || Series::numbered(self.numbers.clone(), numbers);
+        self.shares.came(sender, book.len() - before, series);
+        claim.keep();
+    }
+
+    /// All that the book has comes into a flush.
+    fn flush(&self) {
+        for (name, sender) in &*self.book.lock().unwrap() {
+            self.flushed.add(sender, std::slice::from_ref(name));
+        }
+        self.shares.counted.count(&self.flushed);
+    }
 }
 
-#[test]
-fn without_rules_each_has_all() {
+fn used_up(series: u64, most: u64) -> Result<(), Over> {
+    Err(Over::Series { sender: "A".into(), series, most })
+}
+
+#[tokio::test]
+async fn without_rules_each_has_all() {
     let shares = Shares::default();
     for _ in 0..10 {
-        assert!(shares.limit("A", u64::MAX).is_none());
-        shares.claim("A", u64::MAX).unwrap().keep("A", 1_000_000);
+        let look = || async { panic!("nobody asks") };
+        shares.claim("A", u64::MAX, look).await.unwrap().keep();
     }
     assert!(shares.nearest().is_empty());
 }
 
-#[test]
-fn one_alone_may_have_all_series_and_leaves_a_tenth_once_others_have_some() {
-    let flushed = Flushed::default();
-    let shares = shares(Share::default(), &flushed);
-    assert_eq!(post(&shares, "A", &names("a", 95)), Ok(()));
-    flushed.add("A", &names("a", 95));
-    shares.counted.count(&flushed);
-    assert_eq!(post(&shares, "A", &names("more", 1)), Ok(()));
-    assert_eq!(post(&shares, "B", &names("b", 1)), Ok(()), "there is a place for another");
-    let over = post(&shares, "A", &names("most", 1)).unwrap_err();
-    let (series, most) = (96, 90);
-    assert_eq!(over, Over::Series { sender: "A".into(), series, most });
-    assert_eq!(post(&shares, "A", &names("a", 95)), Ok(()), "what it has goes on");
-    assert_eq!(post(&shares, "B", &names("b", 3)), Ok(()));
+#[tokio::test]
+async fn one_alone_may_have_all_series_and_leaves_a_tenth_once_others_have_some() {
+    let service = service(Share::default());
+    assert_eq!(service.post("A", &names("a", 95)).await, Ok(()));
+    service.flush();
+    assert_eq!(service.post("A", &names("more", 1)).await, Ok(()));
+    assert_eq!(service.post("B", &names("b", 1)).await, Ok(()), "there is a place for another");
+    assert_eq!(service.post("A", &names("most", 1)).await, used_up(96, 90));
+    assert_eq!(service.post("A", &names("a", 95)).await, Ok(()), "what it has goes on");
+    assert_eq!(service.post("B", &names("b", 3)).await, Ok(()));
 }
 
-#[test]
-fn a_share_of_series_is_kept_to_between_two_flushes_too() {
-    let flushed = Flushed::default();
-    let share = Share { series: Some(5), points: None };
-    let shares = shares(share, &flushed);
-    assert_eq!(post(&shares, "A", &names("a", 3)), Ok(()));
-    assert_eq!(post(&shares, "A", &names("b", 2)), Ok(()));
-    assert!(post(&shares, "A", &names("c", 1)).is_err());
-    flushed.add("A", &names("a", 3));
-    flushed.add("A", &names("b", 2));
-    shares.counted.count(&flushed);
-    assert_eq!(post(&shares, "A", &names("b", 2)), Ok(()));
-    assert!(post(&shares, "A", &[names("b", 2), names("c", 1)].concat()).is_err());
-    assert!(matches!(
-        Outcome::from(post(&shares, "A", &names("c", 1)).unwrap_err()),
-        Outcome::Later { seconds: AGAIN, .. }
-    ));
+#[tokio::test]
+async fn a_share_of_series_is_kept_to_between_two_flushes_too() {
+    let service = of_series(5);
+    assert_eq!(service.post("A", &names("a", 3)).await, Ok(()));
+    assert_eq!(service.post("A", &names("b", 2)).await, Ok(()));
+    assert_eq!(service.post("A", &[names("a", 3), names("b", 2)].concat()).await, Ok(()), "it has them");
+    assert_eq!(service.post("A", &names("c", 1)).await, used_up(5, 5));
+    service.flush();
+    assert_eq!(service.post("A", &names("b", 2)).await, Ok(()));
+    let over = service.post("A", &[names("b", 2), names("c", 1)].concat()).await.unwrap_err();
+    assert!(matches!(Outcome::from(over), Outcome::Later { seconds: AGAIN, .. }));
+}
+
+/// Else who is just below its share comes to nearly twice that.
+#[tokio::test]
+async fn no_post_brings_more_than_is_left_of_a_share() {
+    let service = of_series(5);
+    assert_eq!(service.post("A", &names("a", 4)).await, Ok(()));
+    for _ in 0..2 {
+        assert_eq!(service.post("A", &names("b", 5)).await, used_up(4, 5));
+        assert_eq!(service.post("A", &[names("a", 4), names("b", 2)].concat()).await, used_up(4, 5));
+        service.flush();
+    }
+    assert_eq!(service.post("A", &[names("a", 4), names("b", 1)].concat()).await, Ok(()));
+    assert_eq!(service.post("A", &names("c", 1)).await, used_up(5, 5));
+}
+
+/// What came after a flush was taken is not in the owners' series once that is there.
+#[tokio::test]
+async fn what_came_while_a_flush_was_written_is_counted() {
+    let service = of_series(5);
+    assert_eq!(service.post("A", &names("a", 2)).await, Ok(()));
+    let taken: Vec<String> = names("a", 2);
+    assert_eq!(service.post("A", &names("b", 2)).await, Ok(()));
+    service.flushed.add("A", &taken);
+    service.shares.counted.count(&service.flushed);
+    assert_eq!(service.post("A", &names("c", 2)).await, used_up(4, 5));
+    assert_eq!(service.post("A", &[names("b", 2), names("c", 1)].concat()).await, Ok(()));
+    service.flush();
+    assert_eq!(service.shares.counted.of("A"), 5, "none counts twice");
+}
+
+/// Else many at once would each find the room that is there for one.
+#[tokio::test]
+async fn posts_that_are_under_way_share_what_is_left() {
+    let service = of_series(5);
+    let first = service.claim("A", &names("a", 4)).await.unwrap();
+    let over = service.claim("A", &names("b", 2)).await.err();
+    assert_eq!(over.map_or(Ok(()), Err), used_up(0, 5));
+    let second = async { service.claim("A", &names("a", 2)).await.map(drop) };
+    let taken = async {
+        tokio::time::sleep(3 * PAUSE).await;
+        service.take("A", &names("a", 4), first);
+    };
+    assert_eq!(tokio::join!(second, taken).0, Ok(()), "they are no new ones");
+    drop(service.claim("made up", &names("c", 1)).await.unwrap());
+    assert!(service.claim("made up", &names("c", 6)).await.is_err());
+    assert_eq!(service.shares.counted.each(), [("A".to_string(), 4)].into());
 }
 
 /// Else the first post of a sender that makes very many would take the room of all others. It would come again for ever, were it
 /// answered as one that may be taken later.
-#[test]
-fn no_post_has_more_new_series_than_a_share() {
-    let flushed = Flushed::default();
-    let shares = shares(Share { series: Some(5), points: None }, &flushed);
-    let alone = || Over::Alone { sender: "A".into(), most: 5 };
-    assert_eq!(post(&shares, "A", &names("a", 6)), Err(alone()));
-    assert_eq!(Outcome::from(alone()).status(), 413);
-    let many_points = shares.limit("A", 50).unwrap();
-    let of_few_series = Some(body(&names("a", 5)));
-    assert_eq!(shares.look(many_points, of_few_series, 0), Ok(()));
-    let limit = shares.limit("A", 6).unwrap();
-    let over = shares.look(limit, Some(body(&names("a", 6))), 1).unwrap_err();
-    assert!(matches!(over, Over::Series { .. }), "one of them may be taken, and in no flush yet");
-    assert_eq!(post(&shares, "A", &names("a", 3)), Ok(()));
-    flushed.add("A", &names("a", 3));
-    shares.counted.count(&flushed);
-    let with = |new| post(&shares, "A", &[names("a", 3), names("b", new)].concat());
-    assert_eq!(with(6), Err(alone()));
-    assert_eq!(with(3), Ok(()), "as for who has one left");
-    let used_up = Over::Series { sender: "A".into(), series: 6, most: 5 };
-    assert_eq!(post(&shares, "A", &names("c", 5)), Err(used_up), "some may be forgotten");
-    assert_eq!(post(&shares, "A", &names("c", 6)), Err(alone()));
+#[tokio::test]
+async fn no_post_has_more_new_series_than_a_share() {
+    let service = of_series(5);
+    let alone = || Err(Over::Alone { sender: "A".into(), most: 5 });
+    assert_eq!(service.post("A", &names("a", 6)).await, alone());
+    assert_eq!(Outcome::from(alone().unwrap_err()).status(), 413);
+    let many_points = vec![names("a", 5); 10].concat();
+    drop(service.claim("A", &many_points).await.unwrap());
+    assert_eq!(service.post("A", &names("a", 3)).await, Ok(()));
+    service.flush();
+    let with = async |new| service.post("A", &[names("a", 3), names("b", new)].concat()).await;
+    assert_eq!(with(6).await, alone());
+    assert_eq!(with(3).await, used_up(3, 5), "some may be forgotten");
+    assert_eq!(with(2).await, Ok(()));
+}
+
+#[tokio::test]
+async fn series_without_numbers_are_known_once_they_were_flushed() {
+    let service = of_series(5);
+    let post = async |names: &[String], unflushed| {
+        let claim = service.claim_by("A", names, || Series::Text(body(names)), unflushed).await;
+        claim.map(|claim| service.take("A", names, claim))
+    };
+    assert_eq!(post(&names("a", 3), 0).await, Ok(()));
+    service.flush();
+    assert_eq!(post(&[names("a", 3), names("b", 2)].concat(), 0).await, Ok(()));
+    assert_eq!(post(&names("c", 6), 0).await, Err(Over::Alone { sender: "A".into(), most: 5 }));
+    assert_eq!(post(&names("c", 6), 1).await, used_up(5, 5), "one may be taken, and in no flush yet");
 }
 
 /// Else a sender that is refused for another reason would use up what it has.
-#[test]
-fn points_of_what_is_not_taken_are_given_back() {
-    let share = Share { series: None, points: Some(1) };
-    let shares = shares(share, &Flushed::default());
+#[tokio::test]
+async fn points_of_what_is_not_taken_are_given_back() {
+    let service = service(Share { series: None, points: Some(1) });
+    let claim = async |points| service.claim("A", &names("a", points)).await;
     for _ in 0..100 {
-        drop(shares.claim("A", 60).unwrap());
+        drop(claim(60).await.unwrap());
     }
-    shares.claim("A", 60).unwrap().keep("A", 0);
-    let over = shares.claim("A", 1).err().unwrap();
+    claim(60).await.unwrap().keep();
+    let over = claim(1).await.err().unwrap();
     assert_eq!(over.to_string(), "over its share: A may post 1 points a second, 60 at once: again in 1 s");
     assert_eq!(Outcome::from(over).again_in(), Some(1));
 }
 
-#[test]
-fn those_that_are_nearest_come_first() {
-    let share = Share { series: Some(20), points: Some(1) };
-    let shares = shares(share, &Flushed::default());
+#[tokio::test]
+async fn those_that_are_nearest_come_first() {
+    let service = service(Share { series: Some(20), points: Some(1) });
     for number in 0..15 {
         let sender = format!("s{number:02}");
-        shares.claim(&sender, number).unwrap().keep(&sender, 15 - number as usize);
+        service.claim(&sender, &names("a", number)).await.unwrap().keep();
+        service.shares.came(&sender, 15 - number, || Series::Text(Bytes::new()));
     }
-    let nearest = shares.nearest();
+    let nearest = service.shares.nearest();
     assert_eq!(nearest.len(), SHOWN);
     assert_eq!((&*nearest[0].sender, nearest[0].series, nearest[0].most_series), ("s00", 15, Some(20)));
     assert_eq!(nearest[0].part(), 0.75);

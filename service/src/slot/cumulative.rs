@@ -69,8 +69,8 @@ impl Slot {
             (making, put) = self.made(making, &mut claim).await;
             match put? {
                 Some(put) => {
-                    if let Some(new_series) = put.new_series {
-                        claim.keep(&making.sender, new_series);
+                    if put.is_in_book {
+                        claim.keep();
                     }
                     return Ok(put.journalled);
                 }
@@ -117,7 +117,7 @@ impl Slot {
     }
 
     fn not_made(&self, refused: impl Into<Outcome>) -> Put {
-        Put { journalled: Journalled::behind_all(refused, &self.journal), new_series: None }
+        Put { journalled: Journalled::behind_all(refused, &self.journal), is_in_book: false }
     }
 
     /// The same points as its text has them: of these none is foreign to the library.
@@ -146,7 +146,7 @@ impl Slot {
         if draft.points.count() == 0 {
             return Ok(Tried::Put(Put {
                 journalled: said(Journalled::behind_all(Outcome::taken(0), &self.journal), &draft),
-                new_series: None,
+                is_in_book: false,
             }));
         }
         let mut read = match self.read_made(making, &mut draft, foreign) {
@@ -155,10 +155,10 @@ impl Slot {
             Ok(Some(read)) => read,
         };
         Ok(match self.put(&mut read)? {
-            Ok(Put { journalled, new_series }) => {
+            Ok(Put { journalled, is_in_book }) => {
                 let journalled = said(journalled, &draft);
                 self.kept(making, draft);
-                Tried::Put(Put { journalled, new_series })
+                Tried::Put(Put { journalled, is_in_book })
             }
             Err(Refused::InFlight) => Tried::InFlight,
             Err(refused) => {

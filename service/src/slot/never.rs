@@ -51,7 +51,7 @@ fn too_many(read: &Read, most: usize) -> Option<Never> {
     let is_over = read.points() > most as u64
         && match &read.post.body {
             Body::Points(points) => points.numbers().collect::<HashSet<_>>().len() > most,
-            Body::Text(text) => series::has_more(text, Profile::Deltas, most as u64, |_| false),
+            Body::Text(text) => series::others(text, Profile::Deltas, most as u64, |_| false) > most as u64,
         };
     is_over.then_some(Never::ManySeries { most })
 }

@@ -3,15 +3,15 @@
 //! Between the book and the journal nothing is waited for. So the journal has the book's order, each post is in both
 //! or in neither, and one whose sender goes away is whole.
 
-use super::numbers::Source;
 use super::posted::{read, Posted};
 use super::verdict::Journalled;
 use super::{is_sender, Phase, Request, Slot, MOVED, NO_ROOM};
-use crate::core::{Locked, Refused};
-use crate::files::{Lost, FAILED};
+use crate::core::{Locked, Read, Refused};
+use crate::files::{Body, Lost, FAILED};
 use crate::otlp::{Outcome, Reading};
-use crate::shares::{Claim, Over};
+use crate::shares::{Claim, Over, Series};
 use crate::work::blocking;
+use bytes::Bytes;
 use std::sync::Arc;
 
 /// What takes so much is read in place, what takes more on a thread beside the runtime's: no short post waits for it.
@@ -23,8 +23,8 @@ const NO_REST: &str = "there is no memory for the rest of a post of several hour
 /// A post that the book and the journal have.
 pub(super) struct Put {
     pub journalled: Journalled,
-    /// How many of its series the book had not; none where nothing was taken.
-    pub new_series: Option<usize>,
+    /// Whether the book has more by it.
+    pub is_in_book: bool,
 }
 
 impl Slot {
@@ -43,17 +43,18 @@ impl Slot {
         }
         let said = match request {
             Request::Numbered(by) if !by.cumulative.is_empty() => {
-                match self.claim(&sender, by.points.count() as u64, by.source.clone()).await {
+                let series = || Series::numbered(by.names.clone(), by.points.numbers());
+                match self.claim(&sender, by.points.count() as u64, by.source.length(), series).await {
                     Ok(claim) => self.put_cumulative(sender, by, claim).await,
                     Err(over) => return over.into(),
                 }
             }
             request => {
-                let source = request.source();
+                let length = request.source().length();
                 match self.read(sender, request).await {
                     Ok(posted) => {
-                        let claim = self.claim(&posted.read.post.sender, posted.read.points(), source);
-                        match claim.await {
+                        let (sender, points) = (&posted.read.post.sender, posted.read.points());
+                        match self.claim(sender, points, length, series_of(&posted.read)).await {
                             Ok(claim) => self.put_in_turn(posted, claim).await,
                             Err(over) => return over.into(),
                         }
@@ -94,23 +95,35 @@ impl Slot {
         blocking(move || read(&core, &numbers, &window, sender, request)).await
     }
 
-    /// Asks for what the sender may have of points and series.
-    async fn claim(&self, sender: &str, points: u64, source: Source) -> Result<Claim<'_>, Over> {
-        if let Some(limit) = self.shares.limit(sender, points) {
-            let (shares, length) = (self.shares.clone(), source.length());
+    /// Asks for what the sender of a request that is so long may have of points and series.
+    async fn claim(
+        &self,
+        sender: &str,
+        points: u64,
+        length: usize,
+        series: impl Fn() -> Series,
+    ) -> Result<Claim<'_>, Over> {
+        let look = || {
+            let (shares, sender, series) = (self.shares.clone(), sender.to_string(), series());
             let in_book = self.core.lock().series();
             let unflushed = in_book.saturating_sub(self.outbox.series_count()) as u64;
-            let look = move || shares.look(limit, source.text(), unflushed);
-            let found = match length {
-                0..=SHORT => look(),
-                _ => {
-                    let _turn = self.readers.acquire().await; // it is never closed
-                    blocking(look).await
+            let look = move || shares.look(&sender, points, series, unflushed);
+            async move {
+                match length {
+                    0..=SHORT => look(),
+                    _ => {
+                        let _turn = self.readers.acquire().await; // it is never closed
+                        blocking(look).await
+                    }
                 }
-            };
-            found.inspect_err(|_| self.crowded.notify_one())?;
-        }
-        self.shares.claim(sender, points)
+            }
+        };
+        let claim = self.shares.claim(sender, points, look).await;
+        claim.inspect_err(|over| {
+            if !matches!(over, Over::Points { .. }) {
+                self.crowded.notify_one();
+            }
+        })
     }
 
     /// Puts a post into the book and into the journal; behind what is in flight, where that is of an hour before. The error
@@ -124,7 +137,7 @@ impl Slot {
             let landed = self.landed.notified(); // from here on none is missed
             match self.put(&mut posted)? {
                 Ok(put) => {
-                    claim.keep(&posted.read.post.sender, put.new_series.unwrap_or(0));
+                    claim.keep();
                     return Ok(put.journalled);
                 }
                 Err(Refused::InFlight) => landed.await,
@@ -161,12 +174,13 @@ impl Slot {
             self.note_refusal(book, refused);
             return Ok(Err(refused));
         }
-        let new_series = Some(book.series().saturating_sub(before));
+        let new_series = book.series().saturating_sub(before);
         self.count_post();
         // Under the lock: so the journal has the book's order, and a checkpoint finds the post in both or in neither.
         let journalled = Journalled::taken(posted, &self.journal);
         drop(book);
-        Ok(Ok(Put { journalled, new_series }))
+        self.shares.came(&posted.read.post.sender, new_series, series_of(&posted.read));
+        Ok(Ok(Put { journalled, is_in_book: true }))
     }
 
     /// What a refusal is the beginning of.
@@ -201,6 +215,16 @@ impl Slot {
     /// The second half of a post's way.
     pub(crate) fn put_of_test(&self, read: crate::core::Read) -> Result<(), &'static str> {
         self.put(&mut Posted::whole(read)).map(drop)
+    }
+}
+
+/// Says which series a post's points have. It asks nothing of its reader.
+fn series_of(read: &Read) -> impl Fn() -> Series + '_ {
+    let (post, names) = (&read.post, read.named());
+    move || match (names, &post.body) {
+        (Some(names), _) => Series::numbered(names.clone(), post.numbers()),
+        (None, Body::Text(text)) => Series::Text(text.clone()),
+        (None, Body::Points(_)) => Series::Text(Bytes::new()), // there are none
     }
 }
 
@@ -276,15 +300,61 @@ mod tests {
         assert_eq!(posting.await.unwrap(), Outcome::taken(0));
     }
 
+    /// Nothing is in a flush.
+    struct Nothing;
+
+    impl Owned for Nothing {
+        fn seen(&self) -> (u64, usize) {
+            (0, 0)
+        }
+
+        fn by_owner(&self) -> HashMap<String, u64> {
+            HashMap::new()
+        }
+
+        fn has(&self, _: &SeriesKey) -> bool {
+            false
+        }
+    }
+
+    /// What it has it may post again, also before a flush says whose it is.
+    #[tokio::test]
+    async fn no_sender_comes_over_its_share_of_series_by_one_post() {
+        let (journal, outbox, _dead) =
+            drive::open(Arc::<Store>::default().take(), "00000000000000aa").unwrap();
+        let shared = Shared::new(Arc::new(Metrics::new().unwrap()), Clock::default());
+        shared.shares.begin(Rules {
+            most_series: 10,
+            of_each: Share { series: Some(3), points: None },
+            tokens: None,
+            profile: Profile::Deltas,
+            owned: Box::new(Nothing),
+        });
+        let slot = Slot::of(0, journal, Arc::new(outbox), Core::new(10).unwrap(), &shared);
+        slot.open();
+        let status = async |start: u64, metrics: &[&str]| {
+            let each: Vec<String> = metrics.iter().map(|name| metric(name, start)).collect();
+            let body =
+                format!(r#"{{"resourceMetrics":[{{"scopeMetrics":[{{"metrics":[{}]}}]}}]}}"#, each.join(","));
+            slot.post("A".into(), body.into()).await.status()
+        };
+        assert_eq!((status(10, &["a", "b"]).await, status(20, &["b", "c", "d"]).await), (200, 429));
+        assert_eq!((status(20, &["a", "b", "c"]).await, status(30, &["a", "b", "c"]).await), (200, 200));
+        assert_eq!((status(40, &["c", "d"]).await, status(40, &["c", "a"]).await), (429, 200));
+    }
+
     const HOUR: u64 = 3_600_000_000_000;
 
-    fn point(start: u64) -> String {
+    fn metric(name: &str, start: u64) -> String {
         format!(
-            "{{\"resourceMetrics\":[{{\"scopeMetrics\":[{{\"metrics\":[{{\"name\":\"a\",\"sum\":{{\
-             \"aggregationTemporality\":1,\"dataPoints\":[{{\"asInt\":\"1\",\
-             \"startTimeUnixNano\":\"{start}\",\"timeUnixNano\":\"{}\"}}]}}}}]}}]}}]}}",
+            "{{\"name\":\"{name}\",\"sum\":{{\"aggregationTemporality\":1,\"dataPoints\":[{{\"asInt\":\"1\",\
+             \"startTimeUnixNano\":\"{start}\",\"timeUnixNano\":\"{}\"}}]}}}}",
             start + 1
         )
+    }
+
+    fn point(start: u64) -> String {
+        format!(r#"{{"resourceMetrics":[{{"scopeMetrics":[{{"metrics":[{}]}}]}}]}}"#, metric("a", start))
     }
 
     /// Of a folder the process ends.

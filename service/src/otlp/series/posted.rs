@@ -58,36 +58,17 @@ pub fn posted(body: &[u8], mut each: impl FnMut(&str)) -> Option<u64> {
     Some(foreign)
 }
 
-/// Whether all series that a body has points of are such, looked at until one is not; false where the book refuses it whole. No
-/// key is kept.
-pub fn all_are(body: &[u8], profile: Profile, mut is_such: impl FnMut(&SeriesKey) -> bool) -> bool {
-    let (mut all, mut last) = (true, SeriesKey("".into()));
-    let whole = visit_body(body, profile, |seen| {
-        if all && seen.found.is_ok() && *last.0 != *seen.key {
-            last = SeriesKey(seen.key.into());
-            all = is_such(&last);
-        }
-    });
-    all && whole.is_some()
-}
-
-/// Whether more series of a body than so many are not such. No key is kept here either, and of a long one both ends count, so
-/// that the time for a point is bounded: of keys that are alike in these no more than one does.
-pub fn has_more(body: &[u8], profile: Profile, most: u64, is_such: impl Fn(&SeriesKey) -> bool) -> bool {
-    const END: usize = 4 << 10;
+/// How many series that a body has points of are not such, looked at until they are one more than `most`. No key is kept:
+/// together they may be a thousand times as long as the body.
+pub fn others(body: &[u8], profile: Profile, most: u64, mut is_such: impl FnMut(&SeriesKey) -> bool) -> u64 {
     let (mut looked_at, mut others) = (HashSet::new(), 0);
     let hasher = RandomState::new();
     let _ = visit_body(body, profile, |seen| {
-        if others > most || seen.found.is_err() {
-            return;
-        }
-        let key = seen.key.as_bytes();
-        let (first, last) = (&key[..key.len().min(END)], &key[key.len().saturating_sub(END)..]);
-        if looked_at.insert(hasher.hash_one((first, last, key.len()))) {
+        if others <= most && seen.found.is_ok() && looked_at.insert(hasher.hash_one(seen.key)) {
             others += u64::from(!is_such(&SeriesKey(seen.key.into())));
         }
     });
-    others > most
+    others
 }
 
 /// The series of a request of one point, by which a number has its name.

@@ -6,7 +6,7 @@ use super::messages::{
 };
 use super::{in_json, posted, prepared};
 use crate::otlp::output::LONGEST_LIST;
-use crate::otlp::series::all_are;
+use crate::otlp::series::others;
 use crate::otlp::{explained, Clock, Encoding, Profile};
 use prost::Message;
 
@@ -98,14 +98,13 @@ fn a_body_is_looked_through_up_to_a_series_that_is_not_known() {
     for body in bodies(&of_each) {
         let asked = |known: usize| {
             let mut asked = 0;
-            let all = all_are(&body, Profile::Deltas, |_| {
+            let new = others(&body, Profile::Deltas, 0, |_| {
                 asked += 1;
                 asked <= known
             });
-            (all, asked)
+            (new, asked)
         };
-        assert_eq!((asked(50), asked(7), asked(0)), ((true, 50), (false, 8), (false, 1)));
-        assert!(!all_are(b"no JSON", Profile::Deltas, |_| true));
+        assert_eq!((asked(50), asked(7), asked(0)), ((0, 50), (1, 8), (1, 1)));
     }
 }
 
