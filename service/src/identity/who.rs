@@ -136,8 +136,14 @@ pub struct Certified {
     /// Seconds since 1970 at which the certificate ends.
     ends: i64,
     tls: Arc<Tls>,
-    believed_by: Mutex<Arc<Contexts>>,
+    judged: Mutex<Judged>,
     tokens: Option<Arc<Reloaded<Tokens>>>,
+}
+
+/// Whether a chain was found to be believed, and by what.
+struct Judged {
+    by: Arc<Contexts>,
+    is_believed: bool,
 }
 
 impl Certified {
@@ -156,7 +162,7 @@ impl Certified {
             sender: sender.map(Arc::new),
             ends,
             tls,
-            believed_by: Mutex::new(believed_by),
+            judged: Mutex::new(Judged { by: believed_by, is_believed: true }),
             tokens,
         }
     }
@@ -170,19 +176,19 @@ impl Certified {
         Ok(with_others.unwrap_or_else(|| sender.clone()))
     }
 
-    /// Whether it still is: it may have ended, and its root may have been taken out of the file since.
+    /// Whether it still is: it may have ended, and its root may have been taken out of the file since. A chain is looked at once for
+    /// each file: that takes longer than a post, on the thread of others' posts.
     fn is_believed(&self) -> bool {
         let now = SystemTime::now().duration_since(UNIX_EPOCH).unwrap_or_default();
         if now.as_secs() as i64 > self.ends {
             return false;
         }
         let contexts = self.tls.contexts();
-        let mut believed_by = self.believed_by.lock().unwrap_or_else(PoisonError::into_inner); // any value of it is sound
-        let is_believed = Arc::ptr_eq(&believed_by, &contexts) || contexts.believes(&self.chain);
-        if is_believed {
-            *believed_by = contexts;
+        let mut judged = self.judged.lock().unwrap_or_else(PoisonError::into_inner); // any value of it is sound
+        if !Arc::ptr_eq(&judged.by, &contexts) {
+            *judged = Judged { is_believed: contexts.believes(&self.chain), by: contexts };
         }
-        is_believed
+        judged.is_believed
     }
 }
 
@@ -210,6 +216,17 @@ mod tests {
         assert_eq!(uri.sender().unwrap().name, name);
         uri.ends = 0;
         assert_eq!(uri.sender(), Err(Stranger::NotBelieved));
+    }
+
+    /// Else who was let in before posts on, and has its chain looked at for each post.
+    #[test]
+    fn a_certificate_is_judged_once_by_each_file() {
+        let (of, other) = (shown("/CN=x", None), shown("/CN=x", None));
+        let moved = Certified { tls: other.tls.clone(), ..of };
+        for _ in 0..2 {
+            assert_eq!(moved.sender(), Err(Stranger::NotBelieved), "another root of that name");
+            assert!(Arc::ptr_eq(&moved.judged.lock().unwrap().by, &other.tls.contexts()));
+        }
     }
 
     #[test]
