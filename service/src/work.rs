@@ -12,6 +12,7 @@ use std::pin::pin;
 use std::task::Poll;
 use std::thread;
 use std::time::Duration;
+use tokio::sync::Semaphore;
 
 /// Does work that waits for the disk, or computes for long, without holding a thread of the runtime.
 pub async fn blocking<T: Send + 'static>(work: impl FnOnce() -> T + Send + 'static) -> T {
@@ -22,6 +23,36 @@ pub async fn blocking<T: Send + 'static>(work: impl FnOnce() -> T + Send + 'stat
             // The runtime is ending, and this task with it.
             Err(_) => std::future::pending().await,
         },
+    }
+}
+
+/// What reads bodies: a short one in place, a longer one on a thread beside the runtime's, so that no short post waits after it. Of
+/// these there are so many at a time, since one takes several times its length of memory while it is read.
+pub struct Readers(Semaphore);
+
+impl Readers {
+    /// A body up to this long is short.
+    pub const SHORT: usize = 64 << 10;
+
+    pub fn new(most: usize) -> Readers {
+        Readers(Semaphore::new(most))
+    }
+
+    /// Reads what is so long.
+    pub async fn read<T: Send + 'static>(
+        &self,
+        length: usize,
+        read: impl FnOnce() -> T + Send + 'static,
+    ) -> T {
+        match length <= Readers::SHORT {
+            true => read(),
+            false => self.read_long(read).await,
+        }
+    }
+
+    pub async fn read_long<T: Send + 'static>(&self, read: impl FnOnce() -> T + Send + 'static) -> T {
+        let _turn = self.0.acquire().await; // it is never closed
+        blocking(read).await
     }
 }
 

@@ -10,7 +10,6 @@ use crate::tls;
 use hyper::server::conn::Http;
 use hyper::service::service_fn;
 use std::convert::Infallible;
-use std::future::Future;
 use std::sync::{Arc, Mutex, PoisonError};
 use std::time::{Duration, Instant};
 
@@ -79,49 +78,40 @@ pub struct Grpc;
 impl Protocol for Grpc {
     const OVER_TLS: tls::Protocol = tls::Protocol::Grpc;
 
-    fn connection<S: Transport, T: Taker>(
-        stream: S,
-        shared: Arc<Shared<T>>,
-        who: Who,
-    ) -> impl Future<Output = ()> + Send {
-        connection(stream, shared, who)
-    }
-}
-
-/// Serves its calls until it ends.
-async fn connection<S: Transport, T: Taker>(stream: S, shared: Arc<Shared<T>>, who: Who) {
-    let Shared { limits, permits, .. } = &*shared;
-    let (intake, mut stop, who) = (shared.intake.clone(), shared.stop.clone(), Arc::new(who));
-    let calls = Calls::new();
-    let of_calls = calls.clone();
-    let service = service_fn(move |request| {
-        let (intake, who, call) = (intake.clone(), who.clone(), Call::begin(&of_calls));
-        async move {
-            let response = answer(intake, &who, request).await;
-            drop(call);
-            Ok::<_, Infallible>(response)
-        }
-    });
-    let mut served = bounded().serve_connection(Guarded::new(stream), service);
-    let mut ending: Option<Instant> = None;
-    let look = limits.head / 4;
-    loop {
-        tokio::select! {
-            biased;
-            _ = &mut served => return,
-            _ = stop.wait_true(), if ending.is_none() => {
-                ending = Some(Instant::now());
-                std::pin::Pin::new(&mut served).graceful_shutdown();
+    async fn connection<S: Transport, T: Taker>(stream: S, shared: Arc<Shared<T>>, who: Who) {
+        let Shared { limits, permits, .. } = &*shared;
+        let (intake, mut stop, who) = (shared.intake.clone(), shared.stop.clone(), Arc::new(who));
+        let calls = Calls::new();
+        let of_calls = calls.clone();
+        let service = service_fn(move |request| {
+            let (intake, who, call) = (intake.clone(), who.clone(), Call::begin(&of_calls));
+            async move {
+                let response = answer(intake, &who, request).await;
+                drop(call);
+                Ok::<_, Infallible>(response)
             }
-            _ = tokio::time::sleep(look) => match ending {
-                Some(since) if since.elapsed() >= TO_END && calls.idle() >= TO_END => return,
-                // Sooner while others wait for its place.
-                None if calls.idle() >= limits.idle || permits.is_full() && calls.idle() >= look => {
+        });
+        let mut served = bounded().serve_connection(Guarded::new(stream), service);
+        let mut ending: Option<Instant> = None;
+        let look = limits.head / 4;
+        loop {
+            tokio::select! {
+                biased;
+                _ = &mut served => return,
+                _ = stop.wait_true(), if ending.is_none() => {
                     ending = Some(Instant::now());
                     std::pin::Pin::new(&mut served).graceful_shutdown();
                 }
-                _ => {}
-            },
+                _ = tokio::time::sleep(look) => match ending {
+                    Some(since) if since.elapsed() >= TO_END && calls.idle() >= TO_END => return,
+                    // Sooner while others wait for its place.
+                    None if calls.idle() >= limits.idle || permits.is_full() && calls.idle() >= look => {
+                        ending = Some(Instant::now());
+                        std::pin::Pin::new(&mut served).graceful_shutdown();
+                    }
+                    _ => {}
+                },
+            }
         }
     }
 }

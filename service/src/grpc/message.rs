@@ -1,14 +1,9 @@
 //! The one message of a call: a byte that says whether it is packed, its length, its bytes.
 
 use crate::intake::refusal::Refusal;
-use crate::intake::{Hold, MOST};
+use crate::intake::{Hold, LEFT_BYTES, LEFT_TIME, MOST};
 use bytes::Bytes;
 use hyper::body::{Body, HttpBody};
-use std::time::Duration;
-
-/// How long, and how much, is still read of a call that was refused.
-const LEFT_TIME: Duration = Duration::from_secs(5);
-const LEFT_BYTES: usize = 64 << 20;
 
 /// What is before a message.
 const PREFIX: usize = 5;
@@ -52,12 +47,10 @@ pub async fn receive(body: &mut Body, hold: &mut Hold) -> Result<Message, Refusa
 /// Reads what still comes after a refusal and throws it away, within bounds.
 pub async fn throw_away(body: &mut Body) {
     let reading = async {
-        let mut left = LEFT_BYTES;
-        while let Some(Ok(part)) = body.data().await {
-            left = match left.checked_sub(part.len()) {
-                Some(left) => left,
-                None => return,
-            };
+        let mut thrown = 0;
+        while thrown <= LEFT_BYTES {
+            let Some(Ok(part)) = body.data().await else { return };
+            thrown += part.len();
         }
     };
     let _ = tokio::time::timeout(LEFT_TIME, reading).await; // who takes longer may see a reset alone

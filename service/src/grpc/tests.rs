@@ -6,7 +6,7 @@ use crate::identity::{Door, Options};
 use crate::intake::connections::{spread, Limits, Shared};
 use crate::intake::{Budget, Hears, Threads};
 use crate::metrics::Metrics;
-use crate::otlp::{a_request_of_test, Reading};
+use crate::otlp::{a_request_of_test, Original, Reading};
 use crate::slot::{Request as Posted, Slots};
 use bytes::Bytes;
 use flate2::{write::GzEncoder, Compression};
@@ -31,9 +31,14 @@ struct Kept {
 }
 
 impl Taker for Kept {
-    fn post(self: &Arc<Self>, sender: String, request: Posted) -> impl Future<Output = Outcome> + Send {
+    fn post(
+        self: &Arc<Self>,
+        sender: &str,
+        request: Posted,
+        _: Option<Original>,
+    ) -> impl Future<Output = Outcome> + Send {
         let body = request.source().text().unwrap();
-        self.posts.lock().unwrap().push((sender, body));
+        self.posts.lock().unwrap().push((sender.into(), body));
         let outcome = self.outcome.clone();
         async move {
             match outcome {
@@ -282,7 +287,8 @@ async fn a_deadline_ends_the_call_and_not_the_post() {
 #[tokio::test]
 async fn headers_are_dropped_while_a_message_comes() {
     let (kept, metrics) = (Served::start().await.kept, Arc::new(Metrics::new().unwrap()));
-    let intake = Intake::new(kept, Reading::default(), Budget::new(1 << 20), metrics);
+    let (slots, reading) = (Slots::one(kept), Arc::new(Reading::default()));
+    let intake = Intake::of(slots, Arc::new(()), reading, Budget::new(1 << 20), metrics);
     let (with_headers, (_sender, body)) = (Arc::new(()), Body::channel());
     let are_there = Arc::downgrade(&with_headers);
     let request = Request::post(METHOD).header("content-type", "application/grpc");

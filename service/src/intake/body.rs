@@ -14,8 +14,8 @@ use tokio::io::{AsyncRead, AsyncWrite};
 pub const MOST: usize = 4 << 20;
 
 /// How long, and how much, is still read of a request that was refused.
-const LEFT_TIME: Duration = Duration::from_secs(5);
-const LEFT_BYTES: usize = 64 << 20;
+pub const LEFT_TIME: Duration = Duration::from_secs(5);
+pub const LEFT_BYTES: usize = 64 << 20;
 
 /// A body that is here whole: most are, and need no timer.
 pub fn received<S: AsyncRead + AsyncWrite + Unpin>(
@@ -67,12 +67,10 @@ async fn next<S: AsyncRead + AsyncWrite + Unpin>(
 /// take the answer with it.
 pub async fn throw_away<S: AsyncRead + AsyncWrite + Unpin>(wire: &mut Wire<S>) {
     let reading = async {
-        let mut left = LEFT_BYTES;
-        while let Ok(Some(part)) = wire.part().await {
-            left = match left.checked_sub(part.len()) {
-                Some(left) => left,
-                None => return,
-            };
+        let mut thrown = 0;
+        while thrown <= LEFT_BYTES {
+            let Ok(Some(part)) = wire.part().await else { return };
+            thrown += part.len();
         }
     };
     let _ = tokio::time::timeout(LEFT_TIME, reading).await; // who takes longer loses the answer

@@ -3,6 +3,7 @@
 
 use super::pace::{Overdue, Pace, Watched};
 use super::user::User;
+use super::wire::READ_AHEAD;
 use super::{Intake, Listener, Taker, Threads};
 use crate::identity::{Door, Who};
 use crate::latch::Latch;
@@ -21,9 +22,6 @@ use tokio::io::{AsyncRead, AsyncWrite, AsyncWriteExt};
 use tokio::net::{TcpListener, TcpStream};
 use tokio::sync::{watch, OwnedSemaphorePermit, Semaphore};
 use tokio::task::JoinSet;
-
-/// What hyper may read ahead of a connection; a head is no longer than this.
-const READ_AHEAD: usize = 64 << 10;
 
 /// How long to wait where the system has no connection to give, for want of file descriptors.
 const NO_CONNECTION: Duration = Duration::from_millis(100);

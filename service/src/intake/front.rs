@@ -8,7 +8,7 @@ use super::wire::Wire;
 use super::{answer, Intake, Taker};
 use crate::identity::Who;
 use crate::latch::Latch;
-use crate::otlp::{Encoding, Outcome};
+use crate::otlp::{Encoding, Outcome, NO_NAME};
 use crate::tls;
 use crate::work::within;
 use bytes::Buf;
@@ -29,34 +29,25 @@ pub struct Http;
 impl Protocol for Http {
     const OVER_TLS: tls::Protocol = tls::Protocol::Http;
 
-    fn connection<S: Transport, T: Taker>(
-        stream: S,
-        shared: Arc<Shared<T>>,
-        who: Who,
-    ) -> impl Future<Output = ()> + Send {
-        connection(stream, shared, who)
-    }
-}
-
-/// Serves its requests until it ends.
-async fn connection<S: Transport, T: Taker>(stream: S, shared: Arc<Shared<T>>, who: Who) {
-    let (mut wire, mut waiting) = (Wire::new(stream), Waiting::new(&shared));
-    let intake = &shared.intake;
-    while let Some(asked) = next(&mut wire, &mut waiting, &who).await {
-        let goes_on = match asked {
-            Ok(asked) => served(&mut wire, intake, asked, &mut waiting).await,
-            Err(refusal) => {
-                intake.count(&refusal);
-                refused(&mut wire, &refusal, &mut waiting).await;
-                false
+    async fn connection<S: Transport, T: Taker>(stream: S, shared: Arc<Shared<T>>, who: Who) {
+        let (mut wire, mut waiting) = (Wire::new(stream), Waiting::new(&shared));
+        let intake = &shared.intake;
+        while let Some(asked) = next(&mut wire, &mut waiting, &who).await {
+            let goes_on = match asked {
+                Ok(asked) => served(&mut wire, intake, asked, &mut waiting).await,
+                Err(refusal) => {
+                    intake.ended(&intake.refused(NO_NAME, &refusal));
+                    refused(&mut wire, &refusal, &mut waiting).await;
+                    false
+                }
+            };
+            if !goes_on {
+                break;
             }
-        };
-        if !goes_on {
-            break;
+            waiting.begins();
         }
-        waiting.begins();
+        wire.end().await;
     }
-    wire.end().await;
 }
 
 /// Answers what has no head that can be read. How it would be answered is not known, so it is JSON.

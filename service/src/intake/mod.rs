@@ -19,7 +19,7 @@ pub mod user;
 mod weight;
 mod wire;
 
-pub(crate) use body::MOST;
+pub(crate) use body::{LEFT_BYTES, LEFT_TIME, MOST};
 pub use connections::Limits;
 pub use listen::{listen, listen_at_socket, Listener};
 pub use threads::Threads;
@@ -28,9 +28,9 @@ pub(crate) use weight::Hold;
 
 use crate::core;
 use crate::metrics::Metrics;
-use crate::otlp::{self, combined, OfPart, Original, Outcome, Reading};
+use crate::otlp::{combined, OfPart, Original, Outcome, Reading};
 use crate::slot::{ByNumber, Request, Slot, Slots};
-use crate::work::blocking;
+use crate::work::Readers;
 use bytes::Bytes;
 use head::{Head, Packing};
 use post::{Asked, AskedPart, Post};
@@ -39,16 +39,11 @@ use std::future::Future;
 use std::sync::Arc;
 use std::time::Duration;
 use tokio::io::{AsyncRead, AsyncWrite};
-use tokio::sync::Semaphore;
 use tokio::task::JoinSet;
 use wire::Wire;
 
 /// How long a body may take after its head.
 const PATIENCE: Duration = Duration::from_secs(60);
-
-/// A body up to this long is read in place; a longer one on a thread beside the runtime's, so that no short post waits
-/// after it. A packed one that may be short is unpacked in place as far as that.
-const SHORT: usize = 64 << 10;
 
 /// How many times its length a packed body is thought to have at least.
 const UNPACKED: usize = 8;
@@ -74,22 +69,18 @@ pub trait Taker: Send + Sync + 'static {
         Ok(None)
     }
 
-    fn post(self: &Arc<Self>, sender: String, request: Request) -> impl Future<Output = Outcome> + Send;
-
     /// Whether requests are wanted as they came, too.
     fn wants_originals(&self) -> bool {
         false
     }
 
-    /// The same as `post`, with the request as it came where that is wanted.
-    fn post_with(
+    /// Takes a request, which is also here as it came where that is wanted.
+    fn post(
         self: &Arc<Self>,
         sender: &str,
         request: Request,
-        _original: Option<Original>,
-    ) -> impl Future<Output = Outcome> + Send {
-        self.post(sender.into(), request)
-    }
+        original: Option<Original>,
+    ) -> impl Future<Output = Outcome> + Send;
 }
 
 /// Who hears of answers, also of those that no slot was asked for.
@@ -116,8 +107,8 @@ impl Taker for Slot {
         Slot::numbered_text(self, text)
     }
 
-    fn post(self: &Arc<Self>, sender: String, request: Request) -> impl Future<Output = Outcome> + Send {
-        self.request(sender, request)
+    async fn post(self: &Arc<Self>, sender: &str, request: Request, _: Option<Original>) -> Outcome {
+        self.request(sender.into(), request).await
     }
 }
 
@@ -128,16 +119,11 @@ pub struct Intake<T> {
     reading: Arc<Reading>,
     budget: Arc<Budget>,
     metrics: Arc<Metrics>,
-    readers: Semaphore,
+    readers: Readers,
     patience: Duration,
 }
 
 impl<T: Taker> Intake<T> {
-    /// With one slot.
-    pub fn new(taker: Arc<T>, reading: Reading, budget: Arc<Budget>, metrics: Arc<Metrics>) -> Intake<T> {
-        Intake::of(Slots::one(taker), Arc::new(()), Arc::new(reading), budget, metrics)
-    }
-
     pub fn of(
         slots: Arc<Slots<T>>,
         hears: Arc<dyn Hears>,
@@ -145,15 +131,7 @@ impl<T: Taker> Intake<T> {
         budget: Arc<Budget>,
         metrics: Arc<Metrics>,
     ) -> Intake<T> {
-        Intake {
-            slots,
-            hears,
-            reading,
-            budget,
-            metrics,
-            readers: Semaphore::new(READERS),
-            patience: PATIENCE,
-        }
+        Intake { slots, hears, reading, budget, metrics, readers: Readers::new(READERS), patience: PATIENCE }
     }
 
     /// With another time that a body may take.
@@ -192,11 +170,6 @@ impl<T: Taker> Intake<T> {
         outcome
     }
 
-    /// Counts a request whose head could not be read.
-    fn count(&self, refusal: &Refusal) {
-        self.metrics.post_ended(&self.refused(otlp::NO_NAME, refusal));
-    }
-
     async fn read<S: AsyncRead + AsyncWrite + Unpin>(
         &self,
         head: Head,
@@ -220,18 +193,8 @@ impl<T: Taker> Intake<T> {
             return post::prepare(head, body, hold, &self.slots, &self.reading, &self.metrics);
         }
         let (slots, reading, metrics) = (self.slots.clone(), self.reading.clone(), self.metrics.clone());
-        self.read_beside(move || post::prepare(head, body, hold, &slots, &reading, &metrics)).await
-    }
-
-    /// Reads what is long on a thread beside the runtime's.
-    async fn read_beside<R: Send + 'static>(
-        &self,
-        read: impl FnOnce() -> Result<R, Refusal> + Send + 'static,
-    ) -> Result<R, Refusal> {
-        let _turn = self.readers.acquire().await; // it is never closed
-        tokio::task::spawn_blocking(read).await.unwrap_or_else(|_| {
-            Err(Refusal::Unreadable("the request could not be read".into())) // it panicked: nothing was taken
-        })
+        let read = move || post::prepare(head, body, hold, &slots, &reading, &metrics);
+        self.readers.read_long(read).await
     }
 
     /// A part of the memory that all posts may take.
@@ -290,22 +253,12 @@ impl<T: Taker> Intake<T> {
     }
 
     async fn combined(&self, sender: &str, parts: Vec<OfPart>) -> Outcome {
-        let length: usize = parts.iter().map(|part| part.part.body.len()).sum();
-        let (parts, outcome) = match length {
-            0..=SHORT => {
-                let outcome = combined(&parts, &self.reading);
-                (parts, outcome)
-            }
-            _ => {
-                let reading = self.reading.clone();
-                let _turn = self.readers.acquire().await; // it is never closed
-                blocking(move || {
-                    let outcome = combined(&parts, &reading);
-                    (parts, outcome)
-                })
-                .await
-            }
+        let (length, reading) = (parts.iter().map(|part| part.part.body.len()).sum(), self.reading.clone());
+        let combine = move || {
+            let outcome = combined(&parts, &reading);
+            (parts, outcome)
         };
+        let (parts, outcome) = self.readers.read(length, combine).await;
         if let Outcome::Taken { .. } = outcome {
             let refused = parts.iter().filter(|part| part.outcome.refusal().is_some());
             refused.for_each(|part| self.hears.part_refused(sender, &part.outcome));
@@ -316,16 +269,9 @@ impl<T: Taker> Intake<T> {
     /// Takes what another instance got of a request; none where the slot is not here. That one counts the post.
     pub async fn forwarded(&self, slot: u16, sender: &str, part: Original) -> Option<Outcome> {
         let taker = self.slots.here(slot)?;
-        let mut hold = self.budget.hold();
-        let read = match part.body.len() {
-            0..=SHORT => post::forwarded(part, taker, &mut hold, &self.reading).map(|ask| (ask, hold)),
-            _ => {
-                let reading = self.reading.clone();
-                let read = move || post::forwarded(part, taker, &mut hold, &reading).map(|ask| (ask, hold));
-                self.read_beside(read).await
-            }
-        };
-        Some(match read {
+        let (length, mut hold, reading) = (part.body.len(), self.budget.hold(), self.reading.clone());
+        let read = move || post::forwarded(part, taker, &mut hold, &reading).map(|ask| (ask, hold));
+        Some(match self.readers.read(length, read).await {
             Err(refusal) => Outcome::from(&refusal),
             Ok((ask, _hold)) => ask.answered(sender, &self.slots, &self.metrics).await,
         })
@@ -337,21 +283,23 @@ fn unknown() -> Outcome {
     Outcome::Refused { status: 503, message: "no answer".into() }
 }
 
-/// Whether a body is short, which is unpacked then. A few kilobytes may be packed megabytes.
+/// Whether a body is short: one that may be is unpacked as far as that. A few kilobytes may be packed megabytes.
 fn is_short(head: &mut Head, body: &mut Bytes, hold: &mut Hold) -> Result<bool, Refusal> {
-    if head.packing == Packing::Gzip && body.len() <= SHORT / UNPACKED {
-        match body::unpack(body.clone(), Packing::Gzip, SHORT, hold) {
+    if head.packing == Packing::Gzip && body.len() <= Readers::SHORT / UNPACKED {
+        match body::unpack(body.clone(), Packing::Gzip, Readers::SHORT, hold) {
             Err(Refusal::TooLong) => return Ok(false),
             unpacked => (*body, head.packing) = (unpacked?, Packing::Plain),
         }
     }
-    Ok(head.packing == Packing::Plain && body.len() <= SHORT)
+    Ok(head.packing == Packing::Plain && body.len() <= Readers::SHORT)
 }
 
 #[cfg(test)]
 mod tests {
     use super::body::tests::gzip;
     use super::*;
+
+    const SHORT: usize = Readers::SHORT;
     use crate::otlp::Encoding;
 
     /// How a body goes on, and whether it is read in place.

@@ -1,9 +1,9 @@
 //! How far a connection is with a request, so that a slow or an idle one is seen without a timer for each request.
 
 use super::connections::Limits;
-use std::io::{IoSlice, Result};
+use std::io::Result;
 use std::pin::Pin;
-use std::sync::{Arc, Mutex, PoisonError};
+use std::sync::{Arc, Mutex, MutexGuard, PoisonError};
 use std::task::{ready, Context, Poll};
 use std::time::{Duration, Instant};
 use tokio::io::{AsyncRead, AsyncWrite, ReadBuf};
@@ -11,16 +11,16 @@ use tokio::io::{AsyncRead, AsyncWrite, ReadBuf};
 /// How long who idles has its place where others wait for it.
 const SHORT: Duration = Duration::from_secs(1);
 
-#[derive(Clone, Copy, Debug)]
+#[derive(Clone, Copy, Debug, PartialEq, Eq)]
 enum Phase {
     /// Nothing came yet.
-    New { since: Instant },
+    New,
     /// Nothing of a next request came yet.
-    Idle { since: Instant },
+    Idle,
     /// Nobody takes what is left of an answer.
-    Unread { since: Instant },
+    Unread,
     /// A part of a head came.
-    Head { since: Instant },
+    Head,
     /// A request is under way: its own times are bounded where it is read.
     Request,
 }
@@ -32,25 +32,25 @@ pub enum Overdue {
     Head,
 }
 
-/// Shared by a connection and its requests.
-pub struct Pace(Mutex<Phase>);
+/// Shared by a connection and its requests: its phase, and since when.
+pub struct Pace(Mutex<(Phase, Instant)>);
 
 impl Pace {
     pub fn new() -> Arc<Pace> {
-        Arc::new(Pace(Mutex::new(Phase::New { since: Instant::now() })))
+        Arc::new(Pace(Mutex::new((Phase::New, Instant::now()))))
     }
 
     pub fn request_begins(&self) {
-        self.set(|_| Phase::Request);
+        self.change(|_| Some(Phase::Request));
     }
 
     pub fn request_ends(&self) {
-        self.set(|_| Phase::Idle { since: Instant::now() });
+        self.change(|_| Some(Phase::Idle));
     }
 
     /// Whether nothing came yet, so that nothing is owed.
     pub fn is_new(&self) -> bool {
-        matches!(self.set(|phase| phase), Phase::New { .. })
+        self.now().0 == Phase::New
     }
 
     /// Who idles, or reads nothing of an answer, is so much sooner where others wait for its place.
@@ -59,37 +59,39 @@ impl Pace {
             true => (limits.idle.min(SHORT), limits.idle.min(limits.head / 4)),
             false => (limits.idle, limits.idle),
         };
-        match self.set(|phase| phase) {
-            Phase::New { since } | Phase::Idle { since } if since.elapsed() >= idle => Some(Overdue::Idle),
-            Phase::Unread { since } if since.elapsed() >= unread => Some(Overdue::Idle),
-            Phase::Head { since } if since.elapsed() >= limits.head => Some(Overdue::Head),
-            _ => None,
-        }
+        let (phase, since) = *self.now();
+        let (most, overdue) = match phase {
+            Phase::New | Phase::Idle => (idle, Overdue::Idle),
+            Phase::Unread => (unread, Overdue::Idle),
+            Phase::Head => (limits.head, Overdue::Head),
+            Phase::Request => return None,
+        };
+        (since.elapsed() >= most).then_some(overdue)
     }
 
     /// Whether all that was to be sent now has gone.
     fn sent(&self, all: bool) {
-        let since = Instant::now();
-        self.set(|phase| match (phase, all) {
-            (Phase::Idle { .. }, false) => Phase::Unread { since },
-            (Phase::Idle { .. } | Phase::Unread { .. }, true) => Phase::Idle { since },
-            (other, _) => other,
+        self.change(|phase| match (phase, all) {
+            (Phase::Idle, false) => Some(Phase::Unread),
+            (Phase::Idle | Phase::Unread, true) => Some(Phase::Idle),
+            _ => None,
         });
     }
 
     fn bytes_came(&self) {
-        self.set(|phase| match phase {
-            Phase::New { .. } | Phase::Idle { .. } | Phase::Unread { .. } => {
-                Phase::Head { since: Instant::now() }
-            }
-            other => other,
-        });
+        self.change(|phase| matches!(phase, Phase::New | Phase::Idle | Phase::Unread).then_some(Phase::Head));
     }
 
-    fn set(&self, next: impl FnOnce(Phase) -> Phase) -> Phase {
-        let mut phase = self.0.lock().unwrap_or_else(PoisonError::into_inner); // any value of it is sound
-        *phase = next(*phase);
-        *phase
+    /// The next phase begins now, where there is one.
+    fn change(&self, next: impl FnOnce(Phase) -> Option<Phase>) {
+        let mut now = self.now();
+        if let Some(next) = next(now.0) {
+            *now = (next, Instant::now());
+        }
+    }
+
+    fn now(&self) -> MutexGuard<'_, (Phase, Instant)> {
+        self.0.lock().unwrap_or_else(PoisonError::into_inner) // any value of it is sound
     }
 }
 
@@ -120,30 +122,11 @@ impl<S: AsyncRead + Unpin> AsyncRead for Watched<S> {
     }
 }
 
-impl<S> Watched<S> {
-    fn saw(&self, written: Poll<Result<usize>>) -> Poll<Result<usize>> {
-        self.pace.sent(written.is_ready());
-        written
-    }
-}
-
 impl<S: AsyncWrite + Unpin> AsyncWrite for Watched<S> {
     fn poll_write(mut self: Pin<&mut Self>, context: &mut Context<'_>, from: &[u8]) -> Poll<Result<usize>> {
         let written = Pin::new(&mut self.stream).poll_write(context, from);
-        self.saw(written)
-    }
-
-    fn poll_write_vectored(
-        mut self: Pin<&mut Self>,
-        context: &mut Context<'_>,
-        from: &[IoSlice<'_>],
-    ) -> Poll<Result<usize>> {
-        let written = Pin::new(&mut self.stream).poll_write_vectored(context, from);
-        self.saw(written)
-    }
-
-    fn is_write_vectored(&self) -> bool {
-        self.stream.is_write_vectored()
+        self.pace.sent(written.is_ready());
+        written
     }
 
     fn poll_flush(mut self: Pin<&mut Self>, context: &mut Context<'_>) -> Poll<Result<()>> {

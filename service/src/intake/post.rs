@@ -59,7 +59,7 @@ impl<T: Taker> Ask<T> {
     pub async fn answered(self, sender: &str, slots: &Slots<T>, metrics: &Metrics) -> Outcome {
         match self {
             Ask::Here { taker, request, original, rounded } => {
-                let outcome = taker.post_with(sender, request, original).await;
+                let outcome = taker.post(sender, request, original).await;
                 if let Outcome::Taken { .. } = outcome {
                     metrics.rounded(&rounded);
                 }

@@ -4,7 +4,7 @@ use super::refusal::Refusal;
 use crate::work::within;
 use bytes::{Buf, Bytes, BytesMut};
 use std::future::{poll_fn, Future};
-use std::io::{Error, Result};
+use std::io;
 use std::pin::pin;
 use std::task::Poll;
 use std::time::Duration;
@@ -63,7 +63,7 @@ impl<S: AsyncRead + AsyncWrite + Unpin> Wire<S> {
     }
 
     /// Reads what there is: how many bytes came, none where no more come.
-    pub async fn fill(&mut self) -> Result<usize> {
+    pub async fn fill(&mut self) -> io::Result<usize> {
         let missing = match self.body {
             Body::Length(left) | Body::Chunk(left) => short(left).saturating_sub(self.input.len()),
             _ => self.expected.saturating_sub(self.input.len()),
@@ -117,7 +117,7 @@ impl<S: AsyncRead + AsyncWrite + Unpin> Wire<S> {
     }
 
     /// The next part of the body, none behind its end.
-    pub async fn part(&mut self) -> std::result::Result<Option<Bytes>, Refusal> {
+    pub async fn part(&mut self) -> Result<Option<Bytes>, Refusal> {
         if self.is_not_called_for() {
             self.send(b"HTTP/1.1 100 Continue\r\n\r\n").await?;
         }
@@ -133,13 +133,8 @@ impl<S: AsyncRead + AsyncWrite + Unpin> Wire<S> {
     }
 
     /// A piece of what comes by its length. What is short is one piece.
-    async fn piece(
-        &mut self,
-        left: u64,
-        rest: impl Fn(u64) -> Body,
-        end: Body,
-    ) -> std::result::Result<Bytes, Refusal> {
-        let wanted = left.min(READ_AHEAD as u64) as usize;
+    async fn piece(&mut self, left: u64, rest: impl Fn(u64) -> Body, end: Body) -> Result<Bytes, Refusal> {
+        let wanted = short(left);
         while self.input.len() < wanted {
             self.some_more().await?;
         }
@@ -152,7 +147,7 @@ impl<S: AsyncRead + AsyncWrite + Unpin> Wire<S> {
     }
 
     /// Reads what stands between chunks, or behind the last.
-    async fn between_chunks(&mut self) -> std::result::Result<(), Refusal> {
+    async fn between_chunks(&mut self) -> Result<(), Refusal> {
         let mut trailers = [httparse::EMPTY_HEADER; HEADERS];
         let (used, next) = match self.body {
             Body::Line => match httparse::parse_chunk_size(&self.input) {
@@ -183,20 +178,20 @@ impl<S: AsyncRead + AsyncWrite + Unpin> Wire<S> {
         Ok(())
     }
 
-    async fn some_more(&mut self) -> std::result::Result<(), Refusal> {
+    async fn some_more(&mut self) -> Result<(), Refusal> {
         match self.fill().await? {
             0 => Err(Refusal::Malformed),
             _ => Ok(()),
         }
     }
 
-    pub async fn send(&mut self, bytes: &[u8]) -> Result<()> {
+    pub async fn send(&mut self, bytes: &[u8]) -> io::Result<()> {
         self.stream.write_all(bytes).await?;
         self.stream.flush().await // TLS may have a part of it still
     }
 
     /// Sends one answer with one write: what `write` puts into the buffer.
-    pub async fn answer(&mut self, write: impl FnOnce(&mut Vec<u8>)) -> Result<()> {
+    pub async fn answer(&mut self, write: impl FnOnce(&mut Vec<u8>)) -> io::Result<()> {
         self.output.clear();
         write(&mut self.output);
         self.stream.write_all(&self.output).await?;
@@ -228,9 +223,9 @@ fn is_size_line(line: &[u8]) -> bool {
     has_digit && line.iter().filter(|byte| **byte == b'\n').count() == 1
 }
 
-impl From<Error> for Refusal {
+impl From<io::Error> for Refusal {
     /// A connection that fails within a request is one that ends there.
-    fn from(_: Error) -> Refusal {
+    fn from(_: io::Error) -> Refusal {
         Refusal::Malformed
     }
 }

@@ -13,7 +13,6 @@ pub use activity::{OfReason, OfSender, SenderActivity};
 pub(crate) use texts::SERIES_SHOWN;
 
 use crate::core;
-use crate::files::Outbox;
 use crate::intake::{Hears, Taker};
 use crate::log::shown;
 use crate::metrics::{reason_of, Metrics};
@@ -21,22 +20,19 @@ use crate::otlp::series::SeriesKey;
 use crate::otlp::{foreign_points, point_at, Cause, Causes, Original, Outcome, Profile, Reading, NO_NAME};
 use crate::pass::Pass;
 use crate::slot::{is_sender, ByNumber, Request, Source};
-use crate::work::blocking;
+use crate::work::Readers;
 use bytes::Bytes;
 use logged::Logged;
 use std::sync::atomic::{AtomicBool, Ordering::Relaxed};
 use std::sync::{Arc, Mutex, PoisonError};
 use texts::{late_at, of_late, of_other_writer, of_twice, other_writer, place_of, reason};
-use tokio::sync::Semaphore;
 
 /// How many senders, series and refusals are remembered as told.
 const REMEMBERED: usize = 1000;
 /// How many addresses of strangers: further ones count as who names none, so that they hide no sender.
 const STRANGERS: usize = 100;
 
-/// A body up to this long is read in place, a longer one on a thread beside the runtime's: no short post waits for it.
-const SHORT: usize = 64 << 10;
-/// How many long bodies are read at a time: while it is read, one takes several times its length.
+/// How many long bodies are read at a time.
 const READERS: usize = 2;
 
 /// How much of an answer is in the log, in characters.
@@ -48,7 +44,7 @@ const MOST_READ: usize = 100;
 /// Of one slot's posts, which it hands on to what takes them.
 pub struct Reported<T> {
     taker: Arc<T>,
-    owners: Box<dyn Owners>,
+    owner: Box<Owner>,
     reporter: Arc<Reporter>,
 }
 
@@ -58,7 +54,7 @@ pub struct Reporter {
     metrics: Arc<Metrics>,
     activity: Arc<SenderActivity>,
     pass: Option<Arc<Pass>>,
-    readers: Semaphore,
+    readers: Readers,
     is_reading: AtomicBool,
     logged: Mutex<Logged>,
 }
@@ -74,17 +70,8 @@ pub struct ReportOptions {
     pub profile: Profile,
 }
 
-/// Who knows the owner of a series.
-pub trait Owners: Send + Sync + 'static {
-    fn owner(&self, series: &SeriesKey) -> Option<String>;
-}
-
-impl Owners for Arc<Outbox> {
-    /// Known once the series was forwarded.
-    fn owner(&self, series: &SeriesKey) -> Option<String> {
-        Outbox::owner(self, &series.digest())
-    }
-}
+/// Says the owner of a series, which is known once that was forwarded.
+type Owner = dyn Fn(&SeriesKey) -> Option<String> + Send + Sync;
 
 /// What the log may be told of a post.
 enum Report {
@@ -94,8 +81,12 @@ enum Report {
 }
 
 impl<T: Taker> Reported<T> {
-    pub fn new(taker: Arc<T>, owners: impl Owners, reporter: Arc<Reporter>) -> Arc<Reported<T>> {
-        Arc::new(Reported { taker, owners: Box::new(owners), reporter })
+    pub fn new(
+        taker: Arc<T>,
+        owner: impl Fn(&SeriesKey) -> Option<String> + Send + Sync + 'static,
+        reporter: Arc<Reporter>,
+    ) -> Arc<Reported<T>> {
+        Arc::new(Reported { taker, owner: Box::new(owner), reporter })
     }
 
     fn tell(&self, report: Report, sender: &str, source: Source) {
@@ -104,7 +95,7 @@ impl<T: Taker> Reported<T> {
             Report::Foreign => self.reporter.tell_reasons(sender, &body),
             Report::OtherWriter(place) => {
                 if let Some((_, series)) = point_at(&body, self.reporter.options.profile, place) {
-                    self.reporter.tell_owner(sender, series, &*self.owners);
+                    self.reporter.tell_owner(sender, series, &*self.owner);
                 }
             }
         }
@@ -124,7 +115,7 @@ impl Reporter {
             metrics,
             activity,
             pass,
-            readers: Semaphore::new(READERS),
+            readers: Readers::new(READERS),
             is_reading: AtomicBool::new(false),
             logged: Mutex::new(Logged::default()),
         })
@@ -190,7 +181,7 @@ impl Reporter {
         };
         let (length, source) = (source.length().max(original.body.len()), source.clone());
         let find = move || original.outside(foreign, profile, || source.text());
-        let (outside, causes) = self.work(length, find).await;
+        let (outside, causes) = self.readers.read(length, find).await;
         if let Some(outside) = outside {
             pass.hand_on(outside);
         }
@@ -204,16 +195,7 @@ impl Reporter {
     ) -> Option<R> {
         let source = source.clone();
         let length = source.length();
-        self.work(length, move || source.text().map(|body| read(&body))).await
-    }
-
-    /// Does what takes time by the length of a body.
-    async fn work<R: Send + 'static>(&self, length: usize, work: impl FnOnce() -> R + Send + 'static) -> R {
-        if length <= SHORT {
-            return work();
-        }
-        let _turn = self.readers.acquire().await; // it is never closed
-        blocking(work).await
+        self.readers.read(length, move || source.text().map(|body| read(&body))).await
     }
 
     /// Notes an answer. The first refusal of a sender for each reason is in the log; those that the service itself is
@@ -292,14 +274,14 @@ impl Reporter {
         of.reasons = reasons;
     }
 
-    fn tell_owner(&self, sender: &str, series: SeriesKey, owners: &dyn Owners) {
+    fn tell_owner(&self, sender: &str, series: SeriesKey, owner: &Owner) {
         {
             let logged = self.logged();
             if logged.series.contains(&series) || logged.series.len() >= REMEMBERED {
                 return;
             }
         }
-        let Some(owner) = owners.owner(&series) else {
+        let Some(owner) = owner(&series) else {
             return;
         };
         let line = other_writer(sender, &owner, &series);
@@ -321,23 +303,14 @@ impl<T: Taker> Taker for Reported<T> {
         self.taker.numbered_text(text)
     }
 
-    async fn post(self: &Arc<Self>, sender: String, request: Request) -> Outcome {
-        self.post_with(&sender, request, None).await
-    }
-
     fn wants_originals(&self) -> bool {
         self.reporter.pass.is_some()
     }
 
-    async fn post_with(
-        self: &Arc<Self>,
-        sender: &str,
-        request: Request,
-        original: Option<Original>,
-    ) -> Outcome {
+    async fn post(self: &Arc<Self>, sender: &str, request: Request, original: Option<Original>) -> Outcome {
         let reporter = &self.reporter;
         let source = request.source();
-        let outcome = self.taker.post(sender.into(), request).await;
+        let outcome = self.taker.post(sender, request, None).await;
         if let Outcome::Taken { rejected: 0, .. } = outcome {
             return outcome; // as nearly all are: nothing is to be said
         }

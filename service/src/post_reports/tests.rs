@@ -3,24 +3,14 @@
 use super::*;
 use crate::otlp::{Clock, OffClock};
 use crate::runs::{Refused, Turned};
-use std::future::Future;
 use std::time::Duration;
 
 /// Answers as it was told.
 struct Answering(Outcome);
 
 impl Taker for Answering {
-    fn post(self: &Arc<Self>, _: String, _: Request) -> impl Future<Output = Outcome> + Send {
-        std::future::ready(self.0.clone())
-    }
-}
-
-/// Each series has this owner.
-struct Owned(Option<&'static str>);
-
-impl Owners for Owned {
-    fn owner(&self, _: &SeriesKey) -> Option<String> {
-        self.0.map(String::from)
+    async fn post(self: &Arc<Self>, _: &str, _: Request, _: Option<Original>) -> Outcome {
+        self.0.clone()
     }
 }
 
@@ -31,7 +21,7 @@ fn reported(
 ) -> Arc<Reported<Answering>> {
     let metrics = Arc::new(Metrics::new().unwrap());
     let reporter = Reporter::new(options, metrics, Arc::default(), None);
-    Reported::new(Arc::new(Answering(outcome)), Owned(owner), reporter)
+    Reported::new(Arc::new(Answering(outcome)), move |_| owner.map(String::from), reporter)
 }
 
 fn body(metrics: &str) -> Bytes {
@@ -48,7 +38,7 @@ async fn told(
     let options = ReportOptions { log_foreign, ..ReportOptions::default() };
     let reported = reported(outcome.clone(), owner, options);
     for body in posts {
-        assert_eq!(reported.post("a".into(), body.clone().into()).await.status(), outcome.status());
+        assert_eq!(reported.post("a", body.clone().into(), None).await.status(), outcome.status());
         while reported.reporter.is_reading.load(Relaxed) {
             tokio::time::sleep(Duration::from_millis(1)).await;
         }
@@ -118,7 +108,7 @@ const SPAN: &str = r#""startTimeUnixNano":"1","timeUnixNano":"2""#;
 
 /// What a post is answered whose points are not taken.
 async fn answered(reported: &Arc<Reported<Answering>>, metrics: &str) -> String {
-    match reported.post("a".into(), body(metrics).into()).await {
+    match reported.post("a", body(metrics).into(), None).await {
         Outcome::Taken { message, .. } => message.unwrap_or_default(),
         Outcome::Refused { message, .. } | Outcome::Later { message, .. } => message,
     }
@@ -153,14 +143,14 @@ async fn a_sender_is_told_what_is_not_taken() {
     }
     assert!(!page.contains("totxegun_foreign_points_total{cause=\"gauge\""), "{page}");
     // A long body is read beside, to the same answer; and the book alone says how many points it did not take.
-    let long = format!(r#"{{"name":"{}"}},{metrics}"#, "x".repeat(SHORT));
+    let long = format!(r#"{{"name":"{}"}},{metrics}"#, "x".repeat(Readers::SHORT));
     let answer = answered(&all, &long).await;
     assert!(answer.contains(": 3 gauges, 2 UpDownCounters, 1 cumulative sum: "), "{answer}");
     let more = reported(Outcome::taken(9), None, ReportOptions::default());
     let answer = answered(&more, &metrics).await;
     assert!(answer.contains("3 points of another form"), "{answer}");
     let all_taken = reported(Outcome::taken(0), None, ReportOptions::default());
-    assert_eq!(all_taken.post("a".into(), body(&metrics).into()).await, Outcome::taken(0));
+    assert_eq!(all_taken.post("a", body(&metrics).into(), None).await, Outcome::taken(0));
 }
 
 /// Points by which clock is not in what the book says, nor in a body.
@@ -290,7 +280,7 @@ async fn what_is_refused_of_runs_is_counted() {
             message: None,
         };
         let reported = reported(outcome, None, ReportOptions::default());
-        let said = reported.post("a".into(), body(metrics).into()).await;
+        let said = reported.post("a", body(metrics).into(), None).await;
         let Outcome::Taken { rejected, message: Some(message), .. } = said else {
             panic!("{said:?}");
         };

@@ -154,7 +154,8 @@ impl Units {
 
 /// What takes the posts of a slot.
 pub(super) fn taker(slot: &Arc<Slot>, reporter: &Arc<Reporter>) -> Arc<Reported<Slot>> {
-    Reported::new(slot.clone(), slot.outbox.clone(), reporter.clone())
+    let outbox = slot.outbox.clone();
+    Reported::new(slot.clone(), move |series| outbox.owner(&series.digest()), reporter.clone())
 }
 
 #[cfg(test)]

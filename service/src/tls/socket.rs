@@ -64,10 +64,6 @@ impl AsyncWrite for Socket {
         self.here()?.poll_write_vectored(context, from)
     }
 
-    fn is_write_vectored(&self) -> bool {
-        true
-    }
-
     fn poll_flush(self: Pin<&mut Self>, context: &mut Context<'_>) -> Poll<Result<()>> {
         self.here()?.poll_flush(context)
     }

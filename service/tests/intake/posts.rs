@@ -39,16 +39,6 @@ async fn a_kept_connection_serves_many_posts() {
 }
 
 #[tokio::test]
-async fn pipelined_posts_are_answered_in_order() {
-    let served = Served::start().await;
-    let mut client = served.client().await;
-    let requests = [json(BODY.as_bytes()), post("", b"x"), json(BODY.as_bytes())].concat();
-    client.write(&requests).await;
-    let statuses = [client.answer().await.status, client.answer().await.status, client.answer().await.status];
-    assert_eq!(statuses, [200, 415, 200]);
-}
-
-#[tokio::test]
 async fn a_post_in_pieces_and_in_chunks_is_one_post() {
     let served = Served::start().await;
     let mut client = served.client().await;

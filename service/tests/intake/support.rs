@@ -14,7 +14,7 @@ use totxegun::intake::connections::{spread, Shared};
 use totxegun::intake::front::Http;
 use totxegun::intake::{Budget, Hears, Intake, Limits, Taker, Threads};
 use totxegun::metrics::Metrics;
-use totxegun::otlp::{Outcome, Reading};
+use totxegun::otlp::{Original, Outcome, Reading};
 use totxegun::slot::{Request, Slots};
 
 pub const BODY: &str = r#"{"resourceMetrics":[]}"#;
@@ -31,9 +31,14 @@ pub struct Kept {
 }
 
 impl Taker for Kept {
-    fn post(self: &Arc<Self>, sender: String, request: Request) -> impl Future<Output = Outcome> + Send {
+    fn post(
+        self: &Arc<Self>,
+        sender: &str,
+        request: Request,
+        _: Option<Original>,
+    ) -> impl Future<Output = Outcome> + Send {
         let body = request.source().text().unwrap();
-        self.posts.lock().unwrap().push((sender, body));
+        self.posts.lock().unwrap().push((sender.into(), body));
         std::future::ready(self.outcome.clone())
     }
 }

@@ -18,9 +18,14 @@ struct Kept {
 }
 
 impl Taker for Kept {
-    fn post(self: &Arc<Self>, sender: String, request: Request) -> impl Future<Output = Outcome> + Send {
+    fn post(
+        self: &Arc<Self>,
+        sender: &str,
+        request: Request,
+        _: Option<Original>,
+    ) -> impl Future<Output = Outcome> + Send {
         let body = request.source().text().unwrap();
-        self.posts.lock().unwrap().push((sender, body));
+        self.posts.lock().unwrap().push((sender.into(), body));
         let outcome = self.outcome.clone();
         async move { outcome.expect("it was told to fail") }
     }
@@ -211,7 +216,7 @@ impl Taker for WithoutRoom {
         Err(core::Refused::LongSeries)
     }
 
-    async fn post(self: &Arc<Self>, _: String, _: Request) -> Outcome {
+    async fn post(self: &Arc<Self>, _: &str, _: Request, _: Option<Original>) -> Outcome {
         panic!("it was not read")
     }
 }
@@ -220,9 +225,9 @@ impl Taker for WithoutRoom {
 #[tokio::test]
 async fn what_has_too_long_series_is_told_so() {
     let budget = Budget::new(64 << 20);
-    let reading = Reading { cumulative: Cumulative::On, ..Reading::default() };
-    let metrics = Arc::new(Metrics::new().unwrap());
-    let intake = Intake::new(Arc::new(WithoutRoom), reading, budget.clone(), metrics);
+    let reading = Arc::new(Reading { cumulative: Cumulative::On, ..Reading::default() });
+    let (slots, metrics) = (Slots::one(Arc::new(WithoutRoom)), Arc::new(Metrics::new().unwrap()));
+    let intake = Intake::of(slots, Arc::new(()), reading, budget.clone(), metrics);
     let metric = r#"{"name":"m","sum":{"aggregationTemporality":2,"dataPoints":[]}}"#;
     let body = format!(r#"{{"resourceMetrics":[{{"scopeMetrics":[{{"metrics":[{metric}]}}]}}]}}"#);
     let head = Head { sender: "A".into(), encoding: Encoding::Json, packing: Packing::Plain };
