@@ -48,8 +48,11 @@ impl Keeper {
         let (outbox, of) = (self.slot.outbox.clone(), sender.clone());
         blocking(move || outbox.lift(&of)).await?;
         let done = self.slot.core.lock().lift(&sender);
-        if let Err(refused) = done {
-            return Ok(not_now(refused));
+        match done {
+            Ok(()) => {}
+            // Its posts are held no more: the next checkpoint would let go of what the book keeps back.
+            Err(Refused::NoMemory) => return Err(Trouble::NoMemory),
+            Err(refused) => return Ok(not_now(refused)),
         }
         self.released = true;
         Ok(Done::Answered(Outcome::taken(0)))
