@@ -320,9 +320,7 @@ mod tests {
     /// What it has it may post again, also before a flush says whose it is.
     #[tokio::test]
     async fn no_sender_comes_over_its_share_of_series_by_one_post() {
-        let (journal, outbox, _dead) =
-            drive::open(Arc::<Store>::default().take(), "00000000000000aa").unwrap();
-        let shared = Shared::new(Arc::new(Metrics::new().unwrap()), Clock::default());
+        let shared = Shared::of_test();
         shared.shares.begin(Rules {
             most_series: 10,
             of_each: Share { series: Some(3), points: None },
@@ -330,8 +328,7 @@ mod tests {
             profile: Profile::Deltas,
             owned: Box::new(Nothing),
         });
-        let slot = Slot::of(0, journal, Arc::new(outbox), Core::new(10).unwrap(), &shared);
-        slot.open();
+        let slot = Slot::in_memory(&shared);
         let status = async |start: u64, metrics: &[&str]| {
             let each: Vec<String> = metrics.iter().map(|name| metric(name, start)).collect();
             let body =
