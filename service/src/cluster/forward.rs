@@ -38,8 +38,10 @@ use wire::Connections;
 
 /// Where posts of other instances come.
 pub const PATH: &str = "/internal/post";
-/// Until a post is answered, whatever becomes of it.
+/// Until a post is answered, whatever becomes of it, beside the time for its way.
 const WITHIN: Duration = Duration::from_secs(10);
+/// So many bytes a second are on their way at least: a part may come as slowly as the request of its sender.
+const SLOWEST: usize = 64 << 10;
 /// So long an owner's answer is waited for once it has the slot no more: one that hands over gives it.
 const AFTER_MOVE: Duration = Duration::from_millis(500);
 /// So long an owner is looked for.
@@ -140,7 +142,8 @@ impl<H: Here> Forward<H> {
                 Whose::There { address, term, .. } => {
                     asked += 1;
                     let head = Head::new(slot, *term, sender, part.encoding);
-                    let no_answer = self.no_answer(slot, &whose, began + WITHIN);
+                    let late = began + WITHIN + on_the_way(part.body.len());
+                    let no_answer = self.no_answer(slot, &whose, late);
                     self.ask(address, &head, &part, no_answer).await
                 }
             };
@@ -272,6 +275,11 @@ enum Broken {
     Strange(u16),
     #[error("its answer is longer than {0} bytes: ask it by itself")]
     Long(usize),
+}
+
+/// How long so many bytes may be.
+fn on_the_way(bytes: usize) -> Duration {
+    Duration::from_secs_f64(bytes as f64 / SLOWEST as f64)
 }
 
 fn unavailable(why: &str) -> Outcome {

@@ -2,7 +2,7 @@
 
 use super::head::{Head, Secret};
 use super::operators::{self, Answers};
-use super::{owner_answer, unavailable, Here, PATH};
+use super::{on_the_way, owner_answer, unavailable, Here, PATH};
 use crate::cluster::local_view::{Cluster, NO_STORE};
 use crate::cluster::owners::Whose;
 use crate::cluster::terms::Doing;
@@ -25,8 +25,8 @@ const NAMES: usize = 17 << 16;
 const MOST: usize = crate::intake::MOST + NAMES;
 /// So many of them are in memory at once, whoever sends them.
 const PARTS: usize = 64;
-/// A body comes within.
-pub(super) const WITHIN: Duration = Duration::from_secs(5);
+/// A body comes within, beside the time for its way.
+const WITHIN: Duration = Duration::from_secs(5);
 
 pub struct Internal<H> {
     cluster: Arc<Cluster>,
@@ -63,11 +63,8 @@ impl<H: Here> Internal<H> {
             return Err(owner_answer::answer(&unavailable(NO_STORE)));
         }
         let _room = self.parts.acquire().await; // it is never closed
-        let body = timeout(WITHIN, whole(request.into_body())).await;
-        let body = body
-            .ok()
-            .flatten()
-            .ok_or_else(|| owner_answer::refused(400, "the body is not whole, or too long"))?;
+        let body = whole(request.into_body()).await;
+        let body = body.ok_or_else(|| owner_answer::refused(400, "the body is not whole, or too long"))?;
         let part = Original { encoding: head.encoding, body };
         // The slot says itself whether it is still here.
         let outcome = self.here.post(head.slot, head.term, &head.sender, part).await;
@@ -94,7 +91,13 @@ impl<T: Taker> Here for Intake<T> {
     }
 }
 
-pub(super) async fn whole(mut body: Body) -> Option<Bytes> {
+/// None where it is too long, or not there in time.
+pub(super) async fn whole(body: Body) -> Option<Bytes> {
+    let most = body.size_hint().upper().map_or(MOST, |said| said.min(MOST as u64) as usize);
+    timeout(WITHIN + on_the_way(most), received(body)).await.ok().flatten()
+}
+
+async fn received(mut body: Body) -> Option<Bytes> {
     let mut bytes = BytesMut::new();
     while let Some(part) = body.data().await {
         bytes.extend_from_slice(&part.ok()?);

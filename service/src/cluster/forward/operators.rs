@@ -1,7 +1,7 @@
 //! What operators ask, on its way between instances: of one of them, for what another has. What the bytes mean `operate`
 //! knows.
 
-use super::internal::{whole, Internal, WITHIN};
+use super::internal::{whole, Internal};
 use super::{owner_answer, Broken, Forward, Forwarded, Here};
 use crate::cluster::terms::Doing;
 use bytes::Bytes;
@@ -70,11 +70,9 @@ impl<H: Here> Internal<H> {
     }
 
     pub(super) async fn answered(&self, body: Body) -> Result<Response<Body>, Response<Body>> {
-        let question = timeout(WITHIN, whole(body)).await;
-        let question = question
-            .ok()
-            .flatten()
-            .ok_or_else(|| owner_answer::refused(400, "the question is not whole, or too long"))?;
+        let question = whole(body).await;
+        let question =
+            question.ok_or_else(|| owner_answer::refused(400, "the question is not whole, or too long"))?;
         let Some(answers) = self.answers.get() else {
             return Err(owner_answer::refused(503, "this instance is starting"));
         };

@@ -6,7 +6,7 @@ mod tls;
 use super::*;
 use crate::otlp::{Encoding, Reading, Resources};
 use bytes::Bytes;
-use peers::{ends_after_one, half_deaf, posted, receiver, secret, strange, there, Peer, Slots};
+use peers::{ends_after_one, half_deaf, posted, receiver, secret, slow_way, strange, there, Peer, Slots};
 use std::sync::atomic::Ordering::SeqCst;
 use tokio::net::TcpListener;
 use tokio::time::sleep;
@@ -67,6 +67,19 @@ async fn the_longest_post_with_the_names_of_its_instances_is_brought() {
         assert_eq!(forward.post(3, &name, part).await, Outcome::taken(0), "{name}");
     }
     assert!(longest > 5 << 20, "{longest}");
+}
+
+/// Else it would be 503 at each repeat.
+#[tokio::test]
+async fn a_long_part_is_waited_for_as_long_as_a_slow_way_takes() {
+    let peer = Peer::here().await;
+    let forward = receiver(there(&slow_way(peer.address.clone(), 9 << 10).await), secret("of all"));
+    let body = Bytes::from(vec![b' '; 1 << 20]);
+    let (began, part) = (Instant::now(), Original { encoding: Encoding::Json, body: body.clone() });
+    assert_eq!(forward.post(3, "web-1", part).await, Outcome::taken(0));
+    assert!(began.elapsed() > WITHIN, "{:?}", began.elapsed());
+    let came = peer.slots.came.lock().unwrap().clone();
+    assert!(came.len() == 1 && came[0].4 == body);
 }
 
 /// A request as long as one may be, of so many resources that have no name: each gets as much as one can.

@@ -9,6 +9,7 @@ use std::convert::Infallible;
 use std::sync::atomic::AtomicUsize;
 use std::sync::Mutex;
 use tokio::io::{AsyncReadExt, AsyncWriteExt};
+use tokio::net::TcpStream;
 
 /// Slot, term, sender, and the part.
 pub type Came = (u16, u64, String, Encoding, Bytes);
@@ -152,6 +153,27 @@ pub async fn strange(says: &'static [u8], stays: bool) -> (String, Arc<AtomicUsi
         }
     });
     (address, count)
+}
+
+/// A way to an address on which so many bytes come in a tenth of a second.
+pub async fn slow_way(to: String, bytes: usize) -> String {
+    let listener = TcpListener::bind("127.0.0.1:0").await.unwrap();
+    let address = listener.local_addr().unwrap().to_string();
+    tokio::spawn(async move {
+        while let Ok((from, _)) = listener.accept().await {
+            let (mut from, mut back) = from.into_split();
+            let (mut answers, mut there) = TcpStream::connect(&to).await.unwrap().into_split();
+            tokio::spawn(async move { tokio::io::copy(&mut answers, &mut back).await });
+            tokio::spawn(async move {
+                let mut some = vec![0; bytes];
+                while let Ok(read @ 1..) = from.read(&mut some).await {
+                    there.write_all(&some[..read]).await.unwrap();
+                    sleep(Duration::from_millis(100)).await;
+                }
+            });
+        }
+    });
+    address
 }
 
 /// Answers the first post of each connection, and ends it: at once, or once another post has come.
