@@ -15,7 +15,7 @@ mod wire;
 pub use head::Secret;
 pub use internal::Internal;
 pub use operators::{Answers, Asks};
-pub use peer::SILENT_FOR;
+pub use peer::Unanswering;
 pub use wire::Wire;
 
 use super::local_view::{Cluster, Places, NO_STORE};
@@ -28,7 +28,6 @@ use head::Head;
 use hyper::{Body, Request};
 use owner_answer::OwnerAnswer;
 use peer::{Peer, Peers};
-use std::future::Future;
 use std::sync::atomic::{AtomicU64, Ordering::Relaxed};
 use std::sync::{Arc, OnceLock};
 use std::time::Duration;
@@ -141,10 +140,15 @@ impl<H: Here> Forward<H> {
                 },
                 Whose::There { address, term, .. } => {
                     asked += 1;
+                    let peer = self.peers.at(address);
                     let head = Head::new(slot, *term, sender, part.encoding);
                     let late = began + WITHIN + on_the_way(part.body.len());
-                    let no_answer = self.no_answer(slot, &whose, late);
-                    self.ask(address, &head, &part, no_answer).await
+                    let said = tokio::select! {
+                        biased;
+                        said = self.exchange(&peer, &head, &part) => said,
+                        () = self.no_answer(slot, &whose, late) => Err(Broken::Late),
+                    };
+                    self.heard(&peer, began, said)
                 }
             };
             if let Some(outcome) = said {
@@ -175,30 +179,18 @@ impl<H: Here> Forward<H> {
         }
     }
 
-    /// One that has not the slot says so: then none.
-    async fn ask(
-        &self,
-        address: &str,
-        head: &Head,
-        part: &Original,
-        no_answer: impl Future<Output = ()>,
-    ) -> Option<Outcome> {
-        let (peer, began) = (self.peers.at(address), Instant::now());
-        let said = tokio::select! {
-            biased;
-            said = self.exchange(&peer, address, head, part) => said,
-            () = no_answer => Err(Broken::Late),
-        };
-        let why = match said {
+    /// What came of a post that came then; none of one whose slot the instance has not, as it says.
+    fn heard(&self, peer: &Peer, came: Instant, said: Result<OwnerAnswer, Broken>) -> Option<Outcome> {
+        let reason = match said {
             Ok(said) => {
                 peer.answers();
                 return self.count(said);
             }
-            Err(why) => why,
+            Err(why) => why.to_string(),
         };
         self.counts.broken.fetch_add(1, Relaxed);
-        if peer.is_silent_since(began) && TOLD.is_due() {
-            let reason = why.to_string();
+        if peer.is_silent(came, &reason) && TOLD.is_due() {
+            let address = peer.address.as_str();
             tracing::warn!(address, reason, "the instance at {address} has not answered for 10 s: {reason}");
         }
         Some(unavailable(BROKEN))
@@ -217,15 +209,9 @@ impl<H: Here> Forward<H> {
         }
     }
 
-    async fn exchange(
-        &self,
-        peer: &Peer,
-        address: &str,
-        head: &Head,
-        part: &Original,
-    ) -> Result<OwnerAnswer, Broken> {
+    async fn exchange(&self, peer: &Peer, head: &Head, part: &Original) -> Result<OwnerAnswer, Broken> {
         let _room = peer.room(part.body.len()).await;
-        let uri = format!("{}://{address}{PATH}", self.connections.scheme());
+        let uri = format!("{}://{}{PATH}", self.connections.scheme(), peer.address);
         let request = head.put(Request::post(uri), &self.secret);
         let request = request.body(Body::from(part.body.clone())).map_err(Broken::Address)?;
         let response = self.connections.asks().request(request).await;
@@ -240,9 +226,8 @@ impl<H: Here> Forward<H> {
         }
     }
 
-    /// The addresses of instances that have not answered for ten seconds, and for how long.
-    pub fn silent(&self) -> Vec<(String, Duration)> {
-        self.peers.silent()
+    pub fn unanswering(&self) -> Vec<Unanswering> {
+        self.peers.unanswering()
     }
 }
 

@@ -2,7 +2,7 @@
 //! knows.
 
 use super::internal::{whole, Internal};
-use super::{owner_answer, Broken, Forward, Forwarded, Here};
+use super::{owner_answer, Broken, Forward, Forwarded, Here, Unanswering};
 use crate::cluster::terms::Doing;
 use bytes::Bytes;
 use hyper::{Body, Request, Response};
@@ -33,6 +33,9 @@ pub trait Asks: Send + Sync + 'static {
 
     /// How many posts for others' slots ended how.
     fn forwarded(&self) -> Forwarded;
+
+    /// Who answers none of them.
+    fn unanswering(&self) -> Vec<Unanswering>;
 }
 
 impl<H: Here> Asks for Forward<H> {
@@ -50,6 +53,10 @@ impl<H: Here> Asks for Forward<H> {
 
     fn forwarded(&self) -> Forwarded {
         Forward::forwarded(self)
+    }
+
+    fn unanswering(&self) -> Vec<Unanswering> {
+        Forward::unanswering(self)
     }
 }
 

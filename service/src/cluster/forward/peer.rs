@@ -11,17 +11,46 @@ pub const POSTS: usize = 64;
 /// And so many bytes, in KiB.
 const KIB: usize = 32 << 10;
 /// After so long without an answer it is said.
-pub const SILENT_FOR: Duration = Duration::from_secs(10);
+const SILENT_FOR: Duration = Duration::from_secs(10);
+/// And shown for so long after the last post that got none.
+const SHOWN: Duration = Duration::from_secs(60);
 
 /// By their addresses, of which the store has a few.
 #[derive(Default)]
 pub(super) struct Peers(Mutex<HashMap<String, Arc<Peer>>>);
 
 pub(super) struct Peer {
+    pub address: String,
     posts: Semaphore,
     kib: Semaphore,
-    /// When the first of the posts was sent that have got no answer since it last gave one.
-    silent: Mutex<Option<Instant>>,
+    /// None where it answered last.
+    silent: Mutex<Option<Silent>>,
+}
+
+/// Posts that got no answer, one behind the other.
+struct Silent {
+    /// When the first of them came.
+    since: Instant,
+    last: Instant,
+    why: String,
+}
+
+impl Silent {
+    fn is_over(&self) -> bool {
+        self.last.elapsed() > SHOWN
+    }
+
+    fn is_long(&self) -> bool {
+        self.last - self.since >= SILENT_FOR
+    }
+}
+
+/// An instance that answers no post of those that are brought there.
+#[derive(Clone, Debug, PartialEq, Eq)]
+pub struct Unanswering {
+    pub address: String,
+    pub time: Duration,
+    pub why: String,
 }
 
 impl Peers {
@@ -29,6 +58,7 @@ impl Peers {
         let mut peers = lock(&self.0);
         let new = || {
             Arc::new(Peer {
+                address: address.into(),
                 posts: Semaphore::new(POSTS),
                 kib: Semaphore::new(KIB),
                 silent: Mutex::default(),
@@ -37,14 +67,15 @@ impl Peers {
         peers.entry(address.into()).or_insert_with(new).clone()
     }
 
-    /// Those that have not answered for so long, and for how long.
-    pub fn silent(&self) -> Vec<(String, Duration)> {
-        let peers = lock(&self.0);
-        let silent = peers.iter().filter_map(|(address, peer)| {
-            let time = (*lock(&peer.silent))?.elapsed();
-            (time >= SILENT_FOR).then(|| (address.clone(), time))
-        });
-        silent.collect()
+    /// Those that have answered none for long, and are still asked.
+    pub fn unanswering(&self) -> Vec<Unanswering> {
+        let unanswering = |peer: &Arc<Peer>| {
+            let silent = lock(&peer.silent);
+            let silent = silent.as_ref().filter(|silent| silent.is_long() && !silent.is_over())?;
+            let (address, time) = (peer.address.clone(), silent.since.elapsed());
+            Some(Unanswering { address, time, why: silent.why.clone() })
+        };
+        lock(&self.0).values().filter_map(unanswering).collect()
     }
 }
 
@@ -60,10 +91,12 @@ impl Peer {
         *lock(&self.silent) = None;
     }
 
-    /// A post that was sent then has got no answer: whether that has been so for long.
-    pub fn is_silent_since(&self, began: Instant) -> bool {
-        let since = *lock(&self.silent).get_or_insert(began);
-        since.elapsed() >= SILENT_FOR
+    /// A post that came then has got no answer: whether that has been so for long.
+    pub fn is_silent(&self, came: Instant, why: &str) -> bool {
+        let mut silent = lock(&self.silent);
+        let before = silent.take().filter(|before| !before.is_over());
+        let since = before.map_or(came, |before| before.since);
+        silent.insert(Silent { since, last: Instant::now(), why: why.into() }).is_long()
     }
 }
 

@@ -161,7 +161,7 @@ async fn what_breaks_off_or_is_no_instance_is_503_and_is_asked_once() {
         assert_eq!(posted(&forward, "{}").await, unavailable(BROKEN));
         assert_eq!(count.load(SeqCst), 1, "{}", String::from_utf8_lossy(says));
         assert_eq!(forward.forwarded().broken, 1);
-        assert!(forward.silent().is_empty(), "not for ten seconds");
+        assert!(forward.unanswering().is_empty(), "not for ten seconds");
     }
     // Nobody listens there.
     let listener = TcpListener::bind("127.0.0.1:0").await.unwrap();
@@ -206,14 +206,15 @@ async fn who_stalls_is_left_after_ten_seconds_and_said_and_holds_up_no_other() {
     let part = Original { encoding: Encoding::Json, body: Bytes::new() };
     assert_eq!(forward.post(4, "web-1", part).await, Outcome::taken(0));
     assert!(began.elapsed() < WITHIN);
-    assert_eq!(forward.silent(), []);
+    assert_eq!(forward.unanswering(), []);
     assert_eq!(count.load(SeqCst), peer::POSTS, "on their way at once");
     for one in many {
         assert_eq!(one.await.unwrap(), unavailable(BROKEN));
     }
     assert!((WITHIN..WITHIN * 2).contains(&began.elapsed()));
-    let silent: Vec<String> = forward.silent().into_iter().map(|(address, _)| address).collect();
-    assert_eq!(silent, [stalls]);
+    let [unanswering] = &forward.unanswering()[..] else { panic!() };
+    assert_eq!((&unanswering.address, &*unanswering.why), (&stalls, "it has not answered in time"));
+    assert!((WITHIN..WITHIN * 2).contains(&unanswering.time));
 }
 
 #[tokio::test]

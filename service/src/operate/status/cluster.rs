@@ -1,5 +1,7 @@
 //! What an instance says of itself among others, and of the store: in JSON, and in gauges.
 
+use crate::cluster;
+use crate::command::values::seconds_shown;
 use crate::operate::reach::Others;
 use crate::operate::Desk;
 use serde::{Deserialize, Serialize};
@@ -40,20 +42,32 @@ pub struct DatabaseStatus {
     pub doubt_seconds: u64,
 }
 
+impl Others {
+    /// Another instance, whose beats go on, that answers no post of those that are brought there.
+    fn unanswering(&self, seen: &cluster::Status) -> Option<String> {
+        let unanswering = self.asks.unanswering();
+        seen.others.iter().filter(|other| !other.is_gone).find_map(|other| {
+            let one = unanswering.iter().find(|one| one.address == other.address)?;
+            let time = seconds_shown(one.time.as_secs());
+            Some(format!("its posts to instance {} have had no answer for {time}: {}", other.name, one.why))
+        })
+    }
+}
+
 impl Desk {
     /// Who this is, of the cluster.
     pub(super) fn own_cluster_status(&self) -> Option<ClusterStatus> {
         let others = self.others.as_ref()?;
         let seen = others.cluster.status();
         let namesake = "another process beats under its name: give each its own --instance";
-        let trouble = seen.has_namesake.then_some(namesake).or(self.unavailable());
+        let trouble = seen.has_namesake.then_some(namesake).or(self.unavailable()).map(String::from);
         let own = InstanceStatus {
             name: others.instance.clone(),
             address: others.address.clone(),
             version: env!("CARGO_PKG_VERSION").into(),
             beat_seconds: seen.beat_age().map(|age| age.as_secs()),
             slots: self.units.all().len(),
-            trouble: trouble.map(String::from),
+            trouble: trouble.or_else(|| others.unanswering(&seen)),
         };
         Some(ClusterStatus {
             instance: others.instance.clone(),

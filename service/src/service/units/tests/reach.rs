@@ -5,7 +5,7 @@ mod told;
 
 use super::*;
 use crate::cluster::terms::{Doing, Instance, Refused, Row, Seen};
-use crate::cluster::{Answers, Asks, Cluster, Forwarded as Brought, Whose};
+use crate::cluster::{Answers, Asks, Cluster, Forwarded as Brought, Unanswering, Whose};
 use crate::files::drive::{self, memory::Store};
 use crate::metrics::OfCluster;
 use crate::operate::Databases;
@@ -66,6 +66,17 @@ impl Asks for Through {
 
     fn forwarded(&self) -> Brought {
         Brought::default()
+    }
+
+    fn unanswering(&self) -> Vec<Unanswering> {
+        let all = self.0 .0.lock().unwrap();
+        let stand_still = all.iter().filter(|(_, (_, mood))| *mood == Mood::StandsStill);
+        let unanswering = |address: &String| Unanswering {
+            address: address.clone(),
+            time: Duration::from_secs(12),
+            why: "broken pipe".into(),
+        };
+        stand_still.map(|(address, _)| unanswering(address)).collect()
     }
 }
 
@@ -334,6 +345,11 @@ async fn the_status_is_of_all_and_a_period_is_closed_once_all_is_known_to_be_in_
     assert!(status == 409 && why(&text).contains(wanted), "{text}");
     let (_, seen) = json(&both.a, "GET", "/status").await;
     assert_eq!(seen["slots"][1]["unknown"], "instance b: it does not answer: connection refused");
+    both.net.mood("b", Mood::StandsStill);
+    let (_, seen) = json(&both.b, "GET", "/status").await;
+    let of_a = &seen["cluster"]["instances"][1];
+    let wanted = "its posts to instance b have had no answer for 12 s: broken pipe";
+    assert_eq!((&of_a["name"], &of_a["trouble"]), (&"a".into(), &wanted.into()));
 }
 
 #[tokio::test]
