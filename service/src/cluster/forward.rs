@@ -26,10 +26,8 @@ use crate::otlp::{Original, Outcome};
 use crate::slot::Elsewhere;
 use head::Head;
 use hyper::{Body, Request};
-use owner_answer::OwnerAnswer;
-use peer::{Peer, Peers};
-use std::sync::atomic::{AtomicU64, Ordering::Relaxed};
-use std::sync::{Arc, OnceLock};
+use peer::{lock, Peer, Peers};
+use std::sync::{Arc, Mutex, OnceLock};
 use std::time::Duration;
 use tokio::sync::watch;
 use tokio::time::{sleep_until, timeout_at, Instant};
@@ -77,13 +75,6 @@ pub trait Here: Send + Sync + 'static {
 }
 
 /// How many posts for others' slots ended how.
-#[derive(Default)]
-struct Counts {
-    answered: AtomicU64,
-    not_mine: AtomicU64,
-    broken: AtomicU64,
-}
-
 #[derive(Clone, Copy, Debug, Default, PartialEq, Eq)]
 pub struct Forwarded {
     pub answered: u64,
@@ -91,6 +82,16 @@ pub struct Forwarded {
     pub not_mine: u64,
     /// There was no answer.
     pub broken: u64,
+}
+
+impl Forwarded {
+    fn note(&mut self, said: &Result<Option<Outcome>, Broken>) {
+        match said {
+            Ok(Some(_)) => self.answered += 1,
+            Ok(None) => self.not_mine += 1,
+            Err(_) => self.broken += 1,
+        }
+    }
 }
 
 /// Brings posts to the owners of their slots.
@@ -101,7 +102,7 @@ pub struct Forward<H> {
     secret: Secret,
     connections: Connections,
     peers: Peers,
-    counts: Counts,
+    counts: Mutex<Forwarded>,
 }
 
 impl<H: Here> Forward<H> {
@@ -112,7 +113,7 @@ impl<H: Here> Forward<H> {
             secret,
             connections: Connections::new(wire),
             peers: Peers::default(),
-            counts: Counts::default(),
+            counts: Mutex::default(),
         }
     }
 
@@ -180,15 +181,15 @@ impl<H: Here> Forward<H> {
     }
 
     /// What came of a post that came then; none of one whose slot the instance has not, as it says.
-    fn heard(&self, peer: &Peer, came: Instant, said: Result<OwnerAnswer, Broken>) -> Option<Outcome> {
+    fn heard(&self, peer: &Peer, came: Instant, said: Result<Option<Outcome>, Broken>) -> Option<Outcome> {
+        lock(&self.counts).note(&said);
         let reason = match said {
             Ok(said) => {
                 peer.answers();
-                return self.count(said);
+                return said;
             }
             Err(why) => why.to_string(),
         };
-        self.counts.broken.fetch_add(1, Relaxed);
         if peer.is_silent(came, &reason) && TOLD.is_due() {
             let address = peer.address.as_str();
             tracing::warn!(address, reason, "the instance at {address} has not answered for 10 s: {reason}");
@@ -196,38 +197,14 @@ impl<H: Here> Forward<H> {
         Some(unavailable(BROKEN))
     }
 
-    fn count(&self, said: OwnerAnswer) -> Option<Outcome> {
-        match said {
-            OwnerAnswer::NotMine => {
-                self.counts.not_mine.fetch_add(1, Relaxed);
-                None
-            }
-            OwnerAnswer::Outcome(outcome) => {
-                self.counts.answered.fetch_add(1, Relaxed);
-                Some(outcome)
-            }
-        }
-    }
-
-    async fn exchange(&self, peer: &Peer, head: &Head, part: &Original) -> Result<OwnerAnswer, Broken> {
+    /// None where it says that the slot is not its own.
+    async fn exchange(&self, peer: &Peer, head: &Head, part: &Original) -> Result<Option<Outcome>, Broken> {
         let _room = peer.room(part.body.len()).await;
         let uri = format!("{}://{}{PATH}", self.connections.scheme(), peer.address);
         let request = head.put(Request::post(uri), &self.secret);
         let request = request.body(Body::from(part.body.clone())).map_err(Broken::Address)?;
         let response = self.connections.asks().request(request).await;
         owner_answer::read(response.map_err(Broken::Wire)?).await
-    }
-
-    pub fn forwarded(&self) -> Forwarded {
-        Forwarded {
-            answered: self.counts.answered.load(Relaxed),
-            not_mine: self.counts.not_mine.load(Relaxed),
-            broken: self.counts.broken.load(Relaxed),
-        }
-    }
-
-    pub fn unanswering(&self) -> Vec<Unanswering> {
-        self.peers.unanswering()
     }
 }
 

@@ -150,6 +150,13 @@ impl Here for Open {
     }
 }
 
+/// Nobody asks.
+impl Answers for Open {
+    fn answer_question(self: Arc<Self>, _question: Bytes) -> Doing<'static, Option<Vec<u8>>> {
+        Box::pin(async { None })
+    }
+}
+
 struct Node {
     forward: Arc<Forward<Open>>,
     cluster: Arc<Cluster>,
@@ -169,7 +176,7 @@ async fn start(ledger: &Arc<Ledger>, name: &'static str) -> Node {
     forward.serve(here.clone());
     let limits = Limits { connections: 200, head: Duration::from_secs(5), idle: Duration::from_secs(60) };
     let (serves, served) = watch::channel(false);
-    let internal = Internal::new(cluster.clone(), here, secret);
+    let internal = Internal::new(cluster.clone(), here.clone(), secret, here);
     tokio::spawn(serve(listener, limits, internal, served));
     let terms = Of(ledger.store.clone(), name, address);
     let beats = Beats::new(cluster.clone(), 0, Arc::new(terms), slots).each(BEAT);

@@ -102,8 +102,7 @@ impl Joining {
         self.forward.serve(intake.clone());
         let (stop_peer, peer_stopped) = watch::channel(false);
         let (stop_beats, beats_stopped) = watch::channel(false);
-        let internal = Internal::new(self.cluster.clone(), intake.clone(), self.secret);
-        internal.answers_by(desk);
+        let internal = Internal::new(self.cluster.clone(), intake.clone(), self.secret, desk);
         let of_peers = Limits { connections: PEERS, ..limits(settings) };
         let Peers { listener, tls } = self.peers;
         let peer = tokio::spawn(serve_over(listener, tls, of_peers, internal, peer_stopped));

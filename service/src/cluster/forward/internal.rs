@@ -9,10 +9,10 @@ use crate::cluster::terms::Doing;
 use crate::intake::connections::Handler;
 use crate::intake::{Intake, Taker};
 use crate::otlp::{Original, Outcome};
-use bytes::{Bytes, BytesMut};
+use bytes::Bytes;
 use hyper::body::HttpBody;
 use hyper::{Body, Method, Request, Response};
-use std::sync::{Arc, OnceLock};
+use std::sync::Arc;
 use std::time::Duration;
 use tokio::sync::Semaphore;
 use tokio::time::timeout;
@@ -33,13 +33,18 @@ pub struct Internal<H> {
     here: Arc<H>,
     secret: Secret,
     parts: Semaphore,
-    /// None before operators are served.
-    pub(super) answers: OnceLock<Arc<dyn Answers>>,
+    /// What answers to questions of operators.
+    pub(super) answers: Arc<dyn Answers>,
 }
 
 impl<H: Here> Internal<H> {
-    pub fn new(cluster: Arc<Cluster>, here: Arc<H>, secret: Secret) -> Arc<Internal<H>> {
-        Arc::new(Internal { cluster, here, secret, parts: Semaphore::new(PARTS), answers: OnceLock::new() })
+    pub fn new(
+        cluster: Arc<Cluster>,
+        here: Arc<H>,
+        secret: Secret,
+        answers: Arc<dyn Answers>,
+    ) -> Arc<Internal<H>> {
+        Arc::new(Internal { cluster, here, secret, parts: Semaphore::new(PARTS), answers })
     }
 
     /// The error is what is said before a slot is asked.
@@ -94,16 +99,5 @@ impl<T: Taker> Here for Intake<T> {
 /// None where it is too long, or not there in time.
 pub(super) async fn whole(body: Body) -> Option<Bytes> {
     let most = body.size_hint().upper().map_or(MOST, |said| said.min(MOST as u64) as usize);
-    timeout(WITHIN + on_the_way(most), received(body)).await.ok().flatten()
-}
-
-async fn received(mut body: Body) -> Option<Bytes> {
-    let mut bytes = BytesMut::new();
-    while let Some(part) = body.data().await {
-        bytes.extend_from_slice(&part.ok()?);
-        if bytes.len() > MOST {
-            return None;
-        }
-    }
-    Some(bytes.freeze())
+    timeout(WITHIN + on_the_way(most), owner_answer::whole(body, MOST)).await.ok()?.ok()
 }

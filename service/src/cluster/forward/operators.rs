@@ -2,6 +2,7 @@
 //! knows.
 
 use super::internal::{whole, Internal};
+use super::peer::lock;
 use super::{owner_answer, Broken, Forward, Forwarded, Here, Unanswering};
 use crate::cluster::terms::Doing;
 use bytes::Bytes;
@@ -52,11 +53,11 @@ impl<H: Here> Asks for Forward<H> {
     }
 
     fn forwarded(&self) -> Forwarded {
-        Forward::forwarded(self)
+        *lock(&self.counts)
     }
 
     fn unanswering(&self) -> Vec<Unanswering> {
-        Forward::unanswering(self)
+        self.peers.unanswering()
     }
 }
 
@@ -71,19 +72,11 @@ impl<H: Here> Forward<H> {
 }
 
 impl<H: Here> Internal<H> {
-    /// Says once what answers to questions of operators.
-    pub fn answers_by(&self, answers: Arc<dyn Answers>) {
-        let _ = self.answers.set(answers);
-    }
-
     pub(super) async fn answered(&self, body: Body) -> Result<Response<Body>, Response<Body>> {
         let question = whole(body).await;
         let question =
             question.ok_or_else(|| owner_answer::refused(400, "the question is not whole, or too long"))?;
-        let Some(answers) = self.answers.get() else {
-            return Err(owner_answer::refused(503, "this instance is starting"));
-        };
-        let answer = answers.clone().answer_question(question).await;
+        let answer = self.answers.clone().answer_question(question).await;
         answer
             .map(owner_answer::bytes)
             .ok_or_else(|| owner_answer::refused(400, "this is asked by another version"))

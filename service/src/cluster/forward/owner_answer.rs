@@ -15,13 +15,6 @@ const NOT_MINE: &str = "not mine";
 /// An answer has the reasons of a request's points, and no more.
 const MOST: usize = 256 << 10;
 
-#[derive(Debug, PartialEq)]
-pub(super) enum OwnerAnswer {
-    /// Nothing was taken.
-    NotMine,
-    Outcome(Outcome),
-}
-
 #[derive(Default, Deserialize, Serialize)]
 struct Words {
     #[serde(default)]
@@ -84,8 +77,9 @@ fn is_answer(response: &Response<Body>) -> Result<bool, Broken> {
     }
 }
 
-async fn body_of(response: Response<Body>, most: usize) -> Result<Bytes, Broken> {
-    let (mut body, mut bytes) = (response.into_body(), BytesMut::new());
+/// All of a body, which has no more bytes.
+pub(super) async fn whole(mut body: Body, most: usize) -> Result<Bytes, Broken> {
+    let mut bytes = BytesMut::new();
     while let Some(part) = body.data().await {
         bytes.extend_from_slice(&part.map_err(Broken::Wire)?);
         if bytes.len() > most {
@@ -98,21 +92,21 @@ async fn body_of(response: Response<Body>, most: usize) -> Result<Bytes, Broken>
 /// All of an answer to operators.
 pub(super) async fn read_bytes(response: Response<Body>, most: usize) -> Result<Bytes, Broken> {
     match is_answer(&response)? {
-        true => body_of(response, most).await,
+        true => whole(response.into_body(), most).await,
         false => Err(Broken::Strange(response.status().as_u16())),
     }
 }
 
-/// All of an answer.
-pub(super) async fn read(response: Response<Body>) -> Result<OwnerAnswer, Broken> {
+/// All of an answer; none where nothing was taken, since the slot is another's.
+pub(super) async fn read(response: Response<Body>) -> Result<Option<Outcome>, Broken> {
     if !is_answer(&response)? {
-        return Ok(OwnerAnswer::NotMine);
+        return Ok(None);
     }
     let status = response.status().as_u16();
     let seconds = head(&response, RETRY_AFTER.as_str()).and_then(|text| text.parse().ok());
-    let bytes = body_of(response, MOST).await?;
+    let bytes = whole(response.into_body(), MOST).await?;
     let words = serde_json::from_slice(&bytes).map_err(|_| Broken::Strange(status))?;
-    Ok(OwnerAnswer::Outcome(outcome(status, seconds, words)))
+    Ok(Some(outcome(status, seconds, words)))
 }
 
 fn outcome(status: u16, seconds: Option<u64>, words: Words) -> Outcome {

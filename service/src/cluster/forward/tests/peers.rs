@@ -55,11 +55,19 @@ impl Slots {
     }
 }
 
+/// Who answers questions of operators by these.
+pub struct Echoes;
+
+impl Answers for Echoes {
+    fn answer_question(self: Arc<Self>, question: Bytes) -> Doing<'static, Option<Vec<u8>>> {
+        Box::pin(async move { (question != "another version").then(|| [b"said ", &question[..]].concat()) })
+    }
+}
+
 /// An instance with an address of its own.
 pub struct Peer {
     pub cluster: Arc<Cluster>,
     pub slots: Arc<Slots>,
-    pub internal: Arc<Internal<Slots>>,
     pub address: String,
     pub connections: Arc<AtomicUsize>,
 }
@@ -72,7 +80,7 @@ pub fn secret(text: &str) -> Secret {
 pub fn internal(slots: Slots, whose: Whose) -> (Arc<Cluster>, Arc<Slots>, Arc<Internal<Slots>>) {
     let (cluster, slots) = (Cluster::new("peer", 1), Arc::new(slots));
     cluster.knows(&[(3, whose)]);
-    let internal = Internal::new(cluster.clone(), slots.clone(), secret("of all"));
+    let internal = Internal::new(cluster.clone(), slots.clone(), secret("of all"), Arc::new(Echoes));
     (cluster, slots, internal)
 }
 
@@ -82,11 +90,11 @@ impl Peer {
         let address = listener.local_addr().unwrap().to_string();
         let (cluster, slots, internal) = internal(slots, whose);
         let connections = Arc::new(AtomicUsize::new(0));
-        let (counted, serves) = (connections.clone(), internal.clone());
+        let counted = connections.clone();
         tokio::spawn(async move {
             while let Ok((stream, _)) = listener.accept().await {
                 counted.fetch_add(1, SeqCst);
-                let internal = serves.clone();
+                let internal = internal.clone();
                 let service = service_fn(move |request| {
                     let internal = internal.clone();
                     async move { Ok::<_, Infallible>(internal.answer(request).await) }
@@ -94,7 +102,7 @@ impl Peer {
                 tokio::spawn(Http::new().serve_connection(stream, service));
             }
         });
-        Peer { cluster, slots, internal, address, connections }
+        Peer { cluster, slots, address, connections }
     }
 
     pub async fn here() -> Peer {
