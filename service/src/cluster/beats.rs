@@ -202,7 +202,7 @@ impl<T: Terms, U: Units> Work<T, U> {
             Step::HandOver { slot, term } => return self.hand_over(slot, term).await,
             Step::Release { slot, term } => self.release(slot, term).await,
             Step::Drop { slot, term } => {
-                self.cluster.counts.lost();
+                self.cluster.counted().lost += 1;
                 tracing::warn!(slot, term, "slot {slot}: another instance has it, behind term {term}");
                 self.units.drop_lost(slot, term).await;
             }
@@ -217,7 +217,7 @@ impl<T: Terms, U: Units> Work<T, U> {
         });
         self.database().owners().taken(slot, taken);
         let Some(term) = taken else { return };
-        self.cluster.counts.taken();
+        self.cluster.counted().takeovers += 1;
         tracing::info!(slot, term, "slot {slot} is taken, under term {term}");
         match self.units.open(slot, term).await {
             Ok(()) => {
@@ -235,7 +235,7 @@ impl<T: Terms, U: Units> Work<T, U> {
         self.publish(); // it is nobody's from here on
         self.units.hand_over(slot, term).await;
         self.release(slot, term).await;
-        self.cluster.counts.handed_over();
+        self.cluster.counted().hand_overs += 1;
         tracing::info!(slot, term, "slot {slot} is handed over, behind term {term}");
         self.database().owners().released(slot, term)
     }

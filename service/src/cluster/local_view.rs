@@ -4,7 +4,7 @@
 //! Slot S is in database S mod their count.
 
 use super::owners::{Owners, Whose};
-use super::status::{Counts, Status, Unserved};
+use super::status::{Counted, Status, Unserved};
 use super::terms::Silence;
 use crate::log::shown;
 use std::collections::{BTreeMap, BTreeSet};
@@ -27,7 +27,7 @@ pub type Places = Arc<BTreeMap<u16, Whose>>;
 pub struct Cluster {
     databases: Vec<Database>,
     places: watch::Sender<Places>,
-    pub(super) counts: Counts,
+    counted: Mutex<Counted>,
 }
 
 /// What is known of a database of the store.
@@ -52,7 +52,7 @@ impl Cluster {
         Arc::new(Cluster {
             databases: (0..databases).map(|_| Database::new(name)).collect(),
             places: watch::channel(Places::default()).0,
-            counts: Counts::default(),
+            counted: Mutex::default(),
         })
     }
 
@@ -62,6 +62,10 @@ impl Cluster {
 
     pub(super) fn database_of(&self, slot: u16) -> &Database {
         &self.databases[usize::from(slot) % self.databases.len()]
+    }
+
+    pub(super) fn counted(&self) -> MutexGuard<'_, Counted> {
+        self.counted.lock().unwrap_or_else(PoisonError::into_inner) // numbers are sound at any time
     }
 
     /// Who has which slot, as far as is known; it tells when that changes.
@@ -114,13 +118,13 @@ impl Cluster {
     pub fn lost(&self, slot: u16, term: u64) {
         let database = self.database_of(slot);
         if database.owners().lost(slot, term) {
-            self.counts.lost();
+            self.counted().lost += 1;
         }
         database.look.notify_one();
     }
 
     pub fn status(&self) -> Status {
-        let mut status = Status { counted: self.counts.counted(), ..Status::default() };
+        let mut status = Status { counted: *self.counted(), ..Status::default() };
         for database in &self.databases {
             database.add_to(&mut status);
         }

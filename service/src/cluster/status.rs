@@ -1,8 +1,7 @@
 //! What is shown of an instance among others.
 
 use super::owners::Refusal;
-use std::collections::{BTreeMap, BTreeSet, HashSet};
-use std::sync::atomic::{AtomicU64, Ordering::Relaxed};
+use std::collections::{BTreeMap, BTreeSet};
 use std::time::Duration;
 use tokio::time::Instant;
 
@@ -100,11 +99,8 @@ pub(super) struct Unserved {
 impl Unserved {
     pub fn note(&mut self, slots: &[OwnedSlot], now: Instant) {
         let is_unserved = |slot: &&OwnedSlot| !slot.is_served || self.filling.contains(&slot.slot);
-        let unserved: HashSet<u16> = slots.iter().filter(is_unserved).map(|slot| slot.slot).collect();
-        self.since.retain(|slot, _| unserved.contains(slot));
-        for slot in unserved {
-            self.since.entry(slot).or_insert(now);
-        }
+        let since = |slot: &OwnedSlot| (slot.slot, self.since.get(&slot.slot).copied().unwrap_or(now));
+        self.since = slots.iter().filter(is_unserved).map(since).collect();
     }
 
     pub fn count(&self) -> usize {
@@ -124,35 +120,6 @@ pub struct Counted {
     pub hand_overs: u64,
     /// Slots that another has taken while they were here.
     pub lost: u64,
-}
-
-#[derive(Default)]
-pub(super) struct Counts {
-    takeovers: AtomicU64,
-    hand_overs: AtomicU64,
-    lost: AtomicU64,
-}
-
-impl Counts {
-    pub fn taken(&self) {
-        self.takeovers.fetch_add(1, Relaxed);
-    }
-
-    pub fn handed_over(&self) {
-        self.hand_overs.fetch_add(1, Relaxed);
-    }
-
-    pub fn lost(&self) {
-        self.lost.fetch_add(1, Relaxed);
-    }
-
-    pub fn counted(&self) -> Counted {
-        Counted {
-            takeovers: self.takeovers.load(Relaxed),
-            hand_overs: self.hand_overs.load(Relaxed),
-            lost: self.lost.load(Relaxed),
-        }
-    }
 }
 
 #[cfg(test)]

@@ -14,18 +14,18 @@ mod ended;
 mod posts;
 mod target;
 
-use super::postgres::{Copies, PostgresStore, Server, Standing, State, StoreFault};
+use super::postgres::{random, Copies, PostgresStore, Server, Standing, State, StoreFault};
 use crate::files::{Durability, Fault, Folder, FolderFault, KnownSink, Mark, Way};
 use content::{Content, From};
 pub use ended::{give_up, said_by_store};
 use posts::Posts;
-use std::fs::File;
-use std::io::Read;
 use std::path::{Path, PathBuf};
 use target::To;
 
 /// Slots of a store that are filled side by side: each has a connection.
 const SIDE_BY_SIDE: usize = 16;
+/// So many digits of a move's name are drawn.
+const DRAWN: usize = 16;
 
 /// It says all by itself.
 #[derive(Debug, thiserror::Error)]
@@ -97,9 +97,7 @@ impl Place {
         self.store.follow(&now)?;
         Ok(now)
     }
-}
 
-impl Place {
     /// From here on the other one counts: all of it is there, and nobody had a slot meanwhile.
     fn decide(&self, seen: &Standing, state: State) -> Result<(), MoveFault> {
         if !self.store.all_say(seen)? {
@@ -108,12 +106,7 @@ impl Place {
         let to = Standing { state, ..seen.clone() };
         self.go(seen, to).map(drop)
     }
-}
 
-/// So many digits of a move's name are drawn.
-const DRAWN: usize = 16;
-
-impl Place {
     /// What is known of moves that came to their end, without one that has not.
     fn ended<'s>(&self, seen: &'s Standing) -> &'s str {
         match seen.state {
@@ -126,10 +119,8 @@ impl Place {
 
     /// A name of a move that no other has: that of the store, and a number.
     fn draw(&self) -> Result<String, MoveFault> {
-        let mut drawn = [0; 8];
-        let read = File::open("/dev/urandom").and_then(|mut file| file.read_exact(&mut drawn));
-        read.map_err(StoreFault::System)?;
-        Ok(format!("{}{:016x}", self.store.cluster.id, u64::from_le_bytes(drawn)))
+        let drawn = random(DRAWN / 2).map_err(StoreFault::System)?;
+        Ok(format!("{}{drawn}", self.store.cluster.id))
     }
 
     /// Another store knows nothing of the move, and what it has come to.
@@ -341,10 +332,10 @@ fn fill_folder(store: &PostgresStore, folder: &Folder, id: &str) -> Result<Moved
             to.begin(content.with(from).beginning(0, 1))?;
             let first = content.from.iter().find(|from| from.number == 0);
             moved.requests += first.map_or(Ok(0), |first| to.go_on(&first.outbox))?;
-        } else if from.waits() {
-            moved.requests += target::former(folder, number, &from.outbox)?;
-            content.with_known(&from);
         } else {
+            if from.waits() {
+                moved.requests += target::former(folder, number, &from.outbox)?;
+            }
             content.with_known(&from);
         }
         store.release_moved(number, term)?;

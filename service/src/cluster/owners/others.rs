@@ -2,30 +2,39 @@
 
 use super::{AFTER_SILENCE, FORGOTTEN, GONE};
 use crate::cluster::status::OtherInstance;
-use crate::cluster::terms::{Refused, Seen};
+use crate::cluster::terms::{Instance, Refused, Seen};
 use std::collections::BTreeMap;
 
 /// So many own beats lie between two silences that others are waited for.
 const BETWEEN_SILENCES: u32 = 40;
 
+#[derive(Default)]
 struct Other {
     beat: Option<u64>,
-    /// So many own beats has its own stood still.
-    still: u32,
-    /// The last one that it had: it has none while it leaves, and still has slots.
-    address: String,
-    version: String,
-    leaves: bool,
     refused: Refused,
+    /// Its address is the last one that it had: it has none while it leaves, and still has slots.
+    shown: OtherInstance,
 }
 
-/// What is read of one; an owner may have no row.
-#[derive(Default)]
-struct Read<'s> {
-    beat: Option<u64>,
-    address: &'s str,
-    version: &'s str,
-    refused: Option<&'s Refused>,
+impl Other {
+    /// What is read of it behind so many own beats that count; an owner may have no row.
+    fn note(&mut self, read: Option<&Instance>, own_beats: u32) {
+        let beat = read.map(|read| read.beat);
+        let address = read.map_or("", |read| read.address.as_str());
+        let shown = &mut self.shown;
+        shown.still = match self.beat == beat {
+            true => shown.still.saturating_add(own_beats),
+            false => 0,
+        };
+        shown.is_gone = shown.still >= GONE;
+        shown.leaves = address.is_empty();
+        if !shown.leaves {
+            shown.address = address.into();
+        }
+        shown.version = read.map(|read| read.version.clone()).unwrap_or_default();
+        self.refused = read.map(|read| read.refused.clone()).unwrap_or_default();
+        self.beat = beat;
+    }
 }
 
 pub(super) struct Others {
@@ -44,44 +53,19 @@ impl Others {
 
     /// What was read behind an own beat.
     pub fn note(&mut self, seen: &Seen) {
-        let mut there: BTreeMap<&str, Read<'_>> = BTreeMap::new();
         // An owner without a row beats no more, whoever took that away.
-        let owners = seen.slots.iter().map(|row| row.owner.as_str());
-        there.extend(owners.filter(|owner| !owner.is_empty()).map(|owner| (owner, Read::default())));
-        for one in &seen.instances {
-            let read = Read {
-                beat: Some(one.beat),
-                address: &one.address,
-                version: &one.version,
-                refused: Some(&one.refused),
-            };
-            there.insert(&one.name, read);
-        }
-        there.remove(self.me.as_str());
+        let owners = seen.slots.iter().map(|row| (row.owner.as_str(), None));
+        let mut there: BTreeMap<&str, Option<&Instance>> = owners.collect();
+        there.extend(seen.instances.iter().map(|one| (one.name.as_str(), Some(one))));
+        there.retain(|name, _| !name.is_empty() && *name != self.me);
         self.since_silence = self.since_silence.saturating_add(1);
-        let counts = self.uncounted == 0;
+        let own_beats = u32::from(self.uncounted == 0);
         self.uncounted = self.uncounted.saturating_sub(1);
         self.by_name.retain(|name, _| there.contains_key(name.as_str()));
         for (name, read) in there {
-            let (beat, address, version, refused) = (read.beat, read.address, read.version, read.refused);
-            let other = self.by_name.entry(name.into()).or_insert(Other {
-                beat: None,
-                still: 0,
-                address: String::new(),
-                version: String::new(),
-                leaves: false,
-                refused: Refused::new(),
-            });
-            other.refused = refused.cloned().unwrap_or_default();
-            other.still = match other.beat == beat {
-                true => other.still.saturating_add(counts.into()),
-                false => 0,
-            };
-            (other.beat, other.leaves) = (beat, address.is_empty());
-            if !other.leaves {
-                other.address = address.into();
-            }
-            other.version = version.into();
+            let other = self.by_name.entry(name.into()).or_default();
+            other.shown.name = name.into();
+            other.note(read, own_beats);
         }
     }
 
@@ -93,42 +77,35 @@ impl Others {
         }
         self.since_silence = 0;
         self.uncounted = AFTER_SILENCE;
-        let living = self.by_name.values_mut().filter(|other| other.still < GONE);
-        living.for_each(|other| other.still = 0);
+        let others = self.by_name.values_mut().map(|other| &mut other.shown);
+        others.filter(|other| !other.is_gone).for_each(|other| other.still = 0);
     }
 
     pub fn is_gone(&self, name: &str) -> bool {
-        self.by_name.get(name).is_some_and(|other| other.still >= GONE)
+        self.by_name.get(name).is_some_and(|other| other.shown.is_gone)
     }
 
     /// Those that have not come back for long, and their last beats.
     pub fn forgotten(&self) -> impl Iterator<Item = (&str, u64)> {
-        let gone = self.by_name.iter().filter(|(_, other)| other.still >= FORGOTTEN);
+        let gone = self.by_name.iter().filter(|(_, other)| other.shown.still >= FORGOTTEN);
         gone.filter_map(|(name, other)| Some((name.as_str(), other.beat?)))
     }
 
     /// Those that may have slots, and which of these they can't open.
     pub fn staying(&self) -> impl Iterator<Item = (&str, &Refused)> {
-        let stays = |other: &Other| other.still < GONE && !other.leaves;
+        let stays = |other: &Other| !other.shown.is_gone && !other.shown.leaves;
         let others = self.by_name.iter().filter(move |(_, other)| stays(other));
         others.map(|(name, other)| (name.as_str(), &other.refused))
     }
 
     /// Each as it is shown.
     pub fn shown(&self) -> impl Iterator<Item = OtherInstance> + '_ {
-        self.by_name.iter().map(|(name, other)| OtherInstance {
-            name: name.clone(),
-            address: other.address.clone(),
-            version: other.version.clone(),
-            still: other.still,
-            is_gone: other.still >= GONE,
-            leaves: other.leaves,
-        })
+        self.by_name.values().map(|other| other.shown.clone())
     }
 
     /// Where one is reached, if that is known.
     pub fn address(&self, name: &str) -> Option<&str> {
-        let address = &self.by_name.get(name)?.address;
+        let address = &self.by_name.get(name)?.shown.address;
         (!address.is_empty()).then_some(address)
     }
 }

@@ -24,6 +24,7 @@ pub use doubt::Doubt;
 pub use drive::PostgresDrive;
 pub use fault::StoreFault;
 pub use member::Member;
+pub(super) use schema::random;
 pub use schema::{Cluster, MOST_SLOTS};
 pub use state::{Standing, State};
 

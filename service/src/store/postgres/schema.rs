@@ -41,7 +41,7 @@ impl Cluster {
 }
 
 /// So many random bytes, in hexadecimal digits.
-fn random(bytes: usize) -> io::Result<String> {
+pub(in crate::store) fn random(bytes: usize) -> io::Result<String> {
     let mut drawn = vec![0; bytes];
     File::open("/dev/urandom")?.read_exact(&mut drawn)?;
     Ok(drawn.iter().map(|byte| format!("{byte:02x}")).collect())
