@@ -16,7 +16,6 @@ pub use head::Secret;
 pub use internal::Internal;
 pub use operators::{Answers, Asks};
 pub use peer::Unanswering;
-pub use wire::Wire;
 
 use super::local_view::{Cluster, Places, NO_STORE};
 use super::owners::Whose;
@@ -24,6 +23,7 @@ use super::terms::Doing;
 use crate::log::RateLimit;
 use crate::otlp::{Original, Outcome};
 use crate::slot::Elsewhere;
+use crate::tls::Tls;
 use head::Head;
 use hyper::{Body, Request};
 use peer::{lock, Peer, Peers};
@@ -106,12 +106,13 @@ pub struct Forward<H> {
 }
 
 impl<H: Here> Forward<H> {
-    pub fn new(cluster: Arc<Cluster>, secret: Secret, wire: Wire) -> Forward<H> {
+    /// Instances show each other what `tls` has, or speak without.
+    pub fn new(cluster: Arc<Cluster>, secret: Secret, tls: Option<Arc<Tls>>) -> Forward<H> {
         Forward {
             cluster,
             here: OnceLock::new(),
             secret,
-            connections: Connections::new(wire),
+            connections: Connections::new(tls),
             peers: Peers::default(),
             counts: Mutex::default(),
         }

@@ -13,7 +13,7 @@ pub mod status;
 pub mod terms;
 
 pub use beats::Beats;
-pub use forward::{Answers, Asks, Forward, Forwarded, Here, Internal, Secret, Unanswering, Wire};
+pub use forward::{Answers, Asks, Forward, Forwarded, Here, Internal, Secret, Unanswering};
 pub use local_view::{Cluster, NO_STORE};
 pub use owners::{Refusal, Whose};
 pub use status::Status;

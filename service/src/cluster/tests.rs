@@ -172,7 +172,7 @@ async fn start(ledger: &Arc<Ledger>, name: &'static str) -> Node {
     let (cluster, secret) = (Cluster::new(name, 1), Secret::new("of these").unwrap());
     let slots = Arc::new(Slots { cluster: cluster.clone(), ledger: ledger.clone(), open: Mutex::default() });
     let here = Arc::new(Open(slots.clone()));
-    let forward = Arc::new(Forward::new(cluster.clone(), secret.clone(), Wire::Plain));
+    let forward = Arc::new(Forward::new(cluster.clone(), secret.clone(), None));
     forward.serve(here.clone());
     let limits = Limits { connections: 200, head: Duration::from_secs(5), idle: Duration::from_secs(60) };
     let (serves, served) = watch::channel(false);

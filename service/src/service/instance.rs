@@ -67,7 +67,7 @@ impl Joining {
         let secret =
             Secret::new(&store.cluster.secret).ok_or_else(|| anyhow!("the store's secret is no head"))?;
         let cluster = Cluster::new(&of.instance, of.databases.len());
-        let forward = Arc::new(Forward::new(cluster.clone(), secret.clone(), peers.wire()));
+        let forward = Arc::new(Forward::new(cluster.clone(), secret.clone(), peers.tls.clone()));
         Ok(Joining {
             store: Arc::new(store),
             cluster,

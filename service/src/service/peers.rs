@@ -2,7 +2,6 @@
 
 use super::senders::{bind, is_local};
 use super::{Ended, OfStore};
-use crate::cluster::Wire;
 use crate::metrics::Metrics;
 use crate::tls::Tls;
 use anyhow::{anyhow, Context};
@@ -32,11 +31,6 @@ impl Peers {
         let tls = of.peer_tls.as_ref();
         let tls = tls.map(|files| Tls::of_peers(files, host(&of.peer), metrics.clone()));
         Ok(Peers { listener, tls: tls.transpose()?.map(Arc::new) })
-    }
-
-    /// What this instance speaks with the others, as they do with it.
-    pub fn wire(&self) -> Wire {
-        self.tls.clone().map_or(Wire::Plain, Wire::Tls)
     }
 }
 
@@ -130,7 +124,7 @@ mod tests {
             client_ca: Some(folder.path().join("ca.pem")),
         };
         let peers = bound(at("localhost:0", false, Some(files.clone()))).await.unwrap();
-        assert!(matches!(peers.wire(), Wire::Tls(_)));
+        assert!(peers.tls.is_some());
         assert!(bound(at("127.0.0.1:0", false, Some(files))).await.is_err(), "no name");
         tokio::task::block_in_place(|| drop(peers));
     }

@@ -8,18 +8,12 @@ use hyper_rustls::HttpsConnector;
 use rustls::ClientConfig;
 use std::sync::{Arc, Mutex, PoisonError};
 
-#[derive(Clone)]
-pub enum Wire {
-    Plain,
-    /// Both show a certificate.
-    Tls(Arc<Tls>),
-}
-
 type Asks = Client<HttpsConnector<HttpConnector>, Body>;
 
 /// Who asks other instances. Where files of TLS have changed, connections are made anew.
 pub(super) struct Connections {
-    wire: Wire,
+    /// Where both show a certificate.
+    tls: Option<Arc<Tls>>,
     now: Mutex<Now>,
 }
 
@@ -36,24 +30,21 @@ impl Now {
 }
 
 impl Connections {
-    pub fn new(wire: Wire) -> Connections {
-        let now = Now::of(match &wire {
-            Wire::Plain => None,
-            Wire::Tls(tls) => Some(tls.contexts()),
-        });
-        Connections { wire, now: Mutex::new(now) }
+    pub fn new(tls: Option<Arc<Tls>>) -> Connections {
+        let now = Now::of(tls.as_ref().map(|tls| tls.contexts()));
+        Connections { tls, now: Mutex::new(now) }
     }
 
     pub fn scheme(&self) -> &'static str {
-        match self.wire {
-            Wire::Plain => "http",
-            Wire::Tls(_) => "https",
+        match self.tls {
+            None => "http",
+            Some(_) => "https",
         }
     }
 
     pub fn asks(&self) -> Asks {
         let mut now = self.now.lock().unwrap_or_else(PoisonError::into_inner); // it is changed whole
-        if let Wire::Tls(tls) = &self.wire {
+        if let Some(tls) = &self.tls {
             let latest = tls.contexts();
             if !now.by.as_ref().is_some_and(|by| Arc::ptr_eq(by, &latest)) {
                 *now = Now::of(Some(latest));

@@ -39,7 +39,7 @@ use std::future::Future;
 use std::sync::{mpsc, Arc};
 use std::thread;
 use std::time::{Duration, Instant};
-use tokio::runtime::{Builder, Runtime};
+use tokio::runtime::{Builder, Handle, Runtime};
 
 /// Connections live on these, so that a thread of the service that waits for the store never keeps the store waiting.
 const THREADS: usize = 2;
@@ -70,43 +70,44 @@ struct Database {
 }
 
 /// Ends without waiting, from wherever it is dropped.
-struct Threads(Option<Runtime>);
+struct Threads {
+    /// None once it is dropped.
+    runtime: Option<Runtime>,
+    handle: Handle,
+}
 
 impl Threads {
     fn start() -> Result<Threads, StoreFault> {
         let mut builder = Builder::new_multi_thread();
         let runtime = builder.worker_threads(THREADS).thread_name("store").enable_all().build()?;
-        Ok(Threads(Some(runtime)))
-    }
-
-    fn handle(&self) -> &tokio::runtime::Handle {
-        match &self.0 {
-            Some(runtime) => runtime.handle(),
-            None => unreachable!("it is taken away by the end alone"),
-        }
+        Ok(Threads { handle: runtime.handle().clone(), runtime: Some(runtime) })
     }
 
     /// On the store's threads: this one only waits, whatever it is.
-    fn wait<T: Send + 'static>(&self, work: impl Future<Output = T> + Send + 'static) -> Option<T> {
+    fn wait<T: Send + 'static>(
+        &self,
+        work: impl Future<Output = Result<T, StoreFault>> + Send + 'static,
+    ) -> Result<T, StoreFault> {
         let (tell, told) = mpsc::sync_channel(1);
-        self.handle().spawn(async move {
+        self.handle.spawn(async move {
             let _ = tell.send(work.await); // who waits is there
         });
-        told.recv().ok()
+        let ended = |_| Err(StoreFault::System(std::io::Error::other("its threads have ended")));
+        told.recv().unwrap_or_else(ended)
     }
 
     async fn run<T: Send + 'static>(
         &self,
         work: impl Future<Output = Result<T, Doubt>> + Send + 'static,
     ) -> Result<T, Doubt> {
-        let done = self.handle().spawn(work).await;
+        let done = self.handle.spawn(work).await;
         done.unwrap_or_else(|error| Err(Doubt::NotConnected(error.to_string())))
     }
 }
 
 impl Drop for Threads {
     fn drop(&mut self) {
-        if let Some(runtime) = self.0.take() {
+        if let Some(runtime) = self.runtime.take() {
             runtime.shutdown_background();
         }
     }
@@ -121,16 +122,11 @@ pub fn address(text: &str) -> Result<Server, String> {
     }
 }
 
-fn ended() -> StoreFault {
-    StoreFault::System(std::io::Error::other("its threads have ended"))
-}
-
 impl PostgresStore {
     /// Makes the tables of a store in these databases.
     pub fn make(servers: &[Server], slots: u16) -> Result<Cluster, StoreFault> {
         let servers = servers.to_vec();
-        let runtime = Threads::start()?;
-        runtime.wait(async move { schema::make(&servers, slots).await }).unwrap_or_else(|| Err(ended()))
+        Threads::start()?.wait(async move { schema::make(&servers, slots).await })
     }
 
     /// `reading` is what the meaning of posts hangs on: all instances have to say the same.
@@ -171,15 +167,15 @@ impl PostgresStore {
                 copies::check(&client, server, copies).await?;
                 identities.push(within(SILENT, identity(&client)).await?);
             }
-            Ok::<_, StoreFault>((cluster, identities))
+            Ok((cluster, identities))
         };
-        let (cluster, identities) = runtime.wait(checking).unwrap_or_else(|| Err(ended()))?;
+        let (cluster, identities) = runtime.wait(checking)?;
         let shared = |server: &Server| Arc::new(Shared::new(server.clone()));
         let database = |server: &Server| Database {
             reader: shared(server),
             taker: shared(server),
             beater: shared(server),
-            together: (0..TOGETHER).map(|_| Arc::new(Together::start(server, runtime.handle()))).collect(),
+            together: (0..TOGETHER).map(|_| Arc::new(Together::start(server, &runtime.handle))).collect(),
         };
         Ok(PostgresStore {
             cluster,
@@ -199,7 +195,7 @@ impl PostgresStore {
     {
         let begun = Instant::now();
         loop {
-            match self.runtime.wait(work()).unwrap_or_else(|| Err(ended())) {
+            match self.runtime.wait(work()) {
                 Err(fault) if fault.may_pass() && begun.elapsed() < PATIENCE => thread::sleep(PAUSE),
                 done => return done,
             }
@@ -265,12 +261,9 @@ impl PostgresStore {
         let server = database.taker.server.clone();
         let together = database.together[usize::from(slot) / self.databases.len() % TOGETHER].clone();
         let mut writer = Writer::new(server, slot.into(), term as i64, self.counts.clone(), together);
-        let opening = async move {
-            let found = writer.open().await?;
-            Ok((writer, found))
-        };
+        let opening = async move { Ok(writer.open().await.map(|files| (writer, files))) };
         let (writer, files) = self.runtime.wait(opening).unwrap_or(Err(Lost))?;
-        let (reader, runtime) = (database.reader.clone(), self.runtime.handle().clone());
+        let (reader, runtime) = (database.reader.clone(), self.runtime.handle.clone());
         Ok(Arc::new(PostgresDrive::new(writer, files, reader, runtime)))
     }
 

@@ -39,13 +39,13 @@ impl Shared {
         Ok(session)
     }
 
-    /// Another connection is made where this one may be at fault.
-    pub async fn note(&self, session: &Arc<Session>, doubt: &Doubt) {
-        let mut place = self.session.lock().await;
-        let is_this = place.as_ref().is_some_and(|now| Arc::ptr_eq(now, session));
-        if is_this && doubt.next() == Next::Another {
-            *place = None;
+    /// What came of it on this connection. Another is made where this one may be at fault.
+    pub async fn heard<T>(&self, session: &Arc<Session>, answer: Result<T, Doubt>) -> Result<T, Doubt> {
+        if answer.as_ref().err().is_some_and(|doubt| doubt.next() == Next::Another) {
+            let mut place = self.session.lock().await;
+            place.take_if(|now| Arc::ptr_eq(now, session));
         }
+        answer
     }
 
     /// Those of these pieces that are there. It asks until there is an answer.
@@ -71,9 +71,6 @@ impl Shared {
     async fn try_pieces(&self, slot: u16, file: u64, numbers: &[u64]) -> Result<Vec<Stored>, Doubt> {
         let session = self.session().await?;
         let found = session.pieces(slot.into(), file, numbers).await;
-        if let Err(doubt) = &found {
-            self.note(&session, doubt).await;
-        }
-        found
+        self.heard(&session, found).await
     }
 }

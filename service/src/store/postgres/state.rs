@@ -143,7 +143,7 @@ impl PostgresStore {
             }
             Err(StoreFault::Doubt(last))
         };
-        self.runtime.wait(trying).unwrap_or_else(|| Err(super::ended()))
+        self.runtime.wait(trying)
     }
 
     pub fn standing(&self) -> Result<Standing, StoreFault> {

@@ -2,10 +2,9 @@
 
 use super::copies;
 use super::doubt::Doubt;
-use super::session::{within, Session};
+use super::session::within;
 use super::shared::Shared;
 use crate::cluster::terms::{Instance, Refused, Row};
-use std::sync::Arc;
 use std::time::Duration;
 use tokio_postgres::types::ToSql;
 use tokio_postgres::Row as DatabaseRow;
@@ -52,17 +51,6 @@ impl Shared {
         let rows = within(READ, session.client.query(text, &[])).await;
         let rows: Result<Vec<DatabaseRow>, Doubt> = self.heard(&session, rows).await;
         Ok(rows?.iter().map(each).collect())
-    }
-
-    pub(super) async fn heard<T>(
-        &self,
-        session: &Arc<Session>,
-        answer: Result<T, Doubt>,
-    ) -> Result<T, Doubt> {
-        if let Err(doubt) = &answer {
-            self.note(session, doubt).await;
-        }
-        answer
     }
 
     /// Adds one to the instance's beat.

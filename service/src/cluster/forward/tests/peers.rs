@@ -123,14 +123,14 @@ pub fn half_deaf(places: &[(u16, Whose)]) -> Arc<Forward<Slots>> {
     let cluster = Cluster::new("receiver", 2);
     cluster.knows(places);
     cluster.database(1).is_silent_for(Duration::from_secs(10));
-    Arc::new(Forward::new(cluster, secret("of all"), Wire::Plain))
+    Arc::new(Forward::new(cluster, secret("of all"), None))
 }
 
 /// Who gets posts of senders.
 pub fn receiver(whose: Whose, secret: Secret) -> Arc<Forward<Slots>> {
     let cluster = Cluster::new("receiver", 1);
     cluster.knows(&[(3, whose)]);
-    Arc::new(Forward::new(cluster, secret, Wire::Plain))
+    Arc::new(Forward::new(cluster, secret, None))
 }
 
 pub async fn posted(forward: &Forward<Slots>, text: &str) -> Outcome {

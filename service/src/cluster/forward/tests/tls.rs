@@ -17,10 +17,10 @@ async fn over_tls(tls: Arc<Tls>) -> (u16, Arc<Slots>, tokio::sync::watch::Sender
     (port, slots, stop)
 }
 
-fn asks_over(wire: Wire, port: u16, of: &str) -> Forward<Slots> {
+fn asks_over(tls: Option<Arc<Tls>>, port: u16, of: &str) -> Forward<Slots> {
     let cluster = Cluster::new("receiver", 1);
     cluster.knows(&[(3, there(&format!("localhost:{port}")))]);
-    Forward::new(cluster, secret(of), wire)
+    Forward::new(cluster, secret(of), tls)
 }
 
 /// `server` and `other` each have a root of their own; `both` has the two.
@@ -46,20 +46,20 @@ async fn over_tls_both_sides_look_at_what_the_other_shows() {
     };
     let (port, slots, _stop) = over_tls(peer("server", "ca")).await;
     let ours = peer("server", "ca");
-    let forward = asks_over(Wire::Tls(ours.clone()), port, "of all");
+    let forward = asks_over(Some(ours.clone()), port, "of all");
     assert_eq!(posted(&forward, "{}").await, Outcome::taken(0));
     // Who believes the owner, and is not believed by it; and the other way.
-    for (wire, why) in
-        [(Wire::Tls(peer("other", "both")), "another root has signed what it shows"), (Wire::Plain, "no TLS")]
+    for (tls, why) in
+        [(Some(peer("other", "both")), "another root has signed what it shows"), (None, "no TLS")]
     {
-        let forward = asks_over(wire, port, "of all");
+        let forward = asks_over(tls, port, "of all");
         assert_eq!(posted(&forward, "{}").await, unavailable(BROKEN), "{why}");
     }
     let (elsewhere, strange, _stop) = over_tls(peer("other", "both")).await;
-    let forward = asks_over(Wire::Tls(ours.clone()), elsewhere, "of all");
+    let forward = asks_over(Some(ours.clone()), elsewhere, "of all");
     assert_eq!(posted(&forward, "{}").await, unavailable(BROKEN), "it is not believed");
     // The secret is asked for all the same.
-    let forward = asks_over(Wire::Tls(ours), port, "another");
+    let forward = asks_over(Some(ours), port, "another");
     assert_eq!(posted(&forward, "{}").await, unavailable(BROKEN));
     assert_eq!((slots.count(), strange.count()), (1, 0));
 }
@@ -76,7 +76,7 @@ async fn files_that_change_count_for_connections_that_are_kept() {
         tokio::task::block_in_place(|| crate::tls::peer_tests::peer(at.path(), name, ca).unwrap())
     };
     let (port, _, _stop) = over_tls(peer("server", "owners")).await;
-    let forward = asks_over(Wire::Tls(peer("mine", "both")), port, "of all");
+    let forward = asks_over(Some(peer("mine", "both")), port, "of all");
     assert_eq!(posted(&forward, "{}").await, Outcome::taken(0));
     let within = |wanted: Outcome| {
         let forward = &forward;
