@@ -105,11 +105,6 @@ impl Owners {
         (self.stay, self.refusals.told())
     }
 
-    /// What those that live can't open.
-    pub fn all_refused(&self) -> Vec<Refusal> {
-        refused::all(&self.living)
-    }
-
     /// Whether this instance has nothing more to do for any slot.
     pub fn is_rid_of_all(&self) -> bool {
         self.mine.is_empty() && self.rows.iter().all(|row| row.owner != self.me)

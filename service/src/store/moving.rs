@@ -234,10 +234,10 @@ fn fill_store(folder: &Folder, store: &PostgresStore, id: &str) -> Result<Moved,
             let term = store.take_to_move(*number, id)?;
             all.push((term, To::slot(store, *number, term)?));
         }
-        for (_, to) in &mut all {
-            to.begin(content.beginning(to.number, slots))?;
+        for (_, to) in &all {
+            to.outbox.begin_with(content.beginning(to.number, slots))?;
             if let Some(from) = content.from.iter().find(|from| from.number == to.number) {
-                moved.requests += to.go_on(&from.outbox)?;
+                moved.requests += target::go_on(&to.outbox, &from.outbox)?;
             }
         }
         let mut posts = Posts::new(slots);
@@ -329,9 +329,9 @@ fn fill_folder(store: &PostgresStore, folder: &Folder, id: &str) -> Result<Moved
         posts.each(&from, |_, post, names| to.put(post, names))?;
         moved.letters += to.take_letters(&dead, |_| true)?;
         if number == 0 {
-            to.begin(content.with(from).beginning(0, 1))?;
-            let first = content.from.iter().find(|from| from.number == 0);
-            moved.requests += first.map_or(Ok(0), |first| to.go_on(&first.outbox))?;
+            let outbox = from.outbox.clone();
+            to.outbox.begin_with(content.with(from).beginning(0, 1))?;
+            moved.requests += target::go_on(&to.outbox, &outbox)?;
         } else {
             if from.waits() {
                 moved.requests += target::former(folder, number, &from.outbox)?;

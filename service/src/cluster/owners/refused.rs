@@ -31,19 +31,6 @@ pub struct Refusal {
     pub reason: String,
 }
 
-/// Of each instance what it refuses.
-pub(super) fn all(refused: &BTreeMap<String, Refused>) -> Vec<Refusal> {
-    let of_one = |(instance, refused): (&String, &Refused)| {
-        let refusal = |(slot, reason): (&u16, &String)| Refusal {
-            slot: *slot,
-            instance: instance.clone(),
-            reason: reason.clone(),
-        };
-        refused.iter().map(refusal).collect::<Vec<_>>()
-    };
-    refused.iter().flat_map(of_one).collect()
-}
-
 impl Refusals {
     pub fn failed(&mut self, slot: u16, reason: &str) {
         let tries = self.0.get(&slot).map_or(1, |one| one.tries + 1);

@@ -1,7 +1,8 @@
 //! What is shown of instances and slots.
 
-use super::{Owners, Whose};
+use super::{Owners, Refusal, Whose};
 use crate::cluster::status::{OtherInstance, OwnedSlot};
+use crate::cluster::terms::Refused;
 
 impl Owners {
     pub fn name(&self) -> &str {
@@ -11,6 +12,19 @@ impl Owners {
     /// The other instances, by their names.
     pub fn others(&self) -> Vec<OtherInstance> {
         self.others.shown().collect()
+    }
+
+    /// What those that live can't open.
+    pub fn all_refused(&self) -> Vec<Refusal> {
+        let of_one = |(instance, refused): (&String, &Refused)| {
+            let refusals = refused.iter().map(|(slot, reason)| Refusal {
+                slot: *slot,
+                instance: instance.clone(),
+                reason: reason.clone(),
+            });
+            refusals.collect::<Vec<_>>()
+        };
+        self.living.iter().flat_map(of_one).collect()
     }
 
     /// All slots of the store, ascending.

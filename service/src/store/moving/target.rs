@@ -13,7 +13,7 @@ const PIECE: u64 = 8 << 20;
 pub struct To {
     pub number: u16,
     journal: Journal,
-    outbox: Outbox,
+    pub outbox: Outbox,
     dead: Dead,
     /// Bytes that may be in memory alone.
     written: u64,
@@ -32,15 +32,6 @@ impl To {
     pub fn folder(folder: &Folder) -> Result<To, MoveFault> {
         let (journal, outbox) = folder.slot(0)?;
         Ok(To { number: 0, journal, outbox, dead: folder.dead()?, written: 0 })
-    }
-
-    pub fn begin(&mut self, beginning: Beginning) -> Result<(), Fault> {
-        self.outbox.begin_with(beginning)
-    }
-
-    /// Takes what waits in another outbox: how many requests.
-    pub fn go_on(&mut self, from: &Outbox) -> Result<u64, Fault> {
-        go_on(&self.outbox, from)
     }
 
     pub fn put(&mut self, post: &Post, names: &dyn Names) -> Result<(), Fault> {
@@ -78,7 +69,8 @@ impl To {
     }
 }
 
-fn go_on(to: &Outbox, from: &Outbox) -> Result<u64, Fault> {
+/// Takes what waits in another outbox: how many requests.
+pub fn go_on(to: &Outbox, from: &Outbox) -> Result<u64, Fault> {
     let (mut requests, mut written) = (0, 0);
     from.each_group(|waits| {
         (requests, written) = (requests + waits.bodies.len() as u64, written + waits.bytes());
