@@ -145,11 +145,7 @@ impl<H: Here> Forward<H> {
                     let peer = self.peers.at(address);
                     let head = Head::new(slot, *term, sender, part.encoding);
                     let late = began + WITHIN + on_the_way(part.body.len());
-                    let said = tokio::select! {
-                        biased;
-                        said = self.exchange(&peer, &head, &part) => said,
-                        () = self.no_answer(slot, &whose, late) => Err(Broken::Late),
-                    };
+                    let said = self.ask(&peer, &head, &part, &whose, late).await;
                     self.heard(&peer, began, said)
                 }
             };
@@ -178,6 +174,22 @@ impl<H: Here> Forward<H> {
     async fn no_answer(&self, slot: u16, owner: &Whose, until: Instant) {
         if self.has_moved(slot, owner, &mut self.cluster.places(), until).await {
             sleep_until(until.min(Instant::now() + AFTER_MOVE)).await;
+        }
+    }
+
+    /// The answer of an owner, for as long as it can be waited for.
+    async fn ask(
+        &self,
+        peer: &Peer,
+        head: &Head,
+        part: &Original,
+        owner: &Whose,
+        late: Instant,
+    ) -> Result<Option<Outcome>, Broken> {
+        tokio::select! {
+            biased;
+            said = self.exchange(peer, head, part) => said,
+            () = self.no_answer(head.slot, owner, late) => Err(Broken::Late),
         }
     }
 
