@@ -196,11 +196,12 @@ def texts(program: str, checks: Checks) -> None:
     one_more = [attribute("k128", {"stringValue": "v"})]
     longer = attribute("k", {"arrayValue": {"values": [{}] * 129}})
     bounds = {"explicitBounds": list(range(256)), "bucketCounts": ["1"] * 257, "count": 257}
-    for points, words in (([point(30, attributes=pairs + one_more)], {}), ([point(30, attributes=[longer])], {}),
-                          ([point(30)], {"unit": LONG + "z"}), ([{**histogram, **bounds}], {"field": "histogram"}),
-                          ([point(30, attributes=[attribute(LONG + "z", {})])], {}),
-                          ([point(30, attributes=[attribute("k", {"stringValue": LONG + "z"})])], {})):
-        it.say(post("w", points, **words), "nothing foreign 1\n")
+    too_long: list[list[dict[str, Any]]] = [
+        pairs + one_more, [longer], [attribute(LONG + "z", {"stringValue": ""})], [attribute("k", {"stringValue": LONG + "z"})]]
+    for attributes in too_long:
+        it.say(post("w", [point(30, attributes=attributes)]), "nothing foreign 1\n")
+    it.say(post("w", [point(30)], unit=LONG + "z"), "nothing foreign 1\n")
+    it.say(post("w", [{**histogram, **bounds}], field="histogram"), "nothing foreign 1\n")
     it.say("wire 1000", "flush 1\n{", 2)
     it.say("report", "series ", 3)
     it.run(program, checks, "texts, attributes, lists and bounds at their limits")
