@@ -139,6 +139,11 @@ impl Core {
         Read::unread(self, sender, Body::Points(points), Some(names), left_out)
     }
 
+    /// The stretch of time in which all of these points count; none where they are of several.
+    pub fn stretch_of(&self, points: &Points) -> Option<u64> {
+        self.across.of_all(points)
+    }
+
     /// Waits for the lock: nothing is waited for while it is held but a write of the journal's.
     pub fn lock(&self) -> Locked<'_> {
         // A call of the library is whole or ends the process.

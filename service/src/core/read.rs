@@ -80,6 +80,13 @@ impl Read {
         (is_plain && read.number(names, has_room)).then_some(read)
     }
 
+    /// Another one by the same names, which is to be read.
+    pub fn beside(&self, post: Post) -> Read {
+        let (books, across, names, left_out) = (self.books, self.across, self.names.clone(), post.foreign);
+        let (source, ends, stretches) = (None, None, Vec::new());
+        Read { reader: None, source, books, across, post, names, points: 0, left_out, ends, stretches }
+    }
+
     /// Reads it, or reads it again behind a book that was asked to take it.
     pub fn be_read(&mut self) -> Result<(), Refused> {
         let ends = check(self.again()?.ends()).ok();

@@ -30,6 +30,13 @@ impl Across {
         end.saturating_sub(1) / self.length()
     }
 
+    /// The stretch in which all of these points count; none where they are of several.
+    pub(super) fn of_all(self, points: &Points) -> Option<u64> {
+        let ends = || points.each().map(|point| point[2]);
+        let (first, last) = (self.stretch(ends().min()?), self.stretch(ends().max()?));
+        (first == last).then_some(first)
+    }
+
     /// The points of each stretch, the first one first; those of a series in the order that they have.
     pub(super) fn split(self, points: &Points) -> Vec<Points> {
         let mut parts = BTreeMap::<u64, Points>::new();

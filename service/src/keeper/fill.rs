@@ -7,8 +7,10 @@
 //! quarantined senders, which come last.
 //!
 //! What comes is read side by side, on threads that last as long as it does, and goes in one after the other. So are the series
-//! that the journal names, ahead of that.
+//! that the journal names, ahead of that. Posts of one sender go in together, as one (`again`): each of its series has its points
+//! in their order all the same, and a call of the book costs as much as many points.
 
+mod again;
 mod said;
 
 use super::numbers::{Numbers, Own};
@@ -19,7 +21,8 @@ use crate::otlp::series::{zeros, NotForwarded};
 use crate::runs::State;
 use crate::slot::Slot;
 use crate::work::{in_order, WorkQueue};
-use said::said;
+use again::{Again, Groups};
+use said::{said, Said};
 use std::collections::BTreeSet;
 use std::sync::Arc;
 use std::time::{Duration, Instant};
@@ -114,17 +117,6 @@ enum Unprimed {
 /// What comes of the journal; none where room is to be made ahead of what is next.
 type Coming = Option<Again>;
 
-/// A post that a book had, and is to have again.
-struct Again {
-    sender: String,
-    /// So many of its points were foreign.
-    foreign: u64,
-    /// Why it can't be read by number.
-    read: Result<Read, Refused>,
-    /// What was said when it was read.
-    said: Result<(), Refused>,
-}
-
 impl<S: Fn() -> bool> Filling<'_, S> {
     fn prime(&mut self) -> Result<(), Trouble> {
         let (slot, fresh, stops) = (self.slot, &mut self.fresh, &self.stops);
@@ -160,19 +152,39 @@ impl<S: Fn() -> bool> Filling<'_, S> {
         in_order(
             |coming: &mut Coming| coming.iter_mut().for_each(Again::be_read),
             |coming| match coming {
-                Some(again) => fresh.replay_one(again, admit),
+                Some(again) => fresh.replay(again, admit),
                 None => fresh.make_room(),
             },
             |queue| {
                 let own = numbers.own();
                 said(slot, &own, stops, |said| {
-                    // Also of a post that is not wanted: no later one says it again.
-                    numbers.note(said.named);
-                    !is_wanted(&said.post) || queue.push(Some(Again::of(numbers, said.post, queue)))
+                    let mut groups = Groups::new(&slot.core);
+                    for Said { named, mut post } in said {
+                        // Also of a post that is not wanted: no later one says it again.
+                        numbers.note(named);
+                        if !is_wanted(&post) {
+                            continue;
+                        }
+                        let mut numbered = numbers.number(&mut post);
+                        if numbered.is_err_and(|refused| refused.status() == 503) {
+                            // There is no memory for that: it is tried again behind all before it, with room.
+                            put(std::mem::replace(&mut groups, Groups::new(&slot.core)), numbers, queue);
+                            queue.push(None);
+                            queue.wait_until_empty();
+                            numbered = numbers.number(&mut post);
+                        }
+                        groups.push(post, numbered);
+                    }
+                    put(groups, numbers, queue)
                 })
             },
         )
     }
+}
+
+/// Whether more is wanted.
+fn put(groups: Groups, numbers: &Numbers, queue: &WorkQueue<Coming>) -> bool {
+    groups.into_again(numbers).all(|again| queue.push(Some(again)))
 }
 
 impl Priming<'_> {
@@ -186,32 +198,6 @@ impl Priming<'_> {
     fn read(&self, core: &Core) -> Result<Vec<Read>, Unprimed> {
         let read = |body: Vec<u8>| Ok(core.read(self.owner.into(), body.into())?);
         zeros(self.of.with_keys(self.series))?.into_iter().map(read).collect()
-    }
-}
-
-impl Again {
-    /// Its numbers are those that stand for the same here. Where there is no memory for that, it is tried again behind all
-    /// before it, with room.
-    fn of(numbers: &mut Numbers, post: Post, queue: &WorkQueue<Coming>) -> Again {
-        let mut read = numbers.unread(&post);
-        if read.as_ref().is_err_and(|refused| refused.status() == 503) {
-            queue.push(None);
-            queue.wait_until_empty();
-            read = numbers.unread(&post);
-        }
-        Again { sender: post.sender, foreign: post.foreign, said: Ok(()), read }
-    }
-
-    /// What was read of it.
-    fn as_read(&mut self) -> Result<&mut Read, Refused> {
-        self.said?;
-        self.read.as_mut().map_err(|refused| *refused)
-    }
-
-    fn be_read(&mut self) {
-        if let Ok(read) = &mut self.read {
-            self.said = read.be_read();
-        }
     }
 }
 
@@ -230,9 +216,25 @@ impl Fresh<'_> {
         })
     }
 
+    /// Where several are refused as one, each goes in by itself.
+    fn replay(&mut self, mut again: Again, admit: Admit) -> Result<(), Trouble> {
+        self.say_progress();
+        let posts = again.posts();
+        if posts == 1 {
+            return self.replay_one(again, admit);
+        }
+        if again.has_all() && self.put(&mut again, admit).is_ok() {
+            self.filled.posts += posts as u64;
+            return Ok(());
+        }
+        again.each().try_for_each(|mut one| {
+            one.be_read();
+            self.replay_one(one, admit)
+        })
+    }
+
     /// A post that a limit refuses is put after a flush.
     fn replay_one(&mut self, mut again: Again, admit: Admit) -> Result<(), Trouble> {
-        self.say_progress();
         let mut put = self.put(&mut again, admit);
         if matches!(put, Err(refused) if refused.status() == 503 && refused != Refused::HalfTaken) {
             self.make_room()?;

@@ -1,7 +1,7 @@
 //! Posts of the journal for the book: what has a number in a file has another one here.
 
 use crate::core::{Core, Names, Read, Refused};
-use crate::files::{Body, Points, Post};
+use crate::files::{Body, Post};
 use crate::otlp::series::Around;
 use ahash::AHashMap;
 use bytes::Bytes;
@@ -44,25 +44,27 @@ impl Numbers {
         self.of_file.extend(named);
     }
 
-    /// A post that is to be read for the book. `NoSuch` where it has a number of which nothing was said.
-    pub fn unread(&mut self, post: &Post) -> Result<Read, Refused> {
-        let sender = post.sender.clone();
-        let points = match &post.body {
-            Body::Text(body) => return Ok(self.core.unread(sender, body.clone())),
-            Body::Points(points) => points,
-        };
-        let mut own = Points::with_room(points.words().len(), points.count());
-        for point in points.each() {
-            if let [number, start, end, says @ ..] = point {
-                own.push(self.own_of(*number)?, *start, *end, says.iter().copied());
+    /// Has a post's points have the book's numbers. Where one can't, the post is as it was: `NoSuch` where nothing was said of its
+    /// number.
+    pub fn number(&mut self, post: &mut Post) -> Result<(), Refused> {
+        if let Body::Points(points) = &mut post.body {
+            let own: Result<Vec<u64>, Refused> = points.numbers().map(|number| self.own_of(number)).collect();
+            points.renumber(&own?);
+        }
+        Ok(())
+    }
+
+    /// A post that has them, to be read for the book.
+    pub fn unread(&self, post: Post) -> Result<Read, Refused> {
+        let Post { sender, foreign, body } = post;
+        match body {
+            Body::Text(body) => Ok(self.core.unread(sender, body)),
+            Body::Points(points) => {
+                // It has no points but those that the book took.
+                let names = self.own.names()?.clone();
+                Ok(self.core.unread_points(sender, points, names, foreign))
             }
         }
-        for (place, of_run) in points.runs() {
-            own.put_run(*place, of_run.clone());
-        }
-        // It has no points but those that the book took.
-        let names = self.own.names()?.clone();
-        Ok(self.core.unread_points(sender, own, names, post.foreign))
     }
 
     fn own_of(&mut self, number: u64) -> Result<u64, Refused> {

@@ -4,3 +4,4 @@ mod hours;
 mod numbered;
 mod real;
 mod support;
+mod together;

@@ -121,6 +121,25 @@ impl Points {
         self.push(number, words[0], words[1], words[2..].iter().copied());
     }
 
+    /// Puts these behind the others.
+    pub fn append(&mut self, more: &Points) {
+        let (words, count) = (self.words.len(), self.count() as u32);
+        self.words.extend_from_slice(&more.words);
+        self.ends.extend(more.ends.iter().map(|end| words + end));
+        self.runs.extend(more.runs.iter().map(|(place, of_run)| (count + place, of_run.clone())));
+        self.packed.take();
+    }
+
+    /// Has each have another number, in their order.
+    pub fn renumber(&mut self, numbers: &[u64]) {
+        let mut begin = 0;
+        for (end, number) in self.ends.iter().zip(numbers) {
+            self.words[begin] = *number;
+            begin = *end;
+        }
+        self.packed.take();
+    }
+
     /// Says of a point that was made of a cumulative one, and is behind all others of which that was said, what its run is.
     pub fn put_run(&mut self, place: u32, of_run: OfRun) {
         self.runs.push((place, of_run));

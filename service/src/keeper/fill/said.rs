@@ -7,8 +7,8 @@ use crate::slot::Slot;
 use crate::work::in_order;
 
 /// Posts of the journal go together up to so many, or so many bytes.
-const POSTS_OF_A_PART: usize = 16;
-const BYTES_OF_A_PART: usize = 64 << 10;
+const POSTS_OF_A_PART: usize = 256;
+const BYTES_OF_A_PART: usize = 256 << 10;
 
 /// Posts of the journal, one behind the other.
 #[derive(Default)]
@@ -23,17 +23,17 @@ pub(super) struct Said {
     pub post: Post,
 }
 
-/// Gives the posts of the journal that are in no group, in order, until `each` is false. What they say of numbers is known
-/// already, but where there is no memory for that.
+/// Gives the posts of the journal that are in no group, in order, some at a time, until `each` is false. What they say of numbers
+/// is known already, but where there is no memory for that.
 pub(super) fn said(
     slot: &Slot,
     own: &Own,
     stops: &impl Fn() -> bool,
-    mut each: impl FnMut(Said) -> bool + Send,
+    mut each: impl FnMut(Vec<Said>) -> bool + Send,
 ) -> Result<(), Trouble> {
     let given = in_order(
         |part: &mut Part| part.be_named(own),
-        |part| part.posts.into_iter().all(&mut each).then_some(()).ok_or(None),
+        |part| each(part.posts).then_some(()).ok_or(None),
         |queue| {
             let mut part = Part::default();
             let read = slot.journal.posts(slot.outbox.journal(), u64::MAX, |read| {

@@ -1,0 +1,223 @@
+//! Posts that a book had, and is to have again. Those of a sender go in together where they can: no series has points of two
+//! senders, so only the order of each one's own says anything.
+
+use super::super::numbers::Numbers;
+use crate::core::{Core, Read, Refused};
+use crate::files::{Body, Points, Post};
+use ahash::AHashMap;
+
+/// So many points go together, so that none takes long.
+const MOST_POINTS: usize = 1000;
+
+/// Posts of one sender, one behind the other, as one.
+pub struct Again {
+    pub sender: String,
+    /// So many of their points were foreign.
+    pub foreign: u64,
+    /// Why they can't be read by number.
+    read: Result<Read, Refused>,
+    /// What was said when they were read.
+    said: Result<(), Refused>,
+    /// Where there are several.
+    each: Vec<Post>,
+}
+
+/// Posts in their order, those of a sender that go together.
+pub struct Groups<'c> {
+    core: &'c Core,
+    all: Vec<Group>,
+    /// Of each sender the last.
+    last: AHashMap<String, usize>,
+}
+
+#[derive(Default)]
+struct Group {
+    posts: Vec<Post>,
+    points: usize,
+    /// In which all of it ends: else nothing goes with it.
+    stretch: Option<u64>,
+    refused: Option<Refused>,
+}
+
+impl Groups<'_> {
+    pub fn new(core: &Core) -> Groups<'_> {
+        Groups { core, all: Vec::new(), last: AHashMap::new() }
+    }
+
+    /// One that has the book's numbers, or why it has none.
+    pub fn push(&mut self, post: Post, numbered: Result<(), Refused>) {
+        let refused = numbered.err();
+        let points = match &post.body {
+            Body::Points(points) if refused.is_none() => Some(points),
+            _ => None,
+        };
+        let stretch = points.and_then(|points| self.core.stretch_of(points));
+        let points = points.map_or(0, Points::count);
+        let last = self.last.get(&post.sender).and_then(|last| self.all.get_mut(*last));
+        match last.filter(|last| last.takes(stretch, points)) {
+            Some(last) => {
+                last.points += points;
+                last.posts.push(post);
+            }
+            None => {
+                match self.last.get_mut(&post.sender) {
+                    Some(last) => *last = self.all.len(),
+                    None => drop(self.last.insert(post.sender.clone(), self.all.len())),
+                }
+                self.all.push(Group { posts: vec![post], points, stretch, refused });
+            }
+        }
+    }
+
+    pub fn into_again(self, numbers: &Numbers) -> impl Iterator<Item = Again> + use<'_> {
+        self.all.into_iter().map(|group| Again::of(group, numbers))
+    }
+}
+
+impl Group {
+    fn takes(&self, stretch: Option<u64>, points: usize) -> bool {
+        stretch.is_some() && self.stretch == stretch && self.points + points <= MOST_POINTS
+    }
+}
+
+impl Again {
+    fn of(group: Group, numbers: &Numbers) -> Again {
+        let Group { mut posts, refused, points, .. } = group;
+        let (sender, foreign) = (posts[0].sender.clone(), posts.iter().map(|post| post.foreign).sum());
+        let one = match posts.len() {
+            1 => posts.remove(0),
+            _ => Post { sender: sender.clone(), foreign, body: Body::Points(joined(&posts, points)) },
+        };
+        let read = refused.map_or_else(|| numbers.unread(one), Err);
+        Again { sender, foreign, read, said: Ok(()), each: posts }
+    }
+
+    pub fn be_read(&mut self) {
+        if let Ok(read) = &mut self.read {
+            self.said = read.be_read();
+        }
+    }
+
+    /// What was read.
+    pub fn as_read(&mut self) -> Result<&mut Read, Refused> {
+        self.said?;
+        self.read.as_mut().map_err(|refused| *refused)
+    }
+
+    /// Whether as many of its points as before are foreign.
+    pub fn has_all(&mut self) -> bool {
+        let foreign = self.foreign;
+        self.as_read().is_ok_and(|read| read.post.foreign == foreign)
+    }
+
+    /// How many posts it is.
+    pub fn posts(&self) -> usize {
+        self.each.len().max(1)
+    }
+
+    /// Each by itself, where there are several: they are to be read.
+    pub fn each(self) -> impl Iterator<Item = Again> {
+        let Again { read, each, .. } = self;
+        each.into_iter().map(move |post| {
+            let (sender, foreign) = (post.sender.clone(), post.foreign);
+            let read = read.as_ref().map(|read| read.beside(post)).map_err(|refused| *refused);
+            Again { sender, foreign, read, said: Ok(()), each: Vec::new() }
+        })
+    }
+}
+
+/// All points of these, one behind the other.
+fn joined(posts: &[Post], count: usize) -> Points {
+    let points = || {
+        posts.iter().filter_map(|post| match &post.body {
+            Body::Points(points) => Some(points),
+            Body::Text(_) => None,
+        })
+    };
+    let mut all = Points::with_room(points().map(|points| points.words().len()).sum(), count);
+    points().for_each(|points| all.append(points));
+    all
+}
+
+#[cfg(test)]
+mod tests {
+    use super::*;
+    use crate::files::OfRun;
+
+    const HOUR: u64 = 3_600_000_000_000;
+
+    fn post(sender: &str, ends: &[u64], foreign: u64) -> Post {
+        let mut points = Points::default();
+        for end in ends {
+            points.push(7, end - 1, *end, [1]);
+        }
+        Post { sender: sender.into(), foreign, body: Body::Points(points) }
+    }
+
+    /// Of each group the sender, and of each of its posts the first end.
+    fn groups(posts: Vec<(Post, Result<(), Refused>)>) -> Vec<(String, Vec<u64>)> {
+        let core = Core::new(1).unwrap();
+        let mut groups = Groups::new(&core);
+        posts.into_iter().for_each(|(post, numbered)| groups.push(post, numbered));
+        let first = |post: &Post| match &post.body {
+            Body::Points(points) => points.each().next().unwrap()[2],
+            Body::Text(_) => 0,
+        };
+        let of = |group: Group| (group.posts[0].sender.clone(), group.posts.iter().map(first).collect());
+        groups.all.into_iter().map(of).collect()
+    }
+
+    #[test]
+    fn what_a_sender_posted_in_one_hour_goes_together_in_its_order() {
+        let text = Post { sender: "a".into(), foreign: 0, body: Body::Text("{}".into()) };
+        let posts = [
+            (post("a", &[10], 0), Ok(())),
+            (post("b", &[20], 0), Ok(())),
+            (post("a", &[30, HOUR], 0), Ok(())),
+            (post("a", &[HOUR, HOUR + 1], 0), Ok(())),
+            (post("a", &[50], 0), Ok(())),
+            (post("a", &[60], 0), Err(Refused::NoSuch)),
+            (post("b", &[70], 0), Ok(())),
+            (post("a", &[80], 0), Ok(())),
+            (text, Ok(())),
+            (post("a", &[90], 0), Ok(())),
+            (post("b", &[HOUR + 2], 0), Ok(())),
+            (post("b", &[HOUR + 3], 0), Ok(())),
+        ];
+        let wanted: [(&str, &[u64]); 9] = [
+            ("a", &[10, 30]),
+            ("b", &[20, 70]),
+            ("a", &[HOUR]),
+            ("a", &[50]),
+            ("a", &[60]),
+            ("a", &[80]),
+            ("a", &[0]),
+            ("a", &[90]),
+            ("b", &[HOUR + 2, HOUR + 3]),
+        ];
+        let wanted = wanted.map(|(sender, ends)| (sender.to_string(), ends.to_vec()));
+        assert_eq!(groups(posts.into()), wanted);
+    }
+
+    #[test]
+    fn no_more_points_go_together_than_take_long() {
+        let ends = |number: usize| vec![10 * number as u64; 300];
+        let posts = (1..=7).map(|number| (post("a", &ends(number), 0), Ok(())));
+        let found = groups(posts.collect());
+        assert_eq!(found.iter().map(|(_, posts)| posts.len()).collect::<Vec<_>>(), [3, 3, 1]);
+    }
+
+    #[test]
+    fn points_that_go_together_keep_what_they_say_of_runs() {
+        let mut posts = [post("a", &[10, 20], 1), post("a", &[30], 2), post("a", &[40, 50], 0)];
+        let began = OfRun::Began(3);
+        for (post, place) in [(0, 1), (2, 0), (2, 1)] {
+            if let Body::Points(points) = &mut posts[post].body {
+                points.put_run(place, began.clone());
+            }
+        }
+        let all = joined(&posts, 5);
+        assert_eq!(all.each().map(|point| point[2]).collect::<Vec<_>>(), [10, 20, 30, 40, 50]);
+        assert_eq!(all.runs(), [1, 3, 4].map(|place| (place, began.clone())));
+    }
+}
