@@ -202,11 +202,10 @@ impl State {
 
     fn advance(&mut self, group: Group) {
         let (seen, heard) = (group.since, group.heard);
-        for key in group.new.all() {
+        self.series.put_all(&group.new, || {
             let (frontier, owner, run) = (0, None, None);
-            let series = Series { frontier, owner, seen, run };
-            self.series.put(key, KnownSeries { series, heard });
-        }
+            KnownSeries { series: Series { frontier, owner, seen, run }, heard }
+        });
         for end in group.ends {
             let Some(known) = self.series.at_mut(end.id) else {
                 continue;

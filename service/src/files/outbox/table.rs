@@ -87,6 +87,24 @@ impl Table {
         id
     }
 
+    /// The same of many, of each of which as much is known.
+    pub fn put_all(&mut self, keys: &Texts, known: impl Fn() -> KnownSeries) {
+        let those = (0..keys.count()).map(|id| (id, ())).collect();
+        let digests = keys.each_of(those, |key, ()| key.digest());
+        let each: HashSet<&Digest> = digests.iter().collect();
+        let are_new =
+            each.len() == digests.len() && !each.into_iter().any(|digest| self.ids.contains_key(digest));
+        if are_new {
+            self.ids.extend(digests.into_iter().zip(self.next_id()..));
+            self.known.extend((0..keys.count()).map(|_| Some(known())));
+            self.keys.append(keys);
+        } else {
+            for key in keys.all() {
+                self.put(key, known());
+            }
+        }
+    }
+
     pub fn forget(&mut self, ids: &[u32]) {
         for id in ids {
             if let Some(known) = self.known.get_mut(*id as usize) {
@@ -119,5 +137,47 @@ impl Table {
         let new: Arc<str> = owner.into();
         self.owners.insert(new.clone());
         new
+    }
+}
+
+#[cfg(test)]
+mod tests {
+    use super::*;
+
+    fn key(number: usize) -> SeriesKey {
+        SeriesKey(format!("a{number}").into())
+    }
+
+    fn known(seen: u64) -> KnownSeries {
+        KnownSeries { series: Series { frontier: 0, owner: None, seen, run: None }, heard: None }
+    }
+
+    /// Of each id its key, and what is known.
+    fn all(table: &Table) -> Vec<(SeriesKey, u64)> {
+        let seen = table.iter().map(|(_, known)| known.series.seen);
+        table.keys(0..table.next_id()).zip(seen).collect()
+    }
+
+    /// Also where one is known already, or is among them twice.
+    #[test]
+    fn many_at_once_are_as_one_by_one() {
+        let new: Vec<usize> = (0..300).collect();
+        for before in [0, 5, 64] {
+            for more in [&new[before..], &new[3..], &[&new[before..], &new[290..]].concat(), &[]] {
+                let (mut at_once, mut one_by_one) = (Table::default(), Table::default());
+                for number in 0..before {
+                    at_once.put(key(number), known(1));
+                    one_by_one.put(key(number), known(1));
+                }
+                let mut keys = Texts::default();
+                more.iter().for_each(|number| keys.push(key(*number)));
+                at_once.put_all(&keys, || known(2));
+                for number in more {
+                    one_by_one.put(key(*number), known(2));
+                }
+                assert_eq!(all(&at_once), all(&one_by_one), "{before} and {}", more.len());
+                assert!((0..300).all(|number| at_once.id(&key(number)) == one_by_one.id(&key(number))));
+            }
+        }
     }
 }

@@ -44,6 +44,17 @@ impl Texts {
         }
     }
 
+    /// Those of others, with the next ids. Where these begin a block it stays as it is.
+    pub fn append(&mut self, more: &Texts) {
+        match self.last.is_empty() {
+            true => {
+                self.blocks.extend(more.blocks.iter().cloned());
+                self.last.clone_from(&more.last);
+            }
+            false => more.all().for_each(|key| self.push(key)),
+        }
+    }
+
     /// All, in the order of their ids.
     pub fn all(&self) -> impl Iterator<Item = SeriesKey> + '_ {
         (0..self.count()).filter_map(self.reader())
@@ -180,6 +191,18 @@ mod tests {
         let mixed: Vec<u32> = (0..600).map(|number| number * 7 % 300).collect();
         let wanted = mixed.iter().map(|id| keys[*id as usize].clone());
         assert!(texts.of(mixed.iter().copied()).eq(wanted));
+    }
+
+    #[test]
+    fn those_of_others_are_behind_the_own_ones() {
+        for (own, more) in [(0, 200), (IN_BLOCK, 70), (3, 200), (2 * IN_BLOCK, 0), (0, 5)] {
+            let all: Vec<SeriesKey> =
+                (0..own + more).map(|number| SeriesKey(format!("a{number}").into())).collect();
+            let mut texts = texts_of(&all[..own]);
+            texts.append(&texts_of(&all[own..]));
+            assert_eq!(texts.count() as usize, all.len());
+            assert_eq!(texts.all().collect::<Vec<_>>(), all, "{own} and {more}");
+        }
     }
 
     /// So far back nothing is found to be the same by what deflates them.
