@@ -14,8 +14,8 @@ pub use digest::{Digest, Digests};
 pub use forwarded::{forwarded, protobuf_of_forwarded};
 pub(super) use point::Temporality;
 pub use posted::Profile;
-pub use posted::{only, others, posted, words_of};
 pub(super) use posted::{first_resource, is_monotonic, points_by_resource, visit, visit_body, Seen};
+pub use posted::{only, others, posted, words_of};
 pub(super) use why::{name_shown, said, short, What, LOOKED_AT};
 pub use zeros::zeros;
 
