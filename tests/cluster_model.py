@@ -32,7 +32,8 @@ import os
 import sys
 import time
 from collections import deque
-from typing import NamedTuple
+from collections.abc import Iterable, Iterator
+from typing import NamedTuple, TypeVar
 
 from testing.checks import Checks
 
@@ -110,7 +111,7 @@ class Left(NamedTuple):
 class World(NamedTuple):
     """What is posted, and to how many slots: of each point (post, slot). Points of a slot are of one series, in order."""
 
-    points: tuple
+    points: tuple[tuple[int, int], ...]
     slots: int
     tries: int = 2
 
@@ -190,6 +191,11 @@ WHOLE = (
 # --------------------------------------------------------------------------------------------------------------------
 # The state
 
+# What is written: `post`, `group` or `drop` with points, `ack` with how many groups, or `note`.
+Write = tuple[str, int]
+# Of a group in the sink: its number; against the rule, with who delivered it.
+Key = int | tuple[int, int]
+
 
 class Slot(NamedTuple):
     """What the store has of a slot: its row, and what its files say. Sets of points are words with a bit for each."""
@@ -200,13 +206,28 @@ class Slot(NamedTuple):
     # Syncs below it are removed, and `next` is the first that is not there; behind a hole is `ahead`, which nobody reads.
     first: int
     next: int
-    ahead: frozenset
+    ahead: frozenset[tuple[int, tuple[Write, ...]]]
     journal: int
-    groups: tuple
+    groups: tuple[int, ...]
     acknowledged: int
     is_quarantined: bool
     # What was removed is there again.
     is_torn: bool
+
+
+class Statement(NamedTuple):
+    """What was sent to the store."""
+
+    who: int
+    slot: int
+    # `take`, `sync`, `free`
+    kind: str
+    term: int
+    number: int
+    writes: tuple[Write, ...]
+    # Points that are answered behind it, and whether an operator is.
+    covers: int
+    is_awaited: bool
 
 
 class Owner(NamedTuple):
@@ -219,31 +240,16 @@ class Owner(NamedTuple):
     seen: int
     pending: int
     # What was written since the last sync, and points whose answers wait for one that begins now.
-    writes: tuple
+    writes: tuple[Write, ...]
     fresh: int
     # Syncs under way, and one whose answer was lost.
     under_way: int
-    doubt: tuple
+    doubt: Statement
     # Groups that it may deliver.
-    groups: tuple
+    groups: tuple[int, ...]
     acknowledged: int
     is_quarantined: bool
     is_closing: bool
-
-
-class Statement(NamedTuple):
-    """What was sent to the store."""
-
-    who: int
-    slot: int
-    # `take`, `sync`, `free`
-    kind: str
-    term: int
-    number: int
-    writes: tuple
-    # Points that are answered behind it, and whether an operator is.
-    covers: int
-    is_awaited: bool
 
 
 class Taking(NamedTuple):
@@ -254,59 +260,65 @@ class Taking(NamedTuple):
 
 class State(NamedTuple):
     told: int
-    tries: tuple
+    tries: tuple[int, ...]
     # By instance and slot: an owner, one that is taking it, or None.
-    owners: tuple
-    waiting: tuple
+    owners: tuple[Owner | Taking | None, ...]
+    waiting: tuple[Statement, ...]
     # Executed on the primary, and not on the standby.
-    local: tuple
+    local: tuple[Statement, ...]
     # The primary has started again, and shows what the standby does not have.
     is_shown: bool
-    primary: tuple
-    standby: tuple
+    primary: tuple[Slot, ...]
+    standby: tuple[Slot, ...]
     # (slot, key, points)
-    sink: frozenset
+    sink: frozenset[tuple[int, Key, int]]
     # Slots whose quarantine was told; and once an operator was, the points taken and those sent by then.
     noted: int
-    quarantine: tuple
+    quarantine: tuple[int, int]
     left: Left
 
 
 NO_SLOT = Slot(0, None, 0, 0, frozenset(), 0, (), 0, False, False)
 NOTE = 1 << 16  # among what a sync covers: an operator
 
+# What happens, and the statement that it is of, if any.
+Label = tuple[str | Statement, ...]
+# Each with the state after it.
+Events = Iterator[tuple[Label, State]]
+T = TypeVar("T")
 
-def begin_of(world, left):
+
+def begin_of(world: World, left: Left) -> State:
     slots = (NO_SLOT,) * world.slots
     return State(0, (0,) * len(world.points), (None,) * 2 * world.slots, (), (), False, slots, slots, frozenset(), 0, None, left)
 
 
-def put(items, place, item):
+def put(items: tuple[T, ...], place: int, item: T) -> tuple[T, ...]:
     return items[:place] + (item,) + items[place + 1:]
 
 
-def spend(state, kind):
+def spend(state: State, kind: str) -> State | None:
     count = getattr(state.left, kind)
     return state._replace(left=state.left._replace(**{kind: count - 1})) if count else None
 
 
-def visible(state):
+def visible(state: State) -> tuple[Slot, ...]:
     return state.primary if state.is_shown else state.standby
 
 
-def place_of(world, who, slot):
+def place_of(world: World, who: int, slot: int) -> int:
     return who * world.slots + slot
 
 
-def with_owner(world, state, who, slot, owner):
+def with_owner(world: World, state: State, who: int, slot: int, owner: Owner | Taking | None) -> State:
     return state._replace(owners=put(state.owners, place_of(world, who, slot), owner))
 
 
-def send(state, *statements):
+def send(state: State, *statements: Statement) -> State:
     return state._replace(waiting=tuple(sorted(state.waiting + statements)))
 
 
-def all_of(groups):
+def all_of(groups: Iterable[int]) -> int:
     points = 0
     for group in groups:
         points |= group
@@ -317,7 +329,7 @@ def all_of(groups):
 # The store
 
 
-def written(slot, number, writes):
+def written(slot: Slot, number: int, writes: tuple[Write, ...]) -> Slot:
     """The files with a sync's writes."""
     for kind, what in writes:
         if kind == "post":
@@ -333,7 +345,7 @@ def written(slot, number, writes):
     return slot
 
 
-def synced(rules, slot, one):
+def synced(rules: Rules, slot: Slot, one: Statement) -> Slot:
     if not one.writes:
         return slot
     if one.number < slot.first:
@@ -349,7 +361,7 @@ def synced(rules, slot, one):
     return slot
 
 
-def execute(rules, slot, one):
+def execute(rules: Rules, slot: Slot, one: Statement) -> Slot | None:
     """The slot behind a statement, or None where it finds no row."""
     if one.kind == "take":
         if slot.term != one.term:
@@ -364,7 +376,7 @@ def execute(rules, slot, one):
     return slot._replace(owner=None) if one.kind == "free" else synced(rules, slot, one)
 
 
-def store_steps(rules, world, state):
+def store_steps(rules: Rules, world: World, state: State) -> Events:
     for place, one in enumerate(state.waiting):
         others = state._replace(waiting=state.waiting[:place] + state.waiting[place + 1:])
         yield from cut_off(rules, world, state, others, one)
@@ -379,7 +391,7 @@ def store_steps(rules, world, state):
     yield from primary_fails(world, state)
 
 
-def cut_off(rules, world, state, others, one):
+def cut_off(rules: Rules, world: World, state: State, others: State, one: Statement) -> Events:
     """A connection is lost while its statement is on its way, and the statement is not."""
     left = spend(state, "doubts")
     if not left or not one.is_awaited:
@@ -394,7 +406,7 @@ def cut_off(rules, world, state, others, one):
                 world, others._replace(left=left.left, primary=slots, standby=slots), one)
 
 
-def executed(rules, world, state, one):
+def executed(rules: Rules, world: World, state: State, one: Statement) -> Events:
     after = execute(rules, state.primary[one.slot], one)
     if after is None:
         yield ("no row is found by", one), answered(rules, world, state, one, False)
@@ -411,7 +423,7 @@ def executed(rules, world, state, one):
         yield ("executed on the primary is", one), state._replace(primary=primary, local=local)
 
 
-def primary_fails(world, state):
+def primary_fails(world: World, state: State) -> Events:
     left = spend(state, "failures")
     if not left or state.primary == state.standby and not state.waiting:
         return
@@ -428,39 +440,40 @@ def primary_fails(world, state):
 # What owners hear of it
 
 
-def in_doubt(world, state, one):
+def in_doubt(world: World, state: State, one: Statement) -> State:
     owner = state.owners[place_of(world, one.who, one.slot)]
     if isinstance(owner, Owner) and one.kind != "take":
         return with_owner(world, state, one.who, one.slot, owner._replace(doubt=one))
     return with_owner(world, state, one.who, one.slot, None)
 
 
-def told(rules, world, state, points):
+def told(rules: Rules, world: World, state: State, points: int) -> State:
     if not rules.a_post_is_answered_once_all_parts_are:
         posts = {post for place, (post, _) in enumerate(world.points) if points >> place & 1}
         points = sum(1 << place for place, (post, _) in enumerate(world.points) if post in posts)
     return state._replace(told=state.told | points)
 
 
-def told_of_quarantine(rules, world, state, slot):
+def told_of_quarantine(rules: Rules, world: World, state: State, slot: int) -> State:
     noted = state.noted | 1 << slot
     if noted == (1 << world.slots) - 1 or not rules.a_quarantine_is_told_once_all_slots_have_it:
         return state._replace(noted=noted, quarantine=state.quarantine or counted_by(state))
     return state._replace(noted=noted)
 
 
-def counted_by(state):
+def counted_by(state: State) -> tuple[int, int]:
     """The points that are taken, and those that are in groups."""
     sent = all_of(all_of(slot.groups) for slot in state.standby)
     return sent | all_of(slot.journal for slot in state.standby), sent
 
 
-def answered(rules, world, state, one, is_done):
+def answered(rules: Rules, world: World, state: State, one: Statement, is_done: bool) -> State:
     """A statement's answer has come."""
     if not one.is_awaited:
         return state
     owner = state.owners[place_of(world, one.who, one.slot)]
     if one.kind == "take":
+        assert isinstance(owner, Taking), owner
         slot = owner.read or visible(state)[one.slot]
         return with_owner(world, state, one.who, one.slot, owned(rules, slot, visible(state)[one.slot].term) if is_done else None)
     if not isinstance(owner, Owner):
@@ -477,7 +490,7 @@ def answered(rules, world, state, one, is_done):
     return with_owner(world, state, one.who, one.slot, owner._replace(under_way=owner.under_way - 1, groups=groups))
 
 
-def owned(rules, slot, term):
+def owned(rules: Rules, slot: Slot, term: int) -> Owner:
     sent = all_of(slot.groups)
     seen = sent | slot.journal if rules.a_post_is_of_the_same_series_everywhere else 0
     return Owner(term, slot.next, seen, slot.journal, (), 0, 0, None, slot.groups, slot.acknowledged,
@@ -488,7 +501,7 @@ def owned(rules, slot, term):
 # Instances
 
 
-def post_steps(rules, world, state):
+def post_steps(rules: Rules, world: World, state: State) -> Events:
     """A sender's next post, or a part of it, comes to an instance that takes itself for the owner."""
     place = next((place for place in range(len(world.points)) if not state.told >> place & 1), None)
     if place is None:
@@ -503,11 +516,10 @@ def post_steps(rules, world, state):
             for who in (0, 1):
                 owner = state.owners[place_of(world, who, slot)]
                 if isinstance(owner, Owner) and not owner.is_closing and not owner.is_quarantined:
-                    yield from posted(rules, world, tried, point, who, slot)
+                    yield from posted(rules, world, tried, point, who, slot, owner)
 
 
-def posted(rules, world, state, point, who, slot):
-    owner = state.owners[place_of(world, who, slot)]
+def posted(rules: Rules, world: World, state: State, point: int, who: int, slot: int, owner: Owner) -> Events:
     later = sum(1 << it for it in range(point, len(world.points)) if world.points[it][1] == world.points[point][1])
     is_refused = owner.seen & later
     waits = rules.a_refusal_waits_for_a_sync if is_refused else rules.an_answer_waits_for_its_sync
@@ -522,7 +534,7 @@ def posted(rules, world, state, point, who, slot):
             yield how, with_owner(world, state, who, slot, owner._replace(fresh=owner.fresh | bit))
 
 
-def instance_steps(rules, world, state):
+def instance_steps(rules: Rules, world: World, state: State) -> Events:
     for who in (0, 1):
         for slot in range(world.slots):
             owner = state.owners[place_of(world, who, slot)]
@@ -532,7 +544,7 @@ def instance_steps(rules, world, state):
                 yield from own(rules, world, state, who, slot, owner)
 
 
-def take(rules, world, state, who, slot):
+def take(rules: Rules, world: World, state: State, who: int, slot: int) -> Events:
     left = spend(state, "takeovers")
     is_first = not any(state.owners) and not state.waiting and not any(row.term for row in state.primary)
     if not left or is_first and who:  # they are alike, so A comes first
@@ -547,7 +559,7 @@ def take(rules, world, state, who, slot):
     yield how, send(taking, Statement(who, slot, "take", seen.term, 0, (), 0, True))
 
 
-def own(rules, world, state, who, slot, owner):
+def own(rules: Rules, world: World, state: State, who: int, slot: int, owner: Owner) -> Events:
     name = "AB"[who]
     if owner.doubt:
         certain = with_owner(world, state, who, slot, owner._replace(doubt=None))
@@ -567,14 +579,14 @@ def own(rules, world, state, who, slot, owner):
         if rules.a_quarantine_is_told_behind_its_sync:
             yield (f"{name} has a quarantine of slot {slot}",), with_owner(world, left, who, slot, after)
         else:
-            after = with_owner(world, left, who, slot, after._replace(fresh=owner.fresh))
-            yield (f"{name} says a quarantine of slot {slot}",), told_of_quarantine(rules, world, after, slot)
+            quarantined = with_owner(world, left, who, slot, after._replace(fresh=owner.fresh))
+            yield (f"{name} says a quarantine of slot {slot}",), told_of_quarantine(rules, world, quarantined, slot)
     left = spend(state, "hand_overs")
     if left:
         yield (f"{name} shuts slot {slot}",), with_owner(world, left, who, slot, owner._replace(is_closing=True))
 
 
-def sync(rules, world, state, who, slot, owner):
+def sync(rules: Rules, world: World, state: State, who: int, slot: int, owner: Owner) -> Events:
     if owner.under_way >= (1 if rules.one_sync_at_a_time else 2):
         return
     if owner.writes or owner.fresh:
@@ -586,7 +598,7 @@ def sync(rules, world, state, who, slot, owner):
         yield ("sent is", one), send(with_owner(world, state, who, slot, owner._replace(under_way=1)), one)
 
 
-def checkpoint(rules, world, state, who, slot, owner):
+def checkpoint(rules: Rules, world: World, state: State, who: int, slot: int, owner: Owner) -> Events:
     left = spend(state, "checkpoints")
     if left and owner.pending and not owner.is_quarantined:
         group = (("group", owner.pending), ("drop", owner.pending))
@@ -596,13 +608,13 @@ def checkpoint(rules, world, state, who, slot, owner):
         yield (f"{'AB'[who]} makes a group of {owner.pending:b}",), with_owner(world, left, who, slot, after)
 
 
-def deliver(rules, world, state, who, slot, owner):
+def deliver(rules: Rules, world: World, state: State, who: int, slot: int, owner: Owner) -> Events:
     """The first group that is not acknowledged. That the sink's answer is lost is no case: the ack may be lost behind it."""
     left = spend(state, "deliveries")
     number = owner.acknowledged
     if not left or number == len(owner.groups):
         return
-    key = number if rules.a_key_is_the_stores else (number, who)
+    key: Key = number if rules.a_key_is_the_stores else (number, who)
     after = owner._replace(acknowledged=number + 1, writes=owner.writes + (("ack", number + 1),))
     acked = with_owner(world, left, who, slot, after)
     if not rules.the_sink_answers_before_the_ack:
@@ -617,7 +629,7 @@ def deliver(rules, world, state, who, slot, owner):
 # What holds
 
 
-def fault_of(world, state):
+def fault_of(world: World, state: State) -> str | None:
     """The name of what is wrong, or None."""
     if any(slot.is_torn for slot in state.standby):
         return UNREADABLE
@@ -636,13 +648,13 @@ def fault_of(world, state):
     if missing:
         return LOST if missing & counted_by(state)[0] else GONE
     if state.quarantine:
-        taken, sent = counted_by(state)
-        if taken & ~state.quarantine[0] or sent & ~state.quarantine[1]:
+        taken, grouped = counted_by(state)
+        if taken & ~state.quarantine[0] or grouped & ~state.quarantine[1]:
             return TAKEN
     return None
 
 
-def steps(rules, world, state):
+def steps(rules: Rules, world: World, state: State) -> Events:
     yield from post_steps(rules, world, state)
     yield from instance_steps(rules, world, state)
     yield from store_steps(rules, world, state)
@@ -652,14 +664,15 @@ class Found(NamedTuple):
     states: int
     fault: str
     # The labels of the events that lead to it.
-    way: tuple
+    way: tuple[Label, ...]
     is_whole: bool
 
 
-def explore(rules, world, left):
+def explore(rules: Rules, world: World, left: Left) -> Found:
     """All states by breadth, until one is at fault."""
     begin = begin_of(world, left)
-    parents, waiting = {begin: None}, deque([begin])
+    parents: dict[State, tuple[State, Label] | None] = {begin: None}
+    waiting = deque([begin])
     while waiting and len(parents) < MOST_STATES:
         state = waiting.popleft()
         for label, after in steps(rules, world, state):
@@ -673,15 +686,15 @@ def explore(rules, world, left):
     return Found(len(parents), None, (), not waiting)
 
 
-def way_to(parents, state):
-    labels = []
+def way_to(parents: dict[State, tuple[State, Label] | None], state: State) -> tuple[Label, ...]:
+    labels: list[Label] = []
     while parents[state]:
         state, label = parents[state]
         labels.append(label)
     return tuple(reversed(labels))
 
 
-def text_of(label):
+def text_of(label: Label) -> str:
     what = label[1] if len(label) > 1 else ""
     if isinstance(what, Statement):
         writes = ", ".join(f"{kind} {points:b}" for kind, points in what.writes)
@@ -689,7 +702,7 @@ def text_of(label):
     return f"{label[0]} {what}".rstrip()
 
 
-def main():
+def main() -> int:
     checks = Checks()
     gc.disable()  # No state is part of itself: to look for that among so many takes a tenth of the time.
     for world, left in WHOLE:
@@ -711,7 +724,7 @@ def main():
     return checks.end()
 
 
-def show(found):
+def show(found: Found) -> None:
     for label in found.way:
         print(f"    {text_of(label)}")
 

@@ -18,6 +18,7 @@ import sys
 import tempfile
 import threading
 import time
+from collections.abc import Callable, Sequence
 
 ROOT = os.path.dirname(os.path.dirname(os.path.abspath(__file__)))
 sys.path.insert(1, f"{ROOT}/demo")
@@ -26,8 +27,8 @@ from testing.checks import Checks  # noqa: E402
 from testing.loopback import free_port  # noqa: E402
 from testing.database import initdb  # noqa: E402
 from testing.servers import Pair  # noqa: E402
-from testing.service import (JSON, PROTOBUF, OtlpSink, Sender, Service, add_points, by_resource, differences, overlaps,  # noqa: E402
-                     told_to_all, wait_until)
+from testing.service import (JSON, PROTOBUF, Answer, OtlpSink, Point, Post, Sender, Service, Told, Value, add_points,  # noqa: E402
+                     by_resource, differences, overlaps, told_to_all, wait_until)
 
 SENDERS = 6
 
@@ -35,8 +36,9 @@ SENDERS = 6
 class OfTwoSlots(Sender):
     """Its sums and its histograms have a resource each."""
 
-    def encoded(self, points):
-        kind, groups = self.chance.choice([JSON, PROTOBUF]), {}
+    def encoded(self, points: Sequence[Point]) -> Post:
+        kind = self.chance.choice([JSON, PROTOBUF])
+        groups: dict[str, list[Point]] = {}
         for point in points:
             groups.setdefault(point[0].rpartition(".")[0], []).append(point)
         return by_resource(kind, groups), {"Content-Type": kind, "x-sender": self.name}
@@ -45,11 +47,11 @@ class OfTwoSlots(Sender):
 class AtAny(OfTwoSlots):
     """Posts to one instance, and to any other one where there is no answer."""
 
-    def __init__(self, instances, number):
+    def __init__(self, instances: Sequence[Service], number: int) -> None:
         super().__init__(instances[0], number)
         self.instances = instances
 
-    def try_once(self, body, headers):
+    def try_once(self, body: bytes, headers: dict[str, str]) -> Answer:
         answer = super().try_once(body, headers)
         if answer[0] in (None, 503):
             self.close()
@@ -58,9 +60,9 @@ class AtAny(OfTwoSlots):
         return answer
 
 
-def try_starts(checks, program, store, folder):
+def try_starts(checks: Checks, program: str, store: Pair, folder: str) -> None:
     """What is refused, by name."""
-    def run(*words):
+    def run(*words: str) -> tuple[int, str]:
         done = subprocess.run([program, *words], capture_output=True, text=True, check=False, timeout=60)
         return done.returncode, done.stdout + done.stderr
 
@@ -82,13 +84,13 @@ def try_starts(checks, program, store, folder):
     checks.true("a store that can lose what it said is refused", status == 1 and "--store-copies 1" in text, text)
 
 
-def instance(program, folder, name, store, sink):
+def instance(program: str, folder: str, name: str, store: Pair, sink: OtlpSink) -> Service:
     peer = f"127.0.0.1:{free_port()}"
     return Service(program, f"{folder}/{name}", sink.address, "--store", store.address, "--instance", name, "--peer", peer,
                    "--flush-every", "1s")
 
 
-def trouble(chance, store, instances):
+def trouble(chance: random.Random, store: Pair, instances: Sequence[Service]) -> str:
     """Something befalls an instance or a server."""
     one = chance.choice(instances)
     kind = chance.choice(["kill", "kill", "stop", "end", "restart", "hold", "go over"])
@@ -115,15 +117,16 @@ class GivesUp(Exception):
     """A post was not answered for so long that the program has failed."""
 
 
-def post_while(senders, work, seconds=60):
+def post_while(senders: Sequence[Sender], work: Callable[[], object], seconds: float = 60) -> bool:
     """Senders post while this is done: whether each post was answered in the end, within so many seconds more."""
-    stop, late, answered = threading.Event(), threading.Event(), []
+    stop, late = threading.Event(), threading.Event()
+    answered: list[Sender] = []
 
-    def between():
+    def between() -> None:
         if late.is_set():
             raise GivesUp()
 
-    def posts(sender):
+    def posts(sender: Sender) -> None:
         try:
             while not stop.is_set():
                 sender.post(sender.next_points(), between)
@@ -148,7 +151,7 @@ def post_while(senders, work, seconds=60):
     return len(answered) == len(senders)
 
 
-def troubles(seconds, chance, store, instances, done):
+def troubles(seconds: float, chance: random.Random, store: Pair, instances: Sequence[Service], done: list[str]) -> None:
     """What is done for so many seconds."""
     until = time.monotonic() + seconds
     while time.monotonic() < until:
@@ -156,9 +159,9 @@ def troubles(seconds, chance, store, instances, done):
         done.append(trouble(chance, store, instances))
 
 
-def compare(checks, instances, senders, sink):
-    def missing():
-        found = {}
+def compare(checks: Checks, instances: Sequence[Service], senders: Sequence[Sender], sink: Told) -> None:
+    def missing() -> list[str]:
+        found: dict[str, Value] = {}
         add_points(found, sink.points())
         return differences(told_to_all(senders), found)
 
@@ -172,14 +175,14 @@ def compare(checks, instances, senders, sink):
     checks.same("a key brings the same bytes", [], sink.wrong())
 
 
-def load(checks, program, store, folder, seconds, seed):
+def load(checks: Checks, program: str, store: Pair, folder: str, seconds: float, seed: float) -> None:
     chance, sink = random.Random(seed), OtlpSink(seed)
     first, second = (instance(program, folder, name, store, sink) for name in "ab")
     first.start()
     senders = [AtAny([first], number) for number in range(SENDERS)]
-    done = []
+    done: list[str] = []
 
-    def meanwhile(instances):
+    def meanwhile(instances: Sequence[Service]) -> Callable[[], None]:
         return lambda: troubles(seconds / 2, chance, store, instances, done)
 
     try:
@@ -208,12 +211,12 @@ def load(checks, program, store, folder, seconds, seed):
         sink.close()
 
 
-def waiting(service):
+def waiting(service: Service) -> int:
     """How many requests its sink has not taken."""
     return sum(slot["waiting"] for slot in service.status()["slots"])
 
 
-def try_repeat_without_its_standby(checks, program, store, folder):
+def try_repeat_without_its_standby(checks: Checks, program: str, store: Pair, folder: str) -> None:
     """A request whose answer was lost, and that a restart of the sink's server shows, is taken once the standby has it too."""
     sink = f"postgres://postgres@{store.primary.host}:{store.primary.port}/postgres"
     service = Service(program, f"{folder}/sink", sink, "--flush-every", "1s")
@@ -236,10 +239,11 @@ def try_repeat_without_its_standby(checks, program, store, folder):
         service.end()
 
 
-def main(words):
+def main(words: list[str]) -> int:
     if not 1 <= len(words) <= 3:
         sys.exit(__doc__.split("\n\n")[1].strip())
-    program, seconds, seed = os.path.abspath(words[0]), *(float(word) for word in (words[1:] + ["30", "1"][len(words) - 1:]))
+    program = os.path.abspath(words[0])
+    seconds, seed = (float(word) for word in (words[1:] + ["30", "1"][len(words) - 1:]))
     checks = Checks()
     if not checks.has("a store", *[] if initdb() else ["postgresql"]):
         return checks.end()

@@ -17,7 +17,7 @@ import time
 
 from tooling import prover
 from build import MOST_JOBS, SERVICE_MADE
-from tooling.crates import OUT, ROOT, read_crates
+from tooling.crates import OUT, ROOT, Crate, read_crates
 from tooling.files import content
 from tooling.proved import said, write_proof
 from tooling.steps import Failed, Step, Steps, end_of, end_of_lines, locked, shown
@@ -70,7 +70,7 @@ CARGO_STEPS = (
     ("service_tests", [*LINTING, "test"]),
 )
 # After the program's name: further words, and about how many seconds it takes.
-SERVICE_STEPS = (
+SERVICE_STEPS: tuple[tuple[str, list[str], int], ...] = (
     ("service_load.py", ["50"], 90),
     ("by_hour.py", ["10"], 50),
     ("clock_jumps.py", ["1"], 20),
@@ -134,23 +134,23 @@ FAULT_WIDTH = 600
 class Prover:
     """One run of `rt ci`, shown as it goes."""
 
-    def __init__(self):
+    def __init__(self) -> None:
         crates = read_crates().values()
         self.whole = len(crates) + sum(has_tests(crate) for crate in crates)
         self.proved = 0
         self.begun = time.monotonic()
-        self.block = []
+        self.block: list[str] = []
         self.passed, self.failed = 0, 1
 
-    def step(self):
+    def step(self) -> Step:
         return Step("the prover", self.work, "rt ci", log="ci")
 
-    def work(self, step):
+    def work(self, step: Step) -> str:
         if step.run(["rt", "ci"], read_line=lambda line: self.hear(step, line.rstrip("\n"))) != 0:
             raise Failed("rt ci")
         return "proofs, edits, tests and programs"
 
-    def hear(self, step, line):
+    def hear(self, step: Step, line: str) -> None:
         if BLOCK.match(line):
             self.block.clear()
         self.block.append(line)
@@ -171,19 +171,19 @@ class Prover:
             self.passed, self.failed = map(int, COUNTS.match(line).groups())
             step.say(line)
 
-    def show(self, step, text):
+    def show(self, step: Step, text: str) -> None:
         step.say(f"{shown(time.monotonic() - self.begun):>6}  {text}")
 
 
-def has_tests(crate):
+def has_tests(crate: Crate) -> bool:
     return any(IS_TEST.search(content(file)) for file in crate.files())
 
 
-def book_step():
+def book_step() -> Step:
     """The step that builds the library of the book, over the libraries that the prover's part has left here."""
     crate = read_crates()[BOOK]
 
-    def work(step):
+    def work(step: Step) -> str:
         for command in prover.Prover().build(crate, step.jobs, prover.room_of_gate):
             if step.run(command, crate.folder) != 0:
                 raise Failed((end_of(step.log) or ["it printed nothing"])[-1])
@@ -193,11 +193,11 @@ def book_step():
     return Step("book_is_built", work, f"tools/build.py {BOOK}", most_jobs=MOST_JOBS)
 
 
-def step_of(script, program, seconds, is_timed, before, of=""):
+def step_of(script: str, program: str, seconds: int, is_timed: bool, before: list[str], of: str = "") -> Step:
     """The step that runs a script of tests/ on a program, after these words. With none, steps run in turn."""
     command = [f"tests/{script}", *program.split()]
 
-    def work(step):
+    def work(step: Step) -> str:
         status = step.run([*before, *command], limit=STEP_LIMIT)
         last = (end_of(step.log) or ["it printed nothing"])[-1]
         if status not in (0, LEFT_OUT):
@@ -209,10 +209,10 @@ def step_of(script, program, seconds, is_timed, before, of=""):
     return Step(name, work, " ".join(command), weight=seconds, lane=lane, alone=is_timed)
 
 
-def tool_step(name, command, seconds):
+def tool_step(name: str, command: list[str], seconds: int) -> Step:
     """The step that runs a command of tools/."""
 
-    def work(step):
+    def work(step: Step) -> str:
         status = step.run(command, limit=STEP_LIMIT)
         last = (end_of(step.log) or ["it printed nothing"])[-1]
         if status != 0:
@@ -222,12 +222,12 @@ def tool_step(name, command, seconds):
     return Step(name, work, " ".join(command), weight=seconds)
 
 
-def cargo_steps():
+def cargo_steps() -> list[Step]:
     """The steps of service/ that run no script, in order."""
-    steps = []
+    steps: list[Step] = []
     for name, command in CARGO_STEPS:
 
-        def work(step, command=command):
+        def work(step: Step, command: list[str] = command) -> str:
             if step.run(command, limit=CARGO_LIMIT) != 0:
                 raise Failed((end_of(step.log) or ["it printed nothing"])[-1])
             counts = [TESTED.match(line) for line in open(step.log, encoding="utf-8")]
@@ -238,7 +238,7 @@ def cargo_steps():
     return steps
 
 
-def service_steps(before):
+def service_steps(before: list[str]) -> list[Step]:
     """The steps that run the service, after the one that builds it."""
     steps = [step_of(it, "", 60, False, []) for it in WITHOUT_PROGRAM]
     for script, words, seconds in SERVICE_STEPS:
@@ -250,7 +250,7 @@ def service_steps(before):
     return steps
 
 
-def show_faults(step):
+def show_faults(step: Step) -> None:
     """What a failed step has said is wrong: at the end, where it is also seen of a long output."""
     with open(step.log, encoding="utf-8") as log:
         faults = [line.rstrip("\n") for line in log if FAULT.match(line)]
@@ -258,22 +258,22 @@ def show_faults(step):
         print(f"{step.name}: {line[:FAULT_WIDTH]}")
 
 
-def clean_revision():
+def clean_revision() -> str:
     """The commit that the tree is, or nothing where it has changes."""
     return "" if said(["git", "status", "--porcelain"]) else said(["git", "rev-parse", "HEAD"])
 
 
-def note_passed(revision):
+def note_passed(revision: str) -> None:
     with open(PASSED, "w", encoding="ascii") as file:
         file.write(f"{revision}\n")
 
 
-def has_networks():
+def has_networks() -> bool:
     ran = subprocess.run([OWN_NETWORK, "true"], cwd=ROOT, stderr=subprocess.DEVNULL)
     return ran.returncode == 0
 
 
-def main(words):
+def main(words: list[str]) -> int:
     if words not in ([], ["--without-prover"]):
         sys.exit("usage: tools/gate.py [--without-prover]")
     prover = Prover()
