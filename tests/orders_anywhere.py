@@ -17,6 +17,8 @@ import subprocess
 import sys
 import tempfile
 import time
+from collections.abc import Callable
+from typing import Any
 
 ROOT = os.path.dirname(os.path.dirname(os.path.abspath(__file__)))
 sys.path.insert(1, f"{ROOT}/demo")
@@ -37,7 +39,7 @@ METRICS = ("slots_owned", "slot_term", "slots_without_owner", "longest_without_o
 class Both:
     """Instances a and b, and the server of their store."""
 
-    def __init__(self, program, folder):
+    def __init__(self, program: str, folder: str) -> None:
         self.program, self.server = program, Server()
         self.server.make()
         self.server.start()
@@ -48,37 +50,42 @@ class Both:
         self.made = self.run("store", "init", self.store, "--slots", str(SLOTS))
         self.all = [self.instance(folder, name) for name in "ab"]
 
-    def instance(self, folder, name):
+    def instance(self, folder: str, name: str) -> Service:
         peer = f"127.0.0.1:{free_port()}"
         return Service(self.program, f"{folder}/{name}", self.sink, "--store", self.store, "--store-copies", "1", "--instance",
                        name, "--peer", peer, "--flush-every", "1h")
 
-    def run(self, *words, at=None):
+    def run(self, *words: str, at: Service | None = None) -> tuple[int, str]:
         """The status of a command, and what it prints; at an instance."""
         place = [] if at is None else ["--data", at.data]
         done = subprocess.run([self.program, *words, *place], capture_output=True, text=True, check=False, timeout=180)
         return done.returncode, done.stdout + done.stderr
 
-    def status(self, at):
+    def status(self, at: Service) -> Any:
         code, text = self.run("status", "--json", at=at)
         return json.loads(text) if code == 0 else {"slots": [], "cluster": {"instances": []}}
 
-    def at_rest(self):
+    def at_rest(self) -> bool:
         """Whether each slot has come to its place."""
         return come_to_rest([self.server], SLOTS, "ab")
 
-    def in_the_end(self, *words, at, is_said=lambda code, text: code == 0):
+    def in_the_end(self, *words: str, at: Service, is_said: Callable[[int, str], object] = lambda code, text: code == 0) -> tuple[int, str]:
         """The same of a command that is given again until it says so: a slot may be on its way to another."""
-        said = []
-        wait_until(lambda: said.append(self.run(*words, at=at)) or is_said(*said[-1]), IN_THE_END)
+        said: list[tuple[int, str]] = []
+
+        def is_done() -> object:
+            said.append(self.run(*words, at=at))
+            return is_said(*said[-1])
+
+        wait_until(is_done, IN_THE_END)
         return said[-1]
 
-    def post(self, at, second, sender="A"):
+    def post(self, at: Service, second: int, sender: str = "A") -> list[int | None]:
         """A point of each process to one instance: the statuses. Where nobody has its slot it is posted again."""
         return [self.post_one(at, self.body(second, number), sender) for number in range(PROCESSES)]
 
     @staticmethod
-    def body(second, number):
+    def body(second: int, number: int) -> bytes:
         end = (int(time.time()) - 40 * 86_400 + second) * 10**9
         point = {"startTimeUnixNano": str(end - 10**9), "timeUnixNano": str(end), "asInt": "1"}
         metric = {"name": "m", "sum": {"aggregationTemporality": DELTA, "isMonotonic": True, "dataPoints": [point]}}
@@ -86,32 +93,36 @@ class Both:
         return json.dumps({"resourceMetrics": [{"resource": resource, "scopeMetrics": [{"metrics": [metric]}]}]}).encode()
 
     @staticmethod
-    def post_one(at, body, sender):
-        said = [503]
-        wait_until(lambda: said.append(ask(at.listen, "POST", "/v1/metrics", body, {"Content-Type": JSON, "x-sender": sender})[0])
-                   or said[-1] != 503, IN_THE_END)
+    def post_one(at: Service, body: bytes, sender: str) -> int | None:
+        said: list[int | None] = [503]
+
+        def is_answered() -> bool:
+            said.append(ask(at.listen, "POST", "/v1/metrics", body, {"Content-Type": JSON, "x-sender": sender})[0])
+            return said[-1] != 503
+
+        wait_until(is_answered, IN_THE_END)
         return said[-1]
 
-    def total(self):
+    def total(self) -> str:
         """What the sink has."""
         words = ("-h", "127.0.0.1", "-p", str(self.server.port), "-U", "postgres", "-d", "metrics", "-XAtqc")
         return self.server.run("psql", *words, "select coalesce(sum(total), 0) from totxegun.totals")
 
-    def close(self):
+    def close(self) -> None:
         for one in self.all:
             one.kill()
         self.server.close()
 
 
-def flushes(checks, both, first, second):
+def flushes(checks: Checks, both: Both, first: Service, second: Service) -> None:
     checks.same("posts to one are taken, wherever their slots are", [200] * PROCESSES, both.post(first, 0))
     code, text = both.in_the_end("flush", at=second)
     checks.true("a flush at the other is of all slots", code == 0 and "requests went into the outbox" in text, text)
     checks.true("the sink has all", wait_until(lambda: both.total() == str(PROCESSES)), both.total())
 
 
-def quarantines(checks, both, first, second):
-    def named():
+def quarantines(checks: Checks, both: Both, first: Service, second: Service) -> None:
+    def named() -> list[Any]:
         return [slot.get("quarantined") for slot in both.status(second)["slots"]]
 
     checks.same("a sender is quarantined at one", 0, both.in_the_end("quarantine", "A", at=first)[0])
@@ -126,8 +137,8 @@ def quarantines(checks, both, first, second):
         checks.true(f"{one.data[-1]} has written down what the other was asked", there, acts)
 
 
-def shows(checks, both, first, second):
-    def seen():
+def shows(checks: Checks, both: Both, first: Service, second: Service) -> None:
+    def seen() -> tuple[set[str], int, list[int]]:
         cluster = both.status(second)["cluster"]
         instances = cluster["instances"]
         return ({one["name"] for one in instances}, sum(one["slots"] for one in instances),
@@ -140,7 +151,7 @@ def shows(checks, both, first, second):
     _, page = ask(first.operate, "GET", "/")
     checks.true("the page has it", b"<h2>Instances</h2>" in page and b"<h2>Slots</h2>" in page, page[-2000:])
 
-    def reported():
+    def reported() -> int:
         return sum(line.startswith("series") for line in ask(second.operate, "GET", "/report")[1].decode().splitlines())
 
     checks.true("a report is of all slots", wait_until(lambda: reported() == PROCESSES), reported())
@@ -149,7 +160,7 @@ def shows(checks, both, first, second):
     checks.same("the metrics of the cluster are there", [], missing)
 
 
-def closes(checks, both, first, second):
+def closes(checks: Checks, both: Both, first: Service, second: Service) -> None:
     month = (datetime.datetime.now(datetime.timezone.utc).replace(day=1) - datetime.timedelta(days=1)).strftime("%Y-%m")
     code, text = both.in_the_end("close", month, at=second, is_said=lambda code, text: "not flushed" in text)
     checks.true("what is not flushed at the other keeps a month open", code != 0 and "not flushed" in text, text)
@@ -159,7 +170,7 @@ def closes(checks, both, first, second):
     checks.same("the sink has all", str(2 * PROCESSES), both.total())
 
 
-def forgets(checks, both, first, second):
+def forgets(checks: Checks, both: Both, first: Service, second: Service) -> None:
     code, text = both.run("forget", "m", at=first)
     checks.true("several are not meant", code != 0 and f"{PROCESSES} series are named so" in text, text)
     for process in range(4):
@@ -170,7 +181,7 @@ def forgets(checks, both, first, second):
     checks.same("another sender has them", [200] * PROCESSES, both.post(first, 20, "B"))
 
 
-def stops(checks, both, first, second):
+def stops(checks: Checks, both: Both, first: Service, second: Service) -> None:
     second.signal(signal.SIGSTOP)
     code, text = both.in_the_end("flush", at=first)
     checks.true("a flush while one stands still is of all slots once they have moved", code == 0, text)
@@ -187,7 +198,7 @@ def stops(checks, both, first, second):
     checks.true("the sink has all", wait_until(lambda: both.total() == str(3 * PROCESSES)), both.total())
 
 
-def main(words):
+def main(words: list[str]) -> int:
     if len(words) != 1:
         sys.exit(__doc__.split("\n\n")[1].strip())
     checks = Checks()

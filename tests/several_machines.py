@@ -40,13 +40,16 @@ import sys
 import tempfile
 import threading
 import time
+from collections.abc import Callable, Iterable, Iterator, Sequence
+from typing import Any
 
 from testing.checks import Checks
 from clock_jumps import HOUR, Clock
-from testing.machines import LED, OWN, Router, may_have_machines
-from testing.servers import LIMIT, Pair, initdb
-from testing.service import OtlpSink, Service, add_points, differences, overlaps, told_to_all, wait_until
-from several_trouble import OfMachines, OfServers, befall
+from testing.database import initdb
+from testing.machines import LED, OWN, Machine, Router, may_have_machines
+from testing.servers import LIMIT, Pair
+from testing.service import Answer, OtlpSink, Point, Service, Value, add_points, differences, overlaps, told_to_all, wait_until
+from several_trouble import OfMachines, OfServers, Trouble, befall
 from store import OfTwoSlots, post_while
 
 
@@ -87,24 +90,11 @@ backend instances
 """
 
 
-class Balancer:
-    """It asks each instance whether it takes posts, and shares them out in turn."""
-
-    def __init__(self, machine, folder, instances):
-        self.host, self.listen, self.machine = machine.address, LISTEN, machine
-        text = HAPROXY.format(address=machine.address, listen=LISTEN, operate=OPERATE)
-        text += "".join(f"    server {one.machine.name} {one.host}:{LISTEN}\n" for one in instances)
-        with open(f"{folder}/haproxy.cfg", "w", encoding="ascii") as file:
-            file.write(text)
-        with open(f"{folder}/haproxy.log", "wb") as log:
-            words = machine.on("haproxy", "-db", "-f", file.name)
-            self.process = subprocess.Popen(words, stdin=subprocess.DEVNULL, stdout=log, stderr=log)
-
-
 class Instance(Service):
     """On a machine of its own; what starts it anew where it has ended stands for its unit."""
 
-    def __init__(self, machine, folder, store, sink, clock, programs, note):
+    def __init__(self, machine: Machine, folder: str, store: Any, sink: Any, clock: Clock, programs: Sequence[str],
+                 note: Callable[[str], object]) -> None:
         options = ["--store", store.address, "--instance", machine.name, "--peer", f"{machine.address}:{PEER}", "--peer-plain"]
         options += ["--flush-every", "1s"]
         super().__init__(programs[0], f"{folder}/{machine.name}", sink.address, *options, host=machine.address, ports=(LISTEN, OPERATE),
@@ -115,13 +105,13 @@ class Instance(Service):
         # One thread starts it for what befell it, and another where it has ended.
         self.starting = threading.Lock()
 
-    def begin(self, chance):
+    def begin(self, chance: random.Random) -> None:
         """In either version."""
         self.words[self.place] = chance.choice(self.programs)
         self.is_wanted = True
         self.go_on()
 
-    def go_on(self):
+    def go_on(self) -> None:
         with self.starting:
             if self.is_wanted and not self.is_running():
                 ended = self.process and self.process.returncode
@@ -129,31 +119,49 @@ class Instance(Service):
                 self.start(self.clock.environment())
                 self.note(f"{self.machine.name} is started, process {self.process.pid}; the one before had status {ended}")
 
-    def leave(self):
+    def leave(self) -> None:
         """From here on nobody starts it until it begins."""
         with self.starting:
             self.is_wanted = False
 
-    def vanish(self, with_folder):
+    def vanish(self, with_folder: bool) -> None:
         self.leave()
         self.kill()
         if with_folder:
             shutil.rmtree(self.data, ignore_errors=True)
 
 
+class Balancer:
+    """It asks each instance whether it takes posts, and shares them out in turn."""
+
+    def __init__(self, machine: Machine, folder: str, instances: Sequence[Instance]) -> None:
+        self.host, self.listen, self.machine = machine.address, LISTEN, machine
+        text = HAPROXY.format(address=machine.address, listen=LISTEN, operate=OPERATE)
+        text += "".join(f"    server {one.machine.name} {one.host}:{LISTEN}\n" for one in instances)
+        with open(f"{folder}/haproxy.cfg", "w", encoding="ascii") as file:
+            file.write(text)
+        with open(f"{folder}/haproxy.log", "wb") as log:
+            words = machine.on("haproxy", "-db", "-f", file.name)
+            self.process = subprocess.Popen(words, stdin=subprocess.DEVNULL, stdout=log, stderr=log)
+
+
+# What a sender posts to.
+Door = Balancer | Instance
+
+
 class OverMachines(OfTwoSlots):
     """Posts to one address; where it stays with an instance that gives no answer, to another one after a while."""
 
-    def __init__(self, doors, number, seed):
+    def __init__(self, doors: Sequence[Door], number: int, seed: str) -> None:
         super().__init__(doors[0], number, seed)
         self.doors, self.refused = doors, 0
         self.choose()
 
-    def choose(self):
-        self.service, self.patience = self.chance.choice(self.doors), self.chance.choice(PATIENCE)
-        self.host = self.service.host
+    def choose(self) -> None:
+        door, self.patience = self.chance.choice(self.doors), self.chance.choice(PATIENCE)
+        self.service, self.host = door, door.host
 
-    def try_once(self, body, headers):
+    def try_once(self, body: bytes, headers: dict[str, str]) -> Answer:
         answer = super().try_once(body, headers)
         self.refused = self.refused + 1 if answer[0] in (None, 503) else 0
         # A repeat comes each 0.2 s.
@@ -164,7 +172,7 @@ class OverMachines(OfTwoSlots):
         return answer
 
 
-def other_version(program, folder):
+def other_version(program: str, folder: str) -> str:
     """A copy that says another version: instances have no other than what each writes of itself."""
     with open(program, "rb") as file:
         text = file.read()
@@ -183,25 +191,26 @@ class PostgresSink:
     SPANS = """select coalesce(json_agg(json_build_array(name, start_ns::text, end_ns::text, value::text, sum, buckets::bigint[])), '[]')
         from totxegun.span join totxegun.series on series.id = span.series"""
 
-    def __init__(self, store):
-        self.store, self.moods = store, []
+    def __init__(self, store: Pair) -> None:
+        self.store = store
+        self.moods: Sequence[str] = []
         self.address = f"postgres://postgres@{LED}/postgres"
 
-    def points(self):
+    def points(self) -> list[Point]:
         return [(name, int(start), int(end), int(value) if buckets is None else (tuple(map(int, buckets)), total))
                 for name, start, end, value, total, buckets in json.loads(self.store.ask(self.SPANS) or "[]")]
 
-    def mood(self, moods):
+    def mood(self, moods: Sequence[str]) -> None:
         """It has none."""
 
-    def wrong(self):
+    def wrong(self) -> list[str]:
         return []
 
-    def close(self):
+    def close(self) -> None:
         pass
 
 
-def kept_folder(keep, name):
+def kept_folder(keep: str | None, name: str) -> str | None:
     """A new one in the folder that is to be kept, where one is."""
     if keep:
         os.makedirs(keep, exist_ok=True)
@@ -212,70 +221,78 @@ def kept_folder(keep, name):
 class World:
     """All machines, and what runs there."""
 
-    def __init__(self, stack, what, arguments, seed, store, machines, sink="otlp"):
+    def __init__(self, stack: contextlib.ExitStack, what: str, arguments: argparse.Namespace, seed: str, store: Callable[..., Any],
+                 machines: Iterable[str], sink: str = "otlp") -> None:
         self.what, self.program, self.has_others = what, arguments.totxegun, False
         self.folder = kept_folder(arguments.keep, sink) or stack.enter_context(tempfile.TemporaryDirectory(prefix="machines-"))
         self.router = Router(stack)
-        self.store = store(*map(self.router.machine, machines))
+        self.store: Any = store(*map(self.router.machine, machines))
         stack.callback(self.store.close)
-        self.sink = OtlpSink(seed, OWN) if sink == "otlp" else PostgresSink(self.store)
+        self.sink: Any = OtlpSink(seed, OWN) if sink == "otlp" else PostgresSink(self.store)
         stack.callback(self.sink.close)
         programs = [self.program, arguments.other or other_version(self.program, self.folder)]
         self.instances = [self.instance(name, ahead, programs) for name, ahead in zip("abc", (0, HOUR, -HOUR))]
         self.balancer = Balancer(self.router.machine("balancer"), self.folder, self.instances)
-        doors = [[self.balancer]] * BALANCED + [self.instances] * (SENDERS - BALANCED)
+        doors: list[Sequence[Door]] = [[self.balancer]] * BALANCED + [self.instances] * (SENDERS - BALANCED)
         self.senders = [OverMachines(these, number, seed) for number, these in enumerate(doors)]
 
-    def instance(self, name, ahead, programs):
+    def instance(self, name: str, ahead: int, programs: Sequence[str]) -> Instance:
         os.mkdir(f"{self.folder}/clock-{name}")
         clock = Clock(f"{self.folder}/clock-{name}")
         clock.set(ahead)
         return Instance(self.router.machine(name), self.folder, self.store, self.sink, clock, programs, self.note)
 
-    def note(self, text):
+    def note(self, text: str) -> None:
         """What was done, and when, for who looks for a cause; the clocks of instances are others."""
         with open(f"{self.folder}/befell.log", "a", encoding="utf-8") as file:
             file.write(f"{datetime.datetime.now(datetime.timezone.utc):%H:%M:%S.%f} {text}\n")
 
-    def keep_logs(self):
+    def keep_logs(self) -> None:
         """What the servers wrote, beside what instances did."""
         for server in self.store.all:
             shutil.copyfile(f"{server.folder}/log", f"{self.folder}/server-{server.machine.name}.log")
 
-    def ask(self, query):
-        return self.store.ask(query)
+    def ask(self, query: str) -> str | None:
+        answer: str | None = self.store.ask(query)
+        return answer
 
-    def points(self):
+    def points(self) -> list[Point]:
         """What the sink has of all that these senders alone have posted."""
         return [point for point in self.sink.points() if not self.has_others or point[0].startswith("sender-")]
 
-    def missing(self):
+    def missing(self) -> list[str]:
         """The series of which the sink has something else than senders were told."""
-        found = {}
+        found: dict[str, Value] = {}
         add_points(found, self.points())
         return differences(told_to_all(self.senders), found)
 
-    def is_ready(self):
+    def is_ready(self) -> bool:
         return all(one.is_ready() for one in self.instances)
 
-    def last_lines(self):
+    def last_lines(self) -> str:
         return "".join(f"\n{one.machine.name}: {one.last_lines(8)}" for one in self.instances)
 
-    def wrote(self):
+    def wrote(self) -> list[str]:
         """Lines that no instance writes."""
-        found = []
+        found: list[str] = []
         for one in self.instances:
             with open(one.log, encoding="utf-8", errors="replace") as file:
                 found += [line.strip() for line in file if any(words in line for words in NEVER)]
         return found[:5]
 
 
-def wait_for(what, seconds=IN_THE_END):
+def wait_for(what: Callable[[], object], seconds: float = IN_THE_END) -> bool:
     """As wait_until, for what takes time to look at."""
-    return wait_until(lambda: what() or time.sleep(0.5), seconds)
+    def is_so() -> object:
+        found = what()
+        if not found:
+            time.sleep(0.5)
+        return found
+
+    return wait_until(is_so, seconds)
 
 
-def compare(checks, world):
+def compare(checks: Checks, world: World) -> None:
     world.sink.mood(["well"])
     checks.true(f"{world.what}: the sink has what senders were told", wait_for(lambda: not world.missing()),
                 [world.missing(), world.last_lines()])
@@ -287,8 +304,8 @@ def compare(checks, world):
     checks.same(f"{world.what}: what no instance writes", [], world.wrote())
 
 
-def phase(checks, world, troubles, seconds):
-    faults = []
+def phase(checks: Checks, world: World, troubles: Sequence[Trouble], seconds: float) -> None:
+    faults: list[str] = []
     world.sink.mood(MOODS)
     answered = post_while(world.senders, lambda: faults.extend(befall(world, troubles, seconds)), IN_THE_END)
     checks.same(f"{world.what}: what befell them was done", [], faults)
@@ -299,7 +316,7 @@ def phase(checks, world, troubles, seconds):
 
 
 @contextlib.contextmanager
-def serving(checks, world, seed):
+def serving(checks: Checks, world: World, seed: str) -> Iterator[bool]:
     """The instances over a new store, as long as they are needed: whether they serve."""
     words = [world.program, "store", "init", world.store.address, "--slots", SLOTS]
     made = subprocess.run(words, capture_output=True, text=True, check=False, timeout=LIMIT)
@@ -323,11 +340,12 @@ def serving(checks, world, seed):
     checks.same(f"{world.what}: all slots are handed over", "", owners)
 
 
-def cut_twice(world):
+def cut_twice(world: World) -> list[int]:
     """How many rules of a way there are while it is cut twice, once, and no more, as where two things befall at a time."""
-    way, counts = (world.instances[0].machine.address, OWN), []
+    way = world.instances[0].machine.address, OWN
+    counts: list[int] = []
 
-    def count():
+    def count() -> None:
         rules = subprocess.run(["ip", "rule"], capture_output=True, text=True, check=True, timeout=LIMIT).stdout
         counts.append(rules.count("blackhole"))
 
@@ -339,7 +357,7 @@ def cut_twice(world):
     return counts
 
 
-def run_over(checks, arguments, stack, sink, seed, seconds):
+def run_over(checks: Checks, arguments: argparse.Namespace, stack: contextlib.ExitStack, sink: str, seed: str, seconds: float) -> None:
     world = World(stack, f"several machines, {sink}", arguments, seed, Pair, "ps", sink)
     if arguments.keep:
         stack.callback(world.keep_logs)
@@ -353,35 +371,36 @@ def run_over(checks, arguments, stack, sink, seed, seconds):
     print("note: " + ", ".join(f"{kind} {count}" for kind, count in sorted(counts.items())), flush=True)
 
 
-def work(checks, arguments, _):
+def work(checks: Checks, arguments: argparse.Namespace, _: object) -> None:
     seeds = itertools.cycle(arguments.seed.split(","))
     for sink, seed in zip(arguments.sink, seeds):
         with contextlib.ExitStack() as of_it:
             run_over(checks, arguments, of_it, sink, seed, arguments.seconds / len(arguments.sink))
 
 
-def missing(*more):
+def missing(*more: str) -> list[str]:
     """Which programs that are needed are not there."""
     programs = ("haproxy", "gcc", "setpriv", *more)
     return [*([] if initdb() else ["postgresql"]), *(program for program in programs if not shutil.which(program)),
             *([] if may_have_machines() else ["network namespaces"])]
 
 
-def options(about, seconds=90):
+def options(about: str, seconds: float = 90) -> argparse.Namespace:
     parser = argparse.ArgumentParser(description=about.split("\n", maxsplit=1)[0])
-    parser.add_argument("totxegun", type=os.path.abspath)
+    parser.add_argument("totxegun", type=lambda word: os.path.abspath(word))
     parser.add_argument("seconds", type=float, nargs="?", default=seconds)
     parser.add_argument("seed", nargs="?", default=SEEDS)
     parser.add_argument("--sink", choices=SINKS, action="append")
     parser.add_argument("--long", action="store_true")
-    parser.add_argument("--other", type=os.path.abspath)
-    parser.add_argument("--keep", type=os.path.abspath)
+    parser.add_argument("--other", type=lambda word: os.path.abspath(word))
+    parser.add_argument("--keep", type=lambda word: os.path.abspath(word))
     arguments = parser.parse_args()
     arguments.sink = arguments.sink or SINKS
     return arguments
 
 
-def run(what, work, arguments, *lacking):
+def run(what: str, work: Callable[[Checks, argparse.Namespace, contextlib.ExitStack], object], arguments: argparse.Namespace,
+        *lacking: str) -> int:
     """Does the work, and ends all that it started, also where it is stopped."""
     checks = Checks()
     if checks.has(what, *lacking):

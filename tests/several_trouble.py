@@ -4,11 +4,15 @@ import random
 import signal
 import threading
 import time
+from collections.abc import Callable, Sequence
+from typing import Any, Protocol
 
-from testing.machines import OWN, both_ways
-from testing.service import wait_until
+from testing.machines import OWN, Machine, Router, Way, both_ways
+from testing.servers import Pair
+from testing.service import Sender, wait_until
 
-SHORT, LONG = [0.5, 1, 2, 4], [1, 2, 5, 10, 20, 40, 60]
+SHORT: list[float] = [0.5, 1, 2, 4]
+LONG: list[float] = [1, 2, 5, 10, 20, 40, 60]
 AWAY = {False: 6, True: 120}
 # Between two troubles.
 POSTS, POST_WITHIN = [0, 10, 50], 5
@@ -19,15 +23,65 @@ CANCEL = "select count(pg_cancel_backend(pid)) from pg_stat_activity where wait_
 TAKEN_WITHIN = 30
 
 
+class OnMachine(Protocol):
+    """What has a machine of its own."""
+
+    machine: Machine
+
+
+class Instance(OnMachine, Protocol):
+    """What trouble has to know of an instance."""
+
+    def begin(self, chance: random.Random) -> None: ...
+
+    def go_on(self) -> None: ...
+
+    def leave(self) -> None: ...
+
+    def vanish(self, with_folder: bool) -> None: ...
+
+    def signal(self, number: int) -> None: ...
+
+    def end(self, seconds: float) -> tuple[int | None, float]: ...
+
+
+class World(Protocol):
+    """And of all machines: which store and which sink they have is the test's."""
+
+    router: Router
+    store: Any
+    sink: Any
+
+    @property
+    def instances(self) -> Sequence[Instance]: ...
+
+    @property
+    def balancer(self) -> OnMachine: ...
+
+    @property
+    def senders(self) -> Sequence[Sender]: ...
+
+    def note(self, text: str) -> None: ...
+
+    def ask(self, query: str) -> str | None: ...
+
+
 class Trouble:
     """Kinds, one after another, each once before one comes again."""
 
-    def __init__(self, world, seed, is_long):
+    def __init__(self, world: World, seed: str, is_long: bool) -> None:
         self.world, self.is_long = world, is_long
         self.chance = random.Random(f"{type(self).__name__} {seed}")
-        self.left, self.done, self.fault, self.silences = [], [], None, []
+        self.left: list[Callable[[], object]] = []
+        self.done: list[str] = []
+        self.fault: str | None = None
+        self.silences: list[str] = []
 
-    def go_on(self, until):
+    def kinds(self) -> list[Callable[[], object]]:
+        """In any order."""
+        raise NotImplementedError
+
+    def go_on(self, until: float) -> None:
         while time.monotonic() < until:
             if not self.left:
                 self.left = self.kinds()
@@ -39,24 +93,31 @@ class Trouble:
             self.world.note(f"{kind.__name__} has ended")
             self.let_post(self.chance.choice(POSTS))
 
-    def let_post(self, count, seconds=POST_WITHIN):
+    def let_post(self, count: int, seconds: float = POST_WITHIN) -> bool:
         """Whether so many posts more were answered within so many seconds."""
-        def posts():
+        def posts() -> int:
             return sum(sender.posts for sender in self.world.senders)
         wanted = posts() + count
-        return wait_until(lambda: posts() >= wanted or time.sleep(0.1), seconds)
 
-    def guarded(self, until):
+        def is_done() -> bool:
+            if posts() >= wanted:
+                return True
+            time.sleep(0.1)
+            return False
+
+        return wait_until(is_done, seconds)
+
+    def guarded(self, until: float) -> None:
         try:
             self.go_on(until)
         except Exception as error:  # noqa: BLE001 A thread's: who waits for it says so.
             self.fault = f"{self.done[-1:]}: {type(error).__name__} {error}"
             self.world.note(self.fault)
 
-    def wait(self):
+    def wait(self) -> None:
         time.sleep(self.chance.choice(LONG if self.is_long else SHORT))
 
-    def cut(self, *ways):
+    def cut(self, *ways: Way) -> None:
         self.world.note(f"cut {ways}")
         with self.world.router.cut(*ways):
             self.wait()
@@ -65,38 +126,38 @@ class Trouble:
 class OfMachines(Trouble):
     """To instances, one at a time or all, and to what goes from one machine to another."""
 
-    def kinds(self):
+    def kinds(self) -> list[Callable[[], object]]:
         return [self.killed, self.all_killed, self.stopped, self.ended, self.zombie, self.without_servers, self.without_each_other,
                 self.without_balancer, self.without_sink, self.one_way]
 
-    def one(self):
+    def one(self) -> Instance:
         one = self.chance.choice(self.world.instances)
         self.world.note(f"{self.done[-1]}: {one.machine.name}")
         return one
 
-    def servers(self):
+    def servers(self) -> list[Machine]:
         return [server.machine for server in self.world.store.all]
 
-    def killed(self):
+    def killed(self) -> None:
         """As a machine that is lost, with its folder."""
         one = self.one()
         one.vanish(with_folder=self.chance.random() < 0.5)
         self.wait()
         one.begin(self.chance)
 
-    def all_killed(self):
+    def all_killed(self) -> None:
         for one in self.world.instances:
             one.vanish(with_folder=False)
         for one in self.world.instances:
             one.begin(self.chance)
 
-    def stopped(self):
+    def stopped(self) -> None:
         one = self.one()
         one.signal(signal.SIGSTOP)
         self.wait()
         one.signal(signal.SIGCONT)
 
-    def ended(self):
+    def ended(self) -> None:
         """It hands its slots over, and is started in either version."""
         one = self.one()
         one.leave()
@@ -104,7 +165,7 @@ class OfMachines(Trouble):
         self.world.note(f"{one.machine.name} has ended with status {status} after {seconds:.1f} s")
         one.begin(self.chance)
 
-    def zombie(self):
+    def zombie(self) -> None:
         """It has sent requests whose answers come while it is stopped."""
         one, usual = self.one(), self.world.sink.moods
         self.world.sink.mood(["late"])
@@ -116,22 +177,22 @@ class OfMachines(Trouble):
         self.wait()
         one.signal(signal.SIGCONT)
 
-    def without_servers(self):
+    def without_servers(self) -> None:
         """Its senders, and the other instances, still have it."""
         servers = self.servers()
         self.cut(*both_ways(self.one().machine, *self.chance.choice([servers, servers[:1], servers[1:]])))
 
-    def without_each_other(self):
+    def without_each_other(self) -> None:
         one, other = self.chance.sample(self.world.instances, 2)
         self.cut(*both_ways(one.machine, other.machine))
 
-    def without_balancer(self):
+    def without_balancer(self) -> None:
         self.cut(*both_ways(self.one().machine, self.world.balancer.machine))
 
-    def without_sink(self):
+    def without_sink(self) -> None:
         self.cut((self.one().machine.address, OWN))
 
-    def one_way(self):
+    def one_way(self) -> None:
         machines = [one.machine for one in self.world.instances]
         one, other = self.chance.choice(machines), self.chance.choice([*machines, self.world.balancer.machine, *self.servers()])
         ways = [(one.address, other.address), (other.address, one.address)]
@@ -141,23 +202,23 @@ class OfMachines(Trouble):
 class OfServers(Trouble):
     """To the servers: at the end of each kind one writes and the other is its synchronous standby."""
 
-    def kinds(self):
+    def kinds(self) -> list[Callable[[], object]]:
         return [self.restarted, self.lost, self.unplugged, self.cut_off, self.cancelled, self.standby_gone, self.apart, self.away]
 
-    def restarted(self):
+    def restarted(self) -> None:
         self.world.store.restart()
 
-    def lost(self):
+    def lost(self) -> None:
         """Its machine comes back as the standby."""
-        store = self.world.store
+        store: Pair = self.world.store
         store.primary.kill()
         store.promote()
         self.wait()
         store.make_standby()
 
-    def unplugged(self):
+    def unplugged(self) -> None:
         """No instance hears of it: it is silent from one moment to another, and the other server has a standby on its machine."""
-        store = self.world.store
+        store: Pair = self.world.store
         with self.world.router.cut(*both_ways(store.primary.machine, *(one.machine for one in self.world.instances))):
             store.primary.kill()
             store.promote()
@@ -165,9 +226,9 @@ class OfServers(Trouble):
             if not self.let_post(1 + len(self.world.senders), ANSWERED_WITHIN):
                 self.silences.append(f"no posts were answered {ANSWERED_WITHIN} s after a server was unplugged")
 
-    def cancelled(self):
+    def cancelled(self) -> None:
         """The standby is away, and who waits for it is told that his commit is done: then the primary is lost with that."""
-        store = self.world.store
+        store: Pair = self.world.store
         with self.world.router.cut(*both_ways(store.primary.machine, store.standby.machine)):
             self.wait()
             for _ in range(3):
@@ -177,9 +238,9 @@ class OfServers(Trouble):
         store.promote()
         store.make_standby()
 
-    def cut_off(self):
+    def cut_off(self) -> None:
         """The old primary lives, and one instance still has it, while the standby takes its place."""
-        store = self.world.store
+        store: Pair = self.world.store
         old, stays = store.primary.machine, self.chance.choice(self.world.instances).machine
         others = [one.machine for one in self.world.instances if one.machine is not stays]
         with self.world.router.cut(*both_ways(old, store.standby.machine, *others)):
@@ -189,19 +250,19 @@ class OfServers(Trouble):
         store.standby.kill()
         store.make_standby()
 
-    def standby_gone(self):
+    def standby_gone(self) -> None:
         standby = self.world.store.standby
         standby.kill()
         self.wait()
         standby.start()
 
-    def apart(self):
-        store = self.world.store
+    def apart(self) -> None:
+        store: Pair = self.world.store
         ways = both_ways(store.primary.machine, store.standby.machine)
         self.cut(*self.chance.choice([ways, ways[:1], ways[1:]]))
 
-    def away(self):
-        store = self.world.store
+    def away(self) -> None:
+        store: Pair = self.world.store
         for server in store.all:
             server.kill()
         time.sleep(AWAY[self.is_long])
@@ -209,7 +270,7 @@ class OfServers(Trouble):
             server.start()
 
 
-def befall(world, troubles, seconds):
+def befall(world: World, troubles: Sequence[Trouble], seconds: float) -> list[str]:
     """For so long, side by side, while instances that have ended are started anew. What went wrong with that itself."""
     until = time.monotonic() + seconds
     threads = [threading.Thread(target=one.guarded, args=(until,), daemon=True) for one in troubles]
