@@ -17,6 +17,7 @@ import subprocess
 import sys
 import tempfile
 import time
+from collections.abc import Sequence
 
 ROOT = os.path.dirname(os.path.dirname(os.path.abspath(__file__)))
 sys.path.insert(1, f"{ROOT}/demo")
@@ -24,7 +25,8 @@ sys.path.insert(1, f"{ROOT}/demo")
 from testing.checks import Checks  # noqa: E402
 from testing.loopback import free_port  # noqa: E402
 from testing.database import initdb  # noqa: E402
-from testing.service import JSON, OUT_OF_ORDER, OtlpSink, Sender, Service, add_points, differences, in_json, overlaps, told_to_all, wait_until  # noqa: E402
+from testing.service import (JSON, OUT_OF_ORDER, OtlpSink, Point, Post, Sender, Service, Value, add_points, differences,  # noqa: E402
+                             in_json, overlaps, told_to_all, wait_until)
 from testing.servers import Server, send  # noqa: E402
 from testing.slots import come_to_rest  # noqa: E402
 
@@ -38,16 +40,18 @@ AT_ONCE = 2
 
 class OfOneSlot(Sender):
     # The points that no 200 was heard of yet, and whether they were posted before.
-    pending = None
+    pending: tuple[Sequence[Point], bool] | None = None
+    # What it was told last.
+    said: bytes
 
-    def encoded(self, points):
+    def encoded(self, points: Sequence[Point]) -> Post:
         [part] = json.loads(in_json(points))["resourceMetrics"]
         part["resource"] = {"attributes": [{"key": "service.instance.id", "value": {"stringValue": self.name}}]}
         return json.dumps({"resourceMetrics": [part]}).encode(), {"Content-Type": JSON, "x-sender": self.name}
 
 
 class Cluster:
-    def __init__(self, program, folder, checks):
+    def __init__(self, program: str, folder: str, checks: Checks) -> None:
         self.program, self.checks, self.sink = program, checks, OtlpSink()
         self.servers = [Server(), Server()]
         for server in self.servers:
@@ -58,16 +62,16 @@ class Cluster:
         self.instances = [self.instance(folder, name) for name in "ab"]
         self.senders = [OfOneSlot(self.instances[number % 2], number) for number in range(SENDERS)]
 
-    def run(self, *words):
+    def run(self, *words: str) -> tuple[int, str]:
         done = subprocess.run([self.program, *words], capture_output=True, text=True, check=False, timeout=60)
         return done.returncode, done.stdout + done.stderr
 
-    def instance(self, folder, name):
+    def instance(self, folder: str, name: str) -> Service:
         stores = [word for address in self.addresses for word in ("--store", address)]
         return Service(self.program, f"{folder}/{name}", self.sink.address, *stores, "--instance", name, "--peer",
                        f"127.0.0.1:{free_port()}", "--flush-every", "1s", *ONE_COPY)
 
-    def refusals(self, folder):
+    def refusals(self, folder: str) -> None:
         for what, addresses, part in (("the databases in another order", self.addresses[::-1], "is database 1 of its store, not 0"),
                                       ("one of two databases", self.addresses[:1], "the store has 2 databases, and 1 are given"),
                                       ("a database twice", [self.addresses[0]] * 2, "is database 0 of its store, not 1")):
@@ -77,9 +81,10 @@ class Cluster:
                                     "x", *ONE_COPY)
             self.checks.true(f"{what} are refused by name", status == 1 and part in text, text)
 
-    def answers(self):
+    def answers(self) -> dict[str, int | None]:
         """What each sender is told at one try: of the post that was not taken last, or of the next."""
-        found, self.longest = {}, 0
+        found: dict[str, int | None] = {}
+        self.longest: float = 0
         for sender in self.senders:
             points, before = sender.pending or (sender.next_points(), False)
             body, headers = sender.encoded(points)
@@ -94,15 +99,15 @@ class Cluster:
             found[sender.name] = status
         return found
 
-    def terms(self, server):
+    def terms(self, server: Server) -> str | None:
         return server.ask("select string_agg(slot || ':' || term || owner, ' ' order by slot) from totxegun_store.slot")
 
-    def named(self, server):
+    def named(self, server: Server) -> list[list[str]]:
         """Of each instance the lines of its status that say that a database does not answer."""
         status = [self.run("status", "--operate", f"unix:{one.socket}")[1] for one in self.instances]
         return [[line for line in text.splitlines() if "get 503" in line and str(server.port) in line] for text in status]
 
-    def down(self, number, how):
+    def down(self, number: int, how: str) -> set[str]:
         """Senders whose posts get 503 while a database does not answer."""
         server, other = self.servers[number], self.servers[1 - number]
         before = self.terms(server), self.terms(other)
@@ -113,8 +118,14 @@ class Cluster:
         else:
             server.kill()
         began, what = time.monotonic(), f"while database {number} is {how}"
-        is_named = wait_until(lambda: all(self.named(server)) or time.sleep(0.5))
-        self.checks.true(f"{what} `status` of both names it", is_named, self.named(server))
+
+        def is_named() -> bool:
+            if all(self.named(server)):
+                return True
+            time.sleep(0.5)
+            return False
+
+        self.checks.true(f"{what} `status` of both names it", wait_until(is_named), self.named(server))
         all_found = [(self.answers(), self.longest) for _ in range(3)]
         refused = {name for name, status in all_found[0][0].items() if status != 200}
         self.checks.true(f"{what} some posts get 503, and others are taken", 0 < len(refused) < SENDERS, all_found)
@@ -138,9 +149,9 @@ class Cluster:
         self.checks.same(f"after database {number} was {how} its slots are where they were", before[0], self.terms(server))
         return refused
 
-    def compare(self):
-        def missing():
-            found = {}
+    def compare(self) -> None:
+        def missing() -> list[str]:
+            found: dict[str, Value] = {}
             add_points(found, self.sink.points())
             return differences(told_to_all(self.senders), found)
 
@@ -149,7 +160,7 @@ class Cluster:
         self.checks.same("nothing counts twice", [], overlaps(self.sink.points()))
         self.checks.same("no faults", [], [fault for one in self.instances for fault in one.faults()])
 
-    def close(self):
+    def close(self) -> None:
         for one in self.instances:
             one.kill()
         for server in self.servers:
@@ -157,7 +168,7 @@ class Cluster:
         self.sink.close()
 
 
-def main(words):
+def main(words: list[str]) -> int:
     if len(words) != 1:
         sys.exit(__doc__.split("\n\n")[1].strip())
     checks = Checks()

@@ -30,6 +30,8 @@ import tarfile
 import tempfile
 import threading
 import time
+from collections.abc import Iterable, Iterator, Mapping, Sequence
+from typing import Any
 
 ROOT = os.path.dirname(os.path.dirname(os.path.abspath(__file__)))
 sys.path.insert(1, f"{ROOT}/demo")
@@ -37,8 +39,8 @@ sys.path.insert(1, f"{ROOT}/demo")
 from testing.checks import Checks  # noqa: E402
 from testing.loopback import free_port  # noqa: E402
 from testing.database import initdb  # noqa: E402
-from testing.service import (JSON, PROTOBUF, OtlpSink, Sender, Service, add_points, ask, differences, field, fixed, in_json,  # noqa: E402
-                     in_protobuf, overlaps, told_to_all, wait_until)
+from testing.service import (JSON, PROTOBUF, OtlpSink, Point, Post, Sender, Service, Value, add_points, differences, field,  # noqa: E402
+                             fixed, in_json, in_protobuf, overlaps, told_to_all, wait_until)
 from service_interrupted import THREE_SLOTS, build  # noqa: E402
 from testing.servers import Server  # noqa: E402
 
@@ -50,29 +52,37 @@ CUMULATIVE = 2
 NUMBERS = itertools.count(1)
 # What a copy of a folder does not have.
 LEFT = shutil.ignore_patterns("lock", "operate")
+# At which request a move is killed, and whether before the server has it or after it.
+Kill = tuple[int, str]
+# The name of a way to kill a move, and the way: at a request, or, by what is added to its environment, at a call.
+Way = tuple[str, Kill | None, dict[str, str] | None]
+# Who sent a point, its series' name, its span, what it says, and of which run it is.
+Said = tuple[str, str, int, int, str, str]
 
 
 class OfSlots(Sender):
     """Its sums and its histograms have a resource each, in both encodings."""
 
-    def encoded(self, points):
+    service: Service
+
+    def encoded(self, points: Sequence[Point]) -> Post:
         is_json = self.chance.random() < 0.5
         parts = [self.resource(kind, [point for point in points if f".{kind}." in point[0]], is_json)
                  for kind in ("sum", "histogram")]
         body = json.dumps({"resourceMetrics": parts}).encode() if is_json else b"".join(parts)
         return body, {"Content-Type": JSON if is_json else PROTOBUF, "x-sender": self.name}
 
-    def resource(self, kind, points, is_json):
+    def resource(self, kind: str, points: Sequence[Point], is_json: bool) -> Any:
         name = f"{self.name}.{kind}"
         if is_json:
             [part] = json.loads(in_json(points))["resourceMetrics"]
-            attribute = {"key": "service.instance.id", "value": {"stringValue": name}}
-            return {"resource": {"attributes": [attribute]}, **part}
+            attributes = [{"key": "service.instance.id", "value": {"stringValue": name}}]
+            return {"resource": {"attributes": attributes}, **part}
         attribute = field(1, field(1, b"service.instance.id") + field(2, field(1, name.encode())))
         return field(1, field(1, attribute) + scopes(in_protobuf(points)))
 
 
-def scopes(request):
+def scopes(request: bytes) -> bytes:
     """What is in the one message of a short request."""
     at = 1
     while request[at] > 127:
@@ -83,19 +93,21 @@ def scopes(request):
 class Running(Sender):
     """It posts how much it has come to since its start."""
 
-    def __init__(self, service, number):
+    service: Service
+
+    def __init__(self, service: Service, number: int) -> None:
         super().__init__(service, number)
         self.name = f"running-{number}"
         self.begun = self.at = time.time_ns()
         self.value = 0
 
-    def next_points(self):
+    def next_points(self) -> list[Point]:
         self.at = max(self.at + 1000, time.time_ns())
         add = self.chance.randrange(1, 100)
         self.value += add
         return [(f"{self.name}.total", self.begun, self.at, add)]
 
-    def encoded(self, points):
+    def encoded(self, points: Sequence[Point]) -> Post:
         [(name, start, end, _)] = points
         point = fixed(2, "<Q", start) + fixed(3, "<Q", end) + fixed(6, "<q", self.value)
         data = field(7, field(1, point) + field(2, CUMULATIVE) + field(3, 1))
@@ -104,10 +116,10 @@ class Running(Sender):
         return request, {"Content-Type": PROTOBUF, "x-sender": self.name}
 
 
-def post_all(senders, times=1):
+def post_all(senders: Iterable[OfSlots | Running], times: int = 1) -> None:
     for _ in range(times):
         for sender in senders:
-            def between(sender=sender):
+            def between(sender: OfSlots | Running = sender) -> None:
                 if not sender.service.is_running():
                     raise Failed(f"it has ended: {sender.service.last_lines()}")
             sender.post(sender.next_points(), between)
@@ -116,12 +128,13 @@ def post_all(senders, times=1):
 class Filled:
     """A folder with all that there can be."""
 
-    def __init__(self, program, folder, checks):
+    def __init__(self, program: str, folder: str, checks: Checks) -> None:
         self.sink, self.data = OtlpSink(), f"{folder}/filled"
         service = Service(program, self.data, self.sink.address, "--flush-every", "1h", "--cumulative", "on")
         service.start()
         checks.true("a service fills a folder", service.wait_ready(), service.last_lines())
-        self.senders = [OfSlots(service, number) for number in range(SENDERS)] + [Running(service, number) for number in range(2)]
+        self.senders: list[OfSlots | Running] = [OfSlots(service, number) for number in range(SENDERS)]
+        self.senders += [Running(service, number) for number in range(2)]
         post_all(self.senders, 3)
         service.order("/flush")
         wait_until(service.is_drained)
@@ -146,7 +159,7 @@ class Filled:
         service.kill()
         self.sink.mood(["well"])
 
-    def go_on(self, checks, what, instance):
+    def go_on(self, checks: Checks, what: str, instance: Service) -> None:
         """A service over what was moved: nothing is missing, and nothing twice."""
         instance.start()
         checks.true(f"{what}: it serves", instance.wait_ready(), instance.last_lines())
@@ -158,11 +171,12 @@ class Filled:
         checks.same(f"{what}: a quarantined sender stays so", 403, self.held.try_once(body, headers)[0])
         post_all([sender for sender in self.senders if sender is not self.held], 2)
 
-    def compare(self, checks, what, instance, held_too):
+    def compare(self, checks: Checks, what: str, instance: Service, held_too: bool) -> None:
         instance.order("/flush")
 
-        def missing():
-            found, told = {}, told_to_all(self.senders)
+        def missing() -> list[str]:
+            found: dict[str, Value] = {}
+            told = told_to_all(self.senders)
             add_points(found, self.sink.points())
             if not held_too:
                 told = {name: value for name, value in told.items() if not name.startswith(f"{self.held.name}.")}
@@ -180,13 +194,13 @@ class Filled:
 # What is there
 
 
-def run(program, *words, environment=None, seconds=120):
+def run(program: str, *words: str, environment: Mapping[str, str] | None = None, seconds: float = 120) -> tuple[int, str]:
     done = subprocess.run([program, *words], capture_output=True, text=True, check=False, timeout=seconds,
                           env=dict(os.environ, **environment or {}))
     return done.returncode, done.stdout + done.stderr
 
 
-def content(program, data):
+def content(program: str, data: str) -> Any:
     """What `check` says of a folder, less what hangs on how it is kept."""
     status, text = run(program, "check", data, "--json")
     if status:
@@ -198,7 +212,7 @@ def content(program, data):
             "points": points}
 
 
-def points_of(line):
+def points_of(line: Any) -> Iterator[Said]:
     """Of each point of a post who sent it, its series' name, its span and what it says."""
     for resource in line.get("body", {}).get("resourceMetrics", ()):
         for scope in resource["scopeMetrics"]:
@@ -220,39 +234,40 @@ class Counting:
     """Passes what a program asks of a server on, counts the requests, and ends the program at one of them: before the server has
     it, or once the server has done it."""
 
-    def __init__(self, port):
+    def __init__(self, port: int) -> None:
         self.to, self.at, self.way = port, 0, "before"
-        self.lock, self.count, self.process = threading.Lock(), 0, None
+        self.lock, self.count = threading.Lock(), 0
+        self.process: subprocess.Popen[str] = None
         self.listener = socket.create_server(("127.0.0.1", 0))
         self.port = self.listener.getsockname()[1]
         threading.Thread(target=self.accept, daemon=True).start()
 
-    def accept(self):
+    def accept(self) -> None:
         with contextlib.suppress(OSError):
             while True:
                 client, _ = self.listener.accept()
                 server = socket.create_connection(("127.0.0.1", self.to))
                 threading.Thread(target=self.up, args=(client, server), daemon=True).start()
 
-    def begin(self, process, at, way):
+    def begin(self, process: subprocess.Popen[str], at: int, way: str) -> None:
         with self.lock:
             self.process, self.at, self.way, self.count = process, at, way, 0
 
-    def end(self):
+    def end(self) -> int:
         with self.lock:
             self.at = 0
             return self.count
 
-    def is_due(self):
+    def is_due(self) -> bool:
         with self.lock:
             self.count += 1
             return self.count == self.at
 
-    def kill(self):
+    def kill(self) -> None:
         with contextlib.suppress(ProcessLookupError):
             os.kill(self.process.pid, signal.SIGKILL)
 
-    def up(self, client, server):
+    def up(self, client: socket.socket, server: socket.socket) -> None:
         held = threading.Event()
         threading.Thread(target=self.down, args=(server, client, held), daemon=True).start()
         try:
@@ -275,18 +290,18 @@ class Counting:
                     one.shutdown(socket.SHUT_RDWR)
 
     @staticmethod
-    def down(server, client, held):
+    def down(server: socket.socket, client: socket.socket, held: threading.Event) -> None:
         with contextlib.suppress(OSError):
             while piece := server.recv(1 << 16):
                 if held.is_set():
                     continue
                 client.sendall(piece)
 
-    def close(self):
+    def close(self) -> None:
         self.listener.close()
 
 
-def exactly(source, length):
+def exactly(source: socket.socket, length: int) -> bytes:
     found = b""
     while len(found) < length:
         piece = source.recv(length - len(found))
@@ -303,15 +318,15 @@ class Failed(Exception):
 class Moves:
     """Moves of copies of a folder, each with a database of its own."""
 
-    def __init__(self, program, server, folder, base, checks):
+    def __init__(self, program: str, server: Server, folder: str, base: str, checks: Checks) -> None:
         self.program, self.server, self.folder, self.base, self.checks = program, server, folder, base, checks
         self.library = build(folder)
         self.wanted = content(program, base)
 
-    def address(self, name, port=None):
+    def address(self, name: str, port: int | None = None) -> str:
         return f"postgres://postgres@127.0.0.1:{port or self.server.port}/{name}"
 
-    def database(self):
+    def database(self) -> str:
         name = f"m{next(NUMBERS)}"
         self.server.ask(f"create database {name}")
         status, text = run(self.program, "store", "init", self.address(name), "--slots", SLOTS)
@@ -319,7 +334,8 @@ class Moves:
             raise Failed(text)
         return name
 
-    def move(self, words, proxy=None, kill=(0, "before"), environment=None):
+    def move(self, words: Sequence[str], proxy: Counting | None = None, kill: Kill = (0, "before"),
+             environment: Mapping[str, str] | None = None) -> tuple[int, str, int]:
         """A move that may be killed: its status and text, and how many requests it made."""
         with subprocess.Popen([self.program, "store", "move", *words, *ONE_COPY], stdout=subprocess.PIPE, stderr=subprocess.STDOUT,
                               text=True, env=dict(os.environ, **environment or {})) as process:
@@ -331,7 +347,7 @@ class Moves:
                 process.kill()
         return process.returncode, text, proxy.end() if proxy else 0
 
-    def look(self, address, folder):
+    def look(self, address: str, folder: str) -> None:
         """Exactly one counts of those that are told of a move; and no service starts on the other."""
         status, text = run(self.program, "store", "check", address)
         if status:
@@ -347,14 +363,14 @@ class Moves:
         if self.starts_on("--data", folder) or self.starts_on("--data", f"{folder}.x", "--store", address) != starts:
             raise Failed(f"a service starts on the wrong one: {text} {found['counts']} {found['moved']}")
 
-    def starts_on(self, *words):
+    def starts_on(self, *place: str) -> bool:
         """Whether a service would start there."""
-        words = [*words, "--sink", "http://127.0.0.1:1/", "--listen", f"127.0.0.1:{free_port()}", "--operate", f"127.0.0.1:{free_port()}"]
+        words = [*place, "--sink", "http://127.0.0.1:1/", "--listen", f"127.0.0.1:{free_port()}", "--operate", f"127.0.0.1:{free_port()}"]
         if "--store" in words:
             words += ["--instance", "x", "--peer", f"127.0.0.1:{free_port()}", *ONE_COPY]
         with tempfile.TemporaryFile("w+") as log, subprocess.Popen([self.program, "serve", *words], stdout=log, stderr=log) as process:
             try:
-                def said():
+                def said() -> str:
                     log.seek(0)
                     return log.read()
 
@@ -368,7 +384,7 @@ class Moves:
             return "deliver" in text
         raise Failed(f"it did not start, and did not say why: {text}")
 
-    def one(self, direction, kill=None, calls=None):
+    def one(self, direction: str, kill: Kill | None = None, calls: Mapping[str, str] | None = None) -> tuple[int, int]:
         """A move that is killed and called again; how many requests and calls it made."""
         place, proxy = tempfile.mkdtemp(dir=self.folder), Counting(self.server.port)
         folder, other, log = (f"{place}/{name}" for name in ("data", "other", "calls"))
@@ -407,18 +423,18 @@ class Moves:
         shutil.rmtree(place)
         return requests, made
 
-    def kills(self, direction, kills, chance):
+    def kills(self, direction: str, kills: int, chance: random.Random) -> None:
         try:
             requests, calls = self.one(direction)
         except Failed as failed:
             return self.checks.true(f"{direction}: it is moved", False, failed)
         self.checks.true(f"{direction}: it is moved, by {requests} requests and {calls} calls on files", True, "")
-        ways = [(f"{way} request {at}", (at, way), None) for at in range(1, requests + 1) for way in ("before", "after")]
+        ways: list[Way] = [(f"{way} request {at}", (at, way), None) for at in range(1, requests + 1) for way in ("before", "after")]
         ways += [(f"{way} call {at}", None, {"INTERRUPT_AT": str(at), "INTERRUPT_HOW": way}) for at in range(1, calls + 1)
                  for way in ("before", "middle", "behind", "ENOSPC")]
         ways = chance.sample(ways, min(kills, len(ways)))
 
-        def try_one(way):
+        def try_one(way: Way) -> str | None:
             try:
                 self.one(direction, *way[1:])
                 return None
@@ -432,7 +448,7 @@ class Moves:
         return self.checks.same(f"{direction}: {len(ways)} times it was killed, and then went on", [], faults[:5])
 
 
-def difference(wanted, found):
+def difference(wanted: Any, found: Any) -> str | dict[str, Any]:
     if not isinstance(found, dict) or not isinstance(wanted, dict):
         return f"{wanted} {found}"
     return {name: (wanted[name], found[name]) for name in wanted if wanted[name] != found[name]}
@@ -441,7 +457,7 @@ def difference(wanted, found):
 # --------------------------------------------------------------------------------------------------------------------
 
 
-def go_there_and_back(checks, program, moves, filled, folder):
+def go_there_and_back(checks: Checks, program: str, moves: Moves, filled: Filled, folder: str) -> None:
     """Services go on over the store, and then over the folder that it was moved back to."""
     data, other = f"{folder}/data", f"{folder}/other"
     shutil.copytree(filled.data, data, ignore=LEFT)
@@ -490,7 +506,7 @@ def go_there_and_back(checks, program, moves, filled, folder):
     checks.same("it ends", 0, again.end()[0])
 
 
-def try_giving_up(checks, program, moves):
+def try_giving_up(checks: Checks, program: str, moves: Moves) -> None:
     place = tempfile.mkdtemp(dir=moves.folder)
     folder, name = f"{place}/data", moves.database()
     shutil.copytree(moves.base, folder, ignore=LEFT)
@@ -512,7 +528,7 @@ def try_giving_up(checks, program, moves):
     checks.true("it is used: no folder is moved into it", status == 1 and "something already" in text, text)
 
 
-def old_folder(checks, moves):
+def old_folder(checks: Checks, moves: Moves) -> None:
     """What the three slots of 0.5.0 had is there, whichever way it went."""
     try:
         moves.one("into")
@@ -521,7 +537,7 @@ def old_folder(checks, moves):
         checks.true("a folder of 0.5.0 with three slots is moved, and back", False, failed)
 
 
-def main(words):
+def main(words: list[str]) -> int:
     if not 1 <= len(words) <= 3:
         sys.exit(__doc__.split("\n\n")[1].strip())
     program, (kills, seed) = os.path.abspath(words[0]), words[1:] + ["60", "1"][len(words) - 1:]
@@ -538,7 +554,7 @@ def main(words):
             go_there_and_back(checks, program, moves, filled, folder)
             try_giving_up(checks, program, moves)
             with tarfile.open(THREE_SLOTS) as archive:
-                archive.extractall(f"{folder}/three", filter="data")
+                archive.extractall(f"{folder}/three", filter="data")  # type: ignore[call-arg]
             old_folder(checks, Moves(program, server, folder, f"{folder}/three", checks))
             for direction in ("into", "back"):
                 moves.kills(direction, int(kills), chance)

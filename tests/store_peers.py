@@ -18,6 +18,7 @@ import subprocess
 import sys
 import tempfile
 import time
+from typing import Any
 
 ROOT = os.path.dirname(os.path.dirname(os.path.abspath(__file__)))
 sys.path.insert(1, f"{ROOT}/demo")
@@ -31,66 +32,76 @@ from testing.slots import IN_THE_END, come_to_rest, places  # noqa: E402
 
 SLOTS = 8
 SECOND = 1_000_000_000
+# The status and the text of an answer, or (None, "").
+Said = tuple[int | None, str]
 
 
 class Store:
     """One server, which is said to be enough."""
 
-    def __init__(self):
+    def __init__(self) -> None:
         self.server = Server()
         self.server.make()
         self.server.start()
         self.address = f"postgres://postgres@127.0.0.1:{self.server.port}/postgres"
 
-    def ask(self, query):
+    def ask(self, query: str) -> str | None:
         return self.server.ask(query)
 
-    def term(self, slot):
+    def term(self, slot: int) -> int:
         return int(self.ask(f"select term from totxegun_store.slot where slot = {slot}"))
 
-    def owners(self):
+    def owners(self) -> list[str]:
         return (self.ask("select string_agg(owner, ',' order by slot) from totxegun_store.slot") or "").split(",")
 
 
 class Instance(Service):
     """One over the store, under a name."""
 
-    def __init__(self, program, folder, name, store, sink, *words):
+    def __init__(self, program: str, folder: str, name: str, store: Store, sink: str, *words: str) -> None:
         self.name, self.peer = name, f"localhost:{free_port()}"
         super().__init__(program, f"{folder}/{name}", sink, "--store", store.address, "--store-copies", "1", "--instance", name,
                          "--peer", self.peer, "--flush-every", "1s", *words)
 
-    def post(self, resource, value, name="a", unit="1", sender="s"):
+    def post(self, resource: str, value: int | float, name: str = "a", unit: str = "1", sender: str = "s") -> Said:
         """The status and the text of an answer, or None."""
         return post(self.listen, request(resource, value, name, unit), sender)
 
-    def posted(self, body):
+    def posted(self, body: str) -> Said:
         """The same once somebody has its slot."""
-        said = []
-        wait_until(lambda: said.append(post(self.listen, body)) or said[-1][0] != 503, IN_THE_END)
+        said: list[Said] = []
+
+        def is_heard() -> bool:
+            said.append(post(self.listen, body))
+            return said[-1][0] != 503
+
+        wait_until(is_heard, IN_THE_END)
         return said[-1]
 
-    def slots(self):
+    def slots(self) -> list[int]:
         answer = self.asked("GET", "/status")
         return [slot["slot"] for slot in json.loads(answer[1])["slots"]] if answer and answer[0] == 200 else []
 
 
-LAST = {}
+LAST: dict[tuple[str, str], int] = {}
 
 
-def request(resource, value, name="a", unit="1"):
+def request(resource: str, value: int | float, name: str = "a", unit: str = "1") -> str:
     """A point that goes on where the last one of this series ended."""
     key = (resource, name)
     start = LAST.get(key, int(time.time()) * SECOND - 100 * SECOND)
     LAST[key] = start + SECOND // 100
-    point = {"startTimeUnixNano": str(start), "timeUnixNano": str(LAST[key])}
-    point |= {"asDouble": value} if isinstance(value, float) else {"asInt": str(value)}
+    point: dict[str, Any] = {"startTimeUnixNano": str(start), "timeUnixNano": str(LAST[key])}
+    if isinstance(value, float):
+        point["asDouble"] = value
+    else:
+        point["asInt"] = str(value)
     metric = {"name": name, "unit": unit, "sum": {"aggregationTemporality": DELTA, "isMonotonic": True, "dataPoints": [point]}}
     attributes = [{"key": "service.instance.id", "value": {"stringValue": resource}}]
     return json.dumps({"resourceMetrics": [{"resource": {"attributes": attributes}, "scopeMetrics": [{"metrics": [metric]}]}]})
 
 
-def post(port, body, sender="s"):
+def post(port: int, body: str, sender: str = "s") -> Said:
     connection = http.client.HTTPConnection("127.0.0.1", port, timeout=60)
     try:
         connection.request("POST", "/v1/metrics", body, {"Content-Type": JSON, "x-sender": sender})
@@ -102,11 +113,11 @@ def post(port, body, sender="s"):
         connection.close()
 
 
-def openssl(folder, line):
+def openssl(folder: str, line: str) -> None:
     subprocess.run(["openssl", *line.split()], cwd=folder, check=True, capture_output=True)
 
 
-def certificates(folder):
+def certificates(folder: str) -> None:
     """`ca` with `a` and `b` of it for localhost, and `x` of `strange`."""
     new = "-x509 -newkey ec -pkeyopt ec_paramgen_curve:prime256v1 -nodes -days 2"
     for name in ("ca", "strange"):
@@ -116,21 +127,21 @@ def certificates(folder):
                         " -addext basicConstraints=CA:FALSE -addext subjectAltName=DNS:localhost")
 
 
-def of_tls(folder, name, by="ca"):
+def of_tls(folder: str, name: str, by: str = "ca") -> list[str]:
     return ["--peer-ca", f"{folder}/{by}.pem", "--peer-cert", f"{folder}/{name}.pem", "--peer-key", f"{folder}/{name}.key"]
 
 
-def settled(store, *names):
+def settled(store: Store, *names: str) -> bool:
     """Each slot is at its place among these."""
     return come_to_rest([store.server], SLOTS, names)
 
 
-def ended(checks, what, *instances):
+def ended(checks: Checks, what: str, *instances: Instance) -> None:
     for one in instances:
         checks.same(f"{what}: {one.name} ends", 0, one.end()[0])
 
 
-def try_refused(checks, program, folder, store, sink):
+def try_refused(checks: Checks, program: str, folder: str, store: Store, sink: OtlpSink) -> None:
     """Starts that end at once, each with what to do."""
     words = ["serve", "--data", f"{folder}/r", "--store", store.address, "--store-copies", "1", "--instance", "r", "--listen",
              f"127.0.0.1:{free_port()}", "--operate", f"127.0.0.1:{free_port()}", "--sink", sink.address]
@@ -151,7 +162,7 @@ def try_refused(checks, program, folder, store, sink):
         checks.true(f"{what} is refused by name", done.returncode == status and part in text, f"{done.returncode}: {text}")
 
 
-def try_tls(checks, program, folder, store, sink):
+def try_tls(checks: Checks, program: str, folder: str, store: Store, sink: OtlpSink) -> None:
     """Two talk; a third with a stranger's certificate, and who speaks plainly, are told nothing."""
     one, other = (Instance(program, folder, name, store, sink.address, *of_tls(folder, name)) for name in "ab")
     for instance in (one, other):
@@ -174,7 +185,7 @@ def try_tls(checks, program, folder, store, sink):
     ended(checks, "over TLS", one, other)
 
 
-def try_no_store(checks, program, folder, store, sink):
+def try_no_store(checks: Checks, program: str, folder: str, store: Store, sink: OtlpSink) -> None:
     """A start waits for the store, and a running instance says no at once."""
     store.server.kill()
     one = Instance(program, folder, "a", store, sink.address)
@@ -202,14 +213,14 @@ def try_no_store(checks, program, folder, store, sink):
     ended(checks, "after the store was away", one)
 
 
-def refusing(instance, slot):
+def refusing(instance: Instance, slot: int) -> set[str]:
     """Those that an instance's status says can't open a slot."""
     status = instance.status() or {"cluster": {"instances": []}}
     words = f"it can't open slot {slot}:"
     return {one["name"] for one in status["cluster"]["instances"] if (one["trouble"] or "").startswith(words)}
 
 
-def try_broken_slot(checks, program, folder, store, sink):
+def try_broken_slot(checks: Checks, program: str, folder: str, store: Store, sink: OtlpSink) -> None:
     """The book of one instance has no room for what a slot has."""
     one = Instance(program, folder, "a", store, sink.address)
     one.start()
@@ -231,9 +242,12 @@ def try_broken_slot(checks, program, folder, store, sink):
                 [store.ask("select * from totxegun_store.instance"), one.last_lines(), other.last_lines()])
     checks.true("the others are served", wait_until(lambda: store.owners().count("") == 1
                                                     and {"a", "b"} <= set(store.owners()), IN_THE_END), store.owners())
+
+    def shows(instance: Instance) -> bool:
+        return wait_until(lambda: refusing(instance, slot) == {"a", "b"}, IN_THE_END)
+
     for instance in (one, other):
-        checks.true(f"{instance.name} shows that both can't open it", wait_until(lambda at=instance: refusing(at, slot) == {"a", "b"},
-                                                                                IN_THE_END), instance.status())
+        checks.true(f"{instance.name} shows that both can't open it", shows(instance), instance.status())
     term, begun = store.term(slot), time.monotonic()
     time.sleep(5)
     most = 3 + (time.monotonic() - begun) / 5
@@ -246,11 +260,11 @@ def try_broken_slot(checks, program, folder, store, sink):
     ended(checks, "after a slot was mended", one, other)
 
 
-def series(instance):
+def series(instance: Instance) -> dict[int, int]:
     """Of each slot how many series it has, once all say so."""
-    said = []
+    said: list[dict[int, int]] = []
 
-    def is_whole():
+    def is_whole() -> bool:
         slots = (instance.status() or {"slots": []})["slots"]
         said.append({slot["slot"]: slot["series"] for slot in slots if "unknown" not in slot})
         return len(said[-1]) == SLOTS
@@ -259,12 +273,13 @@ def series(instance):
     return said[-1]
 
 
-def slot_of(instance, resource):
+def slot_of(instance: Instance, resource: str) -> int:
     """The slot that a new resource is in: it has one series more."""
-    before, found = series(instance), []
+    before = series(instance)
+    found: list[int] = []
     instance.posted(request(resource, 1, "probe"))
 
-    def is_seen():
+    def is_seen() -> bool:
         now = series(instance)
         found[:] = [slot for slot in now if now[slot] > before.get(slot, now[slot])]
         return len(found) == 1
@@ -273,7 +288,7 @@ def slot_of(instance, resource):
     return found[0]
 
 
-def try_units(checks, program, folder, store, sink):
+def try_units(checks: Checks, program: str, folder: str, store: Store, sink: OtlpSink) -> None:
     """What was decided at one instance is so at the next: else its series would be another, and a repeat would count twice."""
     one, other = (Instance(program, folder, name, store, sink.address) for name in "ab")
     for instance in (one, other):
@@ -295,14 +310,14 @@ def try_units(checks, program, folder, store, sink):
     ended(checks, "units", other)
 
 
-def try_sink(checks, program, folder, store, sink):
+def try_sink(checks: Checks, program: str, folder: str, store: Store, sink: OtlpSink) -> None:
     """The store remembers the sink, and another is taken while nobody else runs."""
     second = OtlpSink(2)
     one, other = (Instance(program, folder, name, store, sink.address) for name in "ab")
     try:
         one.start()
         checks.true("one has all", settled(store, "a") and one.wait_ready(), one.last_lines())
-        for words, part in (([], "--new-sink"), (["--new-sink"], "stop all first")):
+        for words, part in (((), "--new-sink"), (("--new-sink",), "stop all first")):
             wrong = Instance(program, folder, "b", store, second.address, *words)
             wrong.start()
             checks.true("another sink is refused by name", wait_until(lambda: not wrong.is_running(), 90)
@@ -319,7 +334,7 @@ def try_sink(checks, program, folder, store, sink):
         second.close()
 
 
-def main(words):
+def main(words: list[str]) -> int:
     if len(words) != 1:
         sys.exit(__doc__.split("\n\n")[1].strip())
     program = os.path.abspath(words[0])
