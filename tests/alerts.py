@@ -43,9 +43,11 @@ DISK = 2 << 30
 # What a file of the test takes of the disk, and what is left when the alert fires.
 FILL, NEARLY_FULL = 96 << 20, 48 << 20
 SERIES = 20
-# The alert on series fires over so many of them; one book takes 10,000: these have no room beside any other.
-MOST_SERIES, TAKES = 1_000, 10_000
-TOO_MANY = in_json([(f"more.{number}", 10, 20, 1) for number in range(TAKES)])
+# The alert on series fires over so many of them. One sender may have nine tenths of these beside others, and one book takes
+# 10,000: so those of the last of these senders have no room.
+MOST_SERIES, MANY_SENDERS = 1_000, 12
+TOO_MANY = [in_json([(f"more.{sender}.{number}", 10, 20, 1) for number in range(MOST_SERIES * 9 // 10)])
+            for sender in range(MANY_SENDERS)]
 RAISE = "update totxegun_store.slot set term = term + 9 where slot = 1"
 # Points a second that a sender may post, and of one post.
 POINTS, MUCH = 100, 3_000
@@ -122,6 +124,8 @@ class Causes:
     def __init__(self, checks: Checks, prometheus: Prometheus, service: Service, sink: Sink | None = None) -> None:
         self.checks, self.prometheus, self.service, self.sink = checks, prometheus, service, sink
         self.time = time.time_ns() - 10**15
+        # How many senders have as many series as each may have.
+        self.has_many = 0
 
     def post(self, sender: str = "A", value: int = 1, names: Sequence[str] = ("a",), start: int | None = None) -> int | None:
         start = start or self.time
@@ -196,14 +200,18 @@ class Causes:
         self.service.order("/flush")
 
     def forget(self) -> None:
-        """Series that nobody has posted to for a second are forgotten once a post finds no room for its own."""
+        """Series that nobody has posted to for a second are forgotten once a post has too many of its own."""
         time.sleep(2)
-        self.post_too_many()
+        body = in_json([(f"more.{number}", 10, 20, 1) for number in range(MOST_SERIES)])
+        ask(self.service.listen, "POST", "/v1/metrics", body, {"Content-Type": JSON, "x-sender": "C"})
 
     def post_too_many(self) -> Answer:
-        """A post that is refused, since the book has no room for its series beside the others."""
-        headers = {"Content-Type": JSON, "x-sender": "C"}
-        return ask(self.service.listen, "POST", "/v1/metrics", TOO_MANY, headers)
+        """A post that is refused, since the book has no room for its series beside the others; these come first, once."""
+        for number in range(self.has_many, MANY_SENDERS):
+            headers = {"Content-Type": JSON, "x-sender": f"C{number}"}
+            answer = ask(self.service.listen, "POST", "/v1/metrics", TOO_MANY[number], headers)
+        self.has_many = MANY_SENDERS - 1
+        return answer
 
     def post_much(self) -> Answer:
         """Thousands of points of one series."""
