@@ -1,8 +1,11 @@
-//! Tests of what a cache of identities shares, of the ends of a script, and of texts of answers.
+//! Tests of what a cache of identities shares, of which container of a body is wrong, of the ends
+//! of a script, and of texts of answers.
 #![tactic(auto)]
 
 #[cfg(test)]
 mod cache;
+#[cfg(test)]
+mod places;
 #[cfg(test)]
 mod scripts;
 #[cfg(test)]
