@@ -11,9 +11,8 @@ use std::alloc::AllocError;
 /// Room for so many spans is made at least, where room is made.
 pub const LEAST_ROOM: usize = 4;
 
-/// Room for so many spans may be kept where there is none: what the points of a few usual posts
-/// need.
-pub const KEPT_ROOM: usize = 16;
+/// Room for so many spans may be kept where there is none: what the first room has.
+pub const KEPT_ROOM: usize = 4;
 
 /// The span of a point that is pending or in flight, and its batch.
 #[derive(Clone, Copy, Drop)]

@@ -54,7 +54,9 @@ impl SharedId {
             return Err(AllocFailed { value: series });
         };
         let hash = hash_of(&written);
-        let written = if_few(written);
+        let Ok(written) = if_few(alloc, &written) else {
+            return Err(AllocFailed { value: series });
+        };
         let place = AtomicUsize::new(0);
         let parts = SharedParts {
             series,

@@ -1,8 +1,9 @@
 //! The value behind a `SharedId`.
 
-ghost use Rattle.std.specs.Prelude.{◌≡◌, IfSome};
+ghost use Rattle.std.specs.Prelude.{◌≡◌, IfOk, IfSome};
 
 use crate::series::SeriesId;
+use std::alloc::{AllocError, Global};
 use std::sync::atomic::AtomicUsize;
 
 /// The most bytes that are kept of an identity: a long resource may be that of all series.
@@ -18,15 +19,16 @@ pub(crate) struct SharedParts {
     pub(crate) place: AtomicUsize,
 }
 
-/// The bytes, if they are few.
-pub(crate) fn if_few(written: Vec<u8>) -> Option<Vec<u8>>
-    ensures { IfSome result (λ kept. kept ≡ written) }
+/// A copy of the bytes, if they are few, with no more room than it takes.
+pub(crate) fn if_few(alloc: Global, written: &[u8]) -> Result<Option<Vec<u8>>, AllocError>
+    ensures { IfOk result (λ few. IfSome few (λ kept. kept.items ≡ written.now)) }
 {
-    if written.len() <= MOST_WRITTEN {
-        Some(written)
-    } else {
-        None
+    if written.len() > MOST_WRITTEN {
+        return Ok(None);
     }
+    let mut kept = Vec::with_capacity(alloc, written.len())?;
+    kept.extend_from_slice(written)?;
+    Ok(Some(kept))
 }
 
 /// The identity.

@@ -27,10 +27,14 @@ fn many(alloc: Global, sent_by: usize, start: u64, count: u64, late: bool) -> Re
     Ok(Batch { sender, points })
 }
 
-/// The first cell has room for at most so many points more.
-fn expect_room(rt: &impl Abort, book: &Book, most: usize) -> Result<(), Fail> {
+/// Room for so many points may be left where one or two are: it is given back where it is more than
+/// four times what they take.
+const FEW: usize = 3 * KEPT_ROOM;
+
+/// The first cell has room for few points more.
+fn expect_few(rt: &impl Abort, book: &Book) -> Result<(), Fail> {
     let cell = book.cells().first().ok_or("no cell")?;
-    assert!(rt; cell.room() <= most, "room for {} points", cell.room());
+    assert!(rt; cell.room() < FEW, "room for {} points", cell.room());
     Ok(())
 }
 
@@ -46,17 +50,17 @@ fn refused_posts_keep_no_room(rt: HostRuntime) -> Result<(), Fail> {
             admit(&rt, &mut book, strange),
             Err(AdmitFault::OtherWriter(0))
         );
-        expect_room(&rt, &book, KEPT_ROOM)?;
+        expect_few(&rt, &book)?;
         let late = many(alloc, 0, 1, 1000, false)?;
         ensure_eq!(
             admit(&rt, &mut book, late),
             Err(AdmitFault::OutOfOrder(0, 11))
         );
-        expect_room(&rt, &book, KEPT_ROOM)?;
+        expect_few(&rt, &book)?;
         let last_late = many(alloc, 0, 20, 1000, true)?;
         let fault = Err(AdmitFault::OutOfOrder(1000, 1020));
         ensure_eq!(admit(&rt, &mut book, last_late), fault);
-        expect_room(&rt, &book, KEPT_ROOM)?;
+        expect_few(&rt, &book)?;
     }
     Ok(())
 }
@@ -79,7 +83,7 @@ fn landed_points_keep_no_room(rt: HostRuntime) -> Result<(), Fail> {
             Settle(1, Ok(())),
         ],
     )?;
-    expect_room(&rt, &book, KEPT_ROOM)?;
+    expect_few(&rt, &book)?;
     let second = many(alloc, 0, 3000, 1000, false)?;
     ensure_eq!(admit(&rt, &mut book, second), Ok(3));
     run(
@@ -88,7 +92,7 @@ fn landed_points_keep_no_room(rt: HostRuntime) -> Result<(), Fail> {
         &mut book,
         &[Take(Ok(Some(2))), Settle(2, Ok(()))],
     )?;
-    expect_room(&rt, &book, KEPT_ROOM)
+    expect_few(&rt, &book)
 }
 
 // A batch that is undone keeps no room.
@@ -100,5 +104,5 @@ fn undone_points_keep_no_room(rt: HostRuntime) -> Result<(), Fail> {
     let undone = many(alloc, 0, 20, 1000, false)?;
     ensure_eq!(admit(&rt, &mut book, undone), Ok(2));
     ensure_eq!(book.undo(7, 2), Ok(()));
-    expect_room(&rt, &book, KEPT_ROOM)
+    expect_few(&rt, &book)
 }
