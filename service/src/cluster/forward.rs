@@ -15,7 +15,7 @@ mod wire;
 pub use head::Secret;
 pub use internal::Internal;
 pub use operators::{Answers, Asks};
-pub use peer::Unanswering;
+pub use peer::{Unanswering, CONNECTIONS};
 
 use super::local_view::{Cluster, Places, NO_STORE};
 use super::owners::Whose;
@@ -212,7 +212,7 @@ impl<H: Here> Forward<H> {
 
     /// None where it says that the slot is not its own.
     async fn exchange(&self, peer: &Peer, head: &Head, part: &Original) -> Result<Option<Outcome>, Broken> {
-        let _room = peer.room(part.body.len()).await;
+        let _room = peer.room(part.body.len(), self.cluster.others()).await;
         let uri = format!("{}://{}{PATH}", self.connections.scheme(), peer.address);
         let request = head.put(Request::post(uri), &self.secret);
         let request = request.body(Body::from(part.body.clone())).map_err(Broken::Address)?;

@@ -83,6 +83,12 @@ impl Cluster {
         places.values().any(|whose| matches!(whose, Whose::There { .. }))
     }
 
+    /// How many others there are whose beats go on: one at least.
+    pub fn others(&self) -> usize {
+        let of_one = |database: &Database| database.owners().staying();
+        self.databases.iter().map(of_one).max().unwrap_or_default().max(1)
+    }
+
     /// Whether it hands over what it has, since it ends.
     pub fn leaves(&self) -> bool {
         self.databases.iter().any(|database| database.owners().leaves())

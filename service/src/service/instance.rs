@@ -6,7 +6,7 @@ use super::unit::Files;
 use super::units::Units;
 use super::{Ended, Settings};
 use crate::cluster::terms::{self, Doing, Unopened};
-use crate::cluster::{beats, Beats, Cluster, Forward, Internal, Secret};
+use crate::cluster::{beats, forward, Beats, Cluster, Forward, Internal, Secret};
 use crate::files::drive::{self, Drive};
 use crate::files::Fault;
 use crate::intake::connections::{serve_over, Limits};
@@ -24,8 +24,8 @@ use std::sync::{Arc, Mutex, MutexGuard, PoisonError};
 use tokio::sync::watch;
 use tokio::task::JoinHandle;
 
-/// How many connections other instances have.
-const PEERS: usize = 256;
+/// How many connections other instances have: for posts, and for what operators ask.
+const PEERS: usize = forward::CONNECTIONS + 32;
 
 /// What is shared with other instances.
 pub struct OfStore {

@@ -2,6 +2,7 @@
 
 use super::head::{Head, Secret};
 use super::operators::{self, Answers};
+use super::peer::SHORT;
 use super::{on_the_way, owner_answer, unavailable, Here, PATH};
 use crate::cluster::local_view::{Cluster, NO_STORE};
 use crate::cluster::owners::Whose;
@@ -23,8 +24,8 @@ use tokio::time::timeout;
 const NAMES: usize = 17 << 16;
 /// A part is no longer than its request is with these.
 const MOST: usize = crate::intake::MOST + NAMES;
-/// So many of them are in memory at once, whoever sends them.
-const PARTS: usize = 64;
+/// So many long ones are in memory at once, whoever sends them: no instance brings more than its share at a time (`peer`).
+pub(super) const PARTS: usize = 64;
 /// A body comes within, beside the time for its way.
 const WITHIN: Duration = Duration::from_secs(5);
 
@@ -67,8 +68,13 @@ impl<H: Here> Internal<H> {
         if self.cluster.is_stalled_for(head.slot) {
             return Err(owner_answer::answer(&unavailable(NO_STORE)));
         }
-        let _room = self.parts.acquire().await; // it is never closed
-        let body = whole(request.into_body()).await;
+        let body = request.into_body();
+        let is_long = body.size_hint().upper().is_none_or(|said| said > SHORT as u64);
+        let _room = match is_long {
+            true => self.parts.acquire().await.ok(), // it is never closed
+            false => None,
+        };
+        let body = whole(body).await;
         let body = body.ok_or_else(|| owner_answer::refused(400, "the body is not whole, or too long"))?;
         let part = Original { encoding: head.encoding, body };
         // The slot says itself whether it is still here.

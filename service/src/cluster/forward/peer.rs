@@ -6,10 +6,16 @@ use std::time::Duration;
 use tokio::sync::{Semaphore, SemaphorePermit};
 use tokio::time::Instant;
 
-/// So many posts are on their way to one at a time, each over a connection; further ones wait.
+/// So many posts of all others are on their way to one at a time, each over a connection: each of them has its share.
+pub const CONNECTIONS: usize = 256;
+/// But no more than this; further ones wait.
 pub const POSTS: usize = 64;
-/// And so many bytes, in KiB.
+/// A part that is longer is long, and waits for long ones alone.
+pub const SHORT: usize = 64 << 10;
+/// So many KiB of long parts are on their way to one at a time, where one or two others bring some.
 const KIB: usize = 32 << 10;
+/// As which a long part counts at least: so those of one other take half of an owner's room at most.
+const LEAST_KIB: usize = KIB * 2 / super::internal::PARTS;
 /// After so long without an answer it is said.
 const SILENT_FOR: Duration = Duration::from_secs(10);
 /// And shown for so long after the last post that got none.
@@ -21,7 +27,7 @@ pub(super) struct Peers(Mutex<HashMap<String, Arc<Peer>>>);
 
 pub(super) struct Peer {
     pub address: String,
-    posts: Semaphore,
+    connections: Semaphore,
     kib: Semaphore,
     /// None where it answered last.
     silent: Mutex<Option<Silent>>,
@@ -59,7 +65,7 @@ impl Peers {
         let new = || {
             Arc::new(Peer {
                 address: address.into(),
-                posts: Semaphore::new(POSTS),
+                connections: Semaphore::new(CONNECTIONS),
                 kib: Semaphore::new(KIB),
                 silent: Mutex::default(),
             })
@@ -80,11 +86,17 @@ impl Peers {
 }
 
 impl Peer {
-    /// Room for a post, until it is dropped.
-    pub async fn room(&self, bytes: usize) -> (Option<SemaphorePermit<'_>>, Option<SemaphorePermit<'_>>) {
-        let kib = (1 + bytes / 1024).min(KIB) as u32;
-        // They are never closed.
-        (self.posts.acquire().await.ok(), self.kib.acquire_many(kib).await.ok())
+    /// Room for a post, until it is dropped, where so many bring posts there. Who waits for the first has nothing of the second.
+    pub async fn room(&self, bytes: usize, from: usize) -> [Option<SemaphorePermit<'_>>; 2] {
+        let long = match bytes > SHORT {
+            true => {
+                let kib = (bytes / 1024).max(LEAST_KIB) * from.div_ceil(2);
+                self.kib.acquire_many(kib.min(KIB) as u32).await.ok() // it is never closed
+            }
+            false => None,
+        };
+        let connections = from.clamp(CONNECTIONS / POSTS, CONNECTIONS) as u32;
+        [long, self.connections.acquire_many(connections).await.ok()]
     }
 
     pub fn answers(&self) {

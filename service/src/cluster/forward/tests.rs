@@ -1,6 +1,7 @@
 //! Posts over real sockets, to owners that answer, stall, break off, or have not the slot.
 
 mod peers;
+mod room;
 mod tls;
 
 use super::*;

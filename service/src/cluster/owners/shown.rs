@@ -14,6 +14,11 @@ impl Owners {
         self.others.shown().collect()
     }
 
+    /// How many of these may have slots.
+    pub fn staying(&self) -> usize {
+        self.others.staying().count()
+    }
+
     /// What those that live can't open.
     pub fn all_refused(&self) -> Vec<Refusal> {
         let of_one = |(instance, refused): (&String, &Refused)| {
