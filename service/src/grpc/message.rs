@@ -1,7 +1,7 @@
 //! The one message of a call: a byte that says whether it is packed, its length, its bytes.
 
 use crate::intake::refusal::Refusal;
-use crate::intake::{Hold, LEFT_BYTES, LEFT_TIME, MOST};
+use crate::intake::{Arrival, Hold, LEFT_BYTES, LEFT_TIME, MOST};
 use bytes::Bytes;
 use hyper::body::{Body, HttpBody};
 
@@ -18,10 +18,11 @@ pub struct Message {
 pub async fn receive(body: &mut Body, hold: &mut Hold) -> Result<Message, Refusal> {
     let mut whole = Vec::new();
     let mut first: Option<Bytes> = None;
-    while let Some(part) = body.data().await {
+    let mut arrival = Arrival::of(hold);
+    while let Some(part) = arrival.next(body.data()).await? {
         let part = part.map_err(|_| Refusal::Malformed)?;
         let have = first.as_ref().map_or(whole.len(), Bytes::len) + part.len();
-        hold.set(2 * have)?; // a vector that grows has up to twice its bytes
+        arrival.has(have)?;
         match first.take() {
             None if whole.is_empty() => first = Some(part),
             before => {

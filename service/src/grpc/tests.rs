@@ -21,6 +21,7 @@ use tokio::net::{TcpListener, TcpStream};
 use tokio::sync::watch;
 
 mod frames;
+mod slow;
 
 /// Keeps what it is given, and answers as it was told, or never.
 struct Kept {

@@ -1,5 +1,6 @@
 //! The body of a post: received within its time, unpacked within its length, weighed while it is there.
 
+use super::arrival::Arrival;
 use super::head::Packing;
 use super::refusal::Refusal;
 use super::weight::Hold;
@@ -34,32 +35,33 @@ pub async fn receive<S: AsyncRead + AsyncWrite + Unpin>(
     if wire.announced() > MOST as u64 {
         return Err(Refusal::TooLong);
     }
-    let Some(first) = next(wire, 0, hold).await? else {
+    let mut arrival = Arrival::of(hold);
+    let Some(first) = next(wire, 0, &mut arrival).await? else {
         return Ok(Bytes::new());
     };
     if wire.is_whole() {
         return Ok(first); // most bodies are one piece: nothing is copied
     }
     let mut whole = Vec::from(first);
-    while let Some(part) = next(wire, whole.len(), hold).await? {
+    while let Some(part) = next(wire, whole.len(), &mut arrival).await? {
         whole.extend_from_slice(&part);
     }
     Ok(whole.into())
 }
 
-/// The next part after `have` bytes. A vector that grows has up to twice its bytes.
+/// The next part after `have` bytes.
 async fn next<S: AsyncRead + AsyncWrite + Unpin>(
     wire: &mut Wire<S>,
     have: usize,
-    hold: &mut Hold,
+    arrival: &mut Arrival<'_>,
 ) -> Result<Option<Bytes>, Refusal> {
-    let Some(part) = wire.part().await? else {
+    let Some(part) = arrival.next(wire.part()).await?? else {
         return Ok(None);
     };
     if have + part.len() > MOST {
         return Err(Refusal::TooLong);
     }
-    hold.set(2 * (have + part.len()))?;
+    arrival.has(have + part.len())?;
     Ok(Some(part))
 }
 

@@ -5,6 +5,7 @@
 //! given to its slot, or in parts to several (`post`). Whoever can post can't operate: every path but `/v1/metrics` is 404.
 
 mod answer;
+mod arrival;
 mod body;
 pub mod connections;
 pub mod front;
@@ -19,6 +20,7 @@ pub mod user;
 mod weight;
 mod wire;
 
+pub(crate) use arrival::Arrival;
 pub(crate) use body::{LEFT_BYTES, LEFT_TIME, MOST};
 pub use connections::Limits;
 pub use listen::{listen, listen_at_socket, Listener};

@@ -56,6 +56,9 @@ pub enum Refusal {
     /// It can be sent again: what others sent takes all memory that posts may have.
     #[error("too many bytes in flight")]
     TooManyBytes,
+    /// The same of a body that has its memory for longer than others that wait.
+    #[error("too many bytes in flight: this body came too slowly: post fewer points at a time")]
+    Slow,
     /// It can be sent again: the book has no memory to name its series.
     #[error("no memory")]
     NoMemory,
@@ -92,7 +95,11 @@ impl Refusal {
             Refusal::TooLong | Refusal::TooLongForMemory | Refusal::LongSeries => 413,
             Refusal::HeadTooLong => 431,
             Refusal::Deadline => DEADLINE,
-            Refusal::Late | Refusal::TooManyBytes | Refusal::NoMemory | Refusal::Unavailable(_) => 503,
+            Refusal::Late
+            | Refusal::TooManyBytes
+            | Refusal::Slow
+            | Refusal::NoMemory
+            | Refusal::Unavailable(_) => 503,
         }
     }
 

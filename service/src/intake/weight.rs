@@ -1,13 +1,12 @@
-//! Bytes in flight: what all posts together may take of memory until they are answered.
+//! Bytes in flight: what all posts together may take of memory until they are answered, and of it what bodies may that are on
+//! their way (`arrival`).
 
 use std::sync::atomic::{AtomicUsize, Ordering::Relaxed};
 use std::sync::Arc;
 
-/// What all posts share. What is over it is refused at once: a sender tries again, memory does not.
-pub struct Budget {
-    most: usize,
-    used: AtomicUsize,
-}
+/// Bytes that are taken.
+#[derive(Default)]
+pub(super) struct Taken(AtomicUsize);
 
 /// Why there is no room.
 #[derive(Debug, PartialEq, Eq)]
@@ -18,9 +17,41 @@ pub enum Full {
     Ever,
 }
 
+impl Taken {
+    pub fn bytes(&self) -> usize {
+        self.0.load(Relaxed)
+    }
+
+    /// Takes so many bytes in the place of those of before, where all are no more than `most`, or these no more than they
+    /// were. Else those of before stay.
+    pub fn change(&self, before: usize, bytes: usize, most: usize) -> Result<(), Full> {
+        if bytes > most {
+            return Err(Full::Ever);
+        }
+        let Some(more) = bytes.checked_sub(before) else {
+            self.0.fetch_sub(before - bytes, Relaxed);
+            return Ok(());
+        };
+        let room = |taken: usize| taken.checked_add(more).filter(|sum| more == 0 || *sum <= most);
+        self.0.fetch_update(Relaxed, Relaxed, room).map(|_| ()).map_err(|_| Full::Now)
+    }
+
+    pub fn give_back(&self, bytes: usize) {
+        self.0.fetch_sub(bytes, Relaxed);
+    }
+}
+
+/// What all posts share. What is over it is refused at once: a sender tries again, memory does not.
+pub struct Budget {
+    most: usize,
+    used: Taken,
+    /// Of it by bodies that are waited for.
+    arriving: Taken,
+}
+
 impl Budget {
     pub fn new(most: usize) -> Arc<Budget> {
-        Arc::new(Budget { most, used: AtomicUsize::new(0) })
+        Arc::new(Budget { most, used: Taken::default(), arriving: Taken::default() })
     }
 
     pub fn most(&self) -> usize {
@@ -28,17 +59,16 @@ impl Budget {
     }
 
     pub fn used(&self) -> usize {
-        self.used.load(Relaxed)
+        self.used.bytes()
+    }
+
+    pub(super) fn arriving(&self) -> &Taken {
+        &self.arriving
     }
 
     /// A part of the budget, of no bytes yet.
     pub fn hold(self: &Arc<Self>) -> Hold {
         Hold { budget: self.clone(), bytes: 0 }
-    }
-
-    fn take(&self, bytes: usize) -> Result<(), Full> {
-        let room = |used: usize| used.checked_add(bytes).filter(|sum| *sum <= self.most);
-        self.used.fetch_update(Relaxed, Relaxed, room).map(|_| ()).map_err(|_| Full::Now)
     }
 }
 
@@ -51,22 +81,19 @@ pub struct Hold {
 impl Hold {
     /// Takes this many bytes in the place of those of before. Where there is no room, those of before stay.
     pub fn set(&mut self, bytes: usize) -> Result<(), Full> {
-        if bytes > self.budget.most {
-            return Err(Full::Ever);
-        }
-        if bytes > self.bytes {
-            self.budget.take(bytes - self.bytes)?;
-        } else {
-            self.budget.used.fetch_sub(self.bytes - bytes, Relaxed);
-        }
+        self.budget.used.change(self.bytes, bytes, self.budget.most)?;
         self.bytes = bytes;
         Ok(())
+    }
+
+    pub(super) fn budget(&self) -> &Budget {
+        &self.budget
     }
 }
 
 impl Drop for Hold {
     fn drop(&mut self) {
-        self.budget.used.fetch_sub(self.bytes, Relaxed);
+        self.budget.used.give_back(self.bytes);
     }
 }
 

@@ -1,6 +1,6 @@
 //! Bytes, times and connections that are bounded, and the end.
 
-use crate::support::{gzip, json, post, Served, BODY, LATE};
+use crate::support::{gzip, json, post, Served, BODY, LATE, PATIENCE};
 use std::time::Instant;
 use tokio::io::AsyncWriteExt;
 use tokio::net::TcpStream;
@@ -101,6 +101,38 @@ async fn what_is_over_the_bytes_of_all_posts_is_refused_for_good() {
         assert_eq!(answer.status, 413);
         assert!(answer.message().contains("--most-bytes"), "{}", answer.message());
     }
+}
+
+/// Else a few would keep all others out, for as long as a body may take.
+#[tokio::test]
+async fn bodies_that_come_slowly_leave_the_memory_to_others() {
+    let (most, quarter) = (4 << 20, 1 << 20);
+    let served = Served::with(Outcome::taken(0), most, 64).await;
+    let of_length = |length: usize| json(&[BODY.as_bytes(), &vec![b' '; length]].concat());
+    let (slow, sent) = (of_length(150 << 10), 100 << 10);
+    let mut clients = Vec::new();
+    for _ in 0..48 {
+        let mut client = served.client().await;
+        client.write(&slow[..sent]).await;
+        clients.push(client);
+    }
+    let begun = Instant::now();
+    tokio::time::sleep(LATE).await;
+    while begun.elapsed() < 8 * LATE || served.budget.used() > quarter {
+        assert_eq!(served.ask(&of_length(30 << 10)).await.status, 200);
+        assert!(begun.elapsed() < PATIENCE / 2);
+    }
+    assert_eq!(served.ask(&of_length(200 << 10)).await.status, 200);
+    let (mut taken, mut too_slow) = (0, 0);
+    for mut client in clients {
+        client.write(&slow[sent..]).await;
+        let answer = client.answer().await;
+        taken += usize::from(answer.status == 200);
+        too_slow += usize::from(answer.status == 503 && answer.message().contains("came too slowly"));
+    }
+    assert!((1..=8).contains(&taken), "a quarter has time: {taken}");
+    assert!(too_slow > 0);
+    assert_eq!(served.budget.used(), 0);
 }
 
 #[tokio::test]

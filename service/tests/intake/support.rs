@@ -20,7 +20,7 @@ use totxegun::slot::{Request, Slots};
 pub const BODY: &str = r#"{"resourceMetrics":[]}"#;
 /// For tests of what is late; all others have time, also on a busy machine.
 pub const LATE: Duration = Duration::from_millis(400);
-const PATIENCE: Duration = Duration::from_secs(30);
+pub const PATIENCE: Duration = Duration::from_secs(30);
 
 /// Keeps what it is given, and answers as it was told.
 pub struct Kept {
