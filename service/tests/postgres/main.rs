@@ -2,6 +2,7 @@
 
 mod another;
 mod by_hour;
+mod horizon;
 mod hours;
 mod kept;
 mod lost;
@@ -207,8 +208,8 @@ async fn what_is_told() {
             .to_string();
         assert!(error.contains(part) && error.contains(database), "{error}");
     };
-    server.ask_of("d1", "update totxegun.version set version = 8");
-    refuses("d1", "schema 8; this one knows 7");
+    server.ask_of("d1", "update totxegun.version set version = 9");
+    refuses("d1", "schema 9; this one knows 8");
     again(&*lame, 2, body(), "version").await;
     again(&*lame, 2, body(), "later version").await;
     server.ask_of("d2", "create schema totxegun; create table totxegun.version (x int)");

@@ -14,6 +14,7 @@ const STEPS: &[&str] = &[
     concat!(include_str!("version5.sql"), include_str!("version5_comments.sql")),
     include_str!("version6.sql"),
     include_str!("version7.sql"),
+    "", // views alone
 ];
 
 /// The last version that had no hours. Where it has spans, these are filled in behind the steps. Else there is nothing to

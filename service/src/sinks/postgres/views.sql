@@ -40,6 +40,7 @@ select * from (
     --filling select series, hour / 24 as day, points, total, count, without_sum, buckets, null from totxegun.hour_before
 ) as one where day is not null;
 
+-- Rows of an hour go one after another, and the horizon before all of them: so an hour is here whole or not at all.
 -- An addition to each of a million rows takes longer than to see that there is nothing to add.
 create or replace view totxegun.by_hour as
 select
@@ -59,7 +60,8 @@ select
     series,
     coalesce(corrections, 0) as corrections,
     case when corrections <> 0 then total + corrections else total end as billed
-from totxegun.hour join totxegun.series on series.id = hour.series;
+from totxegun.hour join totxegun.series on series.id = hour.series
+where hour.hour >= (select hours_from from totxegun.horizon);
 
 -- A day, or a month, of which an hour was deleted is left out. Series are joined before days are added up: who asks for a
 -- metric adds up its days alone.
@@ -142,7 +144,8 @@ from (
         --filling select metric, hour, points, total, hour_before.count, null
         --filling from totxegun.hour_before join totxegun.series on series.id = hour_before.series
     ) as one group by metric, hour
-) as of_hour join totxegun.metric on metric.id = of_hour.metric;
+) as of_hour join totxegun.metric on metric.id = of_hour.metric
+where hour >= (select hours_from from totxegun.horizon);
 
 create or replace view totxegun.totals as
 select

@@ -1,0 +1,36 @@
+//! What is being deleted, and what a clock that was wrong leaves behind.
+
+use crate::kept::{now, until};
+use crate::points::HOUR;
+use crate::server::{sums, Server};
+use crate::{open, open_with, taken};
+use std::time::Duration;
+use totxegun::sinks::Retention;
+
+const TWO_DAYS: Option<Duration> = Some(Duration::from_secs(2 * 86_400));
+
+/// Its rows go one after another: here a series is locked, as by a request that is under way, and so is what its metric has.
+#[tokio::test(flavor = "multi_thread")]
+async fn an_hour_that_is_being_deleted_is_there_whole_or_not_at_all() {
+    let Some(server) = Server::start() else { return };
+    let address = server.by_socket("postgres");
+    let before = open(&address);
+    let old = (now() / HOUR - 72) * HOUR;
+    taken(&*before, 1, sums(&[("a", old, old + 9, 1), ("b", old, old + 9, 2), ("c", old, old + 9, 4)])).await;
+    taken(&*before, 2, sums(&[("a", now() - 10, now(), 8)])).await;
+    drop(before);
+    let _held = server.hold(
+        "begin; select from totxegun.series_total join totxegun.series on id = series where name = 'b' for update of series_total; \
+         select from totxegun.metric_hour join totxegun.metric on id = metric where name = 'b' for update of metric_hour; \
+         select pg_sleep(60)",
+    );
+    let held =
+        "select count(*) from pg_stat_activity where query like '%pg_sleep(60)' and pid <> pg_backend_pid()";
+    until(&server, held, "1").await;
+    let _sink = open_with(&address, Retention { hours: TWO_DAYS, ..Retention::default() });
+    let deleted = format!("select count(*) from totxegun.hour where hour = {}", old / HOUR);
+    until(&server, &deleted, "1").await;
+    for view in ["by_hour", "totals_by_hour"] {
+        assert_eq!(server.ask(&format!("select name, total from totxegun.{view}")), "a|8", "{view}");
+    }
+}
