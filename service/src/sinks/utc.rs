@@ -21,6 +21,13 @@ pub(super) fn month_of(day: i64) -> i64 {
     (day / 146_097 * 400 + year) * 12 + month + 2 - 1970 * 12
 }
 
+/// The first hour after the month of this one.
+pub(super) fn after_month(hour: i64) -> i64 {
+    let month = month_of(day_of(hour));
+    let days = (day_of(hour)..).take_while(|day| month_of(*day) == month).count();
+    (day_of(hour) + days as i64) * 24
+}
+
 #[cfg(test)]
 mod tests {
     use super::*;
@@ -29,6 +36,14 @@ mod tests {
     fn a_full_hour_ends_the_hour_before() {
         for (end, hour) in [(1, 0), (HOUR_NS, 0), (HOUR_NS + 1, 1), (u64::MAX, 5_124_095)] {
             assert_eq!(hour_of(end), hour, "{end}");
+        }
+    }
+
+    #[test]
+    fn a_month_ends_before_the_next() {
+        // In January, in February of a leap year, and in December 1970.
+        for (hour, next) in [(0, 744), (474_773, 474_792), (8759, 8760)] {
+            assert_eq!(after_month(hour), next, "{hour}");
         }
     }
 

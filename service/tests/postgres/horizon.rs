@@ -2,11 +2,12 @@
 
 use crate::kept::{now, until};
 use crate::points::HOUR;
-use crate::server::{sums, Server};
+use crate::server::{sum, sums, Server};
 use crate::{open, open_with, taken};
 use std::time::Duration;
 use totxegun::sinks::Retention;
 
+const DAY: u64 = 24 * HOUR;
 const TWO_DAYS: Option<Duration> = Some(Duration::from_secs(2 * 86_400));
 
 /// Its rows go one after another: here a series is locked, as by a request that is under way, and so is what its metric has.
@@ -32,5 +33,28 @@ async fn an_hour_that_is_being_deleted_is_there_whole_or_not_at_all() {
     until(&server, &deleted, "1").await;
     for view in ["by_hour", "totals_by_hour"] {
         assert_eq!(server.ask(&format!("select name, total from totxegun.{view}")), "a|8", "{view}");
+    }
+}
+
+/// Machines and senders shared it: so there are spans of its time, behind which nothing that is right comes.
+#[tokio::test(flavor = "multi_thread")]
+async fn a_clock_that_all_shared_and_was_ahead_keeps_out_nothing_that_comes() {
+    let Some(server) = Server::start() else { return };
+    let address = server.by_socket("postgres");
+    let before = open(&address);
+    let (far, soon) = ((now() / DAY + 4000) * DAY, (now() / DAY + 2) * DAY);
+    taken(&*before, 1, sums(&[("a", now() - 10, now(), 1), ("a", far, far + 9, 2)])).await;
+    drop(before);
+    let horizon = format!("spans_from_ns = {}, hours_from = {}", far - 2 * DAY, far / HOUR - 48);
+    server.ask(&format!("update totxegun.horizon set {horizon}"));
+    let keep = Retention { spans: TWO_DAYS, hours: TWO_DAYS, ..Retention::default() };
+    let sink = open_with(&address, keep);
+    let next = "select hours_from - 1 = floor(extract(epoch from now()) / 3600) from totxegun.horizon";
+    until(&server, next, "t").await;
+    taken(&*sink, 2, sums(&[("a", soon, soon + 9, 4), ("a", soon + 20, soon + 29, 8)])).await;
+    taken(&*sink, 3, sum("a", soon + 9, soon + 20, 16)).await;
+    for (view, time) in [("by_hour", "hour"), ("by_day", "day")] {
+        let found = server.ask(&format!("select total from totxegun.{view} order by {time}"));
+        assert_eq!(found, "28\n2", "{view}");
     }
 }

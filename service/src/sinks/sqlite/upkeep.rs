@@ -8,7 +8,7 @@ mod fill;
 use super::horizon::Horizon;
 use super::wide_integers::Unsigned;
 use crate::sinks::retention::tell_of_spans;
-use crate::sinks::utc::{day_of, hour_of, month_of, HOUR_NS};
+use crate::sinks::utc::{after_month, day_of, hour_of, month_of, HOUR_NS};
 use crate::sinks::Retention;
 use ended::Ended;
 use rusqlite::{params, Connection, OptionalExtension, Transaction, TransactionBehavior};
@@ -63,7 +63,7 @@ impl Upkeep {
     }
 
     fn of(&mut self, transaction: &Transaction, now: u64) -> rusqlite::Result<bool> {
-        let horizon = Horizon::read(transaction)?;
+        let mut horizon = Horizon::read(transaction)?;
         if !horizon.is_filled() {
             fill::step(transaction, horizon, self.step)?;
             return Ok(true);
@@ -75,6 +75,7 @@ impl Upkeep {
             }
         }
         if let Some(time) = self.retention.hours {
+            come_back(transaction, &mut horizon, now)?;
             if hours(transaction, horizon, ago(time), self.step)? {
                 return Ok(true);
             }
@@ -154,6 +155,17 @@ fn hours(transaction: &Transaction, mut horizon: Horizon, until: u64, step: usiz
         }
     }
     Ok(false)
+}
+
+/// By a clock that was ahead once the horizon is in the time to come, and the views would have nothing that is right until
+/// then. The next month is whole: nothing of it came, but by such a clock.
+fn come_back(transaction: &Transaction, horizon: &mut Horizon, now: u64) -> rusqlite::Result<()> {
+    let next = after_month((now / HOUR_NS) as i64);
+    if horizon.hours_from <= next {
+        return Ok(());
+    }
+    horizon.hours_from = next;
+    horizon.write(transaction)
 }
 
 /// What came late, and corrections, count in an hour by the clock, so that one says nothing about it.

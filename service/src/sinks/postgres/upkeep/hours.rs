@@ -15,6 +15,10 @@ const FROM: &str = "select case when hours_from >= by_clock then by_clock else l
 
 const HORIZON: &str = "update totxegun.horizon set hours_from = $1::int4 where hours_from < $1::int4";
 
+/// As of spans: the next hour was not deleted, and is whole.
+const NOT_AHEAD: &str = "update totxegun.horizon set hours_from = next_hour
+    from (select floor(extract(epoch from now()) / 3600)::int4 + 1 as next_hour) as clock where hours_from > next_hour";
+
 /// The next rows of a table that are as old as that.
 fn some_of(table: &str, are_old: &str) -> String {
     format!(
@@ -43,6 +47,7 @@ pub(super) async fn delete(client: &Client, kept: Option<Duration>) -> Result<()
     let Some(kept) = kept else {
         return Ok(());
     };
+    client.execute(NOT_AHEAD, &[]).await?;
     let from: i32 = client.query_one(FROM, &[&kept.as_secs_f64()]).await?.get(0);
     client.execute(HORIZON, &[&from]).await?;
     let steps = [

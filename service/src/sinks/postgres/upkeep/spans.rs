@@ -20,10 +20,10 @@ const HORIZON: &str =
     "update totxegun.horizon set spans_from_ns = $1::int8::numeric where spans_from_ns < $1::int8::numeric";
 
 /// By a clock that was ahead once it is in the time to come, and right points would be left out until then. Nothing was deleted
-/// that ended behind the last span that came.
+/// that ended behind the last span that came, nor anything of what right clocks say from now on.
 const NOT_AHEAD: &str = "update totxegun.horizon set spans_from_ns =
-        least(spans_from_ns, (select coalesce(max(last_end_ns), 0) from totxegun.series_total))
-    where spans_from_ns > extract(epoch from now()) * 1000000000";
+        least(now_ns, (select coalesce(max(last_end_ns), 0) from totxegun.series_total))
+    from (select floor(extract(epoch from now()) * 1000000000) as now_ns) as clock where spans_from_ns > now_ns";
 
 const OLD_DAYS: &str =
     "select relname::text from pg_class join pg_namespace on pg_namespace.oid = relnamespace

@@ -220,6 +220,29 @@ fn a_clock_that_was_ahead_leaves_out_nothing_that_comes() {
     assert_eq!(trial.ask(hours), "2026-11-02 23:00|48\n2026-11-03 00:00|1000");
 }
 
+/// Whoever posted shared it: so there are hours of its time. A month of which something was deleted is not there.
+#[test]
+fn a_clock_that_all_shared_and_was_ahead_leaves_out_nothing_of_the_next_month() {
+    let mut trial = Trial::new();
+    two_days(&mut trial);
+    let far = NOVEMBER + 4000 * DAY;
+    trial.taken(100, sum("a", far, far + 1, 1000));
+    trial.keep(Retention { hours: days(10), ..Retention::default() });
+    trial.keep_up(far + DAY);
+    let now = NOVEMBER + 3 * DAY;
+    trial.keep_up(now);
+    let (late, december) = (NOVEMBER + 29 * DAY, NOVEMBER + 30 * DAY);
+    for (number, start) in [(101, late), (102, december)] {
+        trial.taken(number, sum("b", start, start + 1, 7));
+        trial.keep_up(now);
+    }
+    for (unit, first) in [("hour", "2026-12-01 00:00"), ("day", "2026-12-01"), ("month", "2026-12-01")] {
+        let found = trial.ask(&format!("select {unit}, total from by_{unit} where name = 'b'"));
+        assert_eq!(found, format!("{first}|7"));
+    }
+    assert_eq!(trial.totals()[1], ("b".into(), 14, 2));
+}
+
 /// A delivery waits for one step, however much there is to delete.
 #[tokio::test]
 async fn deliveries_go_on_while_much_is_deleted() {
