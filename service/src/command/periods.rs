@@ -1,7 +1,7 @@
 //! `totxegun close`, `open` and `correct`: periods of the sink, by which it is billed.
 
 use super::{ask, ask::Address, client, line};
-use crate::operate::ANYWAY;
+use crate::operate::{ANYWAY, FLUSHED};
 use crate::sinks::periods::{Correction, Period};
 use anyhow::{anyhow, bail, Context, Result};
 use clap::Args;
@@ -59,9 +59,10 @@ impl Close {
         if self.flush {
             deliver(&self.at)?;
         }
-        let query = match self.flush || self.anyway {
-            true => format!("?{ANYWAY}"),
-            false => String::new(),
+        let query = match (self.flush, self.anyway) {
+            (true, _) => format!("?{FLUSHED}"),
+            (false, true) => format!("?{ANYWAY}"),
+            (false, false) => String::new(),
         };
         told(&self.at, &format!("/close/{}{query}", written(&self.period)))
     }

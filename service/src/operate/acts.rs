@@ -59,7 +59,7 @@ pub struct Asked {
     pub what: &'static str,
     /// A sender, a key, a period, a correction, a series, a sink.
     pub of: String,
-    /// By which of these it was asked for: `--all`, `--anyway`.
+    /// By which of these it was asked for: `--all`, `--anyway`, `--flush`.
     pub given: Vec<&'static str>,
 }
 

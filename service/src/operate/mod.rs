@@ -25,7 +25,7 @@ pub use databases::Databases;
 pub use letters::Resent;
 pub use named::Named;
 pub use pages::Pulse;
-pub use periods::ANYWAY;
+pub use periods::{ANYWAY, FLUSHED};
 pub use reach::Others;
 pub use status::{
     held, quarantined, BooksStatus, ClusterStatus, CumulativeStatus, DatabaseStatus, InstanceStatus,

@@ -9,6 +9,8 @@ use std::sync::Arc;
 
 /// Closes a period although something waits that may belong to it.
 pub const ANYWAY: &str = "anyway";
+/// The same for who has flushed and waited: what waits now came meanwhile.
+pub const FLUSHED: &str = "flush";
 
 impl Desk {
     pub(super) async fn period(self: &Arc<Self>, actor: Actor, parts: &[String], query: &str) -> Answer {
@@ -16,9 +18,10 @@ impl Desk {
             Ok(read) => read,
             Err(why) => return Answer::told(400, &why),
         };
-        let is_anyway = matches!(deed, Deed::Close(_)) && query == ANYWAY;
-        let asked = asked.with("--anyway", is_anyway);
-        let doing = |who| self.settle(who, deed, is_anyway);
+        let is_closed = |by: &str| matches!(deed, Deed::Close(_)) && query == by;
+        let (anyway, flushed) = (is_closed(ANYWAY), is_closed(FLUSHED));
+        let asked = asked.with("--anyway", anyway).with("--flush", flushed);
+        let doing = |who| self.settle(who, deed, anyway || flushed);
         self.acts.recorded(actor, asked, doing, Answer::outcome).await
     }
 

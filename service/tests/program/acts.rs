@@ -48,3 +48,18 @@ fn who_did_what_and_what_came_of_it() {
     assert!(log.contains(&format!("quarantine A, by {who}: done")), "{log}");
     assert!(!log.contains("flush, by"), "{log}");
 }
+
+#[test]
+fn a_close_is_recorded_with_the_option_that_was_given() {
+    let place = Place::new();
+    let service = place.serve();
+    for (month, option) in [("1970-01", "--flush"), ("1970-02", "--anyway")] {
+        let said = service.said(&["close", month, option]);
+        assert!(said.contains("is closed"), "{said}");
+    }
+    let text = std::fs::read_to_string(place.data().join("acts.jsonl")).unwrap();
+    let acts = text.lines().map(|line| serde_json::from_str::<serde_json::Value>(line).unwrap());
+    let given: Vec<_> = acts.map(|act| format!("{} {}", act["of"], act["given"])).collect();
+    let both = [r#""1970-01" ["--flush"]"#, r#""1970-02" ["--anyway"]"#];
+    assert_eq!(given, both.map(|one| [one; 2]).concat());
+}
