@@ -6,12 +6,13 @@
 mod gone;
 
 use super::disk::{io_fault, Cursor, Disk};
+use super::free_space::FreeSpace;
 use super::{lock, seconds, Fault};
 pub use gone::Became;
 use std::io::{self, BufRead, BufReader, Read};
 use std::path::{Path, PathBuf};
 use std::sync::atomic::{AtomicU64, Ordering::Relaxed};
-use std::sync::Mutex;
+use std::sync::{Arc, Mutex};
 use std::time::UNIX_EPOCH;
 
 /// A request that was refused for good.
@@ -28,6 +29,7 @@ pub struct Letter {
 pub struct Dead {
     disk: Disk,
     folder: PathBuf,
+    free_space: Arc<FreeSpace>,
     /// Held by who changes the folder.
     changing: Mutex<()>,
     count: AtomicU64,
@@ -52,11 +54,11 @@ pub fn sent_as(name: &str) -> &str {
 }
 
 impl Dead {
-    pub(super) fn open(disk: &Disk, folder: &Path) -> Result<Dead, Fault> {
+    pub(super) fn open(disk: &Disk, folder: &Path, free_space: Arc<FreeSpace>) -> Result<Dead, Fault> {
         disk.make_folder(folder)?;
         disk.order_folder(folder)?;
-        let changing = Mutex::new(());
-        let dead = Dead { disk: disk.clone(), folder: folder.into(), changing, count: AtomicU64::new(0) };
+        let (disk, folder) = (disk.clone(), folder.into());
+        let dead = Dead { disk, folder, free_space, changing: Mutex::new(()), count: AtomicU64::new(0) };
         dead.keys()?;
         Ok(dead)
     }
@@ -97,6 +99,14 @@ impl Dead {
         self.write(&name, reason, body)
     }
 
+    /// The same where the disk has room for it. Whether it has.
+    pub fn keep_in_room(&self, key: &str, reason: &str, body: &[u8]) -> Result<bool, Fault> {
+        let Some(_reserved) = self.free_space.reserve_for_letter(body.len()) else {
+            return Ok(false);
+        };
+        self.keep(key, reason, body).map(|()| true)
+    }
+
     fn write(&self, name: &str, reason: &str, body: &[u8]) -> Result<(), Fault> {
         let path = self.path(name);
         let letter = Letter {
@@ -108,6 +118,7 @@ impl Dead {
         let mut bytes = serde_json::to_vec(&letter).map_err(io::Error::from).map_err(io_fault(&path))?;
         bytes.push(b'\n');
         bytes.extend_from_slice(body);
+        self.free_space.use_up(bytes.len() as u64);
         self.disk.put_file(&path, &bytes)?;
         self.keys().map(drop)
     }

@@ -245,7 +245,7 @@ impl Folder {
     }
 
     pub fn dead(&self) -> Result<Dead, Fault> {
-        let dead = Dead::open(&self.disk, &self.path.join("dead"))?;
+        let dead = Dead::open(&self.disk, &self.path.join("dead"), self.free_space.clone())?;
         self.disk.sync_folder(&self.path)?;
         Ok(dead)
     }

@@ -13,6 +13,8 @@ const LEAST: u64 = 64 << 20;
 const MOST: u64 = 256 << 20;
 /// So many files can be made, at least.
 const FILES: u64 = 64;
+/// Letters may use so much of what is kept back, and half of the files: what is delivered behind them makes room.
+const OF_LETTERS: i64 = LEAST as i64 / 2;
 
 /// Free bytes, all bytes, free files of a disk.
 type Look = dyn Fn() -> std::io::Result<(u64, u64, u64)> + Send + Sync;
@@ -87,7 +89,16 @@ impl FreeSpace {
     /// Room for a post of so many bytes, where any is left: so of all that come at once no more are taken than the disk
     /// has room for, and one.
     pub fn reserve(&self, bytes: usize) -> Option<Reservation<'_>> {
-        let (left, bytes) = (self.left(), bytes as i64);
+        self.reserve_of(self.left(), bytes)
+    }
+
+    /// The same for a letter.
+    pub fn reserve_for_letter(&self, bytes: usize) -> Option<Reservation<'_>> {
+        self.reserve_of(self.left() + OF_LETTERS, bytes)
+    }
+
+    fn reserve_of(&self, left: i64, bytes: usize) -> Option<Reservation<'_>> {
+        let bytes = bytes as i64;
         let more = |reserved| (reserved < left).then_some(reserved + bytes);
         self.reserved.fetch_update(Relaxed, Relaxed, more).ok()?;
         Some(Reservation { free_space: self, bytes })
@@ -110,7 +121,12 @@ impl FreeSpace {
         let left = match (self.look)() {
             Ok((free, all, files)) => {
                 let kept = (all / 20).clamp(LEAST, MOST);
-                let left = if files >= FILES { free as i64 - kept as i64 } else { 0 };
+                let of_files = match files {
+                    FILES.. => i64::MAX,
+                    _ if files >= FILES / 2 => 0,
+                    _ => -OF_LETTERS,
+                };
+                let left = of_files.min(free as i64 - kept as i64);
                 self.tell(left <= 0, free, kept, files);
                 left
             }
@@ -174,6 +190,15 @@ mod tests {
         free.store(2 * MOST, Relaxed);
         std::thread::sleep(Duration::from_millis(LOOK + 20));
         assert!(space.is_left());
+    }
+
+    #[test]
+    fn letters_have_a_part_of_what_is_kept_back() {
+        let part = OF_LETTERS as u64;
+        let space_for =
+            |free, files| space(Arc::new(AtomicU64::new(free)), files).reserve_for_letter(9).is_some();
+        assert!(space_for(MOST - part + 1, 1000) && !space_for(MOST - part, 1000));
+        assert!(space_for(2 * MOST, FILES / 2) && !space_for(2 * MOST, FILES / 2 - 1));
     }
 
     #[test]

@@ -22,6 +22,9 @@ const FAILING: Duration = Duration::from_secs(24 * 3600);
 /// over, or the store is slow for once, that passes.
 const UNSURE: Duration = Duration::from_secs(60);
 
+/// How long until it is looked again whether a letter has room.
+const ROOM: Duration = Duration::from_millis(if cfg!(test) { 10 } else { 1000 });
+
 /// The state of a delivery, for `status`.
 #[derive(Clone, Debug, Default, PartialEq, Eq, serde::Serialize, serde::Deserialize)]
 pub struct Delivery {
@@ -58,13 +61,13 @@ trait Store: Sync {
     fn may_deliver(&self, number: u64) -> impl Future<Output = Result<(), Fault>> + Send;
     fn lost(&self) -> impl Future<Output = Lost> + Send;
     fn acknowledge(&self, number: u64) -> impl Future<Output = Result<(), Fault>> + Send;
-    /// Durable once it returns.
+    /// Durable once it returns. Whether the disk has room for it.
     fn keep(
         &self,
         key: String,
         reason: String,
         body: Vec<u8>,
-    ) -> impl Future<Output = Result<(), Fault>> + Send;
+    ) -> impl Future<Output = Result<bool, Fault>> + Send;
     /// The sink has what an earlier run may have kept under this key, before it was killed.
     fn let_go(&self, key: String, body: Vec<u8>) -> impl Future<Output = Result<(), Fault>> + Send;
 }
@@ -105,9 +108,9 @@ impl Store for Files {
         blocking(move || outbox.acknowledge(number)).await
     }
 
-    async fn keep(&self, key: String, reason: String, body: Vec<u8>) -> Result<(), Fault> {
+    async fn keep(&self, key: String, reason: String, body: Vec<u8>) -> Result<bool, Fault> {
         let dead = self.dead.clone();
-        blocking(move || dead.keep(&key, &reason, &body)).await
+        blocking(move || dead.keep_in_room(&key, &reason, &body)).await
     }
 
     async fn let_go(&self, key: String, body: Vec<u8>) -> Result<(), Fault> {
@@ -189,10 +192,10 @@ impl<S: Store> Run<S> {
                     self.unless_stopped(tokio::time::sleep(wait)).await?;
                 }
                 Fate::Refused { reason } | Fate::Failed { reason, .. } | Fate::Denied { reason, .. } => {
-                    return Ok(self.put_aside(request, reason).await?);
+                    return self.put_aside(request, reason).await;
                 }
                 Fate::TakenPartly { rejected, reason, left } => {
-                    return Ok(self.keep_part(request, rejected, reason, left).await?)
+                    return self.keep_part(request, rejected, reason, left).await;
                 }
             }
         }
@@ -220,7 +223,25 @@ impl<S: Store> Run<S> {
         Ok(())
     }
 
-    async fn put_aside(&self, request: Forwarded, reason: String) -> Result<(), Fault> {
+    /// Keeps a letter once the disk has room for it. Until then its request stays in the outbox.
+    async fn keep(&self, key: &str, reason: String, body: Vec<u8>) -> Result<(), End> {
+        let mut before = None;
+        while !self.files.keep(key.into(), reason.clone(), body.clone()).await? {
+            if before.is_none() {
+                let full =
+                    format!("the disk has no room to keep {key} in dead/, which the sink refused: {reason}");
+                tracing::warn!(key, reason = full, "{full}; nothing is sent until there is more");
+                before = Some(self.state().trouble.replace(full));
+            }
+            self.unless_stopped(tokio::time::sleep(ROOM)).await?;
+        }
+        if let Some(before) = before {
+            self.state().trouble = before;
+        }
+        Ok(())
+    }
+
+    async fn put_aside(&self, request: Forwarded, reason: String) -> Result<(), End> {
         let (sink, key) = (self.sink.name(), request.key());
         tracing::error!(
             sink,
@@ -228,7 +249,7 @@ impl<S: Store> Run<S> {
             reason,
             "{sink} refused request {key} for good: {reason}; it is kept in dead/"
         );
-        self.files.keep(key, reason, request.body).await?;
+        self.keep(&key, reason, request.body).await?;
         self.ended("refused");
         Ok(())
     }
@@ -267,7 +288,7 @@ impl<S: Store> Run<S> {
         rejected: u64,
         reason: String,
         left: Option<Vec<u8>>,
-    ) -> Result<(), Fault> {
+    ) -> Result<(), End> {
         let (sink, key) = (self.sink.name(), request.key());
         tracing::warn!(
             sink,
@@ -277,7 +298,7 @@ impl<S: Store> Run<S> {
         );
         let reason = of_part(rejected, &reason, left.is_some());
         let left = left.unwrap_or_else(|| request.body.clone());
-        self.files.keep(format!("{key}-partial"), reason, left).await?;
+        self.keep(&format!("{key}-partial"), reason, left).await?;
         self.files.let_go(key, request.body).await?;
         self.metrics.faults.with_label_values(&["points_rejected_by_sink"]).inc_by(rejected);
         self.ended("partial");

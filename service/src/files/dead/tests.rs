@@ -3,10 +3,13 @@
 use super::*;
 use crate::files::disk::Call;
 use crate::files::drive::memory::{Step, Store};
-use std::sync::Arc;
+
+fn open_on(disk: &Disk, path: &Path) -> Dead {
+    Dead::open(disk, path, Arc::new(FreeSpace::endless())).unwrap()
+}
 
 fn open(path: &Path) -> Dead {
-    Dead::open(&Disk::default(), path).unwrap()
+    open_on(&Disk::default(), path)
 }
 
 #[test]
@@ -27,6 +30,23 @@ fn a_request_is_kept_once_and_comes_back_as_it_was() {
     assert!(dead.drop_letter("0-e-1").unwrap());
     assert!(!dead.drop_letter("0-e-1").unwrap());
     assert_eq!((dead.count(), dead.body("0-e-1").unwrap()), (1, None));
+}
+
+/// What the outbox has of a request takes a tenth of its letter.
+#[test]
+fn letters_do_not_use_up_the_disk() {
+    let folder = tempfile::tempdir().unwrap();
+    let free = Arc::new(AtomicU64::new(1 << 40));
+    let look = free.clone();
+    let space = FreeSpace::with(move || Ok((look.load(Relaxed), 1 << 40, 1000))).unwrap();
+    let dead = Dead::open(&Disk::default(), folder.path(), Arc::new(space)).unwrap();
+    assert!(dead.keep_in_room("0-e-1", "400", b"body").unwrap());
+    free.store(1 << 20, Relaxed);
+    std::thread::sleep(std::time::Duration::from_millis(120));
+    assert!(!dead.keep_in_room("0-e-2", "400", b"body").unwrap());
+    assert_eq!(open(folder.path()).count(), 1);
+    dead.keep("0-e-2", "400", b"body").unwrap(); // by an operator, who makes room by it
+    assert_eq!(dead.count(), 2);
 }
 
 #[test]
@@ -50,7 +70,7 @@ fn a_failed_call_leaves_no_letter_in_part() {
             true => Err(io::Error::other("no disk")),
             false => Ok(()),
         });
-        let dead = Dead::open(&disk, folder.path()).unwrap();
+        let dead = open_on(&disk, folder.path());
         assert!(dead.keep("0-e-1", "400", b"body").is_err());
         assert_eq!((dead.count(), dead.list().unwrap()), (0, vec![]));
         let dead = open(folder.path());
@@ -163,7 +183,7 @@ fn letters_that_are_moved_by_hand_are_counted_as_they_are() {
 #[test]
 fn what_became_of_letters_is_known_to_the_next_owner_of_a_slot() {
     let store = Arc::<Store>::default();
-    let open = || Dead::open(&Disk::of_drive(store.take()), Path::new("dead")).unwrap();
+    let open = || open_on(&Disk::of_drive(store.take()), Path::new("dead"));
     let dead = open();
     for key in ["0-e-1", "0-e-2", "0-e-3"] {
         dead.keep(key, "400", b"body").unwrap();
@@ -214,14 +234,14 @@ fn no_letter_of_a_slot_is_gone_without_what_became_of_it() {
                 false => Ok(()),
             }
         });
-        let dead = Dead::open(&Disk::of_drive(owner), Path::new("dead")).unwrap();
+        let dead = open_on(&Disk::of_drive(owner), Path::new("dead"));
         fails.store(u64::MAX, Relaxed);
         let key = format!("0-e-{number}");
         dead.keep(&key, "400", b"body").unwrap();
         fails.store(number + 1, Relaxed);
         let is_done = dead.drop_letter(&key).is_ok();
         fails.store(u64::MAX, Relaxed);
-        let next = Dead::open(&Disk::of_drive(store.take()), Path::new("dead")).unwrap();
+        let next = open_on(&Disk::of_drive(store.take()), Path::new("dead"));
         let is_there = next.body(&key).unwrap().is_some();
         assert!(is_there || next.became(&key).unwrap() == Some(Became::Dropped), "at call {number}");
         if is_done {

@@ -30,7 +30,7 @@ pub fn open(drive: Arc<dyn Drive>, epoch: &str) -> Result<(Journal, Outbox, Dead
         begun: (!is_new).then_some(reach),
         by: outbox.ended(),
     };
-    let journal = Journal::open(&disk, journal, Durability::Disk, free_space, &expected)?;
-    let dead = Dead::open(&disk, Path::new("dead"))?;
+    let journal = Journal::open(&disk, journal, Durability::Disk, free_space.clone(), &expected)?;
+    let dead = Dead::open(&disk, Path::new("dead"), free_space)?;
     Ok((journal, outbox, dead))
 }

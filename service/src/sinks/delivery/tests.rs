@@ -46,6 +46,8 @@ struct Memory {
     dead: Mutex<Vec<Letter>>,
     acknowledged: Mutex<Vec<u64>>,
     dead_fails: bool,
+    /// So often the disk has no room for a letter.
+    full: Mutex<u64>,
     acknowledge_fails: bool,
     /// Turned on once the slot is another instance's.
     lost: Option<watch::Receiver<bool>>,
@@ -117,13 +119,18 @@ impl Store for &Memory {
         Ok(())
     }
 
-    async fn keep(&self, key: String, reason: String, body: Vec<u8>) -> Result<(), Fault> {
+    async fn keep(&self, key: String, reason: String, body: Vec<u8>) -> Result<bool, Fault> {
         self.change().await;
         if self.dead_fails {
             return Err(fault());
         }
+        let mut full = self.full.lock().expect("full");
+        if let Some(left) = full.checked_sub(1) {
+            *full = left;
+            return Ok(false);
+        }
         self.dead.lock().expect("dead").push((key, reason, body));
-        Ok(())
+        Ok(true)
     }
 
     async fn let_go(&self, key: String, body: Vec<u8>) -> Result<(), Fault> {

@@ -13,6 +13,29 @@ async fn a_letter_that_can_not_be_kept_ends_the_delivery() {
     }
 }
 
+/// It is not sent again: of what is taken in part a sink that knows no keys would count twice.
+#[tokio::test]
+async fn a_request_stays_in_the_outbox_until_its_letter_has_room() {
+    let partly = || Fate::TakenPartly { rejected: 1, reason: "no".into(), left: None };
+    for (fate, letter) in [(Fate::refused("400"), "2-e-1"), (partly(), "2-e-1-partial")] {
+        let memory = Memory { full: Mutex::new(3), ..waiting([1, 2]) };
+        let tried = run(&memory, vec![fate]).await;
+        assert_eq!(tried.keys(), ["2-e-1", "2-e-2"]);
+        assert_eq!(memory.dead.lock().expect("dead")[0].0, letter);
+        assert_eq!(*memory.acknowledged.lock().expect("acknowledged"), [1, 2]);
+        assert_eq!(*tried.state.lock().expect("state"), Delivery::default(), "no trouble is left");
+    }
+    let (stop, told) = watch::channel(false);
+    let memory = Memory { full: Mutex::new(u64::MAX), ..waiting([1]) };
+    let ((tried, end), ()) = tokio::join!(run_until(&memory, vec![Fate::refused("400")], told), async move {
+        tokio::time::sleep(Duration::from_millis(100)).await;
+        stop.send_replace(true);
+    });
+    assert!(end.is_ok() && memory.acknowledged.lock().expect("acknowledged").is_empty());
+    let trouble = tried.state.lock().expect("state").trouble.clone().expect("trouble");
+    assert!(trouble.contains("no room to keep 2-e-1") && trouble.ends_with("400"), "{trouble}");
+}
+
 #[tokio::test]
 async fn an_acknowledgement_that_fails_ends_the_delivery() {
     let memory = Memory { acknowledge_fails: true, ..waiting([1, 2]) };
