@@ -11,6 +11,8 @@ const LOOK: u64 = 100;
 /// A twentieth of the disk is kept back, within these bounds: a commit, a snapshot, and the posts on their way.
 const LEAST: u64 = 64 << 20;
 const MOST: u64 = 256 << 20;
+/// At least so much beside a snapshot.
+const BESIDE: u64 = 48 << 20;
 /// So many files can be made, at least.
 const FILES: u64 = 64;
 /// Letters may use so much of what is kept back, and half of the files: what is delivered behind them makes room.
@@ -27,6 +29,8 @@ pub struct FreeSpace {
     left: AtomicI64,
     /// What posts that are under way will use of it.
     reserved: AtomicI64,
+    /// The next snapshot of the outbox is as long at most.
+    snapshot: AtomicU64,
     /// As it was found last, and told.
     is_full: AtomicBool,
 }
@@ -75,6 +79,7 @@ impl FreeSpace {
             looked: AtomicU64::new(0),
             left: AtomicI64::new(0),
             reserved: AtomicI64::new(0),
+            snapshot: AtomicU64::new(0),
             is_full: AtomicBool::new(false),
         };
         space.look_again();
@@ -117,10 +122,14 @@ impl FreeSpace {
         self.left.fetch_sub(bytes as i64, Relaxed);
     }
 
+    pub fn keep_for_snapshot(&self, bytes: u64) {
+        self.snapshot.store(bytes, Relaxed);
+    }
+
     fn look_again(&self) {
         let left = match (self.look)() {
             Ok((free, all, files)) => {
-                let kept = (all / 20).clamp(LEAST, MOST);
+                let kept = (all / 20).clamp(LEAST, MOST).max(self.snapshot.load(Relaxed) + BESIDE);
                 let of_files = match files {
                     FILES.. => i64::MAX,
                     _ if files >= FILES / 2 => 0,

@@ -131,11 +131,17 @@ impl Outbox {
         lock(&self.state).apply(change);
         // Else a change of this record can't be told from one that was torn.
         writer.segment.mark_last()?;
+        self.keep_room(writer);
         if writer.is_full(self.longest) {
             self.begin_segment(writer)?;
         }
         writer.failed = false;
         Ok(())
+    }
+
+    /// For the next snapshot: whatever that has is in this segment, in more bytes.
+    pub(super) fn keep_room(&self, writer: &Writer) {
+        self.free_space.keep_for_snapshot(writer.segment.at);
     }
 
     /// Ends the segment and begins another, with a snapshot.
@@ -145,6 +151,7 @@ impl Outbox {
         let number = writer.segment.number + 1;
         let snapshot = lock(&self.state).snapshot();
         writer.go_on_in(begin(&self.disk, &self.folder, number, &snapshot)?);
+        self.keep_room(writer);
         self.delete_taken(writer)
     }
 

@@ -42,6 +42,28 @@ fn it_is_at_most_a_fifth_of_what_is_forwarded() {
     assert!(written * 5 <= forwarded);
 }
 
+/// Else a disk that posts have filled up to what is kept back for a commit ends the service, and each start.
+#[test]
+fn room_for_the_next_snapshot_is_kept_back() {
+    let folder = tempfile::tempdir().unwrap();
+    let open = || {
+        let free_space = Arc::new(FreeSpace::with(|| Ok((66 << 20, 1 << 30, 1000))).unwrap());
+        Outbox::open_with(&Disk::default(), folder.path(), "e", free_space, read_ends, u64::MAX).unwrap()
+    };
+    let outbox = open();
+    assert!(outbox.free_space.is_left());
+    let mut chance = TestRandom(1);
+    let noise: String = (0..26 << 20).map(|_| char::from(b'0' + chance.below(64) as u8)).collect();
+    let body = serde_json::to_vec(&(Vec::<(String, u64)>::new(), noise)).unwrap();
+    outbox.commit(&[body], 2).unwrap();
+    let length = std::fs::metadata(last_segment(folder.path())).unwrap().len();
+    assert!(length > 18 << 20, "{length}");
+    std::thread::sleep(Duration::from_millis(120)); // until the disk is looked at again
+    assert!(!outbox.free_space.is_left());
+    drop(outbox);
+    assert!(open().free_space.is_left(), "its segment has a snapshot alone");
+}
+
 /// Their keys are packed: a service with 100,000 series would have 30 MB more.
 #[test]
 fn a_series_takes_few_bytes_of_memory() {
