@@ -65,6 +65,19 @@ pub async fn within<T>(time: Duration, future: impl Future<Output = T>) -> Optio
     }
 }
 
+/// Goes on once all that is ready on this thread has had its turn.
+pub async fn others_first() {
+    let mut had_theirs = false;
+    poll_fn(|context| match std::mem::replace(&mut had_theirs, true) {
+        true => Poll::Ready(()),
+        false => {
+            context.waker().wake_by_ref();
+            Poll::Pending
+        }
+    })
+    .await
+}
+
 /// So many threads at most: more wait for each other.
 const MOST_THREADS: usize = 8;
 

@@ -172,7 +172,7 @@ impl Journal {
     pub async fn durable(&self, ticket: Ticket) -> Result<(), Lost> {
         match self.shared.durability {
             Durability::Disk => self.shared.synced(ticket.0).await,
-            Durability::Process => self.write(ticket),
+            Durability::Process => self.write_with_others(ticket).await,
         }
     }
 

@@ -2,6 +2,7 @@
 
 use super::{lock, Journal, Place, Shared, Ticket};
 use crate::files::drive::Lost;
+use crate::work::others_first;
 use std::ops::{Deref, DerefMut};
 use std::sync::atomic::Ordering::SeqCst;
 use std::sync::MutexGuard;
@@ -32,10 +33,22 @@ impl DerefMut for ToWrite<'_> {
 impl Journal {
     /// Has all before a ticket in a file: there it is also where the process ends now.
     pub fn write(&self, ticket: Ticket) -> Result<(), Lost> {
-        match self.shared.written.load(SeqCst) >= ticket.0 {
+        match self.is_written(ticket) {
             true => Ok(()),
             false => self.shared.written(|_| ()),
         }
+    }
+
+    /// The same once whoever is ready on this thread has appended too: so one write is for all of them.
+    pub(super) async fn write_with_others(&self, ticket: Ticket) -> Result<(), Lost> {
+        if !self.is_written(ticket) {
+            others_first().await;
+        }
+        self.write(ticket)
+    }
+
+    fn is_written(&self, ticket: Ticket) -> bool {
+        self.shared.written.load(SeqCst) >= ticket.0
     }
 }
 

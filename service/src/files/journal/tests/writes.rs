@@ -43,6 +43,24 @@ async fn one_write_is_for_all_that_was_appended_and_nobody_is_told_before() {
     assert_eq!(there(folder.path()), ["a", "b", "c", "d"]);
 }
 
+/// Else each post would take a write, and who posts on another thread would wait for it.
+#[tokio::test]
+async fn posts_that_are_ready_on_a_thread_are_written_together() {
+    let folder = tempfile::tempdir().unwrap();
+    let (disk, writes) = counted();
+    let journal = Arc::new(open_on(&disk, folder.path(), Durability::Process).unwrap());
+    let before = writes.load(SeqCst);
+    let posting = ["a", "b", "c"].map(|text| {
+        let journal = journal.clone();
+        tokio::spawn(async move { journal.durable(append_only(&journal, text)).await })
+    });
+    for posted in posting {
+        posted.await.unwrap().unwrap();
+        assert_eq!(there(folder.path()), ["a", "b", "c"]);
+    }
+    assert_eq!(writes.load(SeqCst), before + 1);
+}
+
 #[test]
 fn whatever_comes_next_writes_what_was_appended_first() {
     for durability in [Durability::Process, Durability::Disk] {
