@@ -54,6 +54,7 @@ pub fn put(out: &mut Vec<u8>, kind: u8, parts: &[&[u8]]) {
     let mut sum = crc32fast::Hasher::new();
     sum.update(&[kind]);
     parts.iter().for_each(|part| sum.update(part));
+    out.reserve(8 + length);
     out.extend_from_slice(&(length as u32).to_le_bytes());
     out.extend_from_slice(&sum.finalize().to_le_bytes());
     out.push(kind);

@@ -28,9 +28,14 @@ const MORE: u8 = 128;
 const LAST: u64 = (MORE - FIRST) as u64;
 /// How many words have their bits in a byte.
 const SIX: usize = 6;
+/// The most bytes of a number.
+pub(super) const MOST_OF_NUMBER: usize = 10;
+/// Most points take no more bytes than this for each of their words, and this for the time of the first.
+const FOR_A_WORD: usize = 4;
+const FOR_A_TIME: usize = 16;
 
 pub(super) fn of(points: &Points) -> Vec<u8> {
-    let mut out = Vec::with_capacity(points.words().len() * 2);
+    let mut out = Vec::with_capacity(FOR_A_TIME + points.words().len() * FOR_A_WORD);
     if !points.runs().is_empty() {
         runs::put(&mut out, points);
     }

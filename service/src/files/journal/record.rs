@@ -22,7 +22,7 @@ pub(super) fn put(out: &mut Vec<u8>, since: u64, post: &Post) {
             records::put(out, POST, &[numbers.map(u64::to_le_bytes).as_flattened(), sender, body]);
         }
         Body::Points(points) => {
-            let mut head = Vec::new();
+            let mut head = Vec::with_capacity(numbers.len() * packed::MOST_OF_NUMBER);
             numbers.iter().for_each(|number| packed::put_number(&mut head, *number));
             let kind = if points.runs().is_empty() { POINTS } else { RUNS };
             records::put(out, kind, &[&head, sender, points.packed()]);
