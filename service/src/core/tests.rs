@@ -152,6 +152,11 @@ fn the_allocator_is_the_linked_one() {
     assert!(maps.contains("/libtcmalloc_minimal.so"), "{maps}");
 }
 
+/// A call that gets no block of memory in this thread.
+pub(crate) fn without_blocks<T>(call: impl FnOnce() -> T) -> T {
+    memory::with_blocks(0, true, call).0
+}
+
 /// Gives so many blocks, one more each time, before one is refused, or all are: how many there are once none was refused.
 fn blocks_until(mut all_were_given: impl FnMut(u64, bool) -> bool) -> u64 {
     let forms = |blocks| [(blocks, false), (blocks, true)];

@@ -9,9 +9,10 @@ mod shares;
 mod stall;
 
 use super::*;
-use crate::core::Core;
+use crate::core::{tests::without_blocks, Core};
 use crate::files::{Call, Disk, Durability, Folder, Journal, Outbox};
 use crate::metrics::Metrics;
+use crate::otlp::series::{forwarded, Value};
 use std::path::{Path, PathBuf};
 use std::sync::atomic::{AtomicBool, Ordering::SeqCst};
 use std::sync::{Mutex, OnceLock};
@@ -87,6 +88,20 @@ impl Run {
         self.stop.send(true).unwrap();
         self.running.await.unwrap().unwrap();
     }
+}
+
+/// What the outbox has, as a sink takes it.
+async fn sum_of_all(slot: &Slot) -> i64 {
+    let mut sum = 0;
+    while slot.outbox.waiting().0 > 0 {
+        let (waiting, body) = slot.outbox.first().await.unwrap();
+        for point in forwarded(&body).unwrap() {
+            let Value::Sum(value) = point.value else { panic!("{point:?}") };
+            sum += value;
+        }
+        slot.outbox.acknowledge(waiting.number).unwrap();
+    }
+    sum
 }
 
 async fn post_of(slot: &Arc<Slot>, number: u64) -> Outcome {
@@ -173,6 +188,31 @@ async fn nothing_of_a_sender_is_taken_before_it_is_noted_that_it_is_released() {
     assert_eq!(run.post(5).await, Outcome::taken(0));
     assert_eq!(run.flush().await, 1);
     run.end().await;
+}
+
+/// Else a checkpoint lets go of its posts, which the book keeps back, while the outbox has it released.
+#[test]
+fn a_release_that_finds_no_memory_in_the_book_ends_the_slot() {
+    let place = tempfile::tempdir().unwrap();
+    let runtime = Builder::new_current_thread().enable_all().build().unwrap();
+    let run = runtime.block_on(async {
+        let run = Run::begin(place.path(), Disk::default()).await;
+        assert_eq!(run.post(1).await, Outcome::taken(0));
+        let done = Some(Done::Answered(Outcome::taken(0)));
+        assert_eq!(run.orders.order(Order::Quarantine("A".into())).await, done);
+        run
+    });
+    let lift = run.orders.order(Order::Lift("A".into()));
+    assert_eq!(without_blocks(|| runtime.block_on(lift)), None);
+    assert!(matches!(runtime.block_on(run.running).unwrap(), Err(Trouble::NoMemory)));
+    drop((run.slot, run.orders, run.stop));
+    runtime.block_on(async {
+        let run = Run::begin(place.path(), Disk::default()).await;
+        assert_eq!(run.post(3).await, Outcome::taken(0));
+        assert_eq!(run.flush().await, 1);
+        assert_eq!(sum_of_all(&run.slot).await, 2);
+        run.end().await;
+    });
 }
 
 /// Nobody who posts waits for the disk of a group, and what comes meanwhile is in the next one.

@@ -1,7 +1,6 @@
 //! A disk that stalls: who comes later is told at once, and all goes on after it.
 
 use super::*;
-use crate::otlp::series::{forwarded, Value};
 use crate::slot::NO_ANSWER;
 
 /// The disk answers again, also where a check fails: the end of a test waits for it.
@@ -66,20 +65,6 @@ async fn stall(stalled: Call, folder: &'static str) {
     run.flush().await;
     assert_eq!(sum_of_all(&run.slot).await, last as i64);
     run.end().await;
-}
-
-/// What the outbox has, as a sink takes it.
-async fn sum_of_all(slot: &Slot) -> i64 {
-    let mut sum = 0;
-    while slot.outbox.waiting().0 > 0 {
-        let (waiting, body) = slot.outbox.first().await.unwrap();
-        for point in forwarded(&body).unwrap() {
-            let Value::Sum(value) = point.value else { panic!("{point:?}") };
-            sum += value;
-        }
-        slot.outbox.acknowledge(waiting.number).unwrap();
-    }
-    sum
 }
 
 #[tokio::test(flavor = "multi_thread", worker_threads = 4)]
