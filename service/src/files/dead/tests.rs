@@ -32,7 +32,7 @@ fn a_request_is_kept_once_and_comes_back_as_it_was() {
     assert_eq!((dead.count(), dead.body("0-e-1").unwrap()), (1, None));
 }
 
-/// What the outbox has of a request takes a tenth of its letter.
+/// A letter is not packed, as the outbox is: it takes more than what its end gives back.
 #[test]
 fn letters_do_not_use_up_the_disk() {
     let folder = tempfile::tempdir().unwrap();

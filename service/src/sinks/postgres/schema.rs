@@ -5,7 +5,7 @@ use super::upkeep::days;
 use crate::sinks::Memory;
 use tokio_postgres::{Client, Error, GenericClient, Transaction};
 
-/// Step N leads from version N to version N+1. A step that was released is never changed.
+/// `versionN.sql` leads to version N. A step is never changed.
 const STEPS: &[&str] = &[
     include_str!("version1.sql"),
     include_str!("version2.sql"),

@@ -7,7 +7,7 @@ use std::path::Path;
 /// Says, in the file's head, that it is one of ours: `totx`.
 const APPLICATION: i64 = 0x746f_7478;
 
-/// Step N leads from version N to version N+1. A step that was released is never changed.
+/// `versionN.sql` leads to version N. A step is never changed.
 pub(super) const STEPS: &[&str] = &[
     include_str!("version1.sql"),
     include_str!("version2.sql"),
