@@ -401,7 +401,8 @@ def try_postgres(checks: Checks, program: str, folder: str, count: int, wanted: 
 def look_at_plan(checks: Checks, postgres: Postgres) -> None:
     """Of a month of one metric neither rows nor other hours are read."""
     plan = postgres.psql(f"set search_path to totxegun; set timezone to 'UTC'; explain (analyze, buffers, costs off) {MONTH_BY_HOUR}")
-    scans = re.findall(r"Index Only Scan using past_hour_at on .*\n +Index Cond: (.*)\n(.*)\n", plan)
+    index = r"Index Only Scan using past_hour_at on .*\n +Index Cond: (.*)\n"
+    scans = re.findall(index + r"(?: +Filter: \(hour >= \$0\)\n)?(.*)\n", plan)
     is_by_time = scans and scans[0][0].count("to_timestamp(") == 2 and scans[0][1].strip() == "Heap Fetches: 0"
     checks.true("PostgreSQL: a month by hour is read of the index alone, by time", is_by_time, plan)
     print(f"note: {re.search(r'Buffers: .*', plan)[0]}", flush=True)
