@@ -5,8 +5,8 @@
 
 So many days (35) of hours of so many series (250), up to the end of November, are put into a SQLite file and a PostgreSQL
 database whose schemas the program has made; what each statement gives is compared with plain sums of the same numbers. The time
-of each statement is shown. Then the example is done as the page has it: its commands and statements, with shops that post.
-PostgreSQL is left out where there is none.
+of each statement is shown, and how many bytes a row takes. Then the example is done as the page has it: its commands and
+statements, with shops that post. PostgreSQL is left out where there is none.
 
 Each line is one check; the last line counts those that passed and failed, and the status is 0 where none failed.
 """
@@ -280,6 +280,11 @@ class Lite:
         rows = self.file.execute(sql).fetchall()
         return rows, time.process_time() - began
 
+    def row_bytes(self, table: str) -> float:
+        """What a row takes with its indexes."""
+        pages = "select sum(pgsize) from dbstat where name in (select name from sqlite_master where tbl_name = ?)"
+        return float(self.file.execute(f"select 1.0 * ({pages}) / count(*) from {table}", (table,)).fetchone()[0])
+
 
 class Added:
     """Buckets, added up."""
@@ -364,6 +369,9 @@ class Postgres:
             for row in json.loads(answer)
         ]
 
+    def row_bytes(self, table: str) -> float:
+        return float(self.psql(f"set search_path to totxegun; select pg_total_relation_size('{table}') / count(*)::float from {table}"))
+
 
 def in_order(attributes: Any) -> str:
     return json.dumps(attributes if isinstance(attributes, dict) else json.loads(attributes), sort_keys=True)
@@ -382,6 +390,7 @@ def try_lite(checks: Checks, program: str, folder: str, count: int, wanted: dict
         rows, seconds = lite.ask(sqls["SQLite"])
         compare(checks, "SQLite", number, wanted[number], rows)
         print(f"note: it took {seconds:.2f} s of processor time", flush=True)
+    say_sizes("hour", "span_row", of=lite)
 
 
 def try_postgres(checks: Checks, program: str, folder: str, count: int, wanted: dict[int, list[Any]]) -> None:
@@ -394,8 +403,14 @@ def try_postgres(checks: Checks, program: str, folder: str, count: int, wanted: 
                 compare(checks, "PostgreSQL", number, wanted[number], rows)
                 print(f"note: it took {time.monotonic() - began:.2f} s by the clock", flush=True)
         look_at_plan(checks, postgres)
+        say_sizes("past_hour", "past_day", of=postgres)
     finally:
         postgres.server.close()
+
+
+def say_sizes(*tables: str, of: Lite | Postgres) -> None:
+    sizes = (f"{of.row_bytes(table):.1f} of {table}" for table in tables)
+    print(f"note: bytes of a row with its indexes: {', '.join(sizes)}", flush=True)
 
 
 def look_at_plan(checks: Checks, postgres: Postgres) -> None:
