@@ -2,7 +2,8 @@
 //!
 //! A sender may stop at any byte, and memory holds what came. So bodies that are waited for have at most half of what posts
 //! may take, and long ones less: the rest is for those that are here. While they have over a quarter no long one begins, so
-//! that those that began have room, and who is slow gives way. Nobody waits for room, so no two wait for each other.
+//! that those that began have room, and who is slow gives way. Nobody waits for room, so no two wait for each other. Who is
+//! alone is refused for none of that: one that has over a quarter here would take over all once it is read (`post`).
 
 use super::refusal::Refusal;
 use super::weight::Hold;
@@ -107,6 +108,8 @@ fn memory_of(received: usize) -> usize {
 
 #[cfg(test)]
 mod tests {
+    use super::super::body::MOST;
+    use super::super::post::WHILE_READ_JSON;
     use super::super::weight::Budget;
     use super::*;
     use std::future::ready;
@@ -155,5 +158,35 @@ mod tests {
         let mut alone = Arrival::of(&mut alone);
         alone.has(6 * SHORT + 1).unwrap();
         assert_eq!(waits(&mut alone).await, Err(413), "there is never so much");
+    }
+
+    #[tokio::test]
+    async fn who_is_slow_gives_way_once_room_is_short() {
+        const SHORT: usize = Readers::SHORT;
+        let budget = Budget::new(16 * memory_of(SHORT));
+        let [mut one, mut two] = [budget.hold(), budget.hold()];
+        let [mut slow, mut other] = [Arrival::of(&mut one), Arrival::of(&mut two)];
+        for (arrival, received) in [(&mut slow, SHORT), (&mut other, 3 * SHORT)] {
+            arrival.has(received).unwrap();
+            assert_eq!(waits(arrival).await, Ok(true));
+        }
+        slow.since -= 2 * GRACE;
+        assert_eq!(waits(&mut slow).await, Ok(true), "there is room");
+        other.has(3 * SHORT + 1).unwrap();
+        assert_eq!(waits(&mut other).await, Ok(true));
+        assert_eq!(waits(&mut slow).await, Err(503));
+    }
+
+    /// Else one is refused for ever that could be read.
+    #[tokio::test]
+    async fn who_is_alone_and_can_be_read_is_refused_for_no_share_however_slowly_it_comes() {
+        for most in [1 << 20, 9 << 20, 256 << 20] {
+            let budget = Budget::new(most);
+            let mut alone = budget.hold();
+            let mut alone = Arrival::of(&mut alone);
+            alone.has(MOST.min(most / WHILE_READ_JSON)).unwrap();
+            alone.since -= 2 * GRACE + Duration::from_secs(5);
+            assert_eq!(waits(&mut alone).await, Ok(true), "{most}");
+        }
     }
 }

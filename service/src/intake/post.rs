@@ -12,7 +12,7 @@ use std::sync::Arc;
 
 /// What a byte of a body may become in memory while it is read: in JSON itself, what names its parts, and what is
 /// written anew; in protobuf up to nine bytes of JSON, twice that while they grow, and what names their parts.
-const WHILE_READ_JSON: usize = 8;
+pub(super) const WHILE_READ_JSON: usize = 8;
 const WHILE_READ_PROTOBUF: usize = 24;
 
 pub(super) struct Post<T> {
