@@ -58,10 +58,12 @@ pub(super) enum Ask<T> {
 impl<T: Taker> Ask<T> {
     pub async fn answered(self, sender: &str, slots: &Slots<T>, metrics: &Metrics) -> Outcome {
         match self {
-            Ask::Here { taker, request, original, rounded } => {
+            Ask::Here { taker, request, original, mut rounded } => {
+                rounded.decided.stays(true); // also where nobody waits for the outcome any more
                 let outcome = taker.post(sender, request, original).await;
-                if let Outcome::Taken { .. } = outcome {
-                    metrics.rounded(&rounded);
+                match outcome {
+                    Outcome::Taken { .. } => metrics.rounded(&rounded),
+                    _ => rounded.decided.stays(false),
                 }
                 outcome.with(&rounded)
             }

@@ -18,6 +18,7 @@ pub(super) use rewrite::rewritten;
 pub(super) use rounded::{shown_of, RoundedPoint, ShownSeries};
 pub use rounded::{Rounded, Rounding};
 pub(super) use scale::{scale_of, InFiner, Scale, Scaled};
+pub use units::Decided;
 
 use super::series::Profile;
 use std::collections::BTreeMap;

@@ -4,7 +4,7 @@
 //! `.proto` files. What neither reads as a value of its field stays a wrong value, so that the book counts
 //! the points that it makes foreign.
 
-use super::finer_units::changes;
+use super::finer_units::{changes, Decided};
 use super::json::{Document, Value};
 use super::number::{book_whole, is_plain, mapped_double, mapped_whole, whole_double, MAX_WHOLE_DOUBLE};
 use super::output::{Output, Written, CUMULATIVE, SHORT_LIST};
@@ -22,6 +22,7 @@ enum Stop {
 pub struct AsItIs {
     /// Whether a metric is cumulative.
     pub is_cumulative: bool,
+    pub decided: Decided,
 }
 
 /// What a body is that the book reads as it is meant; none of another.
@@ -29,9 +30,9 @@ pub fn read_as_it_is(document: &Document<'_>, reading: &Reading) -> Result<Optio
     if document.is_near_range() || reading.finer_units.has_no_unit() {
         return Ok(None);
     }
-    let mut walk = Walk { out: None, reading, is_cumulative: false };
+    let mut walk = Walk { out: None, reading, is_cumulative: false, decided: Decided::default() };
     match walk.body(document) {
-        Ok(()) => Ok(Some(AsItIs { is_cumulative: walk.is_cumulative })),
+        Ok(()) => Ok(Some(AsItIs { is_cumulative: walk.is_cumulative, decided: walk.decided })),
         Err(Stop::Changed) => Ok(None),
         Err(Stop::Refused(refused)) => Err(refused),
     }
@@ -39,8 +40,8 @@ pub fn read_as_it_is(document: &Document<'_>, reading: &Reading) -> Result<Optio
 
 pub fn written(document: &Document<'_>, reading: &Reading) -> Result<Written, Refused> {
     let mut out = Output::new(document.root().raw().len(), reading);
-    let walked = Walk { out: Some(&mut out), reading, is_cumulative: false }.body(document);
-    match walked {
+    let mut walk = Walk { out: Some(&mut out), reading, is_cumulative: false, decided: Decided::default() };
+    match walk.body(document) {
         Ok(()) => Ok(out.written()),
         Err(Stop::Refused(refused)) => Err(refused),
         // A walk that writes goes on past changes.
@@ -53,6 +54,8 @@ struct Walk<'o, 'r> {
     out: Option<&'o mut Output<'r>>,
     reading: &'r Reading,
     is_cumulative: bool,
+    /// By its points, where it only looks.
+    decided: Decided,
 }
 
 fn refused(of: &Message, what: impl std::fmt::Display) -> Stop {
@@ -114,7 +117,10 @@ impl<'r> Walk<'_, 'r> {
         }
         self.push("}");
         // Behind its members: so it is in the book's form where its points decide in which unit its name is taken.
-        if self.out.is_none() && std::ptr::eq(of, &METRIC) && changes(&self.reading.finer_units, value) {
+        if self.out.is_none()
+            && std::ptr::eq(of, &METRIC)
+            && changes(&self.reading.finer_units, value, &mut self.decided)
+        {
             self.changed()?;
         }
         Ok(())

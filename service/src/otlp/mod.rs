@@ -41,7 +41,7 @@ pub use clock::{Clock, Off, OffClock, Window};
 pub use combined_outcome::{combined, OfPart};
 pub use explain::{explained, foreign_points, point_at, second_at, taken_points, Explained};
 pub use exponential::Bounds;
-pub use finer_units::{Choice, FinerUnits, Rounded, Rounding, Rule};
+pub use finer_units::{Choice, Decided, FinerUnits, Rounded, Rounding, Rule};
 pub use instance::{with_instance, INSTANCE};
 pub(crate) use messages::ExportMetricsServiceResponse;
 pub use numbered::{Learnt, NotNamed, Numbered, Series};
@@ -53,7 +53,7 @@ pub use series::{protobuf_of_forwarded, Profile};
 #[cfg(test)]
 pub(crate) use tests::{
     a_request as a_request_of_test, plain_posts as plain_posts_of_test, posted as posted_of_test,
-    posts as posts_of_test, requests as requests_of_test, sums as sums_of_test,
+    posts as posts_of_test, requests as requests_of_test, sums as sums_of_test, taken as taken_of_test,
 };
 
 use bytes::Bytes;
@@ -143,8 +143,8 @@ pub struct Prepared {
 }
 
 impl Prepared {
-    fn as_it_is(body: Bytes, is_cumulative: bool) -> Prepared {
-        Prepared { body, is_cumulative, ..Prepared::default() }
+    fn as_it_is(body: Bytes, is_cumulative: bool, decided: Decided) -> Prepared {
+        Prepared { body, is_cumulative, rounded: Rounded { decided, ..Rounded::default() } }
     }
 }
 
@@ -163,7 +163,9 @@ pub fn prepare_with<E: From<Refused>>(
 ) -> Result<Prepared, E> {
     let mut written = match form(encoding, &body, reading)? {
         Form::Written(written) => written,
-        Form::AsItCame { is_cumulative } => return Ok(Prepared::as_it_is(body, is_cumulative)),
+        Form::AsItCame { is_cumulative, decided } => {
+            return Ok(Prepared::as_it_is(body, is_cumulative, decided))
+        }
     };
     let unfit = match &reading.exponential {
         Some(bounds) if written.is_exponential => {
@@ -190,7 +192,7 @@ pub fn prepare_with<E: From<Refused>>(
 
 /// A request in the book's form but for its units.
 enum Form {
-    AsItCame { is_cumulative: bool },
+    AsItCame { is_cumulative: bool, decided: Decided },
     Written(output::Written),
 }
 
@@ -200,12 +202,14 @@ fn form(encoding: Encoding, body: &Bytes, reading: &Reading) -> Result<Form, Ref
     }
     let may_go_on = reading.dropped.is_empty();
     if may_go_on && json_fast_path::may_go_as_it_came(body, reading) {
-        return Ok(Form::AsItCame { is_cumulative: false });
+        return Ok(Form::AsItCame { is_cumulative: false, decided: Decided::default() });
     }
     let document = json::Document::parse(body)?;
     if may_go_on {
-        if let Some(read) = from_json::read_as_it_is(&document, reading)? {
-            return Ok(Form::AsItCame { is_cumulative: read.is_cumulative });
+        if let Some(from_json::AsItIs { is_cumulative, decided }) =
+            from_json::read_as_it_is(&document, reading)?
+        {
+            return Ok(Form::AsItCame { is_cumulative, decided });
         }
     }
     from_json::written(&document, reading).map(Form::Written)

@@ -49,6 +49,13 @@ pub(super) fn posted_with(body: &[u8], profile: Profile) -> Option<Posted> {
     Some(posted)
 }
 
+/// As `prepare`, of a request that is taken then.
+pub fn taken(encoding: Encoding, body: Bytes, reading: &Reading) -> Result<Prepared, Refused> {
+    let mut prepared = prepare(encoding, body, reading)?;
+    prepared.rounded.decided.stays(true);
+    Ok(prepared)
+}
+
 fn prepared(encoding: Encoding, body: impl Into<Bytes>) -> Result<Bytes, String> {
     prepare(encoding, body.into(), &Reading::default())
         .map(|prepared| prepared.body)

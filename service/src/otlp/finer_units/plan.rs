@@ -1,7 +1,7 @@
 //! In which unit a metric of a request is taken: by a rule for its unit, or as `units` decides. Its request is in the book's
 //! form, or in another of which nothing is said here.
 
-use super::units::{Unit, Units};
+use super::units::{Decided, Unit};
 use super::{FinerUnits, Rule};
 use crate::otlp::json::Value;
 use crate::otlp::number::book_whole;
@@ -75,24 +75,20 @@ fn has_fraction(point: Value<'_>) -> bool {
 }
 
 /// How a metric is taken. Where nothing is known of its name yet, its points decide.
-pub(super) fn taken<'r>(finer_units: &'r FinerUnits, metric: Value<'_>) -> Taken<'r> {
-    plan(finer_units, metric, |units, name, unit, delta| {
-        // Durations are measured: one that is whole is so by chance.
-        let is_duration = unit.is_time() && delta.kind == "histogram";
-        Some(units.decide(name, unit, is_duration || delta.has_doubles()))
-    })
-    .unwrap_or(Taken::AsItIs)
+pub(super) fn taken<'r>(finer_units: &'r FinerUnits, metric: Value<'_>, decided: &mut Decided) -> Taken<'r> {
+    plan(finer_units, metric, Some(decided)).unwrap_or(Taken::AsItIs)
 }
 
 /// The same of a metric without points; none where nothing is decided yet.
 pub(super) fn decided<'r>(finer_units: &'r FinerUnits, metric: Value<'_>) -> Option<Taken<'r>> {
-    plan(finer_units, metric, |units, name, unit, _| units.decided(name, unit))
+    plan(finer_units, metric, None)
 }
 
-fn plan<'r, 'd>(
+/// Where there is no place for what is decided, nothing is.
+fn plan<'r>(
     finer_units: &'r FinerUnits,
-    metric: Value<'d>,
-    unit_of: impl FnOnce(&Units, &str, Unit, &Delta<'d>) -> Option<Unit>,
+    metric: Value<'_>,
+    decided: Option<&mut Decided>,
 ) -> Option<Taken<'r>> {
     let own = match metric.member("unit") {
         None => Some("".into()),
@@ -103,10 +99,13 @@ fn plan<'r, 'd>(
     };
     let name = || metric.member("name").map_or(Some("".into()), Value::text);
     if let Some(rule) = finer_units.rules.get(&*own) {
-        if let (Some(units), Some(to), Some(_)) =
-            (&finer_units.units, Unit::of(&rule.to), Delta::of(finer_units, metric))
-        {
-            name().iter().for_each(|name| units.note_of_rule(name, to));
+        let named = (name(), &finer_units.units, Unit::of(&rule.to), Delta::of(finer_units, metric));
+        if let (Some(name), Some(units), Some(to), Some(_)) = named {
+            match decided {
+                Some(decided) => units.note_of_rule(&name, to, decided),
+                None if units.has_of_rule(&name, to) => {}
+                None => return None,
+            }
         }
         return Some(Taken::In(rule));
     }
@@ -117,7 +116,14 @@ fn plan<'r, 'd>(
     let (Some(name), Some(delta)) = (name, Delta::of(finer_units, metric)) else {
         return Some(Taken::AsItIs);
     };
-    let wanted = unit_of(units, &name, unit, &delta)?;
+    let wanted = match decided {
+        Some(decided) => {
+            // Durations are measured: one that is whole is so by chance.
+            let is_duration = unit.is_time() && delta.kind == "histogram";
+            units.decide(&name, unit, is_duration || delta.has_doubles(), decided)
+        }
+        None => units.decided(&name, unit)?,
+    };
     Some(match units.rule(unit, wanted) {
         // In a unit that is as fine as that of doubles, these are rounded.
         Some(rule) if unit.of_doubles() == unit => Taken::In(rule),
@@ -127,13 +133,13 @@ fn plan<'r, 'd>(
 }
 
 /// Whether a metric is taken otherwise than it is, or has something that can't be taken.
-pub fn changes(finer_units: &FinerUnits, metric: Value<'_>) -> bool {
+pub fn changes(finer_units: &FinerUnits, metric: Value<'_>, decided: &mut Decided) -> bool {
     let is_about = match metric.member("unit") {
         None => finer_units.has_no_unit(),
         Some(unit) => unit.text().is_some_and(|unit| finer_units.is_about(&unit)),
     };
     is_about
-        && match taken(finer_units, metric) {
+        && match taken(finer_units, metric, decided) {
             Taken::AsItIs => false,
             Taken::In(rule) if !rule.is_same() => true,
             Taken::Whole(_) | Taken::In(_) => {

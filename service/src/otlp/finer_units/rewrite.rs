@@ -6,6 +6,7 @@
 use super::decimal::Decimal;
 use super::plan::{first_double, taken, Taken, DATA};
 use super::rounded::{resource_shown, rounded, Mark};
+use super::units::Decided;
 use super::{FinerUnits, Rounded, Rule};
 use crate::otlp::json::{write_text, Document, NotJson, Value};
 use crate::otlp::number::{double_shown, MAX_WHOLE_DOUBLE};
@@ -28,11 +29,12 @@ pub fn rewritten(text: &[u8], finer_units: &FinerUnits) -> Result<(String, Round
         out: String::with_capacity(text.len() + text.len() / 8),
         marks: Vec::new(),
         unfit: None,
+        decided: Decided::default(),
     };
     rewriting.request(&document);
-    let Rewriting { out, marks, unfit, .. } = rewriting;
+    let Rewriting { out, marks, unfit, decided, .. } = rewriting;
     let rounded = rounded(&out, marks, finer_units.profile)?;
-    Ok((out, Rounded { unfit, ..rounded }))
+    Ok((out, Rounded { unfit, decided, ..rounded }))
 }
 
 struct Rewriting<'r> {
@@ -44,6 +46,7 @@ struct Rewriting<'r> {
     marks: Vec<Mark<'r>>,
     /// The first point that stays foreign though its unit has a rule, in words.
     unfit: Option<String>,
+    decided: Decided,
 }
 
 /// A metric with a rule.
@@ -87,7 +90,7 @@ impl<'r> Rewriting<'r> {
     }
 
     fn metric<'d>(&mut self, value: Value<'d>, resource: &'d Resource<'d>) {
-        let rule = match taken(self.finer_units, value) {
+        let rule = match taken(self.finer_units, value, &mut self.decided) {
             Taken::AsItIs => return,
             Taken::Whole(unit) => return self.first_double(value, unit.name()),
             Taken::In(rule) => rule,

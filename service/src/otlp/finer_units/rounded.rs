@@ -4,7 +4,7 @@
 //! marks, the new text is read once more as the service reads it: that says which series a marked point is of, and
 //! whether it can be taken.
 
-use super::Rule;
+use super::{Decided, Rule};
 use crate::otlp::json::{Document, NotJson, Value};
 use crate::otlp::series::{said, short, visit, Profile, Seen};
 use std::collections::hash_map::DefaultHasher;
@@ -21,7 +21,7 @@ const SHOWN_OF_POINT: usize = 300;
 const SHOWN_OF_RESOURCE: usize = 1000;
 
 /// What was done to the values of a request.
-#[derive(Clone, Debug, Default, PartialEq)]
+#[derive(Debug, Default, PartialEq)]
 pub struct Rounded {
     /// By the rule, as it is written with its factor.
     pub by_rule: BTreeMap<String, Rounding>,
@@ -29,6 +29,8 @@ pub struct Rounded {
     pub points: Vec<RoundedPoint>,
     /// The first point that stays foreign though its unit has a rule, in words.
     pub unfit: Option<String>,
+    /// In which units its metrics are taken from now on, if it is taken.
+    pub decided: Decided,
 }
 
 impl Rounded {
@@ -38,13 +40,13 @@ impl Rounded {
             let shown = point.of.metric.len() + point.of.attributes.len();
             size_of::<RoundedPoint>() + size_of::<ShownSeries>() + shown
         };
-        self.points.iter().map(of).sum()
+        self.points.iter().map(of).sum::<usize>() + self.decided.bytes()
     }
 
     /// Of points that are all taken.
     pub(crate) fn of_points(points: Vec<RoundedPoint>) -> Rounded {
         let by_rule = by_rule(points.iter().map(|point| (&*point.of.rule, point.by)));
-        Rounded { by_rule, points, unfit: None }
+        Rounded { by_rule, points, ..Rounded::default() }
     }
 }
 
@@ -127,7 +129,7 @@ pub(super) fn rounded(text: &str, marks: Vec<Mark<'_>>, profile: Profile) -> Res
     if whole.is_none() {
         points.clear(); // the book refuses it whole
     }
-    Ok(Rounded { by_rule, points, unfit: None })
+    Ok(Rounded { by_rule, points, ..Rounded::default() })
 }
 
 fn series_shown(seen: &Seen<'_, '_>, rule: Arc<str>, resource: Arc<str>) -> ShownSeries {

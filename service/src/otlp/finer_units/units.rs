@@ -16,11 +16,15 @@
 //!
 //! Of several slots each decides by what it has itself, so that a post means the same wherever its slot is: else a repeat
 //! would be of another series, and count twice. Where a slot knows nothing of a name yet, it takes what others here have.
+//!
+//! What a post decides is **pending** until it was taken, and gone where it was refused: others that are under way meanwhile are
+//! read by it, and hold it too.
 
 use super::{Rule, BYTES, PARTS, TIMES};
-use std::collections::{BTreeSet, HashMap};
+use std::collections::{BTreeMap, BTreeSet, HashMap};
+use std::fmt;
 use std::sync::atomic::{AtomicBool, AtomicU64, Ordering::Relaxed, Ordering::SeqCst};
-use std::sync::{Arc, PoisonError, RwLock};
+use std::sync::{Arc, PoisonError, RwLock, RwLockReadGuard, RwLockWriteGuard};
 
 /// Units of which each is a whole part of all before it, and the one in which doubles are taken.
 const CHAINS: [(&[&str], &str); 4] = [
@@ -46,6 +50,46 @@ type Set = u32;
 /// The last number that a slot's got.
 static LAST: AtomicU64 = AtomicU64::new(0);
 
+/// What a post has decided, or hangs on. It goes with this, but where the post was taken.
+#[derive(Debug, Default, PartialEq)]
+pub struct Decided(Vec<Pending>);
+
+struct Pending {
+    units: Arc<Units>,
+    named: Named,
+    stays: bool,
+}
+
+impl Decided {
+    /// Whether it stays once this is dropped.
+    pub fn stays(&mut self, stays: bool) {
+        self.0.iter_mut().for_each(|pending| pending.stays = stays);
+    }
+
+    /// Of memory, more or less.
+    pub fn bytes(&self) -> usize {
+        self.0.iter().map(|pending| size_of::<Pending>() + pending.named.0.len()).sum()
+    }
+}
+
+impl Drop for Pending {
+    fn drop(&mut self) {
+        self.units.write().end(&self.named, self.stays);
+    }
+}
+
+impl PartialEq for Pending {
+    fn eq(&self, other: &Pending) -> bool {
+        self.named == other.named
+    }
+}
+
+impl fmt::Debug for Pending {
+    fn fmt(&self, out: &mut fmt::Formatter<'_>) -> fmt::Result {
+        self.named.fmt(out)
+    }
+}
+
 /// In which known units there are series, by the name of their metric.
 pub struct Units {
     /// Of each that is opened another; 0 of those that all slots share.
@@ -66,18 +110,28 @@ struct Names {
     left: usize,
     /// Those beside others that the outbox has to have; none where there is no outbox.
     unkept: Option<BTreeSet<Named>>,
+    /// Those that are pending, and how many posts hold each.
+    pending: BTreeMap<Named, usize>,
 }
 
 /// The units of a name.
-#[derive(Clone, Copy, Default)]
+#[derive(Clone, Copy, Default, PartialEq)]
 struct Known {
     deciding: Set,
     beside: Set,
+    pending: Set,
+}
+
+impl Known {
+    /// Whether it is known of a unit whether it decides.
+    fn is_noted(self, unit: Unit) -> bool {
+        (self.deciding | self.beside) & bit(unit) != 0
+    }
 }
 
 impl Default for Names {
     fn default() -> Names {
-        Names { units: HashMap::new(), left: MOST, unkept: None }
+        Names { units: HashMap::new(), left: MOST, unkept: None, pending: BTreeMap::new() }
     }
 }
 
@@ -166,54 +220,77 @@ impl Units {
         }
     }
 
-    /// Notes a series that a rule has put into a unit. It is beside a finer one, if that has decided: what is coarser than both
-    /// may be taken in that, and would be taken in this from then on.
-    pub fn note_of_rule(&self, metric: &str, unit: Unit) {
-        let is_noted = |known: Known| (known.deciding | known.beside) & bit(unit) != 0;
-        if !is_noted(self.known(metric)) {
+    /// Whether a series was noted that a rule has put into a unit.
+    pub fn has_of_rule(&self, metric: &str, unit: Unit) -> bool {
+        self.known(metric).is_noted(unit)
+    }
+
+    /// Notes one. It is beside a finer one, if that has decided: what is coarser than both may be taken in that, and would be
+    /// taken in this from then on.
+    pub fn note_of_rule(self: &Arc<Units>, metric: &str, unit: Unit, decided: &mut Decided) {
+        if !self.has_of_rule(metric, unit) {
             let mut names = self.write();
             let known = names.of(metric);
             match self.coarsest(known, unit) {
-                _ if is_noted(known) => {} // another was here meanwhile
-                None => drop(names.put(metric, unit)),
-                Some(_) => {
+                _ if known.is_noted(unit) => {} // another was here meanwhile
+                Some(finer) if finer != unit => {
                     names.put_beside(metric, unit);
                     // With the lock: who finds it noted finds this too.
                     self.has_unkept.store(names.has_unkept(), SeqCst);
                 }
+                _ => drop(self.hold(names, metric, unit, decided)),
             }
         }
-        self.of_all.iter().for_each(|of_all| of_all.note_of_rule(metric, unit));
+        self.of_all.iter().for_each(|of_all| of_all.note_of_rule(metric, unit, decided));
     }
 
-    /// In which unit a metric of this one is taken, where that is decided.
+    /// In which unit a metric of this one is taken, where that is decided, and nothing pending may change it.
     pub fn decided(&self, metric: &str, unit: Unit) -> Option<Unit> {
-        self.coarsest(self.known(metric), unit)
+        let known = self.known(metric);
+        self.coarsest(known, unit).filter(|found| known.deciding & bit(*found) != 0)
     }
 
-    /// The same, where it may be decided now. Where there is no room for more names it is the metric's own.
-    pub fn decide(&self, metric: &str, unit: Unit, has_doubles: bool) -> Unit {
-        if let Some(decided) = self.decided(metric, unit) {
-            return decided;
+    /// The same, where a post may decide it now. Where there is no room for more names it is the metric's own.
+    pub fn decide(
+        self: &Arc<Units>,
+        metric: &str,
+        unit: Unit,
+        has_doubles: bool,
+        decided: &mut Decided,
+    ) -> Unit {
+        if let Some(known) = self.decided(metric, unit) {
+            return known;
         }
         let elsewhere = self.of_all.as_ref();
-        let elsewhere = elsewhere.map(|of_all| of_all.decide(metric, unit, has_doubles));
-        let mut names = self.write();
-        if let Some(decided) = self.coarsest(names.of(metric), unit) {
-            return decided; // another has decided meanwhile
-        }
+        let elsewhere = elsewhere.map(|of_all| of_all.decide(metric, unit, has_doubles, decided));
+        let names = self.write();
+        let known = names.of(metric);
         let own = if has_doubles { unit.of_doubles() } else { unit };
-        let wanted = elsewhere.unwrap_or(own);
-        if names.put(metric, wanted) {
-            wanted
-        } else {
-            unit
+        let found = self.coarsest(known, unit).or(elsewhere).unwrap_or(own);
+        match known.deciding & bit(found) != 0 || self.hold(names, metric, found, decided) {
+            true => found,
+            false => unit,
         }
     }
 
-    /// Of those that decide the coarsest that a unit is made of.
+    /// Whether there was room.
+    fn hold(
+        self: &Arc<Units>,
+        mut names: RwLockWriteGuard<'_, Names>,
+        metric: &str,
+        unit: Unit,
+        decided: &mut Decided,
+    ) -> bool {
+        let has_room = names.hold(metric, unit);
+        if has_room {
+            decided.0.push(Pending { units: self.clone(), named: (metric.into(), unit), stays: false });
+        }
+        has_room
+    }
+
+    /// Of those that decide, or would, the coarsest that a unit is made of.
     fn coarsest(&self, known: Known, unit: Unit) -> Option<Unit> {
-        match known.deciding & self.finer[unit.0] {
+        match (known.deciding | known.pending) & self.finer[unit.0] {
             0 => None,
             both => Some(Unit(both.trailing_zeros() as usize)),
         }
@@ -223,11 +300,11 @@ impl Units {
         self.read().of(metric)
     }
 
-    fn read(&self) -> std::sync::RwLockReadGuard<'_, Names> {
+    fn read(&self) -> RwLockReadGuard<'_, Names> {
         self.names.read().unwrap_or_else(PoisonError::into_inner) // each change of it is whole
     }
 
-    fn write(&self) -> std::sync::RwLockWriteGuard<'_, Names> {
+    fn write(&self) -> RwLockWriteGuard<'_, Names> {
         self.names.write().unwrap_or_else(PoisonError::into_inner)
     }
 }
@@ -265,7 +342,7 @@ impl Units {
         let others = known.deciding & !known.beside;
         let is_beside = |unit: &Unit| others & self.finer[unit.0] != 0;
         let beside = units_of(both).filter(is_beside).fold(0, |set, unit| set | bit(unit));
-        Known { deciding: known.deciding & !beside, beside }
+        Known { deciding: known.deciding & !beside, beside, ..known }
     }
 
     /// Whether a post may hang on what no outbox has.
@@ -303,6 +380,41 @@ impl Names {
             known.deciding |= bit(unit);
             true
         })
+    }
+
+    /// The same of one that is pending.
+    fn hold(&mut self, metric: &str, unit: Unit) -> bool {
+        let Some(known) = self.with_room(metric) else {
+            return false;
+        };
+        known.pending |= bit(unit);
+        *self.pending.entry((metric.into(), unit)).or_default() += 1;
+        true
+    }
+
+    /// A post that held it was taken, or not.
+    fn end(&mut self, named: &Named, is_taken: bool) {
+        let (metric, unit) = named;
+        let is_last = match self.pending.get_mut(named) {
+            Some(1) | None => self.pending.remove(named).is_some(),
+            Some(holding) => {
+                *holding -= 1;
+                false
+            }
+        };
+        let Some(known) = self.units.get_mut(metric) else {
+            return;
+        };
+        if is_taken {
+            known.deciding |= bit(*unit);
+        }
+        if is_last {
+            known.pending &= !bit(*unit);
+        }
+        if *known == Known::default() {
+            self.units.remove(metric);
+            self.left += metric.len() + ENTRY;
+        }
     }
 
     fn put_beside(&mut self, metric: &str, unit: Unit) {

@@ -249,7 +249,7 @@ fn what_is_long_above_points_is_read_otherwise() {
 /// Else a series that came then was named in the one unit, and its values were in the other.
 #[test]
 fn a_metric_keeps_its_unit_where_a_rule_puts_another_of_its_name_into_a_coarser_one() {
-    use crate::otlp::{prepare, Encoding, FinerUnits};
+    use crate::otlp::{taken_of_test, Encoding, FinerUnits};
     let choices = ["auto", "ms"].map(|choice| choice.parse().unwrap());
     let reading = Reading { finer_units: FinerUnits::of(choices).unwrap(), ..Reading::default() };
     let body = |unit: &[u8], key: &[u8]| {
@@ -258,7 +258,7 @@ fn a_metric_keeps_its_unit_where_a_rule_puts_another_of_its_name_into_a_coarser_
         let metric = [field(1, b"m"), field(3, unit), sum].concat();
         field(1, &field(2, &field(2, &metric)))
     };
-    let as_text = |body: Vec<u8>| prepare(Encoding::Protobuf, body.into(), &reading).unwrap().body;
+    let as_text = |body: Vec<u8>| taken_of_test(Encoding::Protobuf, body.into(), &reading).unwrap().body;
     let (series, named) = (Series::new(Arc::new(reading.clone()), 1 << 20), RefCell::new(Vec::new()));
     let read = |body: Vec<u8>| {
         let read = series.read(&body, &reading, |request| {

@@ -2,7 +2,7 @@
 
 use super::is_plain;
 use crate::otlp::messages::*;
-use crate::otlp::{from_protobuf, Choice, FinerUnits, Reading};
+use crate::otlp::{from_protobuf, taken_of_test, Choice, Encoding, FinerUnits, Reading};
 use prost::Message;
 
 fn attribute(key: &str, value: Any) -> KeyValue {
@@ -156,7 +156,7 @@ fn a_metric_is_plain_once_it_is_decided_that_it_is_taken_in_its_own_unit() {
     for (body, is_own) in [(seconds, false), (bytes, true)] {
         for is_decided in [false, true] {
             assert_eq!(is_plain(&body, &reading), is_decided && is_own);
-            crate::otlp::prepare(crate::otlp::Encoding::Protobuf, body.clone().into(), &reading).unwrap();
+            taken_of_test(Encoding::Protobuf, body.clone().into(), &reading).unwrap();
         }
     }
 }

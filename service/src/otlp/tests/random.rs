@@ -188,7 +188,7 @@ fn both_mean_the_same(reading: &Reading) -> BTreeMap<String, Rounding> {
     let (mut series, mut foreign, mut rounded) = (0, 0, BTreeMap::new());
     for _ in 0..600 {
         let request = random.request();
-        let binary = prepared(Encoding::Protobuf, request.encode_to_vec());
+        let mut binary = prepared(Encoding::Protobuf, request.encode_to_vec());
         let expected = posted(&binary.body).unwrap();
         let explained = explained(&binary.body, Profile::Deltas, Clock::default().window()).unwrap();
         let told = explained.iter().filter(|point| point.foreign.is_some()).count();
@@ -217,6 +217,7 @@ fn both_mean_the_same(reading: &Reading) -> BTreeMap<String, Rounding> {
         }
         series += expected.series.len();
         foreign += expected.foreign;
+        binary.rounded.decided.stays(true);
         for (rule, more) in binary.rounded.by_rule {
             let sum: &mut Rounding = rounded.entry(rule).or_default();
             sum.values += more.values;

@@ -3,7 +3,7 @@
 use super::*;
 use crate::core::{Across, Read};
 use crate::files::{self, Body, Durability, Folder};
-use crate::otlp::{posts_of_test, requests_of_test, Choice, Clock, FinerUnits, Rule};
+use crate::otlp::{posts_of_test, requests_of_test, taken_of_test, Choice, Clock, FinerUnits, Rule};
 use crate::slot::posted::{self, Posted};
 use std::collections::HashSet;
 
@@ -46,7 +46,7 @@ impl Both {
     }
 
     fn text(&self, body: &Bytes) -> Result<Request, String> {
-        let prepared = prepare(Encoding::Protobuf, body.clone(), &self.reading);
+        let prepared = taken_of_test(Encoding::Protobuf, body.clone(), &self.reading);
         prepared.map(|prepared| Request::Text(prepared.body)).map_err(|refused| refused.to_string())
     }
 

@@ -1,6 +1,7 @@
 //! Metrics of known units without a rule.
 
 use super::*;
+use crate::otlp::taken_of_test;
 
 fn auto(choices: &[&str]) -> Reading {
     Reading {
@@ -31,7 +32,7 @@ fn histogram(name: &str, unit: &str, says: &str) -> String {
 /// Of the first metric its unit and what its points have; how many points are foreign, and the first that is named.
 fn taken(reading: &Reading, metrics: &[String]) -> (String, Vec<String>, u64, Option<String>) {
     let body = request(metrics);
-    let prepared = prepare(Encoding::Json, body.into(), reading).unwrap();
+    let prepared = taken_of_test(Encoding::Json, body.into(), reading).unwrap();
     let read: serde_json::Value = serde_json::from_slice(&prepared.body).unwrap();
     let metric = &read["resourceMetrics"][0]["scopeMetrics"][0]["metrics"][0];
     let points = metric["sum"]["dataPoints"].as_array().into_iter().flatten();
@@ -41,7 +42,7 @@ fn taken(reading: &Reading, metrics: &[String]) -> (String, Vec<String>, u64, Op
         metric["unit"].as_str().unwrap().to_string(),
         values.collect(),
         foreign(&prepared),
-        prepared.rounded.unfit,
+        prepared.rounded.unfit.clone(),
     )
 }
 
@@ -149,7 +150,7 @@ fn what_stays_as_it_is_is_not_written_anew() {
         vec![sum("d", "1", &[WHOLE]), sum("a", "By", &[WHOLE])],
     ] {
         let body = request(&metrics);
-        let prepared = prepare(Encoding::Json, body.clone().into(), &reading).unwrap();
+        let prepared = taken_of_test(Encoding::Json, body.clone().into(), &reading).unwrap();
         assert_eq!(prepared.body, body.as_bytes());
     }
     for (metric, may_go) in [

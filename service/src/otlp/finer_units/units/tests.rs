@@ -4,10 +4,18 @@ fn unit(name: &str) -> Unit {
     Unit::of(name).unwrap()
 }
 
+/// As a post decides that is taken, or refused.
+fn decide(units: &Arc<Units>, metric: &str, own: Unit, has_doubles: bool, is_taken: bool) -> Unit {
+    let mut decided = Decided::default();
+    let found = units.decide(metric, own, has_doubles, &mut decided);
+    decided.stays(is_taken);
+    found
+}
+
 #[test]
 fn a_metric_is_decided_once() {
-    let units = Units::default();
-    let decide = |metric, own, has_doubles| units.decide(metric, unit(own), has_doubles).name();
+    let units = Arc::new(Units::default());
+    let decide = |metric, own, has_doubles| decide(&units, metric, unit(own), has_doubles, true).name();
     assert_eq!(decide("a", "s", true), "us");
     assert_eq!(decide("a", "s", false), "us");
     assert_eq!(decide("a", "ms", false), "us");
@@ -34,9 +42,34 @@ fn drawn() -> impl FnMut(usize) -> usize {
     }
 }
 
+/// Else the doubles of a metric are foreign until the next start, for a post that counts as never sent.
+#[test]
+fn what_was_refused_decides_nothing() {
+    let all = Arc::new(Units::default());
+    let units = Arc::new(Units::of_slot(all.clone()));
+    let decide = |has_doubles, is_taken| decide(&units, "a", unit("s"), has_doubles, is_taken).name();
+    assert_eq!(decide(false, false), "s");
+    let mut by_rule = Decided::default();
+    units.note_of_rule("a", unit("min"), &mut by_rule);
+    drop(by_rule);
+    assert!([&all, &units].into_iter().all(|units| units.read().units.is_empty()));
+    assert_eq!([all.read().left, units.read().left], [MOST; 2]);
+    // Who comes while one is under way hangs on it.
+    let [mut one, mut other] = [(); 2].map(|()| Decided::default());
+    let held = [(true, &mut one), (false, &mut other)]
+        .map(|(has_doubles, decided)| units.decide("a", unit("s"), has_doubles, decided).name());
+    assert_eq!((held, units.decided("a", unit("s"))), (["us"; 2], None));
+    drop(one);
+    assert_eq!(decide(false, false), "us");
+    other.stays(true);
+    drop(other);
+    assert_eq!([&all, &units].map(|units| units.decided("a", unit("s"))), [Some(unit("us")); 2]);
+    assert!(units.read().pending.is_empty() && all.read().pending.is_empty());
+}
+
 /// What a start begins with; the rules are made once.
-fn fresh(all: &Arc<Units>) -> Units {
-    Units { of_all: None, ..Units::of_slot(all.clone()) }
+fn fresh(all: &Arc<Units>) -> Arc<Units> {
+    Arc::new(Units { of_all: None, ..Units::of_slot(all.clone()) })
 }
 
 /// Whatever comes, in whatever order, and whatever of it a start finds: the same unit as before.
@@ -48,9 +81,10 @@ fn what_a_start_finds_decides_as_before() {
         let mut taken: HashMap<usize, Unit> = HashMap::new();
         for _ in 0..40 {
             let own = Unit(next(count));
-            let found = units.decide("a", own, next(2) == 0);
             // A post may be refused, or lost by a kill.
-            if next(3) > 0 {
+            let is_taken = next(3) > 0;
+            let found = decide(&units, "a", own, next(2) == 0, is_taken);
+            if is_taken {
                 let before = *taken.entry(own.0).or_insert(found);
                 assert_eq!(found, before, "{}", own.name());
             }
@@ -65,22 +99,32 @@ fn what_a_start_finds_decides_as_before() {
 /// A metric of one name, and what is on disk of it.
 struct OnDisk {
     all: Arc<Units>,
-    units: Units,
+    units: Arc<Units>,
     series: Set,
     beside: Vec<Named>,
     /// In which unit points were taken, by their own.
     taken: HashMap<usize, Unit>,
+    under_way: Vec<Post>,
+}
+
+struct Post {
+    decided: Decided,
+    /// None where a rule has put it into its unit.
+    own: Option<Unit>,
+    unit: Unit,
 }
 
 impl OnDisk {
     fn new(all: &Arc<Units>) -> OnDisk {
         let (all, units) = (all.clone(), fresh(all));
-        let mut made = OnDisk { all, units, series: 0, beside: Vec::new(), taken: HashMap::new() };
+        let (beside, taken, under_way) = (Vec::new(), HashMap::new(), Vec::new());
+        let mut made = OnDisk { all, units, series: 0, beside, taken, under_way };
         made.start();
         made
     }
 
     fn start(&mut self) {
+        self.under_way.clear();
         self.units = fresh(&self.all);
         self.units.begin(self.beside.iter().map(|(metric, unit)| (metric.to_string(), *unit)));
         units_of(self.series).for_each(|unit| self.units.note("a", unit));
@@ -88,24 +132,32 @@ impl OnDisk {
         self.beside.retain(|one| !left.contains(one));
     }
 
-    fn post(&mut self, own: Unit, has_doubles: bool, is_taken: bool) {
-        let found = self.units.decide("a", own, has_doubles);
-        if is_taken {
-            self.series |= bit(found);
-            let before = *self.taken.entry(own.0).or_insert(found);
-            assert_eq!(found, before, "{}", own.name());
-        }
+    fn post(&mut self, own: Unit, has_doubles: bool) {
+        let mut decided = Decided::default();
+        let unit = self.units.decide("a", own, has_doubles, &mut decided);
+        self.under_way.push(Post { decided, own: Some(own), unit });
     }
 
-    fn post_by_rule(&mut self, unit: Unit, is_taken: bool) {
-        self.units.note_of_rule("a", unit);
+    fn post_by_rule(&mut self, unit: Unit) {
+        let mut decided = Decided::default();
+        self.units.note_of_rule("a", unit, &mut decided);
+        self.under_way.push(Post { decided, own: None, unit });
+    }
+
+    fn end(&mut self, place: usize, is_taken: bool) {
+        let Post { mut decided, own, unit } = self.under_way.swap_remove(place);
+        decided.stays(is_taken);
         if is_taken {
             let unkept = self.units.unkept();
             self.units.kept(&unkept);
             self.beside.extend(unkept);
+            assert!(!self.units.has_unkept());
             self.series |= bit(unit);
         }
-        assert!(!is_taken || !self.units.has_unkept());
+        if let (Some(own), true) = (own, is_taken) {
+            let before = *self.taken.entry(own.0).or_insert(unit);
+            assert_eq!(unit, before, "{}", own.name());
+        }
     }
 
     fn forget(&mut self, unit: Unit) {
@@ -121,13 +173,15 @@ fn what_rules_bring_between_decides_nothing_behind_a_start_either() {
     let mut beside = 0;
     for _ in 0..3_000 {
         let mut disk = OnDisk::new(&all);
-        for _ in 0..60 {
-            let (unit, is_taken) = (Unit(next(count)), next(3) > 0);
-            match next(10) {
-                0..=4 => disk.post(unit, next(2) == 0, is_taken),
-                5..=7 => disk.post_by_rule(unit, is_taken),
+        for _ in 0..90 {
+            let unit = Unit(next(count));
+            match next(15) {
+                0..=4 => disk.post(unit, next(2) == 0),
+                5..=7 => disk.post_by_rule(unit),
                 8 => disk.forget(unit),
-                _ => disk.start(),
+                9 => disk.start(),
+                _ if disk.under_way.is_empty() => {}
+                _ => disk.end(next(disk.under_way.len()), next(3) > 0),
             }
         }
         beside += disk.beside.len();
@@ -138,13 +192,13 @@ fn what_rules_bring_between_decides_nothing_behind_a_start_either() {
 #[test]
 fn what_is_beside_nothing_any_more_decides_again() {
     for (found, left, decided) in [(&["ms", "us"][..], &["b"][..], "us"), (&["ms"], &["a", "b"], "ms")] {
-        let units = Units::default();
+        let units = Arc::new(Units::default());
         units.begin(["a", "b"].map(|metric| (metric.to_string(), unit("ms"))));
         found.iter().for_each(|name| units.note("a", unit(name)));
         let mut names: Vec<_> = units.settle().into_iter().map(|(metric, _)| metric).collect();
         names.sort();
         assert_eq!(names, left.iter().map(|name| (*name).into()).collect::<Vec<Box<str>>>());
-        let decide = |metric, own| units.decide(metric, unit(own), false).name();
+        let decide = |metric, own| decide(&units, metric, unit(own), false, true).name();
         assert_eq!([decide("a", "s"), decide("b", "ms")], [decided, "ms"]);
     }
 }
@@ -152,10 +206,11 @@ fn what_is_beside_nothing_any_more_decides_again() {
 #[test]
 fn a_slot_decides_by_what_it_has_and_else_as_the_others_here() {
     let all = Arc::new(Units::default());
-    let slot = || Units::of_slot(all.clone());
+    let slot = || Arc::new(Units::of_slot(all.clone()));
     let (one, other) = (slot(), slot());
     assert!(one.number > 0 && other.number > one.number);
-    let decide = |units: &Units, own, has_doubles| units.decide("a", unit(own), has_doubles).name();
+    let decide =
+        |units: &Arc<Units>, own, has_doubles| decide(units, "a", unit(own), has_doubles, true).name();
     assert_eq!(decide(&one, "s", true), "us");
     assert_eq!(decide(&other, "s", false), "us", "as the first one");
     // It comes back from an instance where it was taken otherwise.
@@ -172,8 +227,8 @@ fn a_slot_decides_by_what_it_has_and_else_as_the_others_here() {
 
 #[test]
 fn there_is_a_bound_for_names() {
-    let units = Units::default();
+    let units = Arc::new(Units::default());
     units.write().left = 2 * (ENTRY + 1);
-    let decide = |metric| units.decide(metric, unit("s"), true).name();
+    let decide = |metric| decide(&units, metric, unit("s"), true, true).name();
     assert_eq!(["a", "b", "c", "a", "c"].map(decide), ["us", "us", "s", "us", "s"]);
 }

@@ -104,6 +104,25 @@ async fn what_one_instance_has_decided_is_so_at_the_next() {
     }
 }
 
+/// Else the doubles of a metric are not taken until the next start, for a post that counts as never sent.
+#[tokio::test]
+async fn a_refused_post_decides_no_unit() {
+    for serves in [instance, process] {
+        let place = folder();
+        let service = serves(&place, &["auto"]);
+        service.open(1).await;
+        let of = |name, unit| {
+            sum(name, unit, 1, &format!(r#"{WHOLE},"startTimeUnixNano":"1","timeUnixNano":"2""#))
+        };
+        assert_eq!(post_of(&service, 1, &of("before", "")).await, Outcome::taken(0));
+        let both = [of("m", "s"), of("before", "")].join(",");
+        let repeat = post_of(&service, 1, &both).await;
+        assert_eq!(repeat.status(), 400, "{repeat:?}");
+        assert_eq!(post(&service, 1, "s", DOUBLE).await, Outcome::taken(0));
+        assert!(service.units.hand_over(1).await.unwrap(), "in time");
+    }
+}
+
 /// Requests that came to sinks, by their keys.
 #[derive(Default)]
 struct Came(BTreeMap<String, Vec<u8>>);

@@ -35,7 +35,7 @@ impl Ways {
     }
 
     fn text(&self, body: &Bytes) -> Result<Request, String> {
-        let prepared = prepare(Encoding::Protobuf, body.clone(), &self.reading);
+        let prepared = taken_of_test(Encoding::Protobuf, body.clone(), &self.reading);
         prepared.map(|prepared| Request::Text(prepared.body)).map_err(|refused| refused.to_string())
     }
 
