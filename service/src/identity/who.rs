@@ -133,17 +133,17 @@ fn bearer(value: &[u8]) -> Option<&[u8]> {
 pub struct Certified {
     chain: Vec<rustls::Certificate>,
     sender: Option<Arc<Sender>>,
-    /// Seconds since 1970 at which the certificate ends.
-    ends: i64,
     tls: Arc<Tls>,
     judged: Mutex<Judged>,
     tokens: Option<Arc<Reloaded<Tokens>>>,
 }
 
-/// Whether a chain was found to be believed, and by what.
+/// Whether a chain was found to be believed, by what, and up to when.
 struct Judged {
     by: Arc<Contexts>,
     is_believed: bool,
+    /// Seconds since 1970 at which the next of its certificates ends.
+    until: i64,
 }
 
 impl Certified {
@@ -154,17 +154,11 @@ impl Certified {
         tokens: Option<Arc<Reloaded<Tokens>>>,
     ) -> Certified {
         let read = chain.first().and_then(|first| Certificate::read(&first.0));
-        let ends = read.as_ref().map_or(0, |read| read.ends);
+        let is_believed = read.is_some();
         let name = read.and_then(|read| read.name).map(|name| otlp::legal(&name));
         let sender = name.map(|name| Sender { name, others: Vec::new() });
-        Certified {
-            chain,
-            sender: sender.map(Arc::new),
-            ends,
-            tls,
-            judged: Mutex::new(Judged { by: believed_by, is_believed: true }),
-            tokens,
-        }
+        let judged = Judged { by: believed_by, is_believed, until: next_end(&chain, now()) };
+        Certified { chain, sender: sender.map(Arc::new), tls, judged: Mutex::new(judged), tokens }
     }
 
     fn sender(&self) -> Result<Arc<Sender>, Stranger> {
@@ -176,20 +170,28 @@ impl Certified {
         Ok(with_others.unwrap_or_else(|| sender.clone()))
     }
 
-    /// Whether it still is: it may have ended, and its root may have been taken out of the file since. A chain is looked at once for
-    /// each file: that takes longer than a post, on the thread of others' posts.
+    /// Whether it still is: it or one between it and its root may have ended, and its root may have been taken out of the file
+    /// since. A chain is looked at once for each of that: it takes longer than a post, on the thread of others' posts.
     fn is_believed(&self) -> bool {
-        let now = SystemTime::now().duration_since(UNIX_EPOCH).unwrap_or_default();
-        if now.as_secs() as i64 > self.ends {
-            return false;
-        }
-        let contexts = self.tls.contexts();
+        let (now, contexts) = (now(), self.tls.contexts());
         let mut judged = self.judged.lock().unwrap_or_else(PoisonError::into_inner); // any value of it is sound
-        if !Arc::ptr_eq(&judged.by, &contexts) {
-            *judged = Judged { is_believed: contexts.believes(&self.chain), by: contexts };
+        if now > judged.until || !Arc::ptr_eq(&judged.by, &contexts) {
+            let is_believed = contexts.believes(&self.chain);
+            *judged = Judged { by: contexts, is_believed, until: next_end(&self.chain, now) };
         }
         judged.is_believed
     }
+}
+
+fn now() -> i64 {
+    let now = SystemTime::now().duration_since(UNIX_EPOCH).unwrap_or_default();
+    now.as_secs() as i64
+}
+
+/// When the first of these certificates ends that has not ended by now.
+fn next_end(chain: &[rustls::Certificate], now: i64) -> i64 {
+    let ends = chain.iter().filter_map(|shown| Some(Certificate::read(&shown.0)?.ends));
+    ends.filter(|end| *end >= now).min().unwrap_or(i64::MAX)
 }
 
 #[cfg(test)]
@@ -214,8 +216,15 @@ mod tests {
         let mut uri = shown("/CN=x", Some("URI:spiffe://d/shop"));
         let name = "spiffe---d-shop.670deb13c283c1a0157c1bc0a623e9338a3f2cb6";
         assert_eq!(uri.sender().unwrap().name, name);
-        uri.ends = 0;
+        let days = |judged: &Judged| (judged.until - now()) / 86_400;
+        assert!((19..=20).contains(&days(uri.judged.get_mut().unwrap())));
+        // Since then one has ended between it and its root.
+        let first = std::mem::take(&mut uri.chain);
+        assert!(uri.sender().is_ok(), "it is not looked at for each post");
+        uri.judged.get_mut().unwrap().until = now() - 1;
         assert_eq!(uri.sender(), Err(Stranger::NotBelieved));
+        let ends = Certificate::read(&first[0].0).unwrap().ends;
+        assert_eq!([next_end(&first, ends), next_end(&first, ends + 1)], [ends, i64::MAX]);
     }
 
     /// Else who was let in before posts on, and has its chain looked at for each post.
