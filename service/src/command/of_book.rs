@@ -3,6 +3,7 @@
 use super::values::{bytes_shown, size};
 use crate::core;
 use clap::{value_parser, Args};
+use std::path::Path;
 
 /// With less there is hardly room for a request of 4 MiB while it is read.
 const LEAST_MEMORY: u64 = 64 << 20;
@@ -29,12 +30,19 @@ impl OfBook {
 /// What the machine has, or what this process' group may have where that is less.
 fn machine_memory() -> u64 {
     let total = nix::sys::sysinfo::sysinfo().map_or(LEAST_MEMORY, |machine| machine.ram_total());
-    let read = |path: &str| std::fs::read_to_string(path).unwrap_or_default();
-    let own = read("/proc/self/cgroup");
-    let group = own.lines().find_map(|line| line.strip_prefix("0::"));
-    let most = group.map(|group| read(&format!("/sys/fs/cgroup{group}/memory.max")));
-    let most = most.and_then(|most| most.trim().parse().ok());
+    let groups = std::fs::read_to_string("/proc/self/cgroup").unwrap_or_default();
+    let group = groups.lines().find_map(|line| line.strip_prefix("0::/"));
+    let most = group.and_then(|group| memory_of(Path::new("/sys/fs/cgroup"), group));
     total.min(most.unwrap_or(u64::MAX))
+}
+
+/// The least that a group may have, or one that it is in: a slice of systemd's, a pod of Kubernetes. None where none has a bound.
+fn memory_of(groups: &Path, group: &str) -> Option<u64> {
+    let most_of = |group: &Path| {
+        let most = std::fs::read_to_string(groups.join(group).join("memory.max")).ok()?;
+        most.trim().parse::<u64>().ok() // `max` where it has none
+    };
+    Path::new(group).ancestors().filter_map(most_of).min()
 }
 
 fn memory(text: &str) -> Result<u64, String> {
@@ -42,5 +50,34 @@ fn memory(text: &str) -> Result<u64, String> {
     match bytes >= LEAST_MEMORY {
         true => Ok(bytes),
         false => Err("with less than 64MiB there is no room for a long request".to_string()),
+    }
+}
+
+#[cfg(test)]
+mod tests {
+    use super::*;
+
+    /// Else the kernel ends the service, which believes that it has more.
+    #[test]
+    fn the_least_bound_of_all_groups_around_counts() {
+        let folder = tempfile::tempdir().unwrap();
+        let put = |group: &str, most: &str| {
+            let group = folder.path().join(group);
+            std::fs::create_dir_all(&group).unwrap();
+            std::fs::write(group.join("memory.max"), most).unwrap();
+        };
+        let found = |group| memory_of(folder.path(), group);
+        put("a.slice/b.slice/c.service", "max\n");
+        put("a.slice", "max\n");
+        assert_eq!([found("a.slice/b.slice/c.service"), found("d"), found("")], [None; 3]);
+        put("a.slice/b.slice", "3000\n");
+        put("a.slice", "4000\n");
+        put("d", "1\n");
+        assert_eq!(found("a.slice/b.slice/c.service"), Some(3000));
+        put("a.slice", "2000\n");
+        put("a.slice/b.slice/c.service", "5000\n");
+        assert_eq!(found("a.slice/b.slice/c.service"), Some(2000));
+        put("", "1000\n"); // as a container sees its own
+        assert_eq!([found("a.slice/b.slice/c.service"), found("")], [Some(1000); 2]);
     }
 }
