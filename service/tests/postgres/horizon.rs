@@ -20,6 +20,13 @@ async fn an_hour_that_is_being_deleted_is_there_whole_or_not_at_all() {
     taken(&*before, 1, sums(&[("a", old, old + 9, 1), ("b", old, old + 9, 2), ("c", old, old + 9, 4)])).await;
     taken(&*before, 2, sums(&[("a", now() - 10, now(), 8)])).await;
     drop(before);
+    let late = format!(
+        "insert into totxegun.late_hour select id, 1, 0, {hour} - 1, {hour}, 0, 0, 5, 0 from totxegun.series where name = 'a'",
+        hour = old / HOUR
+    );
+    server.ask(&late);
+    let late = "select count(*) from totxegun.late";
+    assert_eq!(server.ask(late), "1");
     let _held = server.hold(
         "begin; select from totxegun.series_total join totxegun.series on id = series where name = 'b' for update of series_total; \
          select from totxegun.metric_hour join totxegun.metric on id = metric where name = 'b' for update of metric_hour; \
@@ -34,6 +41,7 @@ async fn an_hour_that_is_being_deleted_is_there_whole_or_not_at_all() {
     for view in ["by_hour", "totals_by_hour"] {
         assert_eq!(server.ask(&format!("select name, total from totxegun.{view}")), "a|8", "{view}");
     }
+    assert_eq!(server.ask(late), "0");
 }
 
 /// Machines and senders shared it: so there are spans of its time, behind which nothing that is right comes.

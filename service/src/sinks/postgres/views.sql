@@ -209,7 +209,8 @@ from (
     select series, of_hour, hour, points, total, count, buckets, 0::numeric as corrections from totxegun.late_hour
     union all
     select series, of_hour, hour, 0, 0, 0, null, value from totxegun.corrections where hour <> of_hour
-) as one join totxegun.series on series.id = one.series;
+) as one join totxegun.series on series.id = one.series
+where hour >= (select hours_from from totxegun.horizon);
 
 create or replace view totxegun.series_seen as
 select

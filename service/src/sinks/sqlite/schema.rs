@@ -13,6 +13,7 @@ pub(super) const STEPS: &[&str] = &[
     include_str!("version2.sql"),
     concat!(include_str!("version3.sql"), include_str!("version3_about.sql")),
     concat!(include_str!("version4.sql"), include_str!("version4_about.sql")),
+    "", // views alone
 ];
 
 /// Brings a file to the last version, with its views, or says why it must not be touched.

@@ -91,6 +91,7 @@ create view buckets as select series.id as series, name, attributes,
     case typeof(value) when 'integer' then value else buckets -> ('$[' || key || ']') end as count
 from series_total join series on series.id = series_total.series join json_each(buckets);
 
+-- Rows of an hour are deleted one after another, behind the horizon: so an hour is here whole or not at all.
 create view late as select {hour} as hour, {of_hour} as belongs_to,
     name, attributes, kind, unit, points, {total}, {count}, buckets, resource, series,
     corrections, {billed}
@@ -99,7 +100,8 @@ from (
     from late_hour
     union all
     select series, of_hour, hour, 0, 0, 0, 0, 0, null, value from corrections where hour <> of_hour
-) join series on series.id = series;
+) join series on series.id = series
+where hour >= (select hours_from from horizon);
 
 create view series_seen as select series, name, attributes, kind, unit, resource,
     datetime(first_start_ns / 1000000000, 'unixepoch') as since,

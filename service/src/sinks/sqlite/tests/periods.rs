@@ -157,6 +157,27 @@ fn what_came_late_is_no_reason_to_leave_out_what_comes() {
     }
 }
 
+/// Its rows go one after another.
+#[test]
+fn what_came_late_in_an_hour_that_is_being_deleted_is_there_whole_or_not_at_all() {
+    let mut trial = Trial::new();
+    trial.done(Deed::Close("2024-02-29".parse().expect("a day")));
+    for number in 1..=10 {
+        trial.taken(number, sum(&format!("m{number}"), OLD, OLD + 9, 5));
+    }
+    let later = (now() + 72) * HOUR;
+    trial.taken(11, sum("m1", later, later + 1, 1));
+    let count = |trial: &Trial, table| trial.ask(&format!("select count(*) from {table}"));
+    assert_eq!(count(&trial, "late"), "10");
+    trial.keep(A_DAY);
+    let mut rows = Vec::new();
+    while trial.step(later) {
+        assert_eq!(count(&trial, "late"), "0");
+        rows.push(count(&trial, "late_hour"));
+    }
+    assert!(["10", "3", "0"].iter().all(|number| rows.iter().any(|found| found == number)), "{rows:?}");
+}
+
 /// Of totals that no integer of SQLite holds.
 #[test]
 fn what_is_billed_is_exact() {

@@ -192,16 +192,16 @@ fn a_later_schema_is_refused_by_name_and_left_alone() {
     let mut trial = Trial::new();
     trial.taken(1, sum("a", 10, 20, 1));
     trial.writer.store = None;
-    trial.ask("pragma user_version = 5");
+    trial.ask("pragma user_version = 6");
     let error = SqliteSink::open(&trial.path(), Retention::default(), Arc::new(()))
         .err()
         .expect("it is later")
         .to_string();
-    let all = ["totals.db was written by a later version", "schema 5; this one knows 4"];
+    let all = ["totals.db was written by a later version", "schema 6; this one knows 5"];
     assert!(all.iter().all(|part| error.contains(part)), "{error}");
     trial.again(2, sum("a", 20, 30, 2), "later version");
     assert!(read(&trial.path(), &Filter::default()).is_err());
-    trial.ask("pragma user_version = 4");
+    trial.ask("pragma user_version = 5");
     trial.taken(2, sum("a", 20, 30, 2));
 }
 
