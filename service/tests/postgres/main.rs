@@ -208,8 +208,8 @@ async fn what_is_told() {
             .to_string();
         assert!(error.contains(part) && error.contains(database), "{error}");
     };
-    server.ask_of("d1", "update totxegun.version set version = 9");
-    refuses("d1", "schema 9; this one knows 8");
+    server.ask_of("d1", "update totxegun.version set version = 10");
+    refuses("d1", "schema 10; this one knows 9");
     again(&*lame, 2, body(), "version").await;
     again(&*lame, 2, body(), "later version").await;
     server.ask_of("d2", "create schema totxegun; create table totxegun.version (x int)");

@@ -15,6 +15,7 @@ const STEPS: &[&str] = &[
     include_str!("version6.sql"),
     include_str!("version7.sql"),
     "", // views alone
+    "", // the view late alone
 ];
 
 /// The last version that had no hours. Where it has spans, these are filled in behind the steps. Else there is nothing to
