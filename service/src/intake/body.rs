@@ -18,15 +18,6 @@ pub const MOST: usize = 4 << 20;
 pub const LEFT_TIME: Duration = Duration::from_secs(5);
 pub const LEFT_BYTES: usize = 64 << 20;
 
-/// A body that is here whole: most are, and need no timer.
-pub fn received<S: AsyncRead + AsyncWrite + Unpin>(
-    wire: &mut Wire<S>,
-    hold: &mut Hold,
-) -> Option<Result<Bytes, Refusal>> {
-    let body = wire.whole_body()?;
-    Some(hold.set(2 * body.len()).map(|()| body).map_err(Refusal::from))
-}
-
 /// Receives a body. A body that says itself that it is too long is refused before any of it is read.
 pub async fn receive<S: AsyncRead + AsyncWrite + Unpin>(
     wire: &mut Wire<S>,

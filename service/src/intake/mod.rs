@@ -178,8 +178,8 @@ impl<T: Taker> Intake<T> {
         wire: &mut Wire<S>,
     ) -> Result<Post<T>, Refusal> {
         let mut hold = self.budget.hold();
-        let packed = match body::received(wire, &mut hold) {
-            Some(received) => received?,
+        let packed = match wire.whole_body() {
+            Some(body) => body, // as most are here: they need no timer
             None => tokio::time::timeout(self.patience, body::receive(wire, &mut hold))
                 .await
                 .map_err(|_| Refusal::Late)??,
@@ -194,6 +194,7 @@ impl<T: Taker> Intake<T> {
         if is_short(&mut head, &mut body, &mut hold)? {
             return post::prepare(head, body, hold, &self.slots, &self.reading, &self.metrics);
         }
+        hold.set(2 * body.len())?; // it may wait for its turn
         let (slots, reading, metrics) = (self.slots.clone(), self.reading.clone(), self.metrics.clone());
         let read = move || post::prepare(head, body, hold, &slots, &reading, &metrics);
         self.readers.read_long(read).await
