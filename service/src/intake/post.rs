@@ -22,8 +22,6 @@ pub(super) struct Post<T> {
     pub hold: Hold,
 }
 
-/// It is moved as often as it is boxed otherwise.
-#[allow(clippy::large_enum_variant)]
 pub(super) enum Asked<T> {
     /// One slot for all of it.
     Whole(Ask<T>),
@@ -40,14 +38,8 @@ pub(super) struct AskedPart<T> {
 }
 
 /// What a slot is asked.
-#[allow(clippy::large_enum_variant)]
 pub(super) enum Ask<T> {
-    Here {
-        taker: Arc<T>,
-        request: Request,
-        original: Option<Original>,
-        rounded: Rounded,
-    },
+    Here(Box<Here<T>>),
     /// Its owner reads the part.
     Away {
         slot: u16,
@@ -55,10 +47,19 @@ pub(super) enum Ask<T> {
     },
 }
 
+/// What is asked of a slot that is here. Each future on its way has it, so it is boxed.
+pub(super) struct Here<T> {
+    taker: Arc<T>,
+    request: Request,
+    original: Option<Original>,
+    rounded: Rounded,
+}
+
 impl<T: Taker> Ask<T> {
     pub async fn answered(self, sender: &str, slots: &Slots<T>, metrics: &Metrics) -> Outcome {
         match self {
-            Ask::Here { taker, request, original, mut rounded } => {
+            Ask::Here(here) => {
+                let Here { taker, request, original, mut rounded } = *here;
                 rounded.decided.stays(true); // also where nobody waits for the outcome any more
                 let outcome = taker.post(sender, request, original).await;
                 match outcome {
@@ -74,9 +75,9 @@ impl<T: Taker> Ask<T> {
     /// Of memory.
     fn bytes(&self) -> usize {
         match self {
-            Ask::Here { request, original, rounded, .. } => {
-                let came = original.as_ref().map_or(0, |original| original.body.len());
-                request.bytes() + rounded.bytes() + came
+            Ask::Here(here) => {
+                let came = here.original.as_ref().map_or(0, |original| original.body.len());
+                here.request.bytes() + here.rounded.bytes() + came
             }
             Ask::Away { part, .. } => part.body.len(),
         }
@@ -202,7 +203,7 @@ impl<'r> Reader<'r> {
             }
             None => self.written(&*taker, reading, body)?,
         };
-        Ok(Ask::Here { taker, request, original, rounded })
+        Ok(Ask::Here(Box::new(Here { taker, request, original, rounded })))
     }
 
     fn written(

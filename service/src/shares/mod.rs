@@ -146,12 +146,12 @@ impl Shares {
         let Some(rules) = self.rules.get() else {
             return Ok(claim);
         };
-        claim.sender = sender.into();
         if let Some(most) = self.most_series(rules, sender, points) {
             claim.series = match self.counted.claim(sender, points, most) {
                 Ok(()) => points,
                 Err(has) => self.claim_new(sender, most, has, look).await?,
             };
+            claim.sender = sender.into();
         }
         if let Some(most) = rules.of(sender).points {
             let cost = bucket::cost(points, most);
@@ -161,7 +161,7 @@ impl Shares {
                 points: most,
                 seconds: wait.as_secs() + 1,
             })?;
-            claim.points = cost;
+            (claim.points, claim.sender) = (cost, sender.into());
         }
         Ok(claim)
     }

@@ -209,7 +209,7 @@ impl Slot {
         let names = making.by.names.clone();
         let read: Read = self.core.read_points(making.sender.clone(), points, names, foreign)?;
         match read.post.foreign == foreign {
-            true => fits(Posted::whole(read)).map(Some),
+            true => fits(&read).map(|()| Some(Posted::whole(read))),
             false => Ok(None),
         }
     }

@@ -5,6 +5,7 @@ use super::numbers::{ByNumber, Numbers, Request};
 use crate::core::{Core, Read, Refused};
 use crate::otlp::{OffClock, Window};
 use bytes::Bytes;
+use std::mem::take;
 use std::sync::Arc;
 
 /// In more hours no post may have points: each takes a request to the sink, while other posts wait.
@@ -63,7 +64,7 @@ pub fn read(
 ) -> Result<Posted, Refused> {
     match request {
         Request::Plain(plain) => match numbers.read_plain(core, window, &sender, &plain) {
-            Some(read) => fits(Posted::whole(read)),
+            Some(read) => fits(&read).map(|()| Posted::whole(read)),
             None => read(core, numbers, window, sender, numbers.otherwise(core, plain)?),
         },
         Request::Text(body) => read_text(core, numbers, window, sender, body),
@@ -81,12 +82,12 @@ fn read_numbered(
     by: ByNumber,
 ) -> Result<Posted, Refused> {
     let (foreign, source) = (by.foreign, by.source.clone());
-    let posted = read_points(core, window, sender.clone(), by)?;
+    let mut posted = read_points(core, window, sender, by)?;
     if posted.read.post.foreign == foreign {
-        return fits(posted);
+        return fits(&posted.read).map(|()| posted);
     }
     let text = source.text().ok_or(Refused::NotJson)?; // it was one when it was read by number
-    read_text(core, numbers, window, sender, text)
+    read_text(core, numbers, window, take(&mut posted.read.post.sender), text)
 }
 
 fn read_text(
@@ -96,14 +97,16 @@ fn read_text(
     sender: String,
     body: Bytes,
 ) -> Result<Posted, Refused> {
-    let mut read = core.read(sender.clone(), body.clone())?;
-    let is_within = read.ends().is_none_or(|(first, last)| window.has_all(first, last));
-    if is_within {
-        numbers.number(core, &mut read)?;
-        return fits(Posted::whole(read));
+    let mut posted = Posted::whole(core.read(sender, body.clone())?);
+    let read = &mut posted.read;
+    if read.ends().is_none_or(|(first, last)| window.has_all(first, last)) {
+        numbers.number(core, read)?;
+    } else {
+        let by = numbers.read_text(core, &body)?.ok_or(Refused::WrongShape)?; // the library reads no other
+        posted = read_points(core, window, take(&mut read.post.sender), by.without_cumulative())?;
     }
-    let by = numbers.read_text(core, &body)?.ok_or(Refused::WrongShape)?; // the library reads no other
-    fits(read_points(core, window, sender, by.without_cumulative())?)
+    fits(&posted.read)?;
+    Ok(posted)
 }
 
 fn read_points(
@@ -118,9 +121,9 @@ fn read_points(
 }
 
 /// A post of not too many hours.
-pub fn fits(posted: Posted) -> Result<Posted, Refused> {
-    match posted.read.parts() {
-        0..=MOST_PARTS => Ok(posted),
+pub fn fits(read: &Read) -> Result<(), Refused> {
+    match read.parts() {
+        0..=MOST_PARTS => Ok(()),
         parts => Err(Refused::TooManyHours { parts, most: MOST_PARTS }),
     }
 }

@@ -8,7 +8,7 @@ use super::verdict::Journalled;
 use super::{is_sender, Phase, Request, Slot, MOVED, NO_ROOM};
 use crate::core::{Locked, Read, Refused};
 use crate::files::{Body, Lost, FAILED};
-use crate::otlp::{Outcome, Reading};
+use crate::otlp::{Outcome, Reading, Window};
 use crate::shares::{Claim, Over, Series};
 use crate::work::blocking;
 use bytes::Bytes;
@@ -51,7 +51,12 @@ impl Slot {
             }
             request => {
                 let length = request.source().length();
-                match self.read(sender, request).await {
+                let window = self.clock.window();
+                let mut posted = match request.is_short() {
+                    true => read(&self.core, &self.numbers, &window, sender, request),
+                    false => self.read_long(window, sender, request).await,
+                };
+                match &mut posted {
                     Ok(posted) => {
                         let (sender, points) = (&posted.read.post.sender, posted.read.points());
                         match self.claim(sender, points, length, series_of(&posted.read)).await {
@@ -59,7 +64,7 @@ impl Slot {
                             Err(over) => return over.into(),
                         }
                     }
-                    Err(refused) => Ok(Journalled::behind_all(refused, &self.journal)),
+                    Err(refused) => Ok(Journalled::behind_all(*refused, &self.journal)),
                 }
             }
         };
@@ -85,11 +90,8 @@ impl Slot {
         }
     }
 
-    async fn read(&self, sender: String, request: Request) -> Result<Posted, Refused> {
-        let window = self.clock.window();
-        if request.is_short() {
-            return read(&self.core, &self.numbers, &window, sender, request);
-        }
+    /// Reads what is not read in place.
+    async fn read_long(&self, window: Window, sender: String, request: Request) -> Result<Posted, Refused> {
         let _turn = self.readers.acquire().await; // it is never closed
         let (core, numbers) = (self.core.clone(), self.numbers.clone());
         blocking(move || read(&core, &numbers, &window, sender, request)).await
@@ -130,12 +132,12 @@ impl Slot {
     /// is why the book was not asked.
     async fn put_in_turn(
         &self,
-        mut posted: Posted,
+        posted: &mut Posted,
         mut claim: Claim<'_>,
     ) -> Result<Journalled, &'static str> {
         loop {
             let landed = self.landed.notified(); // from here on none is missed
-            match self.put(&mut posted)? {
+            match self.put(posted)? {
                 Ok(put) => {
                     claim.keep();
                     return Ok(put.journalled);
