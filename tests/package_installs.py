@@ -213,7 +213,8 @@ def look_at_settings(checks: Checks, root: str, serve_help: str) -> None:
     text = text_of(f"{root}/etc/totxegun/totxegun.env")
     bare = [name for name in wanted if not re.search(rf"^# \S.*\n#{name}=", text, re.MULTILINE)]
     checks.same("each with a line of text", [], bare)
-    checks.same("what the unit sets is there to be set", set(), set_by_unit(root).keys() - set(wanted))
+    own = {name for name in set_by_unit(root) if not name.startswith("TCMALLOC_")}
+    checks.same("what the unit sets is there to be set", set(), own - set(wanted))
 
 
 def options_of(page: str) -> Any:
