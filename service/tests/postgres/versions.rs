@@ -79,7 +79,7 @@ async fn a_database_of_an_earlier_version_is_brought_up() {
             bring_to_7(&server, &database);
         }
         let sink = open(&server.by_socket(&database));
-        assert_eq!(ask("select version from totxegun.version"), "8");
+        assert_eq!(ask("select version from totxegun.version"), "9");
         assert_eq!(ask("select count(*) from pg_constraint where contype = 'f' and connamespace = 'totxegun'::regnamespace"), "0");
         taken(&*sink, 1, sum("a", 100, 200, 5)).await;
         refused(&*sink, 2, sum("a", 150, 250, 1), "overlaps").await;
@@ -105,7 +105,7 @@ async fn a_database_of_version_5_that_has_no_older_spans_is_brought_up() {
         .run_file("version5", "create view public.theirs as select name, total from totxegun.totals_by_name");
     let sink = open(&server.by_socket("version5"));
     taken(&*sink, 1, sum("a", 100, 200, 5)).await;
-    assert_eq!(ask("select version from totxegun.version"), "8");
+    assert_eq!(ask("select version from totxegun.version"), "9");
     assert_eq!(ask("select name, total from public.theirs"), "a|5");
     assert_eq!(ask("select total, corrections, billed from totxegun.by_month"), "5|0|5");
 }
@@ -144,7 +144,7 @@ async fn spans_of_version_6_stay() {
     refused(&*sink, 2, histogram("h", 86_400_000_000_000, 86_400_000_000_101, None, [1, 0, 0]), "overlaps")
         .await;
     taken(&*sink, 3, histogram("h", 200, 300, Some(4), [1, 0, 0])).await;
-    assert_eq!(ask("select version from totxegun.version"), "8");
+    assert_eq!(ask("select version from totxegun.version"), "9");
     assert_eq!(
         ask("select start_ns, count, sum, buckets from totxegun.span order by 1"),
         "100|8|30|{5,0,3}\n200|1|4|{1,0,0}\n86400000000100|9||{9,0,0}"
