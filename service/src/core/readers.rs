@@ -60,7 +60,9 @@ pub(super) fn keep(reader: Reader) {
     let mut kept = Some(Kept { reader, turn });
     // A thread that ends keeps none.
     let _ = OWN.try_with(|own| put(own, KEPT, &mut kept));
-    put(&SPARE, MOST_SPARE, &mut kept);
+    if kept.is_some() {
+        put(&SPARE, MOST_SPARE, &mut kept); // whose lock all threads share
+    }
 }
 
 /// Puts it where there is room.
