@@ -7,6 +7,7 @@ mod beside;
 mod brought;
 mod changes;
 mod damaged;
+mod keys;
 mod moved;
 mod open;
 mod owned;

@@ -1,9 +1,9 @@
 //! What an outbox has, brought into another that goes on from it.
 
 use super::changes::{Group, UnitOfMetric};
+use super::keys::Keys;
 use super::rows;
 use super::state::Batch;
-use super::texts::Texts;
 use super::{Outbox, Series};
 use crate::files::{lock, segment, Fault};
 use crate::otlp::series::SeriesKey;
@@ -82,7 +82,7 @@ impl Outbox {
                 heard: None,
                 journal: state.journal,
                 ends: Vec::new(),
-                new: Texts::default(),
+                new: Keys::default(),
             }
         };
         self.put_group(&mut writer, group, &waits.bodies)

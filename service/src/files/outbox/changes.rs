@@ -1,6 +1,6 @@
 //! What can become of an outbox.
 
-use super::texts::Texts;
+use super::keys::Keys;
 use crate::runs::Run;
 use std::ops::Range;
 use std::sync::Arc;
@@ -44,7 +44,7 @@ pub struct Group {
     /// What it does to series, in the order of their ids.
     pub ends: Vec<End>,
     /// The keys of those that are new, which have the next ids: the last of these.
-    pub new: Texts,
+    pub new: Keys,
 }
 
 /// What a group does to a series.

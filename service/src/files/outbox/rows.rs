@@ -17,6 +17,7 @@
 //! commit that first has it.
 
 use super::changes::{Change, End, Group};
+use super::keys::{each_part, Keys};
 use super::parts::put_long;
 use super::snapshot::RunRow;
 use super::state::Front;
@@ -26,15 +27,14 @@ use crate::files::disk::{io_fault, Disk};
 use crate::files::records::{self, put, take_number, HEAD, OWN};
 use crate::files::Fault;
 use crate::otlp::series::SeriesKey;
-use crate::work::{in_order, WorkQueue};
-use flate2::{read::DeflateDecoder, write::DeflateEncoder, Compression};
-use serde::de::{DeserializeOwned, SeqAccess, Visitor};
+use crate::work::in_order;
+use flate2::{read::DeflateDecoder, write::DeflateEncoder};
+use flate2::{Compression, Decompress, FlushDecompress, Status};
+use serde::de::DeserializeOwned;
 use serde::{Deserialize, Deserializer, Serialize, Serializer};
 use std::collections::HashMap;
 use std::convert::Infallible;
-use std::fmt;
 use std::io::{self, BufWriter, Read, Write};
-use std::marker::PhantomData;
 use std::ops::Range;
 use std::path::Path;
 
@@ -52,8 +52,13 @@ pub const PART: u8 = OWN + 10;
 
 /// How much is done to pack.
 const LEVEL: u32 = 5;
-/// Of what is packed in pieces each has so many bytes, or somewhat fewer or more.
-const PIECE: usize = if cfg!(test) { 4 << 10 } else { 256 << 10 };
+/// A piece of what is packed in pieces has so many bytes, or somewhat fewer or more.
+pub const PIECE: usize = if cfg!(test) { 4 << 10 } else { 256 << 10 };
+
+/// Most JSON is no more times as long as it is packed.
+const TIMES_AS_LONG: usize = 32;
+/// So much room is asked for at most. What is not used of it takes no memory.
+const MOST_AT_ONCE: usize = if cfg!(test) { 64 << 10 } else { 256 << 20 };
 
 /// What a group did to series.
 #[derive(Serialize, Deserialize)]
@@ -66,12 +71,12 @@ struct Ends<N> {
     runs: Vec<RunRow>,
 }
 
-/// Rows of new series, written and read one by one: their keys are long.
+/// Rows of new series, written one by one: their keys are long.
 struct NewRows<'g>(&'g Texts, &'g [End]);
 
 #[derive(Default)]
 struct NewRead {
-    keys: Texts,
+    keys: Keys,
     ends: Vec<u64>,
 }
 
@@ -117,39 +122,28 @@ pub fn packed(value: &impl Serialize) -> Vec<u8> {
     deflated_by(Compression::new(LEVEL), |out| Ok(serde_json::to_writer(out, value)?))
 }
 
-/// The same, pieces of which are packed side by side: an end of all is behind them.
-pub fn packed_long(value: &impl Serialize) -> Vec<u8> {
+/// What is written of these pieces, one behind the other, side by side: an end of all is behind them.
+pub fn packed_pieces<P: Send>(
+    pieces: impl Iterator<Item = P>,
+    write: impl Fn(P) -> Vec<u8> + Sync,
+) -> Vec<u8> {
     let mut out = Vec::new();
-    let put = |piece: Vec<u8>| {
-        out.extend_from_slice(&piece);
+    let put = |(_, packed): (Option<P>, Vec<u8>)| {
+        out.extend_from_slice(&packed);
         Ok::<(), Infallible>(())
     };
     let _ = in_order(
-        |piece| *piece = deflated_piece(piece),
+        |(piece, packed)| *packed = piece.take().map_or_else(Vec::new, |piece| deflated_piece(&write(piece))),
         put,
         |queue| {
-            let mut pieces = BufWriter::with_capacity(PIECE, Pieces(queue));
-            let _ = serde_json::to_writer(&mut pieces, value); // as above
-            let _ = pieces.flush();
+            for piece in pieces {
+                queue.push((Some(piece), Vec::new()));
+            }
             Ok(())
         },
     );
     out.extend(deflated(&[]));
     out
-}
-
-/// Where each piece is packed that is written.
-struct Pieces<'q>(&'q WorkQueue<Vec<u8>>);
-
-impl Write for Pieces<'_> {
-    fn write(&mut self, piece: &[u8]) -> io::Result<usize> {
-        self.0.push(piece.to_vec());
-        Ok(piece.len())
-    }
-
-    fn flush(&mut self) -> io::Result<()> {
-        Ok(())
-    }
 }
 
 /// Deflated up to a full byte, and more may follow.
@@ -160,35 +154,16 @@ fn deflated_piece(bytes: &[u8]) -> Vec<u8> {
 }
 
 pub fn unpacked<T: DeserializeOwned>(bytes: &[u8]) -> Option<T> {
-    serde_json::from_slice(&inflated(bytes)?).ok()
+    let text = inflated_at_once(bytes).or_else(|| inflated(bytes))?;
+    serde_json::from_str(std::str::from_utf8(&text).ok()?).ok()
 }
 
-/// Shows the rows of a list, without having all of them at once.
-pub fn each_row<'de, R: Deserialize<'de>, D: Deserializer<'de>>(
-    deserializer: D,
-    each: impl FnMut(R),
-) -> Result<(), D::Error> {
-    deserializer.deserialize_seq(Rows { each, row: PhantomData })
-}
-
-struct Rows<R, F> {
-    each: F,
-    row: PhantomData<R>,
-}
-
-impl<'de, R: Deserialize<'de>, F: FnMut(R)> Visitor<'de> for Rows<R, F> {
-    type Value = ();
-
-    fn expecting(&self, out: &mut fmt::Formatter) -> fmt::Result {
-        out.write_str("rows")
-    }
-
-    fn visit_seq<A: SeqAccess<'de>>(mut self, mut rows: A) -> Result<(), A::Error> {
-        while let Some(row) = rows.next_element()? {
-            (self.each)(row);
-        }
-        Ok(())
-    }
+/// The same as `inflated` in less time, since nothing is moved; none where it needs more room than most.
+fn inflated_at_once(bytes: &[u8]) -> Option<Vec<u8>> {
+    let room = bytes.len().checked_mul(TIMES_AS_LONG).filter(|room| *room <= MOST_AT_ONCE)?;
+    let mut out = Vec::with_capacity(room);
+    let done = Decompress::new(false).decompress_vec(bytes, &mut out, FlushDecompress::Finish);
+    matches!(done, Ok(Status::StreamEnd)).then_some(out)
 }
 
 impl Serialize for SeriesKey {
@@ -225,11 +200,11 @@ pub fn group(group: &Group, items: &[Vec<u8>]) -> GroupBytes {
 }
 
 fn ends(group: &Group) -> Ends<NewRows<'_>> {
-    let (known, new) = group.ends.split_at(group.ends.len() - group.new.count() as usize);
+    let (known, new) = group.ends.split_at(group.ends.len() - group.new.digests.len());
     let run = |end: &End| Some(RunRow::of(end.id, end.end, end.run.as_ref()?));
     Ends {
         known: known.iter().map(|end| (end.id, end.end)).collect(),
-        new: NewRows(&group.new, new),
+        new: NewRows(&group.new.texts, new),
         runs: group.ends.iter().filter_map(run).collect(),
     }
 }
@@ -244,9 +219,10 @@ impl Serialize for NewRows<'_> {
 impl<'de> Deserialize<'de> for NewRead {
     fn deserialize<D: Deserializer<'de>>(deserializer: D) -> Result<NewRead, D::Error> {
         let mut new = NewRead::default();
-        each_row(deserializer, |(key, end)| {
-            new.keys.push(key);
-            new.ends.push(end);
+        let of = |row: (SeriesKey, u64)| row;
+        each_part(deserializer, of, |keys, ends| {
+            new.keys.append(keys);
+            new.ends.extend(ends);
         })?;
         Ok(new)
     }
@@ -269,7 +245,7 @@ pub fn commit_of<'a>(mut bytes: &'a [u8], head: &GroupHead) -> Option<(u64, &'a 
 }
 
 /// What a group did to series, behind all that these know, and the keys of those that are new.
-pub fn ends_of(bytes: &[u8], series: &Table) -> Option<(Vec<End>, Texts)> {
+pub fn ends_of(bytes: &[u8], series: &Table) -> Option<(Vec<End>, Keys)> {
     let Ends { known, new, runs } = unpacked::<Ends<NewRead>>(bytes)?;
     let runs = runs.into_iter().map(|row| (row.0, row));
     let mut runs: HashMap<u32, RunRow> = runs.collect();
@@ -371,11 +347,31 @@ fn changed(path: &Path, front: &Front) -> Fault {
 mod tests {
     use super::*;
 
+    /// Also what is many times as long, and what is too long for it.
+    #[test]
+    fn what_is_inflated_at_once_is_the_same() {
+        let times = |text: &str, times| text.repeat(times);
+        for (text, is_at_once) in [
+            (String::new(), true),
+            (times("[5,6,\"ab\"]", 3), true),
+            ((0..300).map(|n| format!("{n} ")).collect(), true),
+            (times("a", 50_000), false),
+            ((0..10_000).map(|n| format!("{n} ")).collect(), false),
+        ] {
+            let packed = deflated(text.as_bytes());
+            assert_eq!(inflated(&packed).as_deref(), Some(text.as_bytes()));
+            let at_once = inflated_at_once(&packed);
+            assert_eq!(at_once, is_at_once.then(|| text.clone().into_bytes()), "{}", text.len());
+            assert_eq!(inflated_at_once(&packed[..packed.len() - 1]), None);
+        }
+    }
+
     #[test]
     fn what_is_packed_in_pieces_comes_back() {
-        for count in [0, 10, 10_000] {
-            let all: Vec<u32> = (0..count).collect();
-            assert_eq!(unpacked(&packed_long(&all)), Some(all));
+        for count in [0, 1, 10, 300] {
+            let pieces = (0..count).map(|piece| vec![piece as u8; 100]);
+            let all = pieces.clone().collect::<Vec<_>>().concat();
+            assert_eq!(inflated(&packed_pieces(pieces, |piece| piece)), Some(all));
         }
     }
 }

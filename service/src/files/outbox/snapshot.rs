@@ -1,16 +1,18 @@
 //! What a segment begins with: all that the outbox knows, but its requests.
 
 use super::changes::UnitOfMetric;
+use super::keys::each_part;
 use super::parts::put_long;
-use super::rows::{each_row, packed_long, unpacked, SNAPSHOT};
+use super::rows::{packed_pieces, unpacked, PIECE, SNAPSHOT};
 use super::state::State;
 use super::table::{KnownSeries, Table};
-use super::texts::Texts;
+use super::texts::{Texts, PART};
 use super::Series;
 use crate::otlp::series::SeriesKey;
 use crate::runs::{Run, Since};
-use serde::{Deserialize, Deserializer, Serialize, Serializer};
+use serde::{Deserialize, Deserializer, Serialize};
 use std::collections::BTreeSet;
+use std::ops::Range;
 use std::sync::Arc;
 
 /// To be written without the lock.
@@ -28,14 +30,14 @@ pub struct Snapshot {
 }
 
 /// As it is written.
-#[derive(Serialize, Deserialize)]
-struct Content<S> {
+#[derive(Deserialize)]
+struct Content {
     epoch: String,
     next: u64,
     acknowledged: u64,
     journal: u64,
     quarantined: BTreeSet<String>,
-    series: S,
+    series: Table,
     /// None in an outbox of version 1, and so it has no runs.
     #[serde(default)]
     since: Option<Since>,
@@ -43,6 +45,31 @@ struct Content<S> {
     runs: Vec<RunRow>,
     #[serde(default)]
     beside: BTreeSet<UnitOfMetric>,
+}
+
+/// What of it is ahead of the series.
+#[derive(Serialize)]
+struct Ahead<'s> {
+    epoch: &'s str,
+    next: u64,
+    acknowledged: u64,
+    journal: u64,
+    quarantined: &'s BTreeSet<String>,
+}
+
+/// What is behind them.
+#[derive(Serialize)]
+struct Behind<'s> {
+    since: Option<Since>,
+    runs: Vec<RunRow>,
+    beside: &'s BTreeSet<UnitOfMetric>,
+}
+
+/// A part of what is written.
+enum Piece {
+    Text(Vec<u8>),
+    /// Of the series with these ids.
+    Rows(Range<u32>),
 }
 
 /// Key, frontier, seconds since 1970 when last seen, owner.
@@ -74,24 +101,45 @@ impl Snapshot {
             let run = series.run.as_ref()?;
             Some(RunRow::of(id, series.frontier, run))
         };
-        let content = Content {
-            epoch: self.epoch.to_string(),
-            next: self.next,
-            acknowledged: self.acknowledged,
-            journal: self.journal,
-            quarantined: self.quarantined.clone(),
-            series: Rows(self),
-            since: self.since,
-            runs: (0..).zip(&self.series).filter_map(run).collect(),
-            beside: self.beside.clone(),
-        };
+        let Snapshot { next, acknowledged, journal, since, .. } = *self;
+        let Snapshot { epoch, quarantined, beside, .. } = self;
+        let ahead = json(&Ahead { epoch, next, acknowledged, journal, quarantined });
+        let runs = (0..).zip(&self.series).filter_map(run).collect();
+        let behind = json(&Behind { since, runs, beside });
+        // Both are objects.
+        let ahead = [&ahead[..ahead.len() - 1], b",\"series\":["].concat();
+        let behind = [b"],", &behind[1..]].concat();
+        let text = |text: &[u8]| Piece::Text(text.into());
+        let pieces = std::iter::once(Piece::Text(ahead));
+        let pieces = pieces.chain(self.parts()).chain(behind.chunks(PIECE).map(text));
         let mut out = Vec::new();
-        put_long(&mut out, SNAPSHOT, &packed_long(&content));
+        put_long(&mut out, SNAPSHOT, &packed_pieces(pieces, |piece| self.written(piece)));
         out
     }
 
+    fn parts(&self) -> impl Iterator<Item = Piece> {
+        let count = self.texts.count();
+        let begins = (0..count).step_by(PART);
+        begins.map(move |begin| Piece::Rows(begin..count.min(begin + PART as u32)))
+    }
+
+    fn written(&self, piece: Piece) -> Vec<u8> {
+        match piece {
+            Piece::Text(text) => text,
+            Piece::Rows(ids) => {
+                let rows = self.texts.of(ids.clone()).zip(&self.series[ids.start as usize..]);
+                let mut out = Vec::new();
+                for (key, series) in rows {
+                    out.push(b',');
+                    out.append(&mut json(&row(key, series)));
+                }
+                out.split_off(usize::from(ids.start == 0)) // nothing is ahead of the first
+            }
+        }
+    }
+
     pub fn read(bytes: &[u8]) -> Option<State> {
-        let content: Content<Table> = unpacked(bytes)?;
+        let content: Content = unpacked(bytes)?;
         let mut state = State::new(&content.epoch);
         (state.next, state.acknowledged, state.journal) =
             (content.next, content.acknowledged, content.journal);
@@ -106,24 +154,22 @@ impl Snapshot {
     }
 }
 
-/// The rows of series, written one by one: their keys are long.
-struct Rows<'s>(&'s Snapshot);
-
-impl Serialize for Rows<'_> {
-    fn serialize<S: Serializer>(&self, serializer: S) -> Result<S::Ok, S::Error> {
-        let Snapshot { series, texts, .. } = self.0;
-        serializer.collect_seq(texts.all().zip(series).map(|(key, series)| row(key, series)))
-    }
+fn json(value: &impl Serialize) -> Vec<u8> {
+    // These types have no key that is not a text, and so can be written.
+    serde_json::to_vec(value).unwrap_or_default()
 }
 
-/// Read one by one as well.
 impl<'de> Deserialize<'de> for Table {
     fn deserialize<D: Deserializer<'de>>(deserializer: D) -> Result<Table, D::Error> {
         let mut table = Table::default();
-        each_row(deserializer, |(key, frontier, seen, owner): Row<String>| {
-            let (owner, run) = (owner.map(|owner| table.shared(&owner)), None);
-            let series = Series { frontier, owner, seen, run };
-            table.put(key, KnownSeries { series, heard: None });
+        let of = |(key, frontier, seen, owner): Row<String>| (key, (frontier, seen, owner));
+        each_part(deserializer, of, |keys, says| {
+            let known = says.into_iter().map(|(frontier, seen, owner)| {
+                let (owner, run) = (owner.map(|owner| table.shared(&owner)), None);
+                KnownSeries { series: Series { frontier, owner, seen, run }, heard: None }
+            });
+            let known: Vec<KnownSeries> = known.collect();
+            table.put_all(&keys, known);
         })?;
         Ok(table)
     }

@@ -202,10 +202,11 @@ impl State {
 
     fn advance(&mut self, group: Group) {
         let (seen, heard) = (group.since, group.heard);
-        self.series.put_all(&group.new, || {
+        let new = group.new.digests.iter().map(|_| {
             let (frontier, owner, run) = (0, None, None);
             KnownSeries { series: Series { frontier, owner, seen, run }, heard }
         });
+        self.series.put_all(&group.new, new);
         for end in group.ends {
             let Some(known) = self.series.at_mut(end.id) else {
                 continue;

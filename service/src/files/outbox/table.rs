@@ -3,10 +3,12 @@
 //!
 //! A digest is enough, as it is for the sinks: nobody knows two texts with the same SHA-256, whoever makes them.
 
+use super::keys::Keys;
 use super::texts::Texts;
 use super::Series;
 use crate::otlp::series::{Digest, Digests, SeriesKey};
-use std::collections::{HashMap, HashSet};
+use ahash::{AHashMap, AHashSet};
+use std::collections::HashSet;
 use std::sync::Arc;
 use std::time::Instant;
 
@@ -19,7 +21,7 @@ pub struct KnownSeries {
 /// Series have ids from 0 on, by which the records of the segment name them.
 #[derive(Default)]
 pub struct Table {
-    ids: HashMap<Digest, u32>,
+    ids: AHashMap<Digest, u32>,
     /// By id; none of what was forgotten.
     known: Vec<Option<KnownSeries>>,
     keys: Texts,
@@ -87,20 +89,18 @@ impl Table {
         id
     }
 
-    /// The same of many, of each of which as much is known.
-    pub fn put_all(&mut self, keys: &Texts, known: impl Fn() -> KnownSeries) {
-        let those = (0..keys.count()).map(|id| (id, ())).collect();
-        let digests = keys.each_of(those, |key, ()| key.digest());
-        let each: HashSet<&Digest> = digests.iter().collect();
+    /// The same of many.
+    pub fn put_all(&mut self, keys: &Keys, known: impl IntoIterator<Item = KnownSeries>) {
+        let each: AHashSet<&Digest> = keys.digests.iter().collect();
         let are_new =
-            each.len() == digests.len() && !each.into_iter().any(|digest| self.ids.contains_key(digest));
+            each.len() == keys.digests.len() && !each.into_iter().any(|digest| self.ids.contains_key(digest));
         if are_new {
-            self.ids.extend(digests.into_iter().zip(self.next_id()..));
-            self.known.extend((0..keys.count()).map(|_| Some(known())));
-            self.keys.append(keys);
+            self.ids.extend(keys.digests.iter().copied().zip(self.next_id()..));
+            self.known.extend(known.into_iter().map(Some));
+            self.keys.append(&keys.texts);
         } else {
-            for key in keys.all() {
-                self.put(key, known());
+            for (key, known) in keys.texts.all().zip(known) {
+                self.put(key, known);
             }
         }
     }
@@ -169,9 +169,12 @@ mod tests {
                     at_once.put(key(number), known(1));
                     one_by_one.put(key(number), known(1));
                 }
-                let mut keys = Texts::default();
-                more.iter().for_each(|number| keys.push(key(*number)));
-                at_once.put_all(&keys, || known(2));
+                let mut keys = Keys::default();
+                for number in more {
+                    keys.texts.push(key(*number));
+                    keys.digests.push(key(*number).digest());
+                }
+                at_once.put_all(&keys, more.iter().map(|_| known(2)));
                 for number in more {
                     one_by_one.put(key(*number), known(2));
                 }

@@ -19,7 +19,7 @@ const TOGETHER: usize = 4 * IN_BLOCK;
 /// So many bytes of a key are looked at for its place among others.
 const LOOKED_AT: usize = 512;
 /// So many, which is a multiple of that, are read by one thread where there are more.
-const PART: usize = IN_BLOCK * if cfg!(test) { 3 } else { 32 };
+pub const PART: usize = IN_BLOCK * if cfg!(test) { 3 } else { 8 };
 
 /// A copy shares what is packed.
 #[derive(Clone, Debug, Default)]

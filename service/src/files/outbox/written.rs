@@ -1,6 +1,7 @@
 //! What is written to an outbox, and how: a change is a record first.
 
 use super::changes::{Change, End, Group};
+use super::keys::Keys;
 use super::rows;
 use super::snapshot::Snapshot;
 use super::state::State;
@@ -215,18 +216,22 @@ impl Ends {
     }
 
     /// What they do to these series, and the keys of those that are new; none where other series are known than before.
-    fn by_id(self, runs: &Runs, series: &Table) -> Option<(Vec<End>, Texts)> {
+    fn by_id(self, runs: &Runs, series: &Table) -> Option<(Vec<End>, Keys)> {
         let mut all = Vec::with_capacity(self.of.len());
+        let mut digests = vec![Digest::default(); self.new.count() as usize];
         for (digest, (end, new)) in self.of {
             let id = match (series.id_of(&digest), new) {
                 (Some(id), None) => id,
-                (None, Some(place)) => series.next_id() + place,
+                (None, Some(place)) => {
+                    digests[place as usize] = digest;
+                    series.next_id() + place
+                }
                 _ => return None,
             };
             all.push(End { id, end, run: runs.get(&digest).cloned() });
         }
         all.sort_unstable_by_key(|end| end.id);
-        Some((all, self.new))
+        Some((all, Keys { texts: self.new, digests }))
     }
 }
 

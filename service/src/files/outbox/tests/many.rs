@@ -75,7 +75,13 @@ fn a_snapshot_has_one_form() {
     assert_eq!(b.run, Some(run_of(3, 5, &[5, 6])));
     assert_eq!(state.beside, [unit_of("m", "ms")].into());
     let record = state.snapshot().records();
-    let written = rows::inflated(&record[crate::files::records::HEAD..]).unwrap();
+    let (mut packed, mut rest) = (Vec::new(), &record[..]);
+    while let Some(head) = rest.first_chunk() {
+        let length = records::whole_length(head).unwrap();
+        packed.extend_from_slice(&rest[records::HEAD..length]);
+        rest = &rest[length..];
+    }
+    let written = rows::inflated(&packed).unwrap();
     assert_eq!(String::from_utf8(written).unwrap(), text);
 }
 
