@@ -18,7 +18,7 @@ mod version;
 
 use super::disk::{io_fault, Disk};
 use super::free_space::FreeSpace;
-use super::journal::Expected;
+use super::journal::{Expected, Left};
 use super::{lock, segment, Dead, Durability, Fault, Journal, Outbox};
 use nix::errno::Errno;
 use nix::fcntl::{flock, FlockArg};
@@ -185,14 +185,25 @@ impl Folder {
 
     /// The files of a slot. What an earlier run wrote is synced before it is believed.
     pub fn slot(&self, number: u16) -> Result<(Journal, Outbox), Fault> {
-        let outbox = self.outbox(number)?;
+        let folder = self.of_slot(number).join("journal");
+        // Side by side: what is only read waits for nothing.
+        let (outbox, left) = std::thread::scope(|scope| {
+            let left = scope.spawn(|| match folder.exists() {
+                true => Left::read(&self.disk, &folder),
+                false => Ok(Left::default()),
+            });
+            (self.outbox(number), left.join())
+        });
+        let outbox = outbox?;
+        let left = left.unwrap_or_else(|panic| std::panic::resume_unwind(panic))?;
         let begun = lock(&self.version).begun.get(&number).copied();
-        let journal = Journal::open(
+        let journal = Journal::go_on(
             &self.disk,
-            &self.of_slot(number).join("journal"),
+            &folder,
             self.durability,
             self.free_space.clone(),
             &Expected { reach: outbox.journal(), begun, by: outbox.ended() },
+            left,
         )?;
         if begun != Some(journal.begun()) {
             self.change(|version| {

@@ -36,6 +36,7 @@ use super::{lock, seconds, Durability, Fault};
 pub use held::Held;
 pub use name_records::shared_ends;
 use named_numbers::NamedNumbers;
+pub(super) use open::Left;
 pub use post::{Body, Names, NoNames, OfRun, Points, Post, Replayed};
 use std::collections::{BTreeMap, BTreeSet};
 use std::path::{Path, PathBuf};

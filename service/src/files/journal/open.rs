@@ -12,8 +12,19 @@ use std::path::Path;
 use std::sync::atomic::AtomicU64;
 use std::sync::{Arc, Condvar, Mutex};
 
+/// The segments that an earlier run left.
+#[derive(Default)]
+pub(in crate::files) struct Left(Vec<EarlierSegment>);
+
+impl Left {
+    /// Changes nothing.
+    pub fn read(disk: &Disk, folder: &Path) -> Result<Left, Fault> {
+        let numbers = segment::numbers(disk, folder)?.into_iter();
+        numbers.map(|number| earlier_segment::read(disk, folder, number)).collect::<Result<_, _>>().map(Left)
+    }
+}
+
 impl Journal {
-    /// Closes what an earlier run left, and begins a segment after it, of a number not before the first that counts.
     pub(in crate::files) fn open(
         disk: &Disk,
         folder: &Path,
@@ -21,10 +32,24 @@ impl Journal {
         free_space: Arc<FreeSpace>,
         expected: &Expected,
     ) -> Result<Journal, Fault> {
+        disk.make_folder(folder)?;
+        let left = Left::read(disk, folder)?;
+        Journal::go_on(disk, folder, durability, free_space, expected, left)
+    }
+
+    /// Closes what an earlier run left, and begins a segment after it, of a number not before the first that counts.
+    pub(in crate::files) fn go_on(
+        disk: &Disk,
+        folder: &Path,
+        durability: Durability,
+        free_space: Arc<FreeSpace>,
+        expected: &Expected,
+        left: Left,
+    ) -> Result<Journal, Fault> {
         let disk = &disk.of_its_own();
         disk.make_folder(folder)?;
         remove_drafts(disk, folder)?;
-        let (mut found, dropped) = close(disk, folder, expected)?;
+        let (mut found, dropped) = close(disk, folder, expected, left)?;
         let number = drop_empty(disk, folder, &mut found, expected)?;
         let mut segment = prepare(disk, folder, number, durability, expected.reach)?;
         segment.name()?;
@@ -84,11 +109,8 @@ fn close(
     disk: &Disk,
     folder: &Path,
     expected: &Expected,
+    Left(mut found): Left,
 ) -> Result<(Vec<EarlierSegment>, Vec<Dropped>), Fault> {
-    let mut found = Vec::new();
-    for number in segment::numbers(disk, folder)? {
-        found.push(earlier_segment::read(disk, folder, number)?);
-    }
     earlier_segment::check(disk, folder, &found, expected)?;
     segment::settle(disk, folder, expected.reach, |number| {
         let found = found.iter().find(|one| one.size.number == number);

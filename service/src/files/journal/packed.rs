@@ -33,6 +33,9 @@ pub(super) const MOST_OF_NUMBER: usize = 10;
 /// Most points take no more bytes than this for each of their words, and this for the time of the first.
 const FOR_A_WORD: usize = 4;
 const FOR_A_TIME: usize = 16;
+/// Of most points a word has so many bytes at least, and all of one so many.
+const BYTES_OF_WORD: usize = 2;
+const BYTES_OF_POINT: usize = 8;
 
 pub(super) fn of(points: &Points) -> Vec<u8> {
     let mut out = Vec::with_capacity(FOR_A_TIME + points.words().len() * FOR_A_WORD);
@@ -48,7 +51,8 @@ pub(super) fn of(points: &Points) -> Vec<u8> {
 
 /// Reads all bytes; `None` where they are no points. No more is kept at any time than six words for a byte.
 pub(super) fn read(mut bytes: &[u8]) -> Option<Points> {
-    let (mut points, mut last) = (Points::default(), Last::default());
+    let mut points = Points::with_words(bytes.len() / BYTES_OF_WORD, bytes.len() / BYTES_OF_POINT);
+    let mut last = Last::default();
     while !bytes.is_empty() {
         last.read(&mut bytes, &mut points)?;
     }
@@ -74,6 +78,15 @@ pub(super) fn put_number(out: &mut Vec<u8>, mut number: u64) {
 
 /// Takes a number off the front. `None` also where it is longer than it is written, or more than 64 bits.
 pub(super) fn take_number(bytes: &mut &[u8]) -> Option<u64> {
+    if let [byte @ FIRST..MORE, rest @ ..] = bytes {
+        let number = u64::from(*byte - FIRST);
+        *bytes = rest;
+        return Some(number);
+    }
+    take_long_number(bytes)
+}
+
+fn take_long_number(bytes: &mut &[u8]) -> Option<u64> {
     let (mut number, mut before) = (0, u64::MAX);
     for shift in (0..64).step_by(7) {
         let (byte, rest) = bytes.split_first()?;

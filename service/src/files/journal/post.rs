@@ -99,12 +99,12 @@ impl Points {
 
     /// None yet, and room for so many, also where each is made of a cumulative one.
     pub fn with_room(words: usize, points: usize) -> Points {
-        Points {
-            words: Vec::with_capacity(words),
-            ends: Vec::with_capacity(points),
-            runs: Vec::with_capacity(points),
-            packed: OnceLock::new(),
-        }
+        Points { runs: Vec::with_capacity(points), ..Points::with_words(words, points) }
+    }
+
+    /// The same where none is.
+    pub(super) fn with_words(words: usize, points: usize) -> Points {
+        Points { words: Vec::with_capacity(words), ends: Vec::with_capacity(points), ..Points::default() }
     }
 
     /// Puts a point behind the others; `says` is a sum's value, or a histogram's count, whether it has a sum, the sum, and
