@@ -61,7 +61,15 @@ impl Read {
         }
     }
 
-    /// A post in protobuf that was read, and its points have numbers by these names; `has_room` as of `number`. None where one
+    /// A post in protobuf as it came. Its points have no numbers.
+    pub fn of_body(core: &Core, sender: String, body: Bytes) -> Result<Read, Refused> {
+        let mut read = Read::unread(core, sender, Body::Points(Points::default()), None, 0);
+        read.source = Some(Source::Protobuf(body));
+        read.be_read()?;
+        Ok(read)
+    }
+
+    /// The same where its points have numbers by these names; `has_room` as of `number`. None where one
     /// is foreign, where `has_all` says no to the first and the last of their ends, or where it can't be read or numbered: then
     /// it is to be read otherwise.
     pub fn of_protobuf(
@@ -72,9 +80,7 @@ impl Read {
         names: &Arc<Names>,
         has_room: impl Fn(usize) -> bool,
     ) -> Option<Read> {
-        let mut read = Read::unread(core, sender, Body::Points(Points::default()), None, 0);
-        read.source = Some(Source::Protobuf(body));
-        read.be_read().ok()?;
+        let mut read = Read::of_body(core, sender, body).ok()?;
         let is_within = read.ends().is_none_or(|(first, last)| has_all(first, last));
         let is_plain = is_within && read.post.foreign == 0;
         (is_plain && read.number(names, has_room)).then_some(read)

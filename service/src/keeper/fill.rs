@@ -196,7 +196,7 @@ impl Priming<'_> {
     }
 
     fn read(&self, core: &Core) -> Result<Vec<Read>, Unprimed> {
-        let read = |body: Vec<u8>| Ok(core.read(self.owner.into(), body.into())?);
+        let read = |body: Vec<u8>| Ok(Read::of_body(core, self.owner.into(), body.into())?);
         zeros(self.of.with_keys(self.series))?.into_iter().map(read).collect()
     }
 }
@@ -318,3 +318,6 @@ fn not_taken(refused: Refused) -> Trouble {
         "what the book has can't be taken of it: {refused}. Nothing is lost: give a greater --book-memory"
     ))
 }
+
+#[cfg(test)]
+mod tests;

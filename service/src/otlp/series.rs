@@ -17,7 +17,7 @@ pub use posted::Profile;
 pub(super) use posted::{first_resource, is_monotonic, points_by_resource, visit, visit_body, Seen};
 pub use posted::{only, others, posted, words_of};
 pub(super) use why::{name_shown, said, short, What, LOOKED_AT};
-pub use zeros::zeros;
+pub use zeros::{request_of, zeros};
 
 use super::json::{Document, Value as Json};
 use super::number::book_whole;

@@ -4,7 +4,7 @@ use super::identity::Learner;
 use super::levels::{FOREIGN, KEYS};
 use super::walk::Stop;
 use super::{NotNamed, Numbered};
-use crate::otlp::series::{visit_body, zeros, Profile, Seen, SeriesKey, Temporality};
+use crate::otlp::series::{request_of, visit_body, Profile, Seen, SeriesKey, Temporality};
 
 pub fn read(learner: &Learner<'_>, text: &[u8]) -> Result<Option<Numbered>, NotNamed> {
     let (mut read, mut goes_on) = (Numbered::default(), Ok(()));
@@ -39,6 +39,6 @@ fn number(learner: &Learner<'_>, key: &str) -> Result<u32, Stop> {
         return Ok(number);
     }
     let end = 2; // of a point from 1 on
-    let mut request = zeros([(SeriesKey(key.into()), end)]).map_err(|_| Stop::Slow)?;
-    learner.name(KEYS, key.as_bytes(), request.pop().ok_or(Stop::Slow)?, 0)
+    let request = request_of(&SeriesKey(key.into()), end).map_err(|_| Stop::Slow)?;
+    learner.name(KEYS, key.as_bytes(), request.into_bytes(), 0)
 }

@@ -173,24 +173,41 @@ fn histogram_message(point: Json<'_>) -> ReadResult<HistogramDataPoint> {
 }
 
 fn attributes(object: Json<'_>) -> ReadResult<Vec<KeyValue>> {
-    all(object, "attributes", |pair| {
-        Ok(KeyValue { key: text(pair, "key")?, value: Some(any(member(pair, "value")?)?) })
-    })
+    attributes_in(member(object, "attributes")?)
+}
+
+/// An attribute list in protobuf.
+pub(super) fn attributes_in(list: Json<'_>) -> ReadResult<Vec<KeyValue>> {
+    let pairs = list.elements().ok_or_else(|| missing("attributes"))?;
+    pairs
+        .map(|pair| Ok(KeyValue { key: text(pair, "key")?, value: Some(any(member(pair, "value")?)?) }))
+        .collect()
 }
 
 fn any(value: Json<'_>) -> ReadResult<AnyValue> {
-    let [text, truth, int, array] = value
-        .named(["stringValue", "boolValue", "intValue", "arrayValue"])
-        .ok_or_else(|| missing("a value"))?;
-    let value = match (text, truth, int, array) {
-        (None, None, None, None) => None,
-        (Some(text), None, None, None) => text.text().map(|text| Any::Text(text.into())),
-        (None, Some(truth), None, None) => truth.truth().map(Any::Bool),
-        (None, None, Some(int), None) => Some(Any::Int(whole(int, "intValue")?)),
-        (None, None, None, Some(array)) => {
+    let wrong = || missing("a single value");
+    let named = value.named([
+        "stringValue",
+        "boolValue",
+        "intValue",
+        "arrayValue",
+        "doubleValue",
+        "bytesValue",
+        "kvlistValue",
+    ]);
+    let value = match named.ok_or_else(wrong)? {
+        [None, None, None, None, None, None, None] => None,
+        [Some(text), None, None, None, None, None, None] => {
+            Some(Any::Text(text.text().ok_or_else(wrong)?.into()))
+        }
+        [None, Some(truth), None, None, None, None, None] => {
+            Some(Any::Bool(truth.truth().ok_or_else(wrong)?))
+        }
+        [None, None, Some(int), None, None, None, None] => Some(Any::Int(whole(int, "intValue")?)),
+        [None, None, None, Some(array), None, None, None] => {
             Some(Any::Array(ArrayValue { values: all(array, "values", any)? }))
         }
-        _ => return Err(missing("a single value")),
+        _ => return Err(wrong()),
     };
     Ok(AnyValue { value })
 }

@@ -1,27 +1,44 @@
-//! Points of value zero, which tell a fresh book whom each series belongs to and where its points begin.
+//! Points of value zero, which tell a fresh book whom each series belongs to and where its points begin: in protobuf, which the
+//! book reads sooner than JSON. One by itself, which names a series, is JSON.
 
+use super::forwarded::attributes_in;
 use super::{kind_of, parts_in, Kind, NotForwarded, SeriesKey};
 use crate::otlp::json::{Document, Value as Json};
+use crate::otlp::messages::{
+    Any, AnyValue, HistogramDataPoint, InstrumentationScope, KeyValue, Number, NumberDataPoint, Resource,
+};
+use crate::otlp::number::MAX_WHOLE_DOUBLE;
+use crate::otlp::wire::put_field;
+use prost::{encoding, Message};
 
 /// A body is not much longer, so that none takes long to read.
 const MOST: usize = 3 << 20;
-const OPEN: &str = "{\"resourceMetrics\":[";
-const CLOSE: &str = "]}";
-/// What ends a resource, a scope and a metric.
-const ENDS: [&str; 3] = ["]}", "]}", "]}}"];
+/// What the lengths of messages add, and their fields' numbers.
+const AROUND: usize = 64;
+/// As OTLP numbers temporalities.
+const DELTA: u64 = 1;
+/// The fields that resources have in a request, scopes in a resource, metrics in a scope; then a metric's data.
+const FIELDS: [u32; 3] = [1, 2, 2];
+const SUM: u32 = 7;
+const HISTOGRAM: u32 = 9;
 
 /// A point, with all that is above it.
-struct Zero {
-    /// What its resource, its scope and its metric begin with.
-    above: [String; 3],
-    point: String,
+struct Zero<'d> {
+    key: &'d str,
+    parts: [Json<'d>; 8],
+    kind: Kind,
+    start: u64,
+    end: u64,
 }
 
 /// A body that grows.
 #[derive(Default)]
 struct Body {
-    text: String,
-    /// Of its last point.
+    /// The request, and what its last resource, scope, metric and that one's data have so far.
+    open: [Vec<u8>; 5],
+    /// The field of that data.
+    data: u32,
+    /// What the last point's resource, scope and metric are, as a key says it.
     above: [String; 3],
 }
 
@@ -32,62 +49,144 @@ pub fn zeros(series: impl IntoIterator<Item = (SeriesKey, u64)>) -> Result<Vec<V
     let mut bodies = Vec::new();
     let mut body = Body::default();
     for (key, frontier) in series {
-        let zero = Zero::of(&key, frontier)?;
-        if !body.text.is_empty() && body.text.len() + zero.most() > MOST {
-            bodies.push(body.finished());
-            body = Body::default();
+        let document = document(&key)?;
+        let zero = Zero::of(&document, frontier)?;
+        let point = zero.point();
+        if !body.is_empty() && body.length() + key.0.len() + point.len() + AROUND > MOST {
+            bodies.push(std::mem::take(&mut body).finished());
         }
-        body.add(zero);
+        body.add(&zero, &point);
     }
-    if !body.text.is_empty() {
+    if !body.is_empty() {
         bodies.push(body.finished());
     }
     Ok(bodies)
 }
 
+/// A request of one point, of value zero, in the book's form.
+pub fn request_of(key: &SeriesKey, end: u64) -> Result<String, NotForwarded> {
+    Ok(Zero::of(&document(key)?, end)?.request())
+}
+
+fn document(key: &SeriesKey) -> Result<Document<'_>, NotForwarded> {
+    Document::parse(key.0.as_bytes()).map_err(|error| NotForwarded(error.to_string()))
+}
+
 impl Body {
-    fn add(&mut self, zero: Zero) {
-        let is_same = |level: &usize| !self.text.is_empty() && self.above[*level] == zero.above[*level];
-        let same = (0..ENDS.len()).take_while(is_same).count();
-        match self.text.is_empty() {
-            true => self.text.push_str(OPEN),
-            false => {
-                self.end(same);
-                self.text.push(',');
-            }
+    fn is_empty(&self) -> bool {
+        self.length() == 0
+    }
+
+    fn length(&self) -> usize {
+        self.open.iter().map(Vec::len).sum()
+    }
+
+    fn add(&mut self, zero: &Zero, point: &[u8]) {
+        let above = zero.above();
+        let is_same = |level: &usize| !self.is_empty() && self.above[*level] == above[*level];
+        let same = (0..above.len()).take_while(is_same).count();
+        if same < above.len() {
+            self.end(same);
+            self.begin(same, zero);
+            self.above = above.map(String::from);
         }
-        zero.above[same..].iter().for_each(|begin| self.text.push_str(begin));
-        self.text.push_str(&zero.point);
-        self.above = zero.above;
+        put_field(&mut self.open[4], 1, point);
     }
 
     /// Ends the last metric, and what is above it, up to a level.
     fn end(&mut self, level: usize) {
-        ENDS[level..].iter().rev().for_each(|end| self.text.push_str(end));
+        if self.is_empty() {
+            return;
+        }
+        for level in (level..=FIELDS.len()).rev() {
+            let ended = std::mem::take(&mut self.open[level + 1]);
+            let field = FIELDS.get(level).copied().unwrap_or(self.data);
+            put_field(&mut self.open[level], field, &ended);
+        }
+    }
+
+    /// Begins a metric, and what is above it, from a level on.
+    fn begin(&mut self, level: usize, zero: &Zero) {
+        let [_, resource, scope, metric, data] = &mut self.open;
+        let [of_resource, name, version, of_scope, of_metric, unit, ..] = zero.parts;
+        if level == 0 {
+            encoding::message::encode(1, &Resource { attributes: attributes(of_resource) }, resource);
+        }
+        if level <= 1 {
+            let (name, version, attributes) = (text(name), text(version), attributes(of_scope));
+            encoding::message::encode(1, &InstrumentationScope { name, version, attributes }, scope);
+        }
+        encoding::string::encode(1, &text(of_metric), metric);
+        encoding::string::encode(3, &text(unit), metric);
+        encoding::uint64::encode(2, &DELTA, data);
+        self.data = match zero.kind {
+            Kind::Histogram { .. } => HISTOGRAM,
+            _ => SUM,
+        };
+        if zero.kind == Kind::Monotonic {
+            encoding::bool::encode(3, &true, data);
+        }
     }
 
     fn finished(mut self) -> Vec<u8> {
         self.end(0);
-        self.text.push_str(CLOSE);
-        self.text.into_bytes()
+        std::mem::take(&mut self.open[0])
     }
 }
 
-impl Zero {
-    fn of(key: &SeriesKey, frontier: u64) -> Result<Zero, NotForwarded> {
+impl<'d> Zero<'d> {
+    fn of(key: &'d Document<'_>, frontier: u64) -> Result<Zero<'d>, NotForwarded> {
         // A point begins at 1 or later, so a frontier is 2 at least.
         let start = frontier.checked_sub(1).filter(|start| *start > 0);
         let start = start.ok_or_else(|| NotForwarded(format!("a frontier of {frontier}")))?;
-        let document = Document::parse(key.0.as_bytes()).map_err(|error| NotForwarded(error.to_string()))?;
-        let parts = parts_in(&document).and_then(|parts| Some((parts, kind_of(parts[6])?)));
-        let (parts, kind) = parts.ok_or_else(|| NotForwarded(format!("the key {}", key.0)))?;
-        let [resource, scope, version, scope_attributes, name, unit, bounds, attributes] =
-            parts.map(Json::raw);
-        let span = format!(
-            "\"attributes\":{attributes},\"startTimeUnixNano\":\"{start}\",\"timeUnixNano\":\"{frontier}\""
-        );
-        let scope = format!("\"name\":{scope},\"version\":{version},\"attributes\":{scope_attributes}");
-        let (data, says) = match kind {
+        let parts = parts_in(key).and_then(|parts| Some((parts, kind_of(parts[6])?)));
+        let (parts, kind) = parts.ok_or_else(|| NotForwarded(format!("the key {}", key.text())))?;
+        Ok(Zero { key: key.text(), parts, kind, start, end: frontier })
+    }
+
+    /// What its resource, its scope and its metric are, as its key says it. Of histograms of other bounds the metric is the same.
+    fn above(&self) -> [&'d str; 3] {
+        let said = |first: usize, last: usize| {
+            let (first, last) = (self.parts[first].range(), self.parts[last].range());
+            &self.key[first.start..last.end]
+        };
+        let is_histogram = matches!(self.kind, Kind::Histogram { .. });
+        [said(0, 0), said(1, 3), said(4, if is_histogram { 5 } else { 6 })]
+    }
+
+    fn point(&self) -> Vec<u8> {
+        let (start_time_unix_nano, time_unix_nano, flags) = (self.start, self.end, 0);
+        let attributes = attributes(self.parts[7]);
+        match &self.kind {
+            Kind::Histogram { bounds } => HistogramDataPoint {
+                start_time_unix_nano,
+                time_unix_nano,
+                count: 0,
+                sum: Some(0.0),
+                bucket_counts: vec![0; bounds.len() + 1],
+                explicit_bounds: bounds.iter().map(|bound| double(*bound)).collect(),
+                attributes,
+                flags,
+            }
+            .encode_to_vec(),
+            Kind::Sum | Kind::Monotonic => NumberDataPoint {
+                start_time_unix_nano,
+                time_unix_nano,
+                value: Some(Number::AsInt(0)),
+                attributes,
+                flags,
+            }
+            .encode_to_vec(),
+        }
+    }
+}
+
+/// In JSON.
+impl Zero<'_> {
+    fn request(&self) -> String {
+        let [resource, scope, version, of_scope, name, unit, bounds, attributes] = self.parts.map(Json::raw);
+        let (start, end) = (self.start, self.end);
+        let (data, says) = match &self.kind {
             Kind::Histogram { bounds: all } => {
                 let buckets = vec!["\"0\""; all.len() + 1].join(",");
                 let zero = format!("\"count\":\"0\",\"sum\":0,\"bucketCounts\":[{buckets}]");
@@ -95,25 +194,37 @@ impl Zero {
                 (head, format!("{zero},\"explicitBounds\":{bounds}"))
             }
             sum => {
-                let is_monotonic = sum == Kind::Monotonic;
+                let is_monotonic = *sum == Kind::Monotonic;
                 let head = format!("\"sum\":{{\"aggregationTemporality\":1,\"isMonotonic\":{is_monotonic}");
                 (head, "\"asInt\":\"0\"".into())
             }
         };
-        Ok(Zero {
-            above: [
-                format!("{{\"resource\":{{\"attributes\":{resource}}},\"scopeMetrics\":["),
-                format!("{{\"scope\":{{{scope}}},\"metrics\":["),
-                format!("{{\"name\":{name},\"unit\":{unit},{data},\"dataPoints\":["),
-            ],
-            point: format!("{{{span},{says}}}"),
-        })
+        let span = format!("\"startTimeUnixNano\":\"{start}\",\"timeUnixNano\":\"{end}\"");
+        let points = format!("[{{\"attributes\":{attributes},{span},{says}}}]");
+        let metrics = format!("[{{\"name\":{name},\"unit\":{unit},{data},\"dataPoints\":{points}}}}}]");
+        let scope = format!("{{\"name\":{scope},\"version\":{version},\"attributes\":{of_scope}}}");
+        let scopes = format!("[{{\"scope\":{scope},\"metrics\":{metrics}}}]");
+        let resource = format!("{{\"attributes\":{resource}}}");
+        format!("{{\"resourceMetrics\":[{{\"resource\":{resource},\"scopeMetrics\":{scopes}}}]}}")
     }
+}
 
-    /// What it adds at most.
-    fn most(&self) -> usize {
-        let above: usize = self.above.iter().map(String::len).sum();
-        let ends: usize = ENDS.iter().map(|end| end.len()).sum();
-        above + self.point.len() + 2 * ends + CLOSE.len() + 1
+fn text(part: Json<'_>) -> String {
+    part.text().unwrap_or_default().into()
+}
+
+/// What no series may have is something else here that none may have.
+fn attributes(list: Json<'_>) -> Vec<KeyValue> {
+    let foreign = || {
+        let value = Some(AnyValue { value: Some(Any::Bytes(Vec::new())) });
+        vec![KeyValue { key: String::new(), value }]
+    };
+    attributes_in(list).unwrap_or_else(|_| foreign())
+}
+
+fn double(bound: i64) -> f64 {
+    match bound.unsigned_abs() <= MAX_WHOLE_DOUBLE {
+        true => bound as f64,
+        false => f64::NAN,
     }
 }

@@ -1,0 +1,42 @@
+//! What primes.
+
+use super::*;
+use crate::core::Names;
+use crate::otlp::series::{request_of, SeriesKey};
+
+/// Else a late repeat would be taken, and a posted point be of another series than the one that was primed.
+#[test]
+fn what_primes_is_of_the_series_that_its_key_names() {
+    let values = [
+        r#"{}"#,
+        r#"{"stringValue":""}"#,
+        r#"{"stringValue":"\"\\\b\u0001é😀"}"#,
+        r#"{"boolValue":false}"#,
+        r#"{"boolValue":true}"#,
+        r#"{"intValue":"0"}"#,
+        r#"{"intValue":"-9223372036854775808"}"#,
+        r#"{"arrayValue":{"values":[]}}"#,
+        r#"{"arrayValue":{"values":[{},{"stringValue":"a"},{"boolValue":false},{"intValue":"-1"}]}}"#,
+    ];
+    let kinds = [r#""sum""#, r#""monotonic""#, "[]", "[-9007199254740992,0,9007199254740992]"];
+    let lists =
+        values.map(|value| format!(r#"[{{"key":"","value":{value}}},{{"key":"é","value":{value}}}]"#));
+    let mut keys = Vec::new();
+    for list in &lists {
+        for kind in kinds {
+            keys.push(format!(r#"[{list},"","",[],"m","",{kind},[]]"#));
+            keys.push(format!(r#"[[],"s","\"1",{list},"m","é",{kind},[]]"#));
+            keys.push(format!(r#"[[],"s","\"1",[],"m\\","é",{kind},{list}]"#));
+        }
+    }
+    let series = || keys.iter().map(|key| (SeriesKey(key.as_str().into()), 9));
+    let (core, names) = (Core::new(1).unwrap(), Names::new().unwrap());
+    for body in zeros(series()).unwrap() {
+        let mut read = Read::of_body(&core, "A".into(), body.into()).unwrap();
+        assert_eq!((read.points(), read.post.foreign, read.ends()), (keys.len() as u64, 0, Some((9, 9))));
+        read.note(&names);
+    }
+    for (number, (key, _)) in (0..).zip(series()) {
+        assert_eq!(names.number_of(request_of(&key, 2).unwrap().as_bytes()), Ok(number), "{key:?}");
+    }
+}
