@@ -26,9 +26,9 @@ impl Book {
         self.rounds.last_for(self.desk.series());
     }
 
-    /// From now on somebody waits.
+    /// From now on somebody waits, who has to find room. Where there are many points alone rounds are closed as ever, one by one.
     pub fn note_filled(&mut self) {
-        if self.rounds.are_due() {
+        if self.rounds.have_many_entries() {
             self.close_rounds();
         }
     }

@@ -83,10 +83,17 @@ impl Rounds {
         of * self.entries >= part * self.most_entries || of * self.points >= part * self.most_points
     }
 
-    /// Whether there is no room for more, or for more points: where nobody waits all are closed at once, and not before.
+    /// Whether there is no room for more, or there are as many points as else before the last book is closed: where nobody waits
+    /// all are closed at once, and not before.
     pub fn are_full(&self) -> bool {
         let may_be_tried = self.entries >= POSTS_UNTIL_ANOTHER_TRY;
-        may_be_tried && !self.have_room_for(1) || self.points >= self.most_points
+        let most_points = self.most_points + self.most_points / PART;
+        may_be_tried && !self.have_room_for(1) || self.points >= most_points
+    }
+
+    /// Whether it is time to begin to close them for their entries.
+    pub fn have_many_entries(&self) -> bool {
+        self.entries >= self.most_entries
     }
 
     /// Whether it is time to begin to close them.
@@ -205,7 +212,9 @@ mod tests {
         assert_eq!(full, Some(30_000));
         rounds.begin();
         assert!(!rounds.are_full(), "where none could be closed it is tried again later");
-        rounds.count(2_000_000);
+        rounds.count(2_999_999);
+        assert!(!rounds.are_full() && rounds.are_due() && !rounds.have_many_entries());
+        rounds.count(1);
         assert!(rounds.are_full(), "as many points as else");
     }
 
