@@ -294,20 +294,17 @@ fn length_of(at: *mut libc::c_void) -> usize {
 /// A block of so many bytes, aligned to at most 16, as malloc aligns all. One of no bytes has an address of its own.
 #[no_mangle]
 extern "C" fn rattle_alloc(bytes: usize, align: usize) -> Tried {
-    let bytes = if bytes == 0 { align } else { bytes };
-    // SAFETY: any number may be asked for. It is asked ahead, since to find a block by its address takes longer.
-    let length = unsafe { length_for(bytes, 0) };
-    if !memory::take(length) {
-        return Tried::not();
-    }
     // SAFETY: any number may be asked for.
-    let at = unsafe { libc::malloc(bytes) };
+    let at = unsafe { libc::malloc(if bytes == 0 { align } else { bytes }) };
     if at.is_null() {
-        memory::give(length);
         return Tried::not();
     }
-    debug_assert_eq!(length, length_of(at), "a block is as long as was said");
-    Tried::of(at)
+    if memory::take(length_of(at)) {
+        return Tried::of(at);
+    }
+    // SAFETY: it came from malloc just now, and nobody has it.
+    unsafe { libc::free(at) };
+    Tried::not()
 }
 
 /// Another length for a block, whose first bytes stay. Where that fails the block is as it was.

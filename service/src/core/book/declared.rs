@@ -96,9 +96,6 @@ extern "C" {
     pub(super) fn release_free_memory();
     #[link_name = "MallocExtension_MarkThreadIdle"]
     pub(super) fn mark_thread_idle();
-    /// The length of a block for so many bytes, with flags, of which there are none.
-    #[link_name = "nallocx"]
-    pub(super) fn length_for(bytes: usize, flags: libc::c_int) -> usize;
     #[cfg(test)]
     #[link_name = "MallocExtension_GetNumericProperty"]
     pub(super) fn number_of(property: *const libc::c_char, number: *mut usize) -> libc::c_int;
