@@ -20,9 +20,11 @@
 //! What a post decides is **pending** until it was taken, and gone where it was refused: others that are under way meanwhile are
 //! read by it, and hold it too.
 
+mod decided;
+
 use super::{Rule, BYTES, PARTS, TIMES};
+pub use decided::Decided;
 use std::collections::{BTreeMap, BTreeSet, HashMap};
-use std::fmt;
 use std::sync::atomic::{AtomicBool, AtomicU64, Ordering::Relaxed, Ordering::SeqCst};
 use std::sync::{Arc, PoisonError, RwLock, RwLockReadGuard, RwLockWriteGuard};
 
@@ -49,46 +51,6 @@ type Set = u32;
 
 /// The last number that a slot's got.
 static LAST: AtomicU64 = AtomicU64::new(0);
-
-/// What a post has decided, or hangs on. It goes with this, but where the post was taken.
-#[derive(Debug, Default, PartialEq)]
-pub struct Decided(Vec<Pending>);
-
-struct Pending {
-    units: Arc<Units>,
-    named: Named,
-    stays: bool,
-}
-
-impl Decided {
-    /// Whether it stays once this is dropped.
-    pub fn stays(&mut self, stays: bool) {
-        self.0.iter_mut().for_each(|pending| pending.stays = stays);
-    }
-
-    /// Of memory, more or less.
-    pub fn bytes(&self) -> usize {
-        self.0.iter().map(|pending| size_of::<Pending>() + pending.named.0.len()).sum()
-    }
-}
-
-impl Drop for Pending {
-    fn drop(&mut self) {
-        self.units.write().end(&self.named, self.stays);
-    }
-}
-
-impl PartialEq for Pending {
-    fn eq(&self, other: &Pending) -> bool {
-        self.named == other.named
-    }
-}
-
-impl fmt::Debug for Pending {
-    fn fmt(&self, out: &mut fmt::Formatter<'_>) -> fmt::Result {
-        self.named.fmt(out)
-    }
-}
 
 /// In which known units there are series, by the name of their metric.
 pub struct Units {
@@ -273,21 +235,6 @@ impl Units {
         }
     }
 
-    /// Whether there was room.
-    fn hold(
-        self: &Arc<Units>,
-        mut names: RwLockWriteGuard<'_, Names>,
-        metric: &str,
-        unit: Unit,
-        decided: &mut Decided,
-    ) -> bool {
-        let has_room = names.hold(metric, unit);
-        if has_room {
-            decided.0.push(Pending { units: self.clone(), named: (metric.into(), unit), stays: false });
-        }
-        has_room
-    }
-
     /// Of those that decide, or would, the coarsest that a unit is made of.
     fn coarsest(&self, known: Known, unit: Unit) -> Option<Unit> {
         match (known.deciding | known.pending) & self.finer[unit.0] {
@@ -380,41 +327,6 @@ impl Names {
             known.deciding |= bit(unit);
             true
         })
-    }
-
-    /// The same of one that is pending.
-    fn hold(&mut self, metric: &str, unit: Unit) -> bool {
-        let Some(known) = self.with_room(metric) else {
-            return false;
-        };
-        known.pending |= bit(unit);
-        *self.pending.entry((metric.into(), unit)).or_default() += 1;
-        true
-    }
-
-    /// A post that held it was taken, or not.
-    fn end(&mut self, named: &Named, is_taken: bool) {
-        let (metric, unit) = named;
-        let is_last = match self.pending.get_mut(named) {
-            Some(1) | None => self.pending.remove(named).is_some(),
-            Some(holding) => {
-                *holding -= 1;
-                false
-            }
-        };
-        let Some(known) = self.units.get_mut(metric) else {
-            return;
-        };
-        if is_taken {
-            known.deciding |= bit(*unit);
-        }
-        if is_last {
-            known.pending &= !bit(*unit);
-        }
-        if *known == Known::default() {
-            self.units.remove(metric);
-            self.left += metric.len() + ENTRY;
-        }
     }
 
     fn put_beside(&mut self, metric: &str, unit: Unit) {

@@ -1,6 +1,7 @@
 //! Requests that the service forwards, read strictly: their bytes are the book's own (docs/FORMATS.md,
 //! "JSON that is written"), and parts of keys are copied from them.
 
+use super::identity::VALUES;
 use super::{ForwardedPoint, NotForwarded, SeriesKey, Value};
 use crate::otlp::json::{Document, Elements, Value as Json};
 use crate::otlp::messages::{
@@ -186,15 +187,7 @@ pub(super) fn attributes_in(list: Json<'_>) -> ReadResult<Vec<KeyValue>> {
 
 fn any(value: Json<'_>) -> ReadResult<AnyValue> {
     let wrong = || missing("a single value");
-    let named = value.named([
-        "stringValue",
-        "boolValue",
-        "intValue",
-        "arrayValue",
-        "doubleValue",
-        "bytesValue",
-        "kvlistValue",
-    ]);
+    let named = value.named(VALUES);
     let value = match named.ok_or_else(wrong)? {
         [None, None, None, None, None, None, None] => None,
         [Some(text), None, None, None, None, None, None] => {

@@ -69,21 +69,17 @@ enum MayBeList {
     No,
 }
 
+/// The fields that a value may have: it has one at most, and of series one of the first four.
+pub(super) const VALUES: [&str; 7] =
+    ["stringValue", "boolValue", "intValue", "arrayValue", "doubleValue", "bytesValue", "kvlistValue"];
+
 /// What is wrong with a value, and the part of it that is.
 type Wrong<'d> = (What, Value<'d>);
 
 /// Writes the value of an attribute, or an element of a list.
 fn write_value<'d>(out: &mut String, value: Value<'d>, may_be_list: MayBeList) -> Result<(), Wrong<'d>> {
     let wrong = |value| (What::WrongValue, value);
-    let named = value.named([
-        "stringValue",
-        "boolValue",
-        "intValue",
-        "arrayValue",
-        "doubleValue",
-        "bytesValue",
-        "kvlistValue",
-    ]);
+    let named = value.named(VALUES);
     match named.ok_or((What::WrongValue, value))? {
         [None, None, None, None, None, None, None] => out.push_str("{}"),
         [Some(text), None, None, None, None, None, None] => {
