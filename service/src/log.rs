@@ -12,14 +12,15 @@ mod time;
 pub use form::{Events, Form};
 pub use rate_limit::RateLimit;
 pub use shown::{all_shown, cut, shown};
-pub use time::{now, of_nanoseconds, seconds, utc};
+pub use time::{now, of_nanoseconds, seconds, since_1970, utc};
 
+use crate::work::Sound;
 use prometheus::IntCounter;
 use std::backtrace::{Backtrace, BacktraceStatus};
 use std::fmt::Arguments;
 use std::io::{self, Write};
 use std::panic::PanicHookInfo;
-use std::sync::{Arc, Condvar, Mutex, MutexGuard, OnceLock, PoisonError};
+use std::sync::{Arc, Condvar, Mutex, OnceLock, PoisonError};
 use std::time::{Duration, Instant};
 use tracing::Level;
 
@@ -96,13 +97,9 @@ impl Log {
         Log { state: Mutex::default(), changed: Condvar::new(), lost, form }
     }
 
-    fn state(&self) -> MutexGuard<'_, State> {
-        self.state.lock().unwrap_or_else(PoisonError::into_inner) // each change of it is whole
-    }
-
     /// Waits for nobody.
     fn put(&self, line: &[u8]) {
-        let mut state = self.state();
+        let mut state = self.state.sound();
         let waiting = &mut state.waiting;
         // Behind one that is missing all are, so that there is one place to say it.
         if waiting.missing > 0 || waiting.text.len() + line.len() > MOST_WAITING {
@@ -124,7 +121,7 @@ impl Log {
 
     /// Waits for lines. Those that it returned before are written.
     fn next(&self) -> Lines {
-        let mut state = self.state();
+        let mut state = self.state.sound();
         state.is_writing = false;
         self.changed.notify_all();
         let woken = self.changed.wait_while(state, |state| state.waiting.is_empty());
@@ -137,7 +134,7 @@ impl Log {
         let left = until.saturating_duration_since(Instant::now());
         let is_under_way = |state: &mut State| state.is_writing || !state.waiting.is_empty();
         // Where nobody reads in time the lines are lost.
-        drop(self.changed.wait_timeout_while(self.state(), left, is_under_way));
+        drop(self.changed.wait_timeout_while(self.state.sound(), left, is_under_way));
     }
 }
 

@@ -9,6 +9,7 @@ pub use in_order::{in_order, WorkQueue};
 
 use std::future::{poll_fn, Future};
 use std::pin::pin;
+use std::sync::{Mutex, MutexGuard, PoisonError};
 use std::task::Poll;
 use std::thread;
 use std::time::Duration;
@@ -23,6 +24,17 @@ pub async fn blocking<T: Send + 'static>(work: impl FnOnce() -> T + Send + 'stat
             // The runtime is ending, and this task with it.
             Err(_) => std::future::pending().await,
         },
+    }
+}
+
+/// A lock of what is sound at any time, each change of it being whole: also where who had it has panicked.
+pub trait Sound<T> {
+    fn sound(&self) -> MutexGuard<'_, T>;
+}
+
+impl<T> Sound<T> for Mutex<T> {
+    fn sound(&self) -> MutexGuard<'_, T> {
+        self.lock().unwrap_or_else(PoisonError::into_inner)
     }
 }
 

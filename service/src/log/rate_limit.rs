@@ -1,6 +1,7 @@
 //! What may happen at any rate, and is told now and then.
 
-use std::sync::{Mutex, PoisonError};
+use crate::work::Sound;
+use std::sync::Mutex;
 use std::time::{Duration, Instant};
 
 /// Once in so long at most.
@@ -25,7 +26,7 @@ impl RateLimit {
     }
 
     fn is_due_at(&self, now: Instant) -> bool {
-        let mut last = self.last.lock().unwrap_or_else(PoisonError::into_inner); // any value of it is sound
+        let mut last = self.last.sound();
         let is_due = last.is_none_or(|last: Instant| now >= last + self.between);
         if is_due {
             *last = Some(now);

@@ -4,15 +4,19 @@ use std::time::{Duration, SystemTime};
 
 const DAY: u64 = 86_400;
 
-/// Now, as RFC 3339 writes it, in UTC and microseconds.
-pub fn now() -> String {
-    let since = SystemTime::now().duration_since(SystemTime::UNIX_EPOCH);
-    written(since.unwrap_or_default()) // no clock is set before 1970
+/// Now: no clock is set before 1970.
+pub fn since_1970() -> Duration {
+    SystemTime::now().duration_since(SystemTime::UNIX_EPOCH).unwrap_or_default()
 }
 
-/// The same in seconds since 1970.
+/// The same in seconds.
 pub fn seconds() -> u64 {
-    SystemTime::now().duration_since(SystemTime::UNIX_EPOCH).map_or(0, |since| since.as_secs())
+    since_1970().as_secs()
+}
+
+/// The same as RFC 3339 writes it, in UTC and microseconds.
+pub fn now() -> String {
+    written(since_1970())
 }
 
 /// So many seconds after 1970, in UTC: `2026-11-25 14:26:23`.

@@ -3,7 +3,8 @@
 
 use super::{DatabaseStatus, Units};
 use crate::store::postgres::{Copies, Counts, PostgresStore};
-use std::sync::{Arc, Mutex, MutexGuard, PoisonError, Weak};
+use crate::work::Sound;
+use std::sync::{Arc, Mutex, Weak};
 use std::time::Duration;
 
 /// How often the copies are counted.
@@ -24,7 +25,7 @@ impl Databases {
     /// Looks until it is dropped.
     pub fn begin(store: &Arc<PostgresStore>, asked: Copies) -> Arc<Databases> {
         let databases = Databases::of(store.names(), asked, store.counts().clone());
-        let count = databases.seen().len();
+        let count = databases.seen.sound().len();
         for number in 0..count {
             tokio::spawn(look(store.clone(), Arc::downgrade(&databases), number));
         }
@@ -41,13 +42,9 @@ impl Databases {
         Arc::new(Databases { seen: Mutex::new(names.into_iter().map(unknown).collect()), counts })
     }
 
-    fn seen(&self) -> MutexGuard<'_, Vec<DatabaseStatus>> {
-        self.seen.lock().unwrap_or_else(PoisonError::into_inner) // a value is sound at any time
-    }
-
     /// Each that does not answer, and why not, where it is known of each.
     pub fn silent(&self, known: &[Option<String>]) -> Vec<String> {
-        let seen = self.seen();
+        let seen = self.seen.sound();
         let each = seen.iter().zip(known);
         let silent =
             each.filter_map(|(of, why)| Some(format!("{} does not answer: {}", of.database, why.as_ref()?)));
@@ -56,7 +53,7 @@ impl Databases {
 
     /// In their order. `beat_ages` are since the last own beat in each that is committed.
     pub fn status(&self, units: &Units, beat_ages: &[Option<Duration>]) -> Vec<DatabaseStatus> {
-        let mut all = self.seen().clone();
+        let mut all = self.seen.sound().clone();
         for (of, age) in all.iter_mut().zip(beat_ages) {
             of.doubt_seconds = age.filter(|age| *age > BEAT).map_or(0, |age| age.as_secs());
         }
@@ -86,7 +83,7 @@ async fn look(store: Arc<PostgresStore>, databases: Weak<Databases>, number: usi
         let Some(databases) = databases.upgrade() else {
             return;
         };
-        let mut seen = databases.seen();
+        let mut seen = databases.seen.sound();
         (seen[number].copies, seen[number].why) = (copies, why);
     }
 }

@@ -11,9 +11,9 @@ use crate::files::Held;
 use crate::log::seconds;
 use crate::metrics::RoundedSeries;
 use crate::shares::Used;
+use crate::work::Sound;
 use serde::{Deserialize, Serialize};
 use std::collections::BTreeSet;
-use std::sync::PoisonError;
 
 /// `GET /status`.
 #[derive(Debug, Default, Serialize, Deserialize)]
@@ -282,7 +282,7 @@ impl SlotStatus {
     fn of(undelivered: &Undelivered) -> SlotStatus {
         let outbox = &undelivered.outbox;
         let (waiting, bytes, first) = outbox.waiting();
-        let delivery = undelivered.delivery.lock().unwrap_or_else(PoisonError::into_inner).clone(); // a copy is sound
+        let delivery = undelivered.delivery.sound().clone();
         SlotStatus {
             slot: undelivered.number,
             series: outbox.series_count(),

@@ -17,10 +17,11 @@ pub use law::{Entry, First, Kind, Options, Refused, Reset, Run, Since};
 use crate::core::Names;
 use crate::files::{self, Outbox, Points};
 use crate::otlp::series::{self, Digest, SeriesKey};
+use crate::work::Sound;
 use law::{entry, Added};
 use std::collections::HashMap;
 use std::sync::atomic::{AtomicUsize, Ordering::Relaxed};
-use std::sync::{Arc, Mutex, MutexGuard, OnceLock, PoisonError};
+use std::sync::{Arc, Mutex, MutexGuard, OnceLock};
 
 /// Of all series.
 #[derive(Default)]
@@ -74,7 +75,7 @@ impl Runs {
 
     /// Waits for the lock. It is taken before that of the book.
     pub fn lock(&self) -> Locked<'_> {
-        self.state.lock().unwrap_or_else(PoisonError::into_inner) // each change of it is whole, or undone by a draft
+        self.state.sound() // each change of it is whole, or undone by a draft
     }
 
     /// Puts what a start has found in the place of all.

@@ -1,8 +1,9 @@
 //! What was posted and delivered a second, for the last minutes: a line of the operator's page.
 
 use crate::metrics::Metrics;
+use crate::work::Sound;
 use std::collections::VecDeque;
-use std::sync::{Arc, Mutex, PoisonError, Weak};
+use std::sync::{Arc, Mutex, Weak};
 use std::time::Duration;
 
 /// How often it is looked, and for how long it is kept.
@@ -37,7 +38,7 @@ impl Pulse {
     }
 
     fn note(&self, counted: Counted) {
-        let mut all = self.lock();
+        let mut all = self.0.sound();
         if all.len() > KEPT {
             all.pop_front();
         }
@@ -46,13 +47,9 @@ impl Pulse {
 
     /// The oldest first.
     pub fn rates(&self) -> Vec<Rates> {
-        let all = self.lock();
+        let all = self.0.sound();
         let pairs = all.iter().zip(all.iter().skip(1));
         pairs.map(|(before, now)| now.since(*before)).collect()
-    }
-
-    fn lock(&self) -> std::sync::MutexGuard<'_, VecDeque<Counted>> {
-        self.0.lock().unwrap_or_else(PoisonError::into_inner) // counts are sound at any time
     }
 }
 
