@@ -1,86 +1,45 @@
 //! What is shown of an instance that shares a store with others: of itself, and of what it sees.
 
-use super::make::Maker;
+use super::make::metrics;
 use crate::cluster::{Forwarded, Status};
 use crate::operate::DatabaseStatus;
 use crate::store::postgres::Counts;
-use prometheus::{Gauge, GaugeVec, IntCounter, IntCounterVec, IntGauge, IntGaugeVec, Registry, Result};
+use crate::work::Sound;
+use prometheus::{Gauge, GaugeVec, IntCounter, IntCounterVec, IntGauge, IntGaugeVec};
 use std::sync::atomic::Ordering::Relaxed;
-use std::sync::{Mutex, PoisonError};
+use std::sync::Mutex;
 
-/// Set where the page is made.
-pub struct OfCluster {
-    slots_owned: IntGauge,
-    /// By `slot`: those that are here.
-    slot_term: IntGaugeVec,
-    without_owner: IntGauge,
-    longest_without_owner: Gauge,
-    instances: IntGauge,
-    beat_age: Gauge,
-    /// By `database`; none of one that is not known.
-    copies: IntGaugeVec,
-    copies_asked: IntGauge,
-    doubt: GaugeVec,
-    /// By `result`.
-    forwarded: IntCounterVec,
-    /// By `outcome`.
-    writes: IntCounterVec,
-    takeovers: IntCounter,
-    hand_overs: IntCounter,
-    lost: IntCounter,
-    /// Counters are brought to where they are elsewhere by one at a time.
-    setting: Mutex<()>,
+metrics! {
+    /// Set where the page is made.
+    pub struct OfCluster(registry) {
+        slots_owned: IntGauge = "slots_owned", "Slots that are here";
+        slot_term: IntGaugeVec = "slot_term" ["slot"],
+            "The term of each slot that is here: it goes up whenever a slot is taken";
+        without_owner: IntGauge = "slots_without_owner", "Slots that no instance serves, as far as this one knows";
+        longest_without_owner: Gauge = "longest_without_owner_seconds",
+            "For how long no instance has served the slot of these for which it is longest";
+        instances: IntGauge = "instances", "Instances whose beats go on, this one among them";
+        beat_age: Gauge = "beat_age_seconds",
+            "Since the last beat of this instance that is known to be in the store";
+        copies: IntGaugeVec = "store_copies" ["database"],
+            "On how many servers what is committed in a database is; not there where it is not known";
+        copies_asked: IntGauge = "store_copies_asked", "On how many it has to be, by --store-copies";
+        doubt: GaugeVec = "store_doubt_seconds" ["database"],
+            "For how long the write of this instance that began first has not been known to be there, 0 where none is";
+        forwarded: IntCounterVec = "forwarded_posts_total" ["result"],
+            "Posts, or parts of them, that were brought to the instance of their slot, by what came back";
+        writes: IntCounterVec = "store_writes_total" ["outcome"], "Writes of slots to the store, by how they ended";
+        takeovers: IntCounter = "takeovers_total", "Slots that this instance has taken";
+        hand_overs: IntCounter = "hand_overs_total", "Slots that it has handed over";
+        lost: IntCounter = "slots_lost_total", "Slots that another has taken while they were here";
+    }
+    with {
+        // Counters are brought to where they are elsewhere by one at a time.
+        setting: Mutex<()> = Mutex::default();
+    }
 }
 
 impl OfCluster {
-    pub fn new(registry: &Registry) -> Result<OfCluster> {
-        let maker = Maker(registry);
-        Ok(OfCluster {
-            slots_owned: maker.gauge("slots_owned", "Slots that are here")?,
-            slot_term: maker.gauges(
-                "slot_term",
-                "The term of each slot that is here: it goes up whenever a slot is taken",
-                "slot",
-            )?,
-            without_owner: maker
-                .gauge("slots_without_owner", "Slots that no instance serves, as far as this one knows")?,
-            longest_without_owner: maker.fraction(
-                "longest_without_owner_seconds",
-                "For how long no instance has served the slot of these for which it is longest",
-            )?,
-            instances: maker.gauge("instances", "Instances whose beats go on, this one among them")?,
-            beat_age: maker.fraction(
-                "beat_age_seconds",
-                "Since the last beat of this instance that is known to be in the store",
-            )?,
-            copies: maker.gauges(
-                "store_copies",
-                "On how many servers what is committed in a database is; not there where it is not known",
-                "database",
-            )?,
-            copies_asked: maker.gauge("store_copies_asked", "On how many it has to be, by --store-copies")?,
-            doubt: maker.fractions(
-                "store_doubt_seconds",
-                "For how long the write of this instance that began first has not been known to be there, 0 where none is",
-                &["database"],
-            )?,
-            forwarded: maker.counters(
-                "forwarded_posts_total",
-                "Posts, or parts of them, that were brought to the instance of their slot, by what came back",
-                &["result"],
-            )?,
-            writes: maker.counters(
-                "store_writes_total",
-                "Writes of slots to the store, by how they ended",
-                &["outcome"],
-            )?,
-            takeovers: maker.counter("takeovers_total", "Slots that this instance has taken")?,
-            hand_overs: maker.counter("hand_overs_total", "Slots that it has handed over")?,
-            lost: maker.counter("slots_lost_total", "Slots that another has taken while they were here")?,
-            setting: Mutex::default(),
-        })
-    }
-
     /// `owned` slots are here.
     pub fn set(
         &self,
@@ -90,7 +49,7 @@ impl OfCluster {
         forwarded: Forwarded,
         writes: &Counts,
     ) {
-        let _one = self.setting.lock().unwrap_or_else(PoisonError::into_inner); // it guards nothing
+        let _one = self.setting.sound();
         self.slots_owned.set(owned as i64);
         self.slot_term.reset();
         for (slot, term) in &seen.terms {
@@ -169,7 +128,7 @@ mod tests {
     #[test]
     fn the_page_has_what_is_seen_now_and_counters_as_they_are() {
         let metrics = Metrics::new().unwrap();
-        let of_cluster = OfCluster::new(&metrics.registry).unwrap();
+        let of_cluster = OfCluster::of(&metrics.registry).unwrap();
         let (writes, forwarded) = (Counts::default(), Forwarded { answered: 7, not_mine: 2, broken: 1 });
         writes.commits.store(40, Relaxed);
         of_cluster.set(2, &seen(&[(3, 5), (4, 9)], 2), &[database(Some(1))], forwarded, &writes);

@@ -11,92 +11,112 @@ pub use rounding::{RoundedSeries, SeriesOfRule, SHOWN as SHOWN_OF_RULE};
 
 use crate::otlp::{Cause, Causes, Outcome, Rounded, Rounding};
 use crate::shares::Used;
+use crate::work::Sound;
+use make::metrics;
 use prometheus::core::Collector;
 use prometheus::{
-    CounterVec, Encoder, Gauge, GaugeVec, IntCounter, IntCounterVec, IntGauge, IntGaugeVec, Registry,
-    TextEncoder,
+    CounterVec, Encoder, Gauge, GaugeVec, Histogram, IntCounter, IntCounterVec, IntGauge, IntGaugeVec,
+    Registry, TextEncoder,
 };
 use rounding::RoundingBySeries;
 use std::collections::HashSet;
-use std::sync::{Mutex, PoisonError};
+use std::sync::Mutex;
 
 /// How many senders have a label of their own; further ones share `other`.
 const SENDERS: usize = 64;
 
-/// One for the process. Counters begin with it.
-pub struct Metrics {
-    pub registry: Registry,
-    /// By `status` and, of a refusal, `reason`.
-    pub posts: IntCounterVec,
-    /// Of posts that were answered as taken the parts that were refused, by `reason`.
-    pub refused_parts: IntCounterVec,
-    pub post_bytes: IntCounter,
-    /// Points outside the profile, by `sender` and `cause`. Counted by `foreign`, which bounds the senders.
-    pub foreign_points: IntCounterVec,
-    /// The same that are meant to be left out, by `cause`.
-    pub expected_foreign_points: IntCounterVec,
-    /// Points outside the profile that were handed on, by `outcome`.
-    pub passed_points: IntCounterVec,
-    /// By `whole`, the rule: values that were not whole, and what they were rounded by together.
-    pub rounded_values: IntCounterVec,
-    pub rounding: CounterVec,
-    by_series: RoundingBySeries,
-    /// By `whole`: the greatest of `by_series`, set where the page is made.
-    greatest_rounding: GaugeVec,
-    /// By `sender` and `of`: `series`, `points`. Set where the page is made.
-    sender_share: GaugeVec,
-    /// By `outcome`: `done`, `failed`.
-    pub checkpoints: IntCounterVec,
-    pub rounds_closed: IntCounter,
-    pub forwarded_requests: IntCounter,
-    /// By `outcome`: `taken`, `partial`, `again`, `denied` (it is sent again too), `refused`.
-    pub deliveries: IntCounterVec,
-    pub forgotten_series: IntCounter,
-    /// Series whose first cumulative point only says where they are.
-    pub noted_runs: IntCounter,
-    pub log_lines_lost: IntCounter,
-    /// By `outcome`: `done`, `failed`, `late`.
-    pub handshakes: IntCounterVec,
-    /// By `option`.
-    pub stale_files: IntGaugeVec,
-    /// What must never be, by `kind`.
-    pub faults: IntCounterVec,
-    pub checkpoint_pause_seconds: prometheus::Histogram,
-    pub recovery_seconds: prometheus::Histogram,
-    /// Set where the page is made.
-    pub levels: Levels,
-    /// Most answers are 200: their counter needs no look-up.
-    taken_posts: IntCounter,
-    senders: Mutex<HashSet<String>>,
+metrics! {
+    /// One for the process. Counters begin with it.
+    pub struct Metrics(registry) {
+        pub posts: IntCounterVec = "posts_total" ["status", "reason"],
+            "Posts by the status of their answer, and by the reason of a refusal";
+        pub refused_parts: IntCounterVec = "refused_parts_total" ["reason"],
+            "Of posts that were taken, parts for other slots that were refused, by the reason";
+        pub post_bytes: IntCounter = "post_bytes_total", "Bytes of posts, unpacked";
+        // Counted by `foreign`, which bounds the senders.
+        pub foreign_points: IntCounterVec = "foreign_points_total" ["sender", "cause"],
+            "Points that were not taken, of posts that were, but for those of --expect-foreign";
+        pub expected_foreign_points: IntCounterVec = "expected_foreign_points_total" ["cause"],
+            "Points that were not taken, as --expect-foreign says";
+        pub passed_points: IntCounterVec = "passed_points_total" ["outcome"] of ["taken", "refused", "lost", "dropped"],
+            "Points outside the profile that --pass was to hand on, by what became of them";
+        pub rounded_values: IntCounterVec = "rounded_values_total" ["whole"],
+            "Values of posts that were taken that `--whole` has rounded, by its rule";
+        pub rounding: CounterVec = "rounding_units_total" ["whole"],
+            "What these values were rounded by together, in the finer unit, over all series";
+        // The greatest of `by_series`, set where the page is made.
+        greatest_rounding: GaugeVec = "greatest_rounding_units" ["whole"],
+            "What the values of one series were rounded by together, in the finer unit, of all series the most: no total is further from the truth";
+        // `of` is `series` or `points`. Set where the page is made.
+        sender_share: GaugeVec = "sender_share_ratio" ["sender", "of"],
+            "What a sender has of its share: of its series, or of a minute's points; of the ten that are nearest to it";
+        pub checkpoints: IntCounterVec = "checkpoints_total" ["outcome"] of ["done", "failed"],
+            "Checkpoints by how they ended";
+        pub rounds_closed: IntCounter = "rounds_closed_total", "Rounds of a book that were closed";
+        pub forwarded_requests: IntCounter = "forwarded_requests_total", "Requests put into the outbox";
+        // What is `denied` is sent again too.
+        pub deliveries: IntCounterVec = "deliveries_total" ["outcome"] of ["taken", "partial", "again", "denied", "refused"],
+            "Tries to deliver, by outcome";
+        pub noted_runs: IntCounter = "noted_runs_total",
+            "Cumulative series that count from their first point here on: what they had before is left out";
+        pub forgotten_series: IntCounter = "forgotten_series_total", "Series that were forgotten for their age";
+        pub log_lines_lost: IntCounter = "log_lines_lost_total",
+            "Lines of the log that nobody took in time, or that could not be written";
+        pub handshakes: IntCounterVec = "handshakes_total" ["outcome"] of ["done", "failed", "late"],
+            "TLS handshakes of senders, by how they ended";
+        pub stale_files: IntGaugeVec = "stale_files" ["option"],
+            "1 while the file of an option has changed and can't be used: what it had before is used";
+        // What must never be.
+        pub faults: IntCounterVec = "faults_total" ["kind"] of ["reading", "owner", "replay", "points_rejected_by_sink"],
+            "Points that the sink rejected, and faults of the program";
+        pub checkpoint_pause_seconds: Histogram = "checkpoint_pause_seconds", "How long a checkpoint held the posts";
+        pub recovery_seconds: Histogram = "recovery_seconds",
+            "How long it took to prime the book and to put in the posts of the journal";
+        build_info: IntGaugeVec = "build_info" ["version"], "1, by the version of the program";
+    }
+    with {
+        pub levels: Levels = Levels::of(registry)?;
+        pub registry: Registry = registry.clone();
+        by_series: RoundingBySeries = RoundingBySeries::new();
+        // Most answers are 200: their counter needs no look-up.
+        taken_posts: IntCounter = posts.with_label_values(&["200", ""]);
+        senders: Mutex<HashSet<String>> = Mutex::default();
+    }
 }
 
-/// Gauges of what is elsewhere: read when someone asks, and then only.
-pub struct Levels {
-    pub ready: IntGauge,
-    pub post_bytes_in_flight: IntGauge,
-    pub journal_bytes: IntGauge,
-    pub journal_age_seconds: IntGauge,
-    pub outbox_requests: IntGauge,
-    pub outbox_bytes: IntGauge,
-    pub outbox_age_seconds: IntGauge,
-    pub dead_requests: IntGauge,
-    pub quarantined_senders: IntGauge,
-    pub held_posts: IntGauge,
-    pub held_bytes: IntGauge,
-    /// 0 or 1.
-    pub delivery_stuck: IntGauge,
-    pub disk_call_seconds: Gauge,
-    pub disk_free_bytes: IntGauge,
-    pub series: IntGauge,
-    pub cumulative_series: IntGauge,
-    pub most_series: IntGauge,
-    pub book_memory_bytes: IntGauge,
-    pub book_memory_most_bytes: IntGauge,
+metrics! {
+    /// Gauges of what is elsewhere: read when someone asks, and then only.
+    pub struct Levels(registry) {
+        pub ready: IntGauge = "ready", "1 while posts are taken, 0 while they are answered 503";
+        pub post_bytes_in_flight: IntGauge = "post_bytes_in_flight", "Memory that posts hold until they are answered";
+        pub journal_bytes: IntGauge = "journal_bytes", "Bytes of the journal's segments";
+        pub journal_age_seconds: IntGauge = "journal_age_seconds", "Age of the oldest post that may not be flushed yet";
+        pub outbox_requests: IntGauge = "outbox_requests", "Requests that the sink does not have";
+        pub outbox_bytes: IntGauge = "outbox_bytes", "Bytes on disk of requests that the sink does not have";
+        pub outbox_age_seconds: IntGauge = "outbox_age_seconds", "Age of the oldest request that the sink does not have";
+        pub dead_requests: IntGauge = "dead_requests", "Requests that the sink refused for good, kept aside";
+        pub quarantined_senders: IntGauge = "quarantined_senders",
+            "Senders whose points are kept back and whose posts are refused; of several instances the one with the first slot that any has says so";
+        pub held_posts: IntGauge = "held_posts", "Posts of quarantined senders that are kept back";
+        pub held_bytes: IntGauge = "held_bytes", "Bytes on disk of these posts";
+        pub delivery_stuck: IntGauge = "delivery_stuck",
+            "1 while a request that waits can't be delivered since its file was changed";
+        pub disk_call_seconds: Gauge = "disk_call_seconds",
+            "How long the call of the disk that began first has been under way, 0 where none is";
+        pub disk_free_bytes: IntGauge = "disk_free_bytes", "Bytes that are free on the file system of the folder";
+        pub series: IntGauge = "series", "Series that are known";
+        pub cumulative_series: IntGauge = "cumulative_series", "Series whose points come cumulative";
+        pub most_series: IntGauge = "most_series", "So many series fit for sure";
+        pub book_memory_bytes: IntGauge = "book_memory_bytes", "Memory that the book has";
+        pub book_memory_most_bytes: IntGauge = "book_memory_most_bytes", "Memory that the book may have";
+    }
 }
 
 impl Metrics {
     pub fn new() -> prometheus::Result<Metrics> {
-        make::metrics()
+        let metrics = Metrics::of(&Registry::new())?;
+        metrics.build_info.with_label_values(&[env!("CARGO_PKG_VERSION")]).set(1);
+        Ok(metrics)
     }
 
     /// So many series may be there.
@@ -182,7 +202,7 @@ impl Metrics {
     }
 
     fn has_label(&self, sender: &str) -> bool {
-        let mut senders = self.senders.lock().unwrap_or_else(PoisonError::into_inner); // a set is sound at any time
+        let mut senders = self.senders.sound();
         if senders.contains(sender) {
             return true;
         }

@@ -17,10 +17,10 @@ use crate::post_reports::Reported;
 use crate::slot::{Phase, Slot, Slots};
 use crate::store::postgres::{Copies, Member, PostgresDrive, PostgresStore, Server};
 use crate::tls;
-use crate::work::blocking;
+use crate::work::{blocking, Sound};
 use anyhow::{anyhow, Context};
 use std::collections::{BTreeMap, BTreeSet};
-use std::sync::{Arc, Mutex, MutexGuard, PoisonError};
+use std::sync::{Arc, Mutex};
 use tokio::sync::watch;
 use tokio::task::JoinHandle;
 
@@ -74,7 +74,7 @@ impl Joining {
             forward,
             secret,
             peers,
-            metrics: Some(Box::new(OfCluster::new(&metrics.registry).context("no metrics can be made")?)),
+            metrics: Some(Box::new(OfCluster::of(&metrics.registry).context("no metrics can be made")?)),
         })
     }
 
@@ -174,13 +174,9 @@ struct Instance {
 }
 
 impl Instance {
-    fn open(&self) -> MutexGuard<'_, BTreeMap<u16, Arc<PostgresDrive>>> {
-        self.open.lock().unwrap_or_else(PoisonError::into_inner) // a map is sound at any time
-    }
-
     /// Nothing of it is written any more.
     fn forget(&self, slot: u16) -> Option<Arc<PostgresDrive>> {
-        let drive = self.open().remove(&slot);
+        let drive = self.open.sound().remove(&slot);
         if let Some(drive) = &drive {
             drive.lose();
         }
@@ -195,8 +191,11 @@ impl Instance {
             let files = drive::open(drive.clone() as Arc<dyn Drive>, &epoch)?;
             Ok::<_, Fault>((drive, files))
         });
-        let (drive, (journal, outbox, dead)) = read.await.map_err(unopened)?;
-        self.open().insert(slot, drive);
+        let (drive, (journal, outbox, dead)) = read.await.map_err(|fault| match fault {
+            Fault::Lost(_) => Unopened::Lost,
+            fault => Unopened::Fault(fault.to_string()),
+        })?;
+        self.open.sound().insert(slot, drive);
         let files = Files {
             number: slot,
             journal,
@@ -209,13 +208,6 @@ impl Instance {
             self.forget(slot);
             Unopened::Fault(ended.to_string())
         })
-    }
-}
-
-fn unopened(fault: Fault) -> Unopened {
-    match fault {
-        Fault::Lost(_) => Unopened::Lost,
-        fault => Unopened::Fault(fault.to_string()),
     }
 }
 

@@ -98,7 +98,7 @@ fn instance(name: &str, place: &Path, net: &Arc<Net>) -> (Service, Arc<Cluster>)
         cluster: cluster.clone(),
         asks: Arc::new(Through(net.clone())),
         databases: Databases::of(vec!["db/x".into()], Copies::Two, Arc::default()),
-        metrics: OfCluster::new(&Metrics::new().unwrap().registry).unwrap(),
+        metrics: OfCluster::of(&Metrics::new().unwrap().registry).unwrap(),
         instance: name.into(),
         address: name.into(),
     };
