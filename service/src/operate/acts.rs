@@ -7,14 +7,14 @@
 use super::user;
 use crate::intake::user::User;
 use crate::log::{all_shown, cut};
-use crate::work::blocking;
+use crate::work::{blocking, Sound};
 use serde::Serialize;
 use std::fs::{File, OpenOptions};
 use std::future::Future;
 use std::io::{Read, Seek, SeekFrom, Write};
 use std::os::unix::fs::OpenOptionsExt;
 use std::path::{Path, PathBuf};
-use std::sync::{Arc, Mutex, PoisonError};
+use std::sync::{Arc, Mutex};
 
 const NAME: &str = "acts.jsonl";
 /// The lines before these.
@@ -107,14 +107,15 @@ impl Acts {
         Acts { folder: folder.into(), file: Mutex::new(()) }
     }
 
-    /// Carries out what somebody asks for, and records it with what came of it.
+    /// Carries out what somebody asks for, and records it with what came of it, where it is an act.
     pub(super) async fn recorded<Done, Doing: Future<Output = Done>>(
         self: &Arc<Acts>,
         actor: Actor,
-        asked: Asked,
+        asked: Option<Asked>,
         doing: impl FnOnce(String) -> Doing,
         outcome: impl FnOnce(&Done) -> String,
     ) -> Done {
+        let Some(asked) = asked else { return doing(String::new()).await };
         let acts = self.clone();
         let begin = move || {
             let act = Act::new(actor, asked);
@@ -152,7 +153,7 @@ impl Acts {
     fn put(&self, act: &Act, outcome: Option<&str>) {
         let Act { who, asked: Asked { what, of, given } } = act;
         let line = Written { time: crate::log::now(), who, act: what, of, given, outcome };
-        let _one = self.file.lock().unwrap_or_else(PoisonError::into_inner); // the file is sound at any time
+        let _one = self.file.sound();
         if let Err(error) = self.append(&line, outcome.is_none()) {
             let (file, reason) = (self.folder.join(NAME).display().to_string(), error.to_string());
             tracing::warn!(file, reason, "{file} can't be written: {reason}");

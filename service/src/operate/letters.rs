@@ -47,70 +47,31 @@ impl Desk {
         all.map_or_else(|_| Vec::new(), |all| in_order(&all.answers()))
     }
 
-    /// Asks the slot that has the letter of a key.
-    pub(super) async fn of_key(self: &Arc<Self>, who: &str, key: &str, command: &Command) -> Answer {
-        let slot = self.units.slot_of_key(key);
-        match self.in_slots(who, command, [slot]).await.all() {
-            Ok(answers) => answers.into_iter().next().map_or_else(no_such, |(_, answer)| answer),
-            Err(left) => left,
-        }
-    }
-
-    pub(super) async fn letters_of(&self, unit: &Unit) -> Answer {
-        match all_letters(unit).await {
-            Ok(letters) => Answer::new(200, json!(letters).to_string()),
-            Err(fault) => faulty(&fault),
-        }
-    }
-
-    pub(super) async fn letter_of(&self, unit: &Unit, key: &str) -> Answer {
-        match body_of(unit, key).await {
-            Ok(Some(body)) => Answer::new(200, String::from_utf8_lossy(&body)),
-            Ok(None) => gone(&became(unit, key).await),
-            Err(fault) => faulty(&fault),
-        }
-    }
-
-    /// One that was dropped already is as if it were now: who asks had no answer.
-    pub(super) async fn drop_letter(&self, unit: &Unit, key: &str) -> Answer {
-        match end(unit, key, Became::Dropped).await {
-            Ok(true) => Answer::new(200, "{}"),
-            Ok(false) => match became(unit, key).await {
-                Ok(Some(Became::Dropped)) => Answer::new(200, "{}"),
-                other => gone(&other),
-            },
-            Err(fault) => faulty(&fault),
-        }
-    }
-
-    pub(super) async fn resend(&self, unit: &Unit, key: &str) -> Answer {
+    pub(super) async fn resend(&self, unit: &Unit, key: &str) -> Result<Answer, Fault> {
         let _held = self.sink.keys().hold(sent_as(key)).await;
-        let body = match body_of(unit, key).await {
-            Ok(Some(body)) => body,
-            Ok(None) => return sent_before(unit, key).await,
-            Err(fault) => return faulty(&fault),
+        let Some(body) = of_dead(unit, key, |dead, key| dead.body(key)).await? else {
+            return sent_before(unit, key).await;
         };
         let Some(request) = forwarded(key, body) else {
             return of_a_part(unit, key).await;
         };
         let (reason, later) = match self.sink.deliver(&request).await {
-            Fate::Taken => (None, false),
+            Fate::Taken => {
+                end(unit, key, Became::Taken).await?;
+                tracing::info!(key, "the sink has taken {key}, which was put aside");
+                (None, false)
+            }
             Fate::TakenPartly { rejected, reason, left } => {
                 let reason = of_part(rejected, &reason, left.is_some());
-                return keep_part(unit, key, left.unwrap_or(request.body), reason).await;
+                keep_part(unit, key, left.unwrap_or(request.body), reason.clone()).await?;
+                return Ok(taken(key, Some(reason)));
             }
             Fate::Refused { reason } => (Some(reason), false),
             Fate::Again { reason, .. } | Fate::Failed { reason, .. } | Fate::Denied { reason, .. } => {
                 (Some(reason), true)
             }
         };
-        if reason.is_none() {
-            if let Err(fault) = end(unit, key, Became::Taken).await {
-                return faulty(&fault);
-            }
-            tracing::info!(key, "the sink has taken {key}, which was put aside");
-        }
-        told(Resent { key: key.into(), taken: reason.is_none(), reason, later })
+        Ok(resent(Resent { key: key.into(), taken: reason.is_none(), reason, later }))
     }
 }
 
@@ -139,10 +100,6 @@ async fn all_letters(unit: &Unit) -> Result<Vec<Letter>, Fault> {
     blocking(move || dead.list()).await
 }
 
-async fn body_of(unit: &Unit, key: &str) -> Result<Option<Vec<u8>>, Fault> {
-    of_dead(unit, key, |dead, key| dead.body(key)).await
-}
-
 async fn end(unit: &Unit, key: &str, as_what: Became) -> Result<bool, Fault> {
     of_dead(unit, key, |dead, key| dead.end(key, as_what)).await
 }
@@ -151,61 +108,73 @@ async fn became(unit: &Unit, key: &str) -> Result<Option<Became>, Fault> {
     of_dead(unit, key, Dead::became).await
 }
 
-/// One that the sink has taken already is answered as it was then.
-async fn sent_before(unit: &Unit, key: &str) -> Answer {
-    let reason = match became(unit, key).await {
-        Ok(Some(Became::Taken)) => None,
-        Ok(Some(Became::TakenPartly(reason))) => Some(reason),
-        other => return gone(&other),
-    };
-    told(Resent { key: key.into(), taken: true, reason, later: false })
+/// Those of a slot.
+pub(super) async fn of(unit: &Unit) -> Result<Answer, Fault> {
+    Ok(Answer::new(200, json!(all_letters(unit).await?).to_string()))
 }
 
-/// There is no letter of this key, of which this has become.
-fn gone(became: &Result<Option<Became>, Fault>) -> Answer {
-    match became {
-        Ok(Some(Became::Dropped)) => Answer::told(404, "no such request: it was thrown away"),
-        Ok(Some(Became::Taken | Became::TakenPartly(_))) => {
-            Answer::told(404, "no such request: the sink has it")
-        }
-        Ok(None) => no_such(),
-        Err(fault) => faulty(fault),
+pub(super) async fn body(unit: &Unit, key: &str) -> Result<Answer, Fault> {
+    match of_dead(unit, key, |dead, key| dead.body(key)).await? {
+        Some(body) => Ok(Answer::new(200, String::from_utf8_lossy(&body))),
+        None => Ok(gone(became(unit, key).await?)),
     }
 }
 
-/// What stands under no key of a request is of one that the sink has taken, and says why.
-async fn of_a_part(unit: &Unit, key: &str) -> Answer {
-    let letters = match all_letters(unit).await {
-        Ok(letters) => letters,
-        Err(fault) => return faulty(&fault),
+/// One that was dropped already is as if it were now: who asks had no answer.
+pub(super) async fn dropped(unit: &Unit, key: &str) -> Result<Answer, Fault> {
+    if end(unit, key, Became::Dropped).await? {
+        return Ok(Answer::new(200, "{}"));
+    }
+    Ok(match became(unit, key).await? {
+        Some(Became::Dropped) => Answer::new(200, "{}"),
+        other => gone(other),
+    })
+}
+
+/// One that the sink has taken already is answered as it was then.
+async fn sent_before(unit: &Unit, key: &str) -> Result<Answer, Fault> {
+    Ok(match became(unit, key).await? {
+        Some(Became::Taken) => taken(key, None),
+        Some(Became::TakenPartly(reason)) => taken(key, Some(reason)),
+        other => gone(other),
+    })
+}
+
+/// There is no letter of this key, of which this has become.
+fn gone(became: Option<Became>) -> Answer {
+    let what = match became {
+        Some(Became::Dropped) => "it was thrown away",
+        Some(Became::Taken | Became::TakenPartly(_)) => "the sink has it",
+        None => "it was never put aside, or is gone, taken by the sink or thrown away",
     };
-    let reason = letters.into_iter().find(|letter| letter.key == key);
-    let reason = reason.map_or(String::new(), |letter| format!(": {}", letter.reason));
-    Answer::told(
+    Answer::told(404, &format!("no such request: {what}"))
+}
+
+/// What stands under no key of a request is of one that the sink has taken, and says why.
+async fn of_a_part(unit: &Unit, key: &str) -> Result<Answer, Fault> {
+    let letter = all_letters(unit).await?.into_iter().find(|letter| letter.key == key);
+    let reason = letter.map_or(String::new(), |letter| format!(": {}", letter.reason));
+    Ok(Answer::told(
         400,
         &format!("the sink has the other points of this one, and never takes these{reason}; look at it, and drop it"),
-    )
+    ))
 }
 
 /// What the sink has a part of is kept under another key: it must not be sent again.
-async fn keep_part(unit: &Unit, key: &str, left: Vec<u8>, reason: String) -> Answer {
-    let why = reason.clone();
+async fn keep_part(unit: &Unit, key: &str, left: Vec<u8>, why: String) -> Result<bool, Fault> {
     let keep = move |dead: &Dead, whole: &str| {
         dead.keep(&format!("{whole}-partial"), &why, &left)?;
         dead.end(whole, Became::TakenPartly(why))
     };
-    if let Err(fault) = of_dead(unit, key, keep).await {
-        return faulty(&fault);
-    }
-    told(Resent { key: key.into(), taken: true, reason: Some(reason), later: false })
+    of_dead(unit, key, keep).await
 }
 
-fn told(resent: Resent) -> Answer {
+fn taken(key: &str, reason: Option<String>) -> Answer {
+    resent(Resent { key: key.into(), taken: true, reason, later: false })
+}
+
+fn resent(resent: Resent) -> Answer {
     Answer::new(200, json!(resent).to_string())
-}
-
-fn no_such() -> Answer {
-    Answer::told(404, "no such request: it was never put aside, or is gone, taken by the sink or thrown away")
 }
 
 /// A letter as it was sent first.
@@ -218,11 +187,13 @@ fn forwarded(name: &str, body: Vec<u8>) -> Option<Forwarded> {
     (made.key() == key).then_some(made)
 }
 
-/// Nothing but `dead/` is concerned, so the service goes on.
-fn faulty(fault: &Fault) -> Answer {
-    let reason = fault.to_string();
-    tracing::warn!(reason, "dead/: {reason}");
-    Answer::told(500, &reason)
+/// Where it fails nothing but `dead/` is concerned, so the service goes on.
+pub(super) fn answered(done: Result<Answer, Fault>) -> Answer {
+    done.unwrap_or_else(|fault| {
+        let reason = fault.to_string();
+        tracing::warn!(reason, "dead/: {reason}");
+        Answer::told(500, &reason)
+    })
 }
 
 #[cfg(test)]

@@ -127,9 +127,7 @@ impl Route {
             _ => return None,
         })
     }
-}
 
-impl Route {
     /// Whether it changes something, or shows what senders have sent.
     fn is_order(&self) -> bool {
         use Route::*;
@@ -174,20 +172,19 @@ impl Desk {
             Route::Health | Route::Ready => None,
             // Where other machines come, a scrape may be by any name.
             Route::Metrics if !self.is_local => None,
-            Route::Page(_) => web::stranger_to_pages(request, &self.operate),
-            _ => web::stranger(request, &self.operate),
+            // Our pages may ask for what shows one and changes nothing.
+            Route::Page(_) => web::stranger(request, &self.operate, &[web::BY_HAND, web::BY_US]),
+            _ => web::stranger(request, &self.operate, &[web::BY_HAND]),
         }
     }
 
     async fn go(self: &Arc<Self>, route: Route, actor: Actor, query: &str) -> Response<Body> {
         match route {
-            Route::Order(order) => match order.act() {
-                None => self.carry_out("", order).await.into(),
-                Some(asked) => {
-                    let doing = |who: String| async move { self.carry_out(&who, order).await };
-                    self.acts.recorded(actor, asked, doing, Answer::outcome).await.into()
-                }
-            },
+            Route::Order(order) => {
+                let asked = order.act();
+                let doing = |who: String| async move { self.carry_out(&who, &order).await };
+                self.acts.recorded(actor, asked, doing, Answer::outcome).await.into()
+            }
             Route::Report => self.report().await,
             Route::Metrics => {
                 self.read_levels();

@@ -31,19 +31,11 @@ impl Desk {
         }
     }
 
-    /// Does what is asked of slots, or of a key.
-    pub(super) async fn carry_out(self: &Arc<Self>, who: &str, command: Command) -> Answer {
-        match &command {
-            Command::Letter(key) | Command::Resend(key) | Command::Drop(key) => {
-                self.of_key(who, key, &command).await
-            }
-            _ => self.order(who, &command).await,
-        }
-    }
-
-    /// Has each slot carry out an order, wherever it is.
-    pub(super) async fn order(self: &Arc<Self>, who: &str, order: &Command) -> Answer {
-        match self.in_all_slots(who, order).await.all() {
+    /// Has each slot do what is asked, or the one that has a key, wherever it is.
+    pub(super) async fn carry_out(self: &Arc<Self>, who: &str, command: &Command) -> Answer {
+        let of_key = command.key().map(|key| self.units.slot_of_key(key));
+        let slots = of_key.map_or(0..self.units.slots(), |slot| slot..slot + 1);
+        match self.in_slots(who, command, slots).await.all() {
             Ok(answers) => together(&answers),
             Err(not_all) => not_all,
         }
@@ -62,6 +54,9 @@ impl Desk {
 
 /// One answer: what one slot could not do is not done, and what another had done before is.
 fn together(all: &[(u16, Answer)]) -> Answer {
+    if let [(_, only)] = all {
+        return only.clone();
+    }
     let first =
         |is_so: fn(&Answer) -> bool| all.iter().map(|(_, answer)| answer).find(|answer| is_so(answer));
     let failed = first(|answer| answer.status >= 500);

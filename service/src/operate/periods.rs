@@ -22,7 +22,7 @@ impl Desk {
         let (anyway, flushed) = (is_closed(ANYWAY), is_closed(FLUSHED));
         let asked = asked.with("--anyway", anyway).with("--flush", flushed);
         let doing = |who| self.settle(who, deed, anyway || flushed);
-        self.acts.recorded(actor, asked, doing, Answer::outcome).await
+        self.acts.recorded(actor, Some(asked), doing, Answer::outcome).await
     }
 
     async fn settle(self: &Arc<Self>, who: String, deed: Deed, is_anyway: bool) -> Answer {

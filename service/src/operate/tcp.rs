@@ -2,7 +2,7 @@
 //! takes orders from who has a token. Of a socket the kernel says who connects.
 
 use super::{is_met, message, Actor, Desk, Page, Route};
-use crate::identity::{by_token, Stranger, Tokens};
+use crate::identity::{by_token, Tokens};
 use crate::intake::connections::Handler;
 use crate::reloaded::Reloaded;
 use hyper::header::{HeaderValue, AUTHORIZATION, WWW_AUTHENTICATE};
@@ -24,7 +24,7 @@ impl Handler for AtTcp {
             Some((method, route)) if route.is_order() && is_met(method, request.method()) => {
                 match self.operator(route, &request) {
                     Ok(name) => actor = Actor::Named(name),
-                    Err(refused) => return refused.answer(),
+                    Err(refused) => return *refused,
                 }
             }
             Some((_, Route::Page(page))) if *page == Page::Overview => *page = Page::Levels,
@@ -35,40 +35,26 @@ impl Handler for AtTcp {
 }
 
 impl AtTcp {
-    /// Who gives an order, by the request's token.
-    fn operator(&self, route: &Route, request: &Request<Body>) -> Result<String, Refused> {
+    /// Who gives an order, by the request's token; the error is why it is not taken.
+    fn operator(&self, route: &Route, request: &Request<Body>) -> Result<String, Box<Response<Body>>> {
+        let never = |why: &str| Err(Box::new(message(403, why)));
         if let Some(why) = self.desk.stranger(route, request) {
-            return Err(Refused::Ever(why));
+            return never(&why);
         }
         let Some(tokens) = &self.tokens else {
-            return Err(Refused::Ever(format!(
+            return never(&format!(
                 "this is taken at {place} alone: run totxegun on the service's machine with its --data, or give \
                  `--operate {place}`; over TCP the service takes it with --operate-tokens",
                 place = self.orders_at
-            )));
+            ));
         };
         let values = request.headers().get_all(AUTHORIZATION).iter();
         let operator = by_token(&tokens.now(), values.map(HeaderValue::as_bytes));
-        operator.map(|operator| operator.name.clone()).map_err(Refused::Unknown)
-    }
-}
-
-/// Why an order is not taken.
-enum Refused {
-    Ever(String),
-    Unknown(Stranger),
-}
-
-impl Refused {
-    fn answer(self) -> Response<Body> {
-        match self {
-            Refused::Ever(why) => message(403, &why),
-            Refused::Unknown(stranger) => {
-                let mut response = message(stranger.status(), &stranger.to_string());
-                let challenge = HeaderValue::from_static("Bearer realm=\"totxegun\"");
-                response.headers_mut().insert(WWW_AUTHENTICATE, challenge);
-                response
-            }
-        }
+        operator.map(|operator| operator.name.clone()).map_err(|stranger| {
+            let mut response = message(stranger.status(), &stranger.to_string());
+            let challenge = HeaderValue::from_static("Bearer realm=\"totxegun\"");
+            response.headers_mut().insert(WWW_AUTHENTICATE, challenge);
+            Box::new(response)
+        })
     }
 }

@@ -9,24 +9,20 @@ use hyper::header::{HeaderMap, HOST, ORIGIN};
 use hyper::{Body, Request};
 use std::net::IpAddr;
 
-/// How a browser says whose a request is. `none` is that of a person, who has typed the address.
+/// How a browser says whose a request is.
 const FETCH_SITE: &str = "sec-fetch-site";
-const BY_HAND: &[u8] = b"none";
+/// That of a person, who has typed the address.
+pub const BY_HAND: &[u8] = b"none";
 /// Of a page of the same scheme, host and port as what it asks for. With `Host` looked at, it is one of ours.
-const BY_US: &[u8] = b"same-origin";
+pub const BY_US: &[u8] = b"same-origin";
 
 /// Of a name that is none of ours, in characters.
 const SHOWN: usize = 100;
 
-/// Why a request is refused as one of a page: none where it is no such request. `ours` is the address that is listened
-/// on, as it was given.
-pub fn stranger(request: &Request<Body>, ours: &str) -> Option<String> {
-    of_a_page(request.headers(), &[BY_HAND]).or_else(|| of_another_name(request, ours))
-}
-
-/// The same of what shows a page of ours and changes nothing: our pages may ask for it too.
-pub fn stranger_to_pages(request: &Request<Body>, ours: &str) -> Option<String> {
-    of_a_page(request.headers(), &[BY_HAND, BY_US]).or_else(|| of_another_name(request, ours))
+/// Why a request is refused as one of a page, other than by one of these sites: none where it is no such request. `ours` is
+/// the address that is listened on, as it was given.
+pub fn stranger(request: &Request<Body>, ours: &str, sites: &[&[u8]]) -> Option<String> {
+    of_a_page(request.headers(), sites).or_else(|| of_another_name(request, ours))
 }
 
 fn of_another_name(request: &Request<Body>, ours: &str) -> Option<String> {
@@ -76,11 +72,15 @@ mod tests {
     use super::*;
 
     fn refused(uri: &str, headers: &[(&str, &str)]) -> Option<String> {
+        refused_but(uri, headers, &[BY_HAND])
+    }
+
+    fn refused_but(uri: &str, headers: &[(&str, &str)], sites: &[&[u8]]) -> Option<String> {
         let mut request = Request::builder().method("POST").uri(uri);
         for (name, value) in headers {
             request = request.header(*name, *value);
         }
-        stranger(&request.body(Body::empty()).unwrap(), "Box-1:4319")
+        stranger(&request.body(Body::empty()).unwrap(), "Box-1:4319", sites)
     }
 
     #[test]
@@ -120,13 +120,7 @@ mod tests {
 
     #[test]
     fn our_pages_lead_to_each_other_alone() {
-        let asked = |headers: &[(&str, &str)]| {
-            let mut request = Request::builder().uri("/series");
-            for (name, value) in headers {
-                request = request.header(*name, *value);
-            }
-            stranger_to_pages(&request.body(Body::empty()).unwrap(), "Box-1:4319")
-        };
+        let asked = |headers: &[(&str, &str)]| refused_but("/series", headers, &[BY_HAND, BY_US]);
         let (host, site) = (("host", "127.0.0.1:4319"), "sec-fetch-site");
         assert_eq!(asked(&[host, (site, "same-origin")]), None);
         assert_eq!(asked(&[host, (site, "none")]), None);

@@ -8,14 +8,13 @@ pub(super) use sought::Sought;
 use super::named::named;
 use super::reach::{slots_shown, Answer, Command};
 use super::{Actor, Desk, ANYWAY};
-use crate::log::utc;
+use crate::log::{since_1970, utc};
 use crate::otlp::series::SeriesKey;
 use crate::sinks::periods::{hour_shown, seconds_of};
 use crate::sinks::sqlite::by_hour::Hour;
 use crate::sinks::sqlite::totals::SeriesTotal;
 use sought::{InAllSlots, Meant};
 use std::sync::Arc;
-use std::time::{SystemTime, UNIX_EPOCH};
 
 const SECOND: u64 = 1_000_000_000;
 const HOUR: u64 = 3600 * SECOND;
@@ -30,7 +29,7 @@ impl Desk {
             Ok(read) => read,
             Err(why) => return Answer::told(400, &why),
         };
-        let asked = sought.act();
+        let asked = Some(sought.act());
         let doing = |who| async move { self.amended(who, sought).await.unwrap_or_else(|refused| refused) };
         self.acts.recorded(actor, asked, doing, Answer::outcome).await
     }
@@ -42,7 +41,7 @@ impl Desk {
             return Err(Answer::told(409, &format!("{what}; give --anyway where nobody posts it again")));
         }
         // What was posted so far is known then.
-        let flushed = self.order(&who, &Command::Flush).await;
+        let flushed = self.carry_out(&who, &Command::Flush).await;
         if flushed.status != 200 {
             return Err(flushed);
         }
@@ -145,7 +144,7 @@ fn read(parts: &[String], query: &str) -> Result<Sought, String> {
             _ => {}
         }
     }
-    let mut sought = Sought::new(written, to, all, now())?;
+    let mut sought = Sought::new(written, to, all, since_1970().as_nanos() as u64)?;
     sought.anyway = anyway;
     Ok(sought)
 }
@@ -153,11 +152,6 @@ fn read(parts: &[String], query: &str) -> Result<Sought, String> {
 /// In UTC, to the second.
 fn time(nanoseconds: u64) -> String {
     utc(nanoseconds / SECOND)
-}
-
-fn now() -> u64 {
-    let since = SystemTime::now().duration_since(UNIX_EPOCH).unwrap_or_default();
-    u64::try_from(since.as_nanos()).unwrap_or(u64::MAX)
 }
 
 #[cfg(test)]

@@ -7,7 +7,6 @@ use crate::operate::named::{named, Named};
 use crate::operate::reach::Answer;
 use crate::operate::{Asked, Unit};
 use crate::otlp::series::SeriesKey;
-use crate::otlp::Encoding;
 use crate::work::blocking;
 use serde::{Deserialize, Serialize};
 use std::sync::Arc;
@@ -145,10 +144,7 @@ async fn ordered(unit: &Unit, amend: Amend) -> Option<Result<(), Answer>> {
             let why = "has posts that are kept back of its sender: lift it first (`totxegun status`)";
             Err(Answer::told(409, &format!("{} {why}", named(&one))))
         }
-        Done::Answered(outcome) => {
-            let body = outcome.body(Encoding::Json);
-            Err(Answer::new(outcome.status(), String::from_utf8_lossy(&body)))
-        }
+        Done::Answered(outcome) => Err(outcome.into()),
         Done::Flushed { .. } => return None, // no keeper says so
     })
 }

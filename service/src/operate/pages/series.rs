@@ -238,24 +238,12 @@ fn time(nanoseconds: u64) -> String {
 #[cfg(test)]
 mod tests {
     use super::*;
+    use crate::operate::totals::tests;
     use serde_json::json;
 
     fn series(name: &str, attributes: Value) -> SeriesTotal {
-        SeriesTotal {
-            name: name.into(),
-            unit: "1".into(),
-            kind: Kind::Monotonic,
-            attributes: attributes.as_object().unwrap().clone(),
-            resource: json!({"service.name": "shop"}).as_object().unwrap().clone(),
-            scope_name: String::new(),
-            scope_version: String::new(),
-            scope_attributes: Map::new(),
-            points: 1,
-            start_ns: 1,
-            end_ns: 2,
-            total: Exact(1_234_567),
-            histogram: None,
-        }
+        let resource = tests::object(json!({"service.name": "shop"}));
+        SeriesTotal { resource, ..tests::series(name, "1", Kind::Monotonic, 1_234_567, attributes) }
     }
 
     fn names(query: &str) -> Vec<String> {

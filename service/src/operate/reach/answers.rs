@@ -44,21 +44,9 @@ impl Desk {
         slots: Vec<u16>,
     ) -> Vec<(u16, Answer)> {
         let is_here = slots.iter().any(|slot| self.units.get(*slot).is_some());
-        match command.act().filter(|_| is_here) {
-            None => self.answers_of(&command, &slots).await,
-            Some(asked) => {
-                let doing = |_| self.answers_of(&command, &slots);
-                self.acts.recorded(Actor::Named(who), asked, doing, |answers| outcome(answers)).await
-            }
-        }
-    }
-
-    /// In the order of the slots.
-    async fn answers_of(self: &Arc<Self>, command: &Command, slots: &[u16]) -> Vec<(u16, Answer)> {
-        let done = self.here(command, slots).await.into_iter();
-        let mut answers: Vec<_> = done.filter_map(|(slot, answer)| Some((slot, answer?))).collect();
-        answers.sort_unstable_by_key(|(slot, _)| *slot);
-        answers
+        let asked = command.act().filter(|_| is_here);
+        let doing = |_| async { self.here(&command, &slots).await.into_iter().collect() };
+        self.acts.recorded(Actor::Named(who), asked, doing, |answers: &Vec<_>| outcome(answers)).await
     }
 }
 

@@ -3,8 +3,8 @@
 use super::Desk;
 use crate::keeper::{Done, Order};
 use crate::operate::amend::Sought;
-use crate::operate::{Asked, Unit};
-use crate::otlp::Encoding;
+use crate::operate::{letters, Asked, Unit};
+use crate::otlp::{Encoding, Outcome};
 use crate::work::blocking;
 use serde::{Deserialize, Serialize};
 use serde_json::{json, Value};
@@ -76,7 +76,21 @@ impl Answer {
     }
 }
 
+impl From<Outcome> for Answer {
+    fn from(outcome: Outcome) -> Answer {
+        Answer::new(outcome.status(), String::from_utf8_lossy(&outcome.body(Encoding::Json)))
+    }
+}
+
 impl Command {
+    /// Of which key it is: the slot that has that is asked alone.
+    pub fn key(&self) -> Option<&str> {
+        match self {
+            Command::Letter(key) | Command::Resend(key) | Command::Drop(key) => Some(key),
+            _ => None,
+        }
+    }
+
     /// Whether it changes something.
     pub fn changes(&self) -> bool {
         !matches!(self, Command::Report | Command::Letters | Command::Letter(_) | Command::Find(_))
@@ -106,10 +120,10 @@ impl Desk {
             Command::Quarantine(sender) => ordered(&unit, Order::Quarantine(sender)).await,
             Command::Lift(sender) => ordered(&unit, Order::Lift(sender)).await,
             Command::Report => Some(report(unit).await),
-            Command::Letters => Some(self.letters_of(&unit).await),
-            Command::Letter(key) => Some(self.letter_of(&unit, &key).await),
-            Command::Resend(key) => Some(self.resend(&unit, &key).await),
-            Command::Drop(key) => Some(self.drop_letter(&unit, &key).await),
+            Command::Letters => Some(letters::answered(letters::of(&unit).await)),
+            Command::Letter(key) => Some(letters::answered(letters::body(&unit, &key).await)),
+            Command::Resend(key) => Some(letters::answered(self.resend(&unit, &key).await)),
+            Command::Drop(key) => Some(letters::answered(letters::dropped(&unit, &key).await)),
             Command::Find(sought) => Some(sought.found_in(&unit).await),
             Command::Amend(sought) => sought.amended_in(&unit).await,
         }
@@ -119,10 +133,7 @@ impl Desk {
 async fn ordered(unit: &Unit, order: Order) -> Option<Answer> {
     match unit.orders.order(order).await? {
         Done::Flushed { requests } => Some(Answer::new(200, json!({ "requests": requests }).to_string())),
-        Done::Answered(outcome) => {
-            let body = outcome.body(Encoding::Json);
-            Some(Answer::new(outcome.status(), String::from_utf8_lossy(&body)))
-        }
+        Done::Answered(outcome) => Some(outcome.into()),
         // `amend` gives such orders itself.
         Done::Amended(_) => None,
     }

@@ -18,7 +18,7 @@ use super::{reply, Desk};
 use ended::Done;
 use hyper::{Body, Response};
 use places::Place;
-use std::collections::BTreeSet;
+use std::collections::{BTreeMap, BTreeSet};
 use std::sync::Arc;
 use std::time::Duration;
 use tokio::task::JoinSet;
@@ -86,6 +86,7 @@ impl Desk {
         all
     }
 
+    /// What slots at a place have said, and why those have not done it that say nothing.
     async fn at(
         self: Arc<Self>,
         place: Place,
@@ -93,67 +94,53 @@ impl Desk {
         command: Command,
         slots: Vec<u16>,
     ) -> Vec<InSlot> {
-        match place {
+        let (mut answers, why) = match place {
             Place::Here => {
                 let why = self.others.as_ref().map_or(ENDING, |_| MOVED);
-                let done = self.here(&command, &slots).await.into_iter();
-                done.map(|(slot, answer)| (slot, answer.ok_or_else(|| why.into()))).collect()
+                (self.here(&command, &slots).await, why.into())
             }
-            Place::At { name, address } => self.there(&name, &address, who, command, slots).await,
-            Place::Nobody => all_left(&slots, NOBODY),
-        }
+            Place::At { name, address } => match self.there(&address, who, command, &slots).await {
+                Ok(answers) => (answers, MOVED.into()),
+                Err(why) => (BTreeMap::new(), format!("instance {name} at {address} does not answer: {why}")),
+            },
+            Place::Nobody => (BTreeMap::new(), NOBODY.to_string()),
+        };
+        let done = |slot| (slot, answers.remove(&slot).ok_or_else(|| why.clone()));
+        slots.into_iter().map(done).collect()
     }
 
     /// Another instance does it. Where all of these slots leave it, it is waited for no longer: it may stand still.
     async fn there(
         &self,
-        name: &str,
         address: &str,
         who: String,
         command: Command,
-        slots: Vec<u16>,
-    ) -> Vec<InSlot> {
-        let Some(others) = &self.others else {
-            return all_left(&slots, NOBODY);
-        };
-        let question =
-            Question::Do { who: format!("{who} (at {})", others.instance), command, slots: slots.clone() };
-        let asked = tokio::select! {
-            asked = others.ask::<Vec<(u16, Answer)>>(address, &question, WITHIN) => asked,
-            () = others.have_left(address, &slots) => return all_left(&slots, MOVED),
-        };
-        match asked {
-            Ok(answers) => {
-                let mut all = all_left(&slots, MOVED);
-                for (slot, done) in &mut all {
-                    if let Some((_, answer)) = answers.iter().find(|(of, _)| of == slot) {
-                        *done = Ok(answer.clone());
-                    }
-                }
-                all
+        slots: &[u16],
+    ) -> Result<BTreeMap<u16, Answer>, String> {
+        let Some(others) = &self.others else { return Ok(BTreeMap::new()) };
+        let who = format!("{who} (at {})", others.instance);
+        let question = Question::Do { who, command, slots: slots.into() };
+        tokio::select! {
+            asked = others.ask::<Vec<(u16, Answer)>>(address, &question, WITHIN) => {
+                Ok(asked?.into_iter().collect())
             }
-            Err(why) => all_left(&slots, &format!("instance {name} at {address} does not answer: {why}")),
+            () = others.have_left(address, slots) => Ok(BTreeMap::new()),
         }
     }
 
-    /// Has those of these slots that are here do it; none of one that is not.
-    async fn here(self: &Arc<Self>, command: &Command, slots: &[u16]) -> Vec<(u16, Option<Answer>)> {
+    /// Has those of these slots that are here do it.
+    async fn here(self: &Arc<Self>, command: &Command, slots: &[u16]) -> BTreeMap<u16, Answer> {
         let mut doing = JoinSet::new();
         for slot in slots.iter().copied() {
             let (desk, command) = (self.clone(), command.clone());
-            doing.spawn(async move { (slot, desk.in_slot(slot, command).await) });
+            doing.spawn(async move { Some((slot, desk.in_slot(slot, command).await?)) });
         }
-        let mut all: Vec<(u16, Option<Answer>)> = Vec::new();
+        let mut all = BTreeMap::new();
         while let Some(done) = doing.join_next().await {
-            all.extend(done.ok());
+            all.extend(done.ok().flatten());
         }
         all
     }
-}
-
-fn all_left(slots: &[u16], why: &str) -> Vec<InSlot> {
-    let left = |slot: &u16| (*slot, Err(why.into()));
-    slots.iter().map(left).collect()
 }
 
 impl From<Answer> for Response<Body> {

@@ -51,24 +51,13 @@ fn add(labels: &mut Labels, prefix: &str, attributes: &Map<String, Value>, but: 
         if but.contains(&key.as_str()) {
             continue;
         }
-        let name = match prefix {
-            "" => names::label(key),
-            prefix => names::label(&format!("{prefix}{key}")),
-        };
+        let name = names::label(&format!("{prefix}{key}"));
         let name = match OURS.contains(&name.as_str()) {
             true => format!("exported_{name}"),
             false => name,
         };
         let value = text(value);
-        match labels.get_mut(&name) {
-            Some(found) => {
-                found.push(';');
-                found.push_str(&value);
-            }
-            None => {
-                labels.insert(name, value);
-            }
-        }
+        labels.entry(name).and_modify(|found| *found += &format!(";{value}")).or_insert(value);
     }
 }
 

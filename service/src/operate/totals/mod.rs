@@ -6,7 +6,7 @@ mod names;
 mod page;
 
 #[cfg(test)]
-mod tests;
+pub(super) mod tests;
 
 pub(super) use page::identity;
 
@@ -17,6 +17,7 @@ use crate::sinks::sqlite::totals::{Filter, SeriesTotal};
 use crate::sinks::{sqlite, Address};
 use crate::work::blocking;
 use hyper::{Body, Response};
+use std::fmt::Display;
 use std::path::PathBuf;
 use std::sync::Arc;
 use tokio::sync::Semaphore;
@@ -53,13 +54,9 @@ impl Totals {
         let _turn = self.turn.clone().acquire_owned().await;
         match self.source.clone() {
             Source::Sqlite(path) => {
-                let read = move || sqlite::by_hour::read(&path, &series, from);
-                blocking(move || read().map_err(|fault| fault.to_string())).await
+                blocking(move || sqlite::by_hour::read(&path, &series, from)).await.map_err(said)
             }
-            Source::Postgres(server) => {
-                let read = postgres::by_hour::read(&server, &series, from).await;
-                read.map_err(|fault| fault.to_string())
-            }
+            Source::Postgres(server) => postgres::by_hour::read(&server, &series, from).await.map_err(said),
         }
     }
 
@@ -84,15 +81,15 @@ impl Source {
     async fn read(self) -> Result<Vec<SeriesTotal>, String> {
         match self {
             Source::Sqlite(path) => {
-                let read = move || sqlite::totals::read(&path, &Filter::default());
-                blocking(move || read().map_err(|fault| fault.to_string())).await
+                blocking(move || sqlite::totals::read(&path, &Filter::default())).await.map_err(said)
             }
-            Source::Postgres(server) => {
-                let read = postgres::totals::read(&server).await;
-                read.map_err(|fault| fault.to_string())
-            }
+            Source::Postgres(server) => postgres::totals::read(&server).await.map_err(said),
         }
     }
+}
+
+fn said(fault: impl Display) -> String {
+    fault.to_string()
 }
 
 fn made(totals: &[SeriesTotal]) -> Result<String, String> {

@@ -64,10 +64,14 @@ pub fn metric(name: &str, unit: &str, kind: Kind) -> String {
         words.retain(|word| word != last);
         words.push(last.into());
     }
-    let name = words.join("_");
+    begun(words.join("_"), "_")
+}
+
+/// A name may not be empty, nor begin with a digit.
+fn begun(name: String, before_digit: &str) -> String {
     match name.bytes().next() {
         None => "_".into(),
-        Some(b'0'..=b'9') => format!("_{name}"),
+        Some(b'0'..=b'9') => format!("{before_digit}{name}"),
         Some(_) => name,
     }
 }
@@ -81,11 +85,7 @@ pub fn label(key: &str) -> String {
             name.push(sign);
         }
     }
-    match name.bytes().next() {
-        None => "_".into(),
-        Some(b'0'..=b'9') => format!("key_{name}"),
-        Some(_) => name,
-    }
+    begun(name, "key_")
 }
 
 fn words(text: &str) -> Vec<String> {

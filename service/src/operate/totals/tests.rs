@@ -6,11 +6,11 @@ use crate::sinks::sqlite::totals::{Histogram, Kind, SeriesTotal};
 use crate::sinks::sqlite::Exact;
 use serde_json::{json, Map, Value};
 
-fn object(value: Value) -> Map<String, Value> {
+pub fn object(value: Value) -> Map<String, Value> {
     value.as_object().unwrap().clone()
 }
 
-fn series(name: &str, unit: &str, kind: Kind, total: i128, attributes: Value) -> SeriesTotal {
+pub fn series(name: &str, unit: &str, kind: Kind, total: i128, attributes: Value) -> SeriesTotal {
     SeriesTotal {
         name: name.into(),
         unit: unit.into(),
