@@ -21,7 +21,7 @@ const LOOK: Duration = Duration::from_millis(250);
 const MOST: u64 = 4 << 20;
 
 /// What comes of the contents of files, or what is wrong with them and what to do.
-type Reading<T> = Box<dyn Fn(&[Vec<u8>]) -> Result<T, String> + Send>;
+pub type Reading<T> = Box<dyn Fn(&[Vec<u8>]) -> Result<T, String> + Send>;
 
 /// How the contents of files are read.
 pub struct Reader<T> {
@@ -194,6 +194,19 @@ mod tests {
         Reloaded::open(vec![("--number", path.into())], reader, metrics)
     }
 
+    /// Files of which nothing was looked at yet, whose contents are used as they are.
+    fn files(paths: Vec<(&'static str, PathBuf)>) -> Files<Vec<u8>> {
+        let metrics = Metrics::new().unwrap();
+        Files {
+            files: paths,
+            reader: Reader { read: Box::new(|contents| Ok(contents.concat())), shut: |_| None },
+            judged: Vec::new(),
+            seen: Vec::new(),
+            stale: metrics.stale_files.with_label_values(&["--number"]),
+            into: Weak::new(),
+        }
+    }
+
     fn is_within(time: Duration, is_so: impl Fn() -> bool) -> bool {
         let begun = Instant::now();
         while !is_so() {
@@ -246,16 +259,9 @@ mod tests {
     #[test]
     fn what_goes_on_changing_is_not_used() {
         let at = tempfile::tempdir().unwrap();
-        let (path, metrics) = (at.path().join("number"), Metrics::new().unwrap());
+        let path = at.path().join("number");
         std::fs::write(&path, "1").unwrap();
-        let mut files = Files {
-            files: vec![("--number", path.clone())],
-            reader: Reader { read: Box::new(|contents| Ok(contents[0].clone())), shut: |_| None },
-            judged: vec![],
-            seen: vec![],
-            stale: metrics.stale_files.with_label_values(&["--number"]),
-            into: Weak::new(),
-        };
+        let mut files = files(vec![("--number", path.clone())]);
         let reloaded = Arc::new(Reloaded(RwLock::new(Arc::new(b"0".to_vec()))));
         files.into = Arc::downgrade(&reloaded);
         for text in ["12", "123", "1234"] {
@@ -273,20 +279,12 @@ mod tests {
     #[test]
     fn the_file_that_has_changed_is_named() {
         let at = tempfile::tempdir().unwrap();
-        let metrics = Metrics::new().unwrap();
         let options = ["--tls-cert", "--tls-key", "--client-ca"];
-        let files: Vec<_> = options.map(|option| (option, at.path().join(option))).into();
-        for (_, path) in &files {
+        let paths: Vec<_> = options.map(|option| (option, at.path().join(option))).into();
+        for (_, path) in &paths {
             std::fs::write(path, "1").unwrap();
         }
-        let mut files = Files {
-            files,
-            reader: Reader { read: Box::new(|contents| Ok(contents.concat())), shut: |_| None },
-            judged: Vec::new(),
-            seen: Vec::new(),
-            stale: metrics.stale_files.with_label_values(&["--tls-cert"]),
-            into: Weak::new(),
-        };
+        let mut files = files(paths);
         files.judged = digests(&files.contents());
         let mut changed = |what: &dyn Fn(&Path)| {
             what(at.path());

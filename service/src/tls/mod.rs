@@ -18,7 +18,7 @@ pub use handshake::{Shaken, Stream};
 
 use crate::intake::Threads;
 use crate::metrics::Metrics;
-use crate::reloaded::{Reader, Reloaded};
+use crate::reloaded::{Reader, Reading, Reloaded};
 use anyhow::Context;
 use pair::{certificates, Pair};
 use rustls::server::{ClientCertVerifier, NoClientAuth};
@@ -56,6 +56,13 @@ pub struct Files {
 pub enum WithoutCertificate {
     Refused,
     LetIn,
+}
+
+/// Where it is spoken.
+#[derive(Clone, Copy)]
+enum Place {
+    Senders,
+    Peers,
 }
 
 /// What is spoken over TLS, as the handshake names it.
@@ -187,13 +194,25 @@ impl Tls {
         let named = files.named;
         let mut paths = vec![(named.certificate, files.certificate.clone()), (named.key, files.key.clone())];
         paths.extend(files.client_ca.clone().map(|path| (named.roots, path)));
-        let reader = Reader {
-            read: Box::new(move |contents: &[Vec<u8>]| Contexts::read(named, contents, without)),
-            shut: Contexts::shut,
+        let read = move |contents: &[Vec<u8>]| Contexts::read(named, contents, without);
+        Tls::by(Place::Senders, named, paths, Box::new(read), metrics)
+    }
+
+    /// Reads these files, and looks at them from now on.
+    fn by(
+        place: Place,
+        named: Named,
+        paths: Vec<(&'static str, PathBuf)>,
+        read: Reading<Contexts>,
+        metrics: Arc<Metrics>,
+    ) -> anyhow::Result<Tls> {
+        let contexts = Reloaded::open(paths, Reader { read, shut: Contexts::shut }, &metrics)?;
+        expiry::register(place, &metrics, contexts.clone()).context("metrics")?;
+        let thread = match place {
+            Place::Senders => "handshake",
+            Place::Peers => "peers",
         };
-        let contexts = Reloaded::open(paths, reader, &metrics)?;
-        expiry::register(&metrics, contexts.clone()).context("metrics")?;
-        let threads = Threads::named("handshake", 1).context("no thread could be started")?;
+        let threads = Threads::named(thread, 1).context("no thread could be started")?;
         Ok(Tls { contexts, threads, metrics, certificate: named.certificate })
     }
 

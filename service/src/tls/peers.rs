@@ -2,11 +2,9 @@
 //! of its `--peer`. Nobody else is let in, and no other is asked.
 
 use super::pair::Pair;
-use super::{expiry, roots, Contexts, Files, Named, Tls, WithoutCertificate};
-use crate::intake::Threads;
+use super::{roots, Contexts, Files, Named, Place, Tls, WithoutCertificate};
 use crate::metrics::Metrics;
-use crate::reloaded::{Reader, Reloaded};
-use anyhow::{bail, Context};
+use anyhow::bail;
 use rustls::client::{ServerCertVerifier, WebPkiVerifier};
 use rustls::{ClientConfig, RootCertStore, ServerName};
 use std::sync::Arc;
@@ -28,14 +26,8 @@ impl Tls {
             (named.key, files.key.clone()),
         ];
         let host = host.to_string();
-        let reader = Reader {
-            read: Box::new(move |contents: &[Vec<u8>]| read(named, contents, &name, &host)),
-            shut: Contexts::shut,
-        };
-        let contexts = Reloaded::open(paths, reader, &metrics)?;
-        expiry::register_peers(&metrics, contexts.clone()).context("metrics")?;
-        let threads = Threads::named("peers", 1).context("no thread could be started")?;
-        Ok(Tls { contexts, threads, metrics, certificate: named.certificate })
+        let read = move |contents: &[Vec<u8>]| read(named, contents, &name, &host);
+        Tls::by(Place::Peers, named, paths, Box::new(read), metrics)
     }
 }
 
@@ -95,15 +87,19 @@ pub(crate) mod tests {
 
     pub const NAMED: Named = Named { certificate: "--peer-cert", key: "--peer-key", roots: "--peer-ca" };
 
-    /// With the certificate NAME of a folder and its roots CA.
-    pub fn peer(at: &Path, name: &str, ca: &str) -> anyhow::Result<Arc<Tls>> {
-        let files = Files {
+    /// The certificate NAME of a folder and its roots CA.
+    pub fn files(at: &Path, name: &str, ca: &str) -> Files {
+        Files {
             named: NAMED,
             certificate: at.join(format!("{name}.pem")),
             key: at.join(format!("{name}.key")),
             client_ca: Some(at.join(format!("{ca}.pem"))),
-        };
-        Tls::of_peers(&files, "localhost", Arc::new(Metrics::new().unwrap())).map(Arc::new)
+        }
+    }
+
+    pub fn peer(at: &Path, name: &str, ca: &str) -> anyhow::Result<Arc<Tls>> {
+        let metrics = Arc::new(Metrics::new().unwrap());
+        Tls::of_peers(&files(at, name, ca), "localhost", metrics).map(Arc::new)
     }
 
     #[test]
@@ -126,12 +122,7 @@ pub(crate) mod tests {
             let why = peer(at.path(), name, ca).err().expect(part).to_string();
             assert!(why.starts_with("--peer-ca can't be used") && why.contains(part), "{why}");
         }
-        let files = Files {
-            named: NAMED,
-            certificate: at.path().join("server.pem"),
-            key: at.path().join("server.key"),
-            client_ca: Some(at.path().join("ca.pem")),
-        };
+        let files = files(at.path(), "server", "ca");
         let by_address = Tls::of_peers(&files, "127.0.0.1", Arc::new(Metrics::new().unwrap()));
         assert!(by_address.err().unwrap().to_string().contains("no IP address"));
     }
