@@ -6,13 +6,11 @@ mod copy;
 mod posts;
 
 use super::table::Table;
-use super::{json, values, Failure, Form};
-use crate::files::{
-    Dropped, Durability, Fault, Folder, FolderFault, Journal, Mark, Outbox, Replayed, UnitOfMetric,
-};
+use super::{json, values, Ended, Form};
+use crate::files::{Dropped, Durability, Fault, Folder, Journal, Mark, Outbox, Replayed, UnitOfMetric};
 use crate::log::shown;
 use crate::post_reports::SERIES_SHOWN;
-use crate::service::slot_of;
+use crate::service::{is_made, slot_of};
 use crate::store::moving::said_by_store;
 use anyhow::{bail, Context};
 use clap::Args;
@@ -84,7 +82,7 @@ struct CheckReport {
 }
 
 impl Options {
-    pub fn run(self) -> Result<Vec<u8>, Failure> {
+    pub fn run(self) -> Result<Vec<u8>, Ended> {
         let _kept_still = lock(&self.data)?;
         let temporary = self.temporary.clone().unwrap_or_else(std::env::temp_dir);
         let interrupts = interrupts().context("signals can't be received")?;
@@ -101,7 +99,7 @@ impl Options {
 }
 
 /// What is printed. Where a request was changed, that is, and the first fault ends the command.
-fn show_found(mut found: CheckReport, copy: &Path, data: &Path, form: Form) -> Result<Vec<u8>, Failure> {
+fn show_found(mut found: CheckReport, copy: &Path, data: &Path, form: Form) -> Result<Vec<u8>, Ended> {
     found.new_epoch = Folder::is_moved(data);
     if let Some(mark) = &found.mark {
         (found.counts, found.moved) = (said_by_store(mark), Some(mark.refusal(data)));
@@ -118,7 +116,7 @@ fn show_found(mut found: CheckReport, copy: &Path, data: &Path, form: Form) -> R
         [] => Ok(shown),
         [first, ..] => {
             super::show(&shown)?;
-            Err(Failure::Changed(first.clone()))
+            Err(Ended::Changed(first.clone()))
         }
     }
 }
@@ -126,6 +124,7 @@ fn show_found(mut found: CheckReport, copy: &Path, data: &Path, form: Form) -> R
 /// Keeps a service from starting on the folder while it is copied. Nothing is written: a lock that was deleted is not
 /// made, and the folder itself is locked in its place.
 fn lock(data: &Path) -> anyhow::Result<File> {
+    look_at(data)?;
     if let Some(place) = in_store(data) {
         bail!(
             "{place} has no folder of slots to read: an instance has them in its --store, and checks each when it takes it. \
@@ -133,16 +132,15 @@ fn lock(data: &Path) -> anyhow::Result<File> {
              Without --store a start would begin anew there"
         );
     }
-    look_at(data)?;
-    let is_none = |name: &str| !data.join(name).exists();
-    if is_none("version") && is_none("dead") && !has_slot(data) {
+    if !is_made(data) {
         bail!(
             "{} is no folder of totxegun: there is no {}. A start would begin a new one there",
             data.display(),
             data.join("version").display()
         );
     }
-    let path = if is_none("lock") { data.to_path_buf() } else { data.join("lock") };
+    let lock = data.join("lock");
+    let path = if lock.exists() { lock } else { data.to_path_buf() };
     let file = File::open(&path).with_context(|| format!("{} can't be read", path.display()))?;
     // A process that is just being started has the file open for a moment, though who started it has ended.
     let is_free = |try_number: u32| {
@@ -177,25 +175,12 @@ fn in_store(data: &Path) -> Option<String> {
         return Some("a store".into()); // its address may have a password
     }
     let has = |name: &str| data.join(name).exists();
-    let is_of_instance =
-        (has("acts.jsonl") || has("operate")) && !has("version") && !has("dead") && !has_slot(data);
+    let is_of_instance = (has("acts.jsonl") || has("operate")) && !is_made(data);
     is_of_instance.then(|| data.display().to_string())
 }
 
-fn has_slot(data: &Path) -> bool {
-    let mut entries = std::fs::read_dir(data).into_iter().flatten().flatten();
-    entries.any(|entry| entry.file_name().as_encoded_bytes().starts_with(b"slot-"))
-}
-
-fn opened(copy: &Path) -> Result<Folder, Failure> {
-    Folder::open(copy, Durability::Process).map_err(|fault| match fault {
-        FolderFault::Fault(fault) => Failure::Disk(fault),
-        in_use => Failure::Refused(in_use.into()),
-    })
-}
-
-fn found(copy: &Path) -> Result<CheckReport, Failure> {
-    let folder = opened(copy)?;
+fn found(copy: &Path) -> Result<CheckReport, Ended> {
+    let folder = Folder::open(copy, Durability::Process)?;
     let mut found = CheckReport {
         slots: folder.slots(),
         counts: Some(true),
@@ -265,14 +250,12 @@ fn segments(folder: &Path) -> u64 {
 }
 
 /// A fault names the file in the folder that was asked for, not in the copy.
-fn in_the_original(failure: Failure, copy: &Path, data: &Path) -> Failure {
+fn in_the_original(failure: Ended, copy: &Path, data: &Path) -> Ended {
     let original = |path: PathBuf| path.strip_prefix(copy).map(|rest| data.join(rest)).unwrap_or(path);
     match failure {
-        Failure::Disk(Fault::Io { path, source }) => {
-            Failure::Disk(Fault::Io { path: original(path), source })
-        }
-        Failure::Disk(Fault::Damaged { path, at, what }) => {
-            Failure::Disk(Fault::Damaged { path: original(path), at, what })
+        Ended::Disk(Fault::Io { path, source }) => Ended::Disk(Fault::Io { path: original(path), source }),
+        Ended::Disk(Fault::Damaged { path, at, what }) => {
+            Ended::Disk(Fault::Damaged { path: original(path), at, what })
         }
         other => other,
     }

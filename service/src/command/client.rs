@@ -1,7 +1,7 @@
 //! Asks the running service at its operators' addresses.
 
-use super::ask::Address;
-use super::values::SOCKET;
+use super::ask::{Address, Shown};
+use super::{values::SOCKET, with_end};
 use crate::log::all_shown;
 use crate::operate::Status;
 use anyhow::{anyhow, bail, Context, Result};
@@ -9,6 +9,7 @@ use hyper::body::HttpBody;
 use hyper::client::conn;
 use hyper::header::{AUTHORIZATION, CONTENT_TYPE, HOST};
 use hyper::{Body, Method, Request, Response};
+use serde::de::DeserializeOwned;
 use std::future::Future;
 use std::io;
 use std::pin::pin;
@@ -27,8 +28,7 @@ const CONNECT: Duration = Duration::from_secs(5);
 const NO_PATH: &str = "no such path";
 
 /// Of an answer that is not as this program reads it.
-pub(super) const OTHER_VERSION: &str =
-    "the running service is of another version: ask it by its own totxegun";
+pub const OTHER_VERSION: &str = "the running service is of another version: ask it by its own totxegun";
 
 /// What is read of an answer at most.
 const MOST: usize = 256 << 20;
@@ -68,10 +68,26 @@ pub fn ask(at: &Address, method: Method, path: &str) -> Result<Vec<u8>> {
     }
 }
 
+/// The same, read.
+pub fn read<T: DeserializeOwned>(at: &Address, method: Method, path: &str) -> Result<T> {
+    serde_json::from_slice(&ask(at, method, path)?).context(OTHER_VERSION)
+}
+
+/// What is there, as it came where a program reads it, and else as people do.
+pub fn shown<T: DeserializeOwned>(
+    shown: &Shown,
+    path: &str,
+    text: impl FnOnce(T) -> String,
+) -> Result<Vec<u8>> {
+    match shown.form.json {
+        true => ask(&shown.at, Method::GET, path).map(with_end),
+        false => Ok(text(read(&shown.at, Method::GET, path)?).into()),
+    }
+}
+
 /// How the service is.
 pub fn status(at: &Address) -> Result<Status> {
-    let body = ask(at, Method::GET, "/status")?;
-    serde_json::from_slice(&body).context(OTHER_VERSION)
+    read(at, Method::GET, "/status")
 }
 
 fn reply(
@@ -148,7 +164,7 @@ where
     let (mut sender, connection) = conn::handshake(stream).await?;
     tokio::spawn(connection); // what is wrong with it the answer says
     match sender.send_request(request).await {
-        Ok(response) => read(place, response).await,
+        Ok(response) => body(place, response).await,
         Err(error) if error.is_parse() => bail!(another(place)),
         Err(error) if error.is_incomplete_message() || error.is_canceled() || error.is_closed() => {
             bail!("{place} ended the connection without an answer: the log of the service says why")
@@ -157,7 +173,7 @@ where
     }
 }
 
-async fn read(place: &str, response: Response<Body>) -> Result<Reply> {
+async fn body(place: &str, response: Response<Body>) -> Result<Reply> {
     let (head, mut body) = response.into_parts();
     let kind = head.headers.get(CONTENT_TYPE).and_then(|kind| kind.to_str().ok());
     let mut bytes = Vec::new();

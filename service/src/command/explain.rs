@@ -3,7 +3,7 @@
 use super::reading::OfReading;
 use super::table::Table;
 use super::values::counted;
-use super::{json, Failure, Form};
+use super::{json, Ended, Form};
 use crate::intake::refusal::Refusal;
 use crate::otlp::{self, Clock, Encoding, Explained, Reading, Refused, Rounding};
 use anyhow::{anyhow, Context};
@@ -47,9 +47,9 @@ struct Explanation {
 }
 
 impl Options {
-    pub fn run(self) -> Result<Vec<u8>, Failure> {
+    pub fn run(self) -> Result<Vec<u8>, Ended> {
         let clock = self.reading.clock();
-        let reading = self.reading.reading().map_err(Failure::Line)?;
+        let reading = self.reading.reading().map_err(Ended::Line)?;
         let body = read(&self.file).with_context(|| format!("{} can't be read", self.file.display()))?;
         let found = found(body, &reading, &clock)?;
         match self.form.json {
@@ -173,9 +173,14 @@ mod tests {
 
     const BODY: &str = r#"{"resourceMetrics":[{"scopeMetrics":[{"metrics":[{"name":"a","sum":{"aggregationTemporality":1,"dataPoints":[{"startTimeUnixNano":"1","timeUnixNano":"2","asInt":"5","attributes":[{"key":"route","value":{"stringValue":"/"}}]}]}},{"name":"b","gauge":{"dataPoints":[{"asDouble":0.5}]}}]}]}]}"#;
 
+    /// By no options.
+    fn plain(body: impl Into<Vec<u8>>) -> anyhow::Result<Explanation> {
+        found(body.into(), &Reading::default(), &Clock::default())
+    }
+
     #[test]
     fn each_point_is_told_of() {
-        let found = found(BODY.into(), &Reading::default(), &Clock::default()).unwrap();
+        let found = plain(BODY).unwrap();
         let text = text(&found);
         assert!(text.starts_with("JSON, ") && text.contains("1 point taken, 1 foreign"), "{text}");
         let lines: Vec<&str> = text.lines().collect();
@@ -223,20 +228,20 @@ mod tests {
         let once = gzip(BODY.as_bytes());
         // Packed twice it is taken too.
         for body in [gzip(&once), once] {
-            let packed = found(body, &Reading::default(), &Clock::default()).unwrap();
+            let packed = plain(body).unwrap();
             assert!(packed.packed && packed.encoding == "JSON" && packed.taken == 1);
         }
         // A protobuf that begins as JSON may: a line feed and a brace are its field and its length.
         let scope = [&b"\x12\x77\x12\x75\x0a\x73"[..], &[b'n'; 115]].concat();
         let body = [&b"\x0a{\x12\x79"[..], &scope].concat();
-        let plain = found(body.clone(), &Reading::default(), &Clock::default()).unwrap();
-        assert_eq!((plain.encoding, plain.taken), ("protobuf", 0));
+        let bare = plain(body.clone()).unwrap();
+        assert_eq!((bare.encoding, bare.taken), ("protobuf", 0));
         let message = [&[0, 0, 0, 0, body.len() as u8][..], &body].concat();
-        assert_eq!(found(message, &Reading::default(), &Clock::default()).unwrap().bytes, body.len());
-        assert_eq!(found(Vec::new(), &Reading::default(), &Clock::default()).unwrap().encoding, "protobuf");
+        assert_eq!(plain(message).unwrap().bytes, body.len());
+        assert_eq!(plain("").unwrap().encoding, "protobuf");
         let mut long = b"\x1f\x8b".to_vec();
         long.resize(MOST as usize + 1, 0);
-        let error = found(long, &Reading::default(), &Clock::default()).unwrap_err().to_string();
+        let error = plain(long).unwrap_err().to_string();
         assert_eq!(
             error, "refused with 413: body too long: over 4194304 bytes, packed or unpacked: post fewer points at a time",
             "also where it is packed"
@@ -244,8 +249,7 @@ mod tests {
         for (body, why) in
             [("{", "refused with 400: not JSON"), ("\x1f\u{8b}", "400"), ("x", "400: not protobuf")]
         {
-            let error =
-                format!("{:#}", found(body.into(), &Reading::default(), &Clock::default()).unwrap_err());
+            let error = format!("{:#}", plain(body).unwrap_err());
             assert!(error.contains(why), "{error}");
         }
     }

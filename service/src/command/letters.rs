@@ -1,11 +1,11 @@
 //! `totxegun dead`: requests that the sink refused for good.
 
 use super::ask::{Address, Shown};
-use super::{client, line, table::Table, values, with_end, Form};
+use super::{client, line, table::Table, values, with_end};
 use crate::files::dead::Letter;
 use crate::log::seconds;
 use crate::operate::Resent;
-use anyhow::{bail, Context, Result};
+use anyhow::{bail, Result};
 use clap::{Args, Subcommand};
 use hyper::Method;
 
@@ -43,7 +43,7 @@ const NONE: &str = "the sink has refused nothing for good";
 impl Command {
     pub fn run(self) -> Result<Vec<u8>> {
         match self {
-            Command::List(Shown { at, form }) => list(&at, form),
+            Command::List(of) => client::shown(&of, "/dead", list),
             Command::Show(OfKey { key, at }) => {
                 let body = client::ask(&at, Method::GET, &format!("/dead/{}", checked(&key)?))?;
                 Ok(with_end(body))
@@ -58,30 +58,20 @@ impl Command {
     }
 }
 
-fn list(at: &Address, form: Form) -> Result<Vec<u8>> {
-    let body = client::ask(at, Method::GET, "/dead")?;
-    if form.json {
-        return Ok(with_end(body));
-    }
-    let letters = read(&body)?;
+fn list(letters: Vec<Letter>) -> String {
     if letters.is_empty() {
-        return Ok(line(NONE));
+        return format!("{NONE}\n");
     }
     let mut table = Table::new(&["key", "age", "size", "reason"]);
-    for letter in letters {
-        let age = values::seconds_shown(seconds().saturating_sub(letter.since));
-        table.row(&[letter.key, age, values::bytes_shown(letter.bytes), letter.reason]);
+    for Letter { key, since, bytes, reason } in letters {
+        let age = values::seconds_shown(seconds().saturating_sub(since));
+        table.row(&[key, age, values::bytes_shown(bytes), reason]);
     }
-    Ok(table.to_string().into())
-}
-
-fn read(body: &[u8]) -> Result<Vec<Letter>> {
-    serde_json::from_slice(body).context(client::OTHER_VERSION)
+    table.to_string()
 }
 
 fn sent(key: &str, at: &Address) -> Result<Resent> {
-    let body = client::ask(at, Method::POST, &format!("/dead/{}/resend", checked(key)?))?;
-    serde_json::from_slice(&body).context(client::OTHER_VERSION)
+    client::read(at, Method::POST, &format!("/dead/{}/resend", checked(key)?))
 }
 
 /// What became of letters that are sent again one after the other.
@@ -97,7 +87,7 @@ struct All {
 /// Those that no sink takes, being a part of what it has, are left. One that can't be sent, as it can't be read, keeps none
 /// behind it from the sink; but where the sink or the service does not answer each would be waited for.
 fn resend_all(at: &Address) -> Result<Vec<u8>> {
-    let letters = read(&client::ask(at, Method::GET, "/dead")?)?;
+    let letters: Vec<Letter> = client::read(at, Method::GET, "/dead")?;
     if letters.is_empty() {
         return Ok(line(NONE));
     }

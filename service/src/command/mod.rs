@@ -10,7 +10,6 @@ mod explain;
 mod export;
 mod letters;
 mod of_book;
-mod of_runs;
 mod of_senders;
 mod of_store;
 mod periods;
@@ -27,8 +26,8 @@ mod totals;
 pub(crate) mod values;
 mod version;
 
-use crate::files::Fault;
 use crate::service::{init, Ended};
+use crate::sinks::periods::Period;
 use anyhow::Context;
 use clap::error::{ContextKind, ContextValue};
 use clap::{Args, Parser, Subcommand};
@@ -71,13 +70,31 @@ enum Command {
     /// Closes a month, a day or an hour: what comes for it later counts in the hour in which it comes
     Close(periods::Close),
     /// Opens what was closed: what came late meanwhile stays where it was counted
-    Open(periods::Open),
+    Open {
+        /// As it was closed
+        period: Period,
+        #[command(flatten)]
+        at: ask::Address,
+    },
     /// Adds to what a series counted in an hour, by hand
     Correct(periods::Correct),
     /// Puts back where a series ends, which a wrong clock has put ahead, so that its points are taken again
-    Repair(amend::Repair),
+    Repair {
+        #[command(flatten)]
+        of: amend::OfSeries,
+        /// Where it ends from now on, of UTC: 2026-11-05T13:30:15. What is posted again from after that is taken again
+        #[arg(long, value_name = "TIME", value_parser = amend::time)]
+        to: String,
+        #[command(flatten)]
+        at: ask::Address,
+    },
     /// Forgets whose a series is and where it ends, so that another sender may have it
-    Forget(amend::Forget),
+    Forget {
+        #[command(flatten)]
+        of: amend::OfSeries,
+        #[command(flatten)]
+        at: ask::Address,
+    },
     /// Prints what each series counted in a month or a day; their count and SHA-256 go to standard error
     Export(export::Options),
     /// Says what a start would find in a folder, and changes nothing
@@ -99,35 +116,6 @@ enum Command {
     },
 }
 
-/// Why a command did not do what it was told.
-#[derive(Debug, thiserror::Error)]
-enum Failure {
-    /// With what is wrong and what to do.
-    #[error("{0:#}")]
-    Refused(#[from] anyhow::Error),
-    /// Options that contradict each other: no later try does better.
-    #[error("{0:#}")]
-    Line(anyhow::Error),
-    #[error("{0}")]
-    Disk(#[from] Fault),
-    #[error("{0}")]
-    Memory(String),
-    /// The same of what does not keep the service from starting.
-    #[error("{0}")]
-    Changed(String),
-}
-
-impl From<Ended> for Failure {
-    fn from(ended: Ended) -> Failure {
-        match ended {
-            Ended::Disk(fault) => Failure::Disk(fault),
-            Ended::NoMemory(why) => Failure::Memory(why),
-            Ended::Open(why) => Failure::Line(why),
-            Ended::Other(error) => Failure::Refused(error),
-        }
-    }
-}
-
 /// Runs the command of this process' command line.
 pub fn run() -> ExitCode {
     // A faulty one ends here, with status 2.
@@ -143,10 +131,10 @@ pub fn run() -> ExitCode {
         Err(failure) => {
             crate::complain(format_args!("{failure}"));
             ExitCode::from(match failure {
-                Failure::Refused(_) => REFUSED,
-                Failure::Line(_) => FAULTY,
-                Failure::Disk(_) | Failure::Changed(_) => DISK,
-                Failure::Memory(_) => MEMORY,
+                Ended::Other(_) => REFUSED,
+                Ended::Line(_) => FAULTY,
+                Ended::Disk(_) | Ended::Changed(_) => DISK,
+                Ended::NoMemory(_) => MEMORY,
             })
         }
     }
@@ -168,20 +156,20 @@ fn without_secrets(mut error: clap::Error) -> clap::Error {
 
 impl Command {
     /// Returns what it prints at its end.
-    fn run(self) -> Result<Vec<u8>, Failure> {
+    fn run(self) -> Result<Vec<u8>, Ended> {
         match self {
             Command::Serve(options) => options.run().map(|()| Vec::new()),
-            Command::Status(shown) => Ok(status::run(&shown)?),
+            Command::Status(shown) => Ok(client::shown(&shown, "/status", |status| status::text(&status))?),
             Command::Totals(options) => Ok(totals::run(&options)?),
             Command::Flush(at) => Ok(ask::flush(&at)?),
             Command::Quarantine(of) => Ok(ask::order(&of.at, &format!("/quarantine/{}", of.sender))?),
             Command::Lift(of) => Ok(ask::order(&of.at, &format!("/lift/{}", of.sender))?),
             Command::Dead(command) => Ok(command.run()?),
             Command::Close(options) => Ok(options.run()?),
-            Command::Open(options) => Ok(options.run()?),
+            Command::Open { period, at } => Ok(periods::open(&period, &at)?),
             Command::Correct(options) => Ok(options.run()?),
-            Command::Repair(options) => Ok(options.run()?),
-            Command::Forget(options) => Ok(options.run()?),
+            Command::Repair { of, to, at } => Ok(periods::told(&at, &of.path(&format!("/repair/{to}")))?),
+            Command::Forget { of, at } => Ok(periods::told(&at, &of.path("/forget"))?),
             Command::Export(options) => Ok(options.run().map(|()| Vec::new())?),
             Command::Check(options) => options.run(),
             Command::Explain(options) => options.run(),

@@ -52,11 +52,14 @@ impl OfSenders {
     }
 
     /// Reads the files.
-    pub fn door(self, metrics: &Arc<Metrics>) -> anyhow::Result<Door> {
-        let (client_ca, tokens) = (self.client_ca, self.tokens);
-        let both = self.tls_cert.zip(self.tls_key);
-        let tls =
-            both.map(|(certificate, key)| Files { named: Named::OF_SENDERS, certificate, key, client_ca });
-        Door::open(&Options { tls, tokens }, metrics)
+    pub fn door(&self, metrics: &Arc<Metrics>) -> anyhow::Result<Door> {
+        let client_ca = self.client_ca.clone();
+        let tls = self.pair().map(|(certificate, key)| Files {
+            named: Named::OF_SENDERS,
+            certificate,
+            key,
+            client_ca,
+        });
+        Door::open(&Options { tls, tokens: self.tokens.clone() }, metrics)
     }
 }

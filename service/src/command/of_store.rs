@@ -1,10 +1,10 @@
 //! Options of a store that several machines share.
 
-use super::values::place;
+use super::{store::copies, values::place};
 use crate::service::OfStore as Settings;
 use crate::sinks::Address;
 use crate::slot::is_sender;
-use crate::store::postgres::{address, Copies, Server};
+use crate::store::postgres::{address, Server};
 use crate::tls::{Files, Named};
 use anyhow::{anyhow, bail};
 use clap::{value_parser, Args};
@@ -68,10 +68,7 @@ impl OfStore {
         }
         Ok(Some(Settings {
             databases: self.databases,
-            copies: match self.store_copies {
-                1 => Copies::One,
-                _ => Copies::Two,
-            },
+            copies: copies(self.store_copies),
             instance,
             peer,
             peer_tls,
@@ -79,9 +76,7 @@ impl OfStore {
             reading,
         }))
     }
-}
 
-impl OfStore {
     /// By its value: settings may say that it is false.
     fn check_plain(&self) -> anyhow::Result<()> {
         if self.peer_plain && !self.is_given() {

@@ -27,14 +27,6 @@ pub struct Close {
 }
 
 #[derive(Args)]
-pub struct Open {
-    /// As it was closed
-    period: Period,
-    #[command(flatten)]
-    at: Address,
-}
-
-#[derive(Args)]
 pub struct Correct {
     /// Its number, which is the column `series` of the view by_hour
     series: i64,
@@ -68,10 +60,8 @@ impl Close {
     }
 }
 
-impl Open {
-    pub fn run(self) -> Result<Vec<u8>> {
-        told(&self.at, &format!("/open/{}", written(&self.period)))
-    }
+pub fn open(period: &Period, at: &Address) -> Result<Vec<u8>> {
+    told(at, &format!("/open/{}", written(period)))
 }
 
 impl Correct {

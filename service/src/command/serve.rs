@@ -1,7 +1,6 @@
 //! `totxegun serve`: its options, and its run.
 
 use super::of_book::OfBook;
-use super::of_runs::OfRuns;
 use super::of_senders::OfSenders;
 use super::of_store::OfStore;
 use super::reading::OfReading;
@@ -9,7 +8,7 @@ use super::retention::OfRetention;
 use super::settings::Names;
 use super::values::{operator, orders_at, place, size, time, time_or, MayBeNone, SOCKET};
 use super::version::Versions;
-use super::Failure;
+use super::Ended;
 use crate::core::{self, Across};
 use crate::files::Durability;
 use crate::identity;
@@ -18,6 +17,7 @@ use crate::metrics::Metrics;
 use crate::otlp::Cause;
 use crate::pass::Pass;
 use crate::post_reports::ReportOptions;
+use crate::runs;
 use crate::service::{self, init, Operate, Settings};
 use crate::sinks::{header_of, Address};
 use anyhow::{anyhow, bail, Context};
@@ -123,7 +123,7 @@ pub struct Options {
     #[command(flatten)]
     of_reading: OfReading,
     #[command(flatten)]
-    of_runs: OfRuns,
+    of_runs: runs::Options,
     #[command(flatten)]
     of_book: OfBook,
 }
@@ -177,14 +177,14 @@ fn header(text: &str) -> Result<(String, String), String> {
 }
 
 /// Refuses a setting that no option reads, and warns of those whose options are gone.
-fn look_at_names() -> Result<(), Failure> {
+fn look_at_names() -> Result<(), Ended> {
     let set = std::env::vars_os().map(|(name, _)| name.to_string_lossy().into_owned());
     let names = Names::of(&super::Line::command(), set);
     for name in names.gone {
         tracing::warn!(name, "{name} is set, and is no setting any more: it changes nothing");
     }
     match names.unknown {
-        Some(unknown) => Err(Failure::Line(anyhow!(unknown))),
+        Some(unknown) => Err(Ended::Line(anyhow!(unknown))),
         None => Ok(()),
     }
 }
@@ -195,7 +195,7 @@ fn told() -> Targets {
 }
 
 impl Options {
-    pub fn run(self) -> Result<(), Failure> {
+    pub fn run(self) -> Result<(), Ended> {
         init::take_signals().context("signals can't be received")?; // before there are threads
         let metrics = Arc::new(Metrics::new().context("metrics")?);
         let log = log::start(metrics.log_lines_lost.clone(), log::Form::new(self.log_json))
@@ -236,7 +236,7 @@ impl Options {
         most.min(wanted) as usize
     }
 
-    fn settings(self, most_files: u64, metrics: Arc<Metrics>) -> Result<Settings, Failure> {
+    fn settings(self, most_files: u64, metrics: Arc<Metrics>) -> Result<Settings, Ended> {
         let most_connections = self.connections(most_files);
         core::bound_memory(self.of_book.memory());
         metrics.most_series(self.of_book.most_series);
@@ -246,49 +246,45 @@ impl Options {
             // No folder is beside a store, in which a file could be the sink.
             None if self.of_store.is_given() => {
                 let why = "--store has no sink of its own: give --sink postgres://.. or http://.. too";
-                return Err(Failure::Line(anyhow!(why)));
+                return Err(Ended::Line(anyhow!(why)));
             }
             None => Address::Sqlite(data.join("metrics.db")),
         };
-        let sink = self.of_sink.put_into(sink).map_err(Failure::Line)?;
-        let retention = self.of_retention.retention(&sink).map_err(Failure::Line)?;
+        let sink = self.of_sink.put_into(sink).map_err(Ended::Line)?;
+        let retention = self.of_retention.retention(&sink).map_err(Ended::Line)?;
         let likeness = self.of_reading.likeness(self.never_across);
-        let pair = self.of_senders.pair();
-        let store = self.of_store.settings(likeness, &sink, pair);
-        let store = store.map_err(Failure::Line)?;
+        let store = self.of_store.settings(likeness, &sink, self.of_senders.pair()).map_err(Ended::Line)?;
         let clock = self.of_reading.clock();
-        let reading = self.of_reading.reading().map_err(Failure::Line)?;
+        let reading = self.of_reading.reading().map_err(Ended::Line)?;
         if self.of_senders.has_names() && reading.sender_from.is_some() {
-            return Err(Failure::Line(anyhow!(
+            return Err(Ended::Line(anyhow!(
                 "--sender-from would take a sender's word for its name: leave it out where --client-ca or --tokens name senders"
             )));
         }
-        let mut operate = operate(&self.operate, &data).map_err(Failure::Line)?;
+        let mut operate = operate(&self.operate, &data).map_err(Ended::Line)?;
         let tokens = self.operate_tokens;
         if tokens.is_some() && operate.tcp.is_none() {
-            return Err(Failure::Line(anyhow!(
+            return Err(Ended::Line(anyhow!(
                 "--operate-tokens is for orders over TCP: give --operate HOST:PORT too, or leave it out"
             )));
         }
         operate.tokens = tokens.map(|path| identity::operators(path, &metrics)).transpose()?;
-        let (behind_proxy, of_each) = (self.of_senders.behind_proxy, self.of_senders.of_each());
         let pass = self.pass.map(|address| Pass::to(&address, metrics.clone()));
-        let pass = pass.transpose().map_err(|bad| Failure::Line(bad.into()))?;
+        let pass = pass.transpose().map_err(|bad| Ended::Line(bad.into()))?;
         if pass.as_ref().is_some_and(|pass| pass.is_to(&self.listen)) {
-            return Err(Failure::Line(anyhow!(
+            return Err(Ended::Line(anyhow!(
                 "--pass is the address where senders post: points would come again for ever"
             )));
         }
-        let door = self.of_senders.door(&metrics)?;
         Ok(Settings {
             data,
             store,
             listen: self.listen,
             listen_grpc: self.listen_grpc,
             operate,
-            door,
-            behind_proxy,
-            of_each,
+            door: self.of_senders.door(&metrics)?,
+            behind_proxy: self.of_senders.behind_proxy,
+            of_each: self.of_senders.of_each(),
             sink,
             retention,
             new_sink: self.new_sink,
@@ -297,7 +293,7 @@ impl Options {
             forget: self.forget_series.0,
             clock,
             across: self.never_across,
-            runs: self.of_runs.options(),
+            runs: self.of_runs,
             report_options: ReportOptions {
                 log_foreign: self.log_foreign as usize,
                 expected: self.expect_foreign,

@@ -2,24 +2,13 @@
 
 mod cluster;
 
-use super::{ask::Shown, client, table::Table, values, with_end};
+use super::{table::Table, values};
 use crate::files::Held;
 use crate::operate::{held, quarantined, CumulativeStatus, RoundedStatus, SlotStatus, Status, Stock};
 use crate::shares::Used;
 use crate::slot::{NO_ANSWER, NO_ROOM};
-use anyhow::{Context, Result};
-use hyper::Method;
 
-pub fn run(shown: &Shown) -> Result<Vec<u8>> {
-    let body = client::ask(&shown.at, Method::GET, "/status")?;
-    if shown.form.json {
-        return Ok(with_end(body));
-    }
-    let status: Status = serde_json::from_slice(&body).context(client::OTHER_VERSION)?;
-    Ok(text(&status).into())
-}
-
-fn text(status: &Status) -> String {
+pub fn text(status: &Status) -> String {
     let how = if status.ready { "ready" } else { "not ready" };
     let up = values::seconds_shown(status.uptime_seconds);
     let mut lines = Table::new(&[

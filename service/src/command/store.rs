@@ -10,28 +10,31 @@ use std::path::PathBuf;
 #[derive(Subcommand)]
 pub enum Command {
     /// Makes the tables of a store, once
-    Init(Init),
+    Init {
+        /// Where: postgres://USER@HOST:PORT/DB, or postgres://USER@HOST1,HOST2/DB of servers that stand in for each other. Several share the slots: then `serve` names them in this order
+        #[arg(value_name = "ADDRESS", required = true, value_parser = address)]
+        databases: Vec<Server>,
+        /// In how many slots series are kept: four for each machine; it stays as it is
+        #[arg(long, value_name = "N", default_value_t = 12, value_parser = value_parser!(u16).range(1..=i64::from(MOST_SLOTS)))]
+        slots: u16,
+    },
     /// Brings what a folder has into a store that nobody has used yet, or what a store has into a new folder: the other one counts then. All services must have ended; killed, the same command goes on
     Move(Move),
     /// Says whether a store counts, or which folder does in its place
-    Check(Check),
+    Check(Databases),
 }
 
 #[derive(Args)]
-pub struct Init {
-    /// Where: postgres://USER@HOST:PORT/DB, or postgres://USER@HOST1,HOST2/DB of servers that stand in for each other. Several share the slots: then `serve` names them in this order
+pub struct Databases {
+    /// The store; each of its databases, in the order of `store init`
     #[arg(value_name = "ADDRESS", required = true, value_parser = address)]
     databases: Vec<Server>,
-    /// In how many slots series are kept: four for each machine; it stays as it is
-    #[arg(long, value_name = "N", default_value_t = 12, value_parser = value_parser!(u16).range(1..=i64::from(MOST_SLOTS)))]
-    slots: u16,
 }
 
 #[derive(Args)]
 pub struct Move {
-    /// The store; each of its databases, in the order of `store init`
-    #[arg(value_name = "ADDRESS", required = true, value_parser = address)]
-    databases: Vec<Server>,
+    #[command(flatten)]
+    store: Databases,
     /// The folder whose content goes into the store
     #[arg(long, value_name = "DIR", conflicts_with = "to", required_unless_present_any = ["to", "give_up"])]
     from: Option<PathBuf>,
@@ -46,20 +49,29 @@ pub struct Move {
     store_copies: u8,
 }
 
-#[derive(Args)]
-pub struct Check {
-    /// The store; each of its databases, in the order of `store init`
-    #[arg(value_name = "ADDRESS", required = true, value_parser = address)]
-    databases: Vec<Server>,
-}
-
 impl Command {
     pub fn run(&self) -> Result<Vec<u8>> {
-        match self {
-            Command::Init(init) => init.run(),
-            Command::Move(of) => of.run(),
-            Command::Check(check) => check.run(),
-        }
+        Ok(line(match self {
+            Command::Init { databases, slots } => {
+                let slots = PostgresStore::make(databases, *slots)?.slots;
+                format!("a store of {slots} slots in {}", shown(databases))
+            }
+            Command::Move(of) => of.run()?,
+            Command::Check(Databases { databases }) => {
+                let standing = PostgresStore::look_into(databases, Copies::One)?.standing()?;
+                let databases = shown(databases);
+                match standing.refusal() {
+                    None if standing.folder.is_empty() => format!("the store in {databases} counts"),
+                    None => {
+                        format!(
+                            "the store in {databases} counts: it has all of the folder {}",
+                            standing.folder
+                        )
+                    }
+                    Some(why) => format!("no service starts on the store in {databases}: {why}"),
+                }
+            }
+        }))
     }
 }
 
@@ -68,60 +80,42 @@ fn shown(databases: &[Server]) -> String {
     databases.join(" and ")
 }
 
-impl Init {
-    fn run(&self) -> Result<Vec<u8>> {
-        let made = PostgresStore::make(&self.databases, self.slots)?;
-        let (slots, databases) = (made.slots, shown(&self.databases));
-        Ok(line(format!("a store of {slots} slots in {databases}")))
+/// By `--store-copies`.
+pub fn copies(number: u8) -> Copies {
+    match number {
+        1 => Copies::One,
+        _ => Copies::Two,
     }
 }
 
 impl Move {
-    fn run(&self) -> Result<Vec<u8>> {
-        let copies = match self.store_copies {
-            1 => Copies::One,
-            _ => Copies::Two,
-        };
-        let store = shown(&self.databases);
+    fn run(&self) -> Result<String> {
+        let (databases, copies) = (&self.store.databases, copies(self.store_copies));
+        let store = shown(databases);
         match (&self.from, &self.to) {
             (from, None) if self.give_up => {
-                give_up(from.as_deref(), &self.databases, copies)?;
+                give_up(from.as_deref(), databases, copies)?;
                 let counts = from.as_ref().map_or(store, |from| from.display().to_string());
-                Ok(line(format!("given up: {counts} counts, as before")))
+                Ok(format!("given up: {counts} counts, as before"))
             }
             (Some(from), None) => {
-                Ok(said(from_folder(from, &self.databases, copies)?, &from.display().to_string(), &store))
+                Ok(said(from_folder(from, databases, copies)?, &from.display().to_string(), &store))
             }
-            (_, Some(to)) => {
-                Ok(said(to_folder(to, &self.databases, copies)?, &store, &to.display().to_string()))
-            }
+            (_, Some(to)) => Ok(said(to_folder(to, databases, copies)?, &store, &to.display().to_string())),
             (None, None) => bail!("give --from DIR or --to DIR"),
         }
     }
 }
 
-fn said(moved: Option<Moved>, from: &str, to: &str) -> Vec<u8> {
+fn said(moved: Option<Moved>, from: &str, to: &str) -> String {
     match moved {
-        None => line(format!("all of {from} was in {to} before, and {to} counts")),
-        Some(moved) => line(format!(
+        None => format!("all of {from} was in {to} before, and {to} counts"),
+        Some(moved) => format!(
             "{to} has all of {from}, and counts in its place: {} series, {} for the sink, {} not flushed, {} refused for good",
             moved.series,
             counted(moved.requests, "request"),
             counted(moved.posts, "post"),
             counted(moved.letters, "request"),
-        )),
-    }
-}
-
-impl Check {
-    fn run(&self) -> Result<Vec<u8>> {
-        let store = PostgresStore::look_into(&self.databases, Copies::One)?;
-        let standing = store.standing()?;
-        let databases = shown(&self.databases);
-        Ok(line(match standing.refusal() {
-            None if standing.folder.is_empty() => format!("the store in {databases} counts"),
-            None => format!("the store in {databases} counts: it has all of the folder {}", standing.folder),
-            Some(why) => format!("no service starts on the store in {databases}: {why}"),
-        }))
+        ),
     }
 }

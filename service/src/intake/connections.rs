@@ -187,7 +187,7 @@ impl<T: Taker> Shared<T> {
 /// Serves senders, with each connection on one of the threads, until `stop` is true or its sender is gone: then nothing
 /// more is accepted, requests that are under way are answered, and it returns after the last of them.
 pub async fn spread<P: Protocol, T: Taker>(
-    listener: TcpListener,
+    listener: impl Listener<Stream = TcpStream>,
     shared: Arc<Shared<T>>,
     threads: Arc<Threads>,
 ) {

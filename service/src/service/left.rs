@@ -5,6 +5,7 @@ use super::Ended;
 use crate::files::{Durability, Fault, Folder};
 use crate::store::moving::said_by_store;
 use anyhow::anyhow;
+use std::ffi::OsStr;
 use std::path::Path;
 
 #[derive(Default)]
@@ -40,9 +41,14 @@ pub(super) fn look_at(data: &Path, durability: Durability, store: &str) -> Resul
 }
 
 /// Whether there is something of a service's folder. What else an instance has there is its own.
-fn is_made(data: &Path) -> bool {
-    let mut names = std::fs::read_dir(data).into_iter().flatten().flatten().map(|entry| entry.file_name());
-    names.any(|name| name == "version" || name == "dead" || name.as_encoded_bytes().starts_with(b"slot-"))
+pub(crate) fn is_made(data: &Path) -> bool {
+    let entries = std::fs::read_dir(data).into_iter().flatten().flatten();
+    entries.map(|entry| entry.file_name()).any(|name| is_kept(&name))
+}
+
+/// Whether a start reads what is so named in a folder.
+pub(crate) fn is_kept(name: &OsStr) -> bool {
+    name == "version" || name == "dead" || name.as_encoded_bytes().starts_with(b"slot-")
 }
 
 fn in_folder(folder: &Folder) -> Result<Left, Fault> {

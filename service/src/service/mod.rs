@@ -19,6 +19,7 @@ mod waiting;
 
 pub(crate) use adopt::{leave_others, move_held, slot_of};
 pub use instance::OfStore;
+pub(crate) use left::{is_kept, is_made};
 pub use operators::Operate;
 
 use crate::core::Across;
@@ -104,18 +105,22 @@ impl Settings {
     }
 }
 
-/// Why the service did not start, or ended without being asked to.
+/// Why the service did not start, or ended without being asked to; and why a command did not do what it was told.
 #[derive(Debug, thiserror::Error)]
 pub enum Ended {
     /// The disk, or what is on it.
     #[error("{0}")]
     Disk(#[from] Fault),
+    /// The same of what does not keep the service from starting.
+    #[error("{0}")]
+    Changed(String),
     /// What was taken of the book can't be written.
     #[error("{0}")]
     NoMemory(String),
-    /// Strangers could post at an address, and nobody said that they may.
-    #[error("{0}")]
-    Open(anyhow::Error),
+    /// Options that contradict each other, or by which strangers could post at an address: no later try does better.
+    #[error("{0:#}")]
+    Line(anyhow::Error),
+    /// With what is wrong and what to do.
     #[error("{0:#}")]
     Other(#[from] anyhow::Error),
 }
@@ -209,10 +214,7 @@ async fn of_store(
     blocking(move || left::look_at(&data, durability, &address)).await?;
     std::fs::create_dir_all(&settings.data).with_context(|| format!("the folder {folder} can't be made"))?;
     let operators = readers.and_socket(&settings.operate).await?;
-    let twice = "an address can't be served twice";
-    let [senders, senders_before] = senders.twins().context(twice)?;
-    let [operators, operators_before] = operators.twins().context(twice)?;
-    let before = (senders_before, operators_before);
+    let before = (senders.clone(), operators.clone());
     match waiting::store(settings, of, before, signals.ending()).await? {
         Some(store) => {
             let joining = Joining::new(of, peers, store, &settings.metrics)?;

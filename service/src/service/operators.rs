@@ -1,6 +1,6 @@
 //! Where operators come to.
 
-use super::senders::{bind, is_local, twins_if_any};
+use super::senders::{bind, is_local};
 use super::{Ended, Settings};
 use crate::identity::Tokens;
 use crate::intake::connections::{serve, Handler, Limits};
@@ -25,11 +25,12 @@ pub struct Operate {
 }
 
 /// The address of TCP, before the folder is this process' own.
-pub(super) struct Readers(Option<TcpListener>);
+pub(super) struct Readers(Option<Arc<TcpListener>>);
 
+#[derive(Clone)]
 pub(super) struct Operators {
-    tcp: Option<TcpListener>,
-    socket: UnixListener,
+    tcp: Option<Arc<TcpListener>>,
+    socket: Arc<UnixListener>,
     tokens: Option<Arc<Reloaded<Tokens>>>,
 }
 
@@ -40,19 +41,19 @@ impl Readers {
         };
         let listener = bind("--operate", address).await?;
         if settings.operate.tokens.is_some() && !settings.behind_proxy && !is_local(&listener) {
-            return Err(Ended::Open(anyhow!(
+            return Err(Ended::Line(anyhow!(
                 "--operate {address} is open to other machines, where anybody could read tokens of --operate-tokens along: \
                  leave these out, or give --behind-proxy, if nobody but a proxy that has TLS reaches the address"
             )));
         }
-        Ok(Readers(Some(listener)))
+        Ok(Readers(Some(Arc::new(listener))))
     }
 
     /// With the socket, which may be in the folder: nobody else has it.
     pub async fn and_socket(self, operate: &Operate) -> Result<Operators, Ended> {
         Ok(Operators {
             tcp: self.0,
-            socket: bind_socket(&operate.socket).await?,
+            socket: Arc::new(bind_socket(&operate.socket).await?),
             tokens: operate.tokens.clone(),
         })
     }
@@ -69,15 +70,6 @@ async fn bind_socket(path: &Path) -> Result<UnixListener, Ended> {
 }
 
 impl Operators {
-    /// The same addresses twice, of which the second is for who serves them before.
-    pub fn twins(self) -> std::io::Result<[Operators; 2]> {
-        let [tcp, tcp_before] = twins_if_any(self.tcp)?;
-        let socket = self.socket.into_std()?;
-        let socket_before = UnixListener::from_std(socket.try_clone()?)?;
-        let before = Operators { tcp: tcp_before, socket: socket_before, tokens: self.tokens.clone() };
-        Ok([Operators { tcp, socket: UnixListener::from_std(socket)?, tokens: self.tokens }, before])
-    }
-
     /// Where each is asked.
     pub fn shown(&self) -> String {
         let tcp = self.tcp.iter().map(|tcp| format!("read at {}, and ", tcp.shown()));
@@ -86,7 +78,7 @@ impl Operators {
 
     /// Whether no other machine reaches them.
     pub fn is_local(&self) -> bool {
-        self.tcp.as_ref().is_none_or(is_local)
+        self.tcp.as_ref().is_none_or(|tcp| is_local(tcp))
     }
 
     /// Until both have ended.

@@ -5,7 +5,7 @@ use super::instance::Joining;
 use super::operators::Operators;
 use super::running::Running;
 use super::senders::Senders;
-use super::sink::Told;
+use super::sink::{InFolder, InStore, Remembers, Told};
 use super::unit::{Files, Opened};
 use super::units::{taker, AtWork, Units};
 use super::{Ended, Settings};
@@ -56,31 +56,35 @@ impl Parts {
         let outbox = Arc::new(outbox);
         let mut outboxes = vec![outbox.clone()];
         outboxes.extend(former.iter().map(|(_, outbox)| outbox.clone()));
-        let acts = Arc::new(Acts::in_folder(&settings.data));
-        let sink = told(settings, &acts).open_of_folder(&folder, outboxes)?;
-        let shared = Arc::new(Shared::new(settings.metrics.clone(), settings.clock));
-        let files = Files { number: 0, journal, outbox, dead, former };
-        let opened = Opened::new(files, 1, settings, &shared)?;
-        Parts::of(Of::Folder(Box::new(opened)), settings, shared, acts, sink)
+        Parts::of(Box::new(InFolder { folder, outboxes }), settings, |shared| {
+            let files = Files { number: 0, journal, outbox, dead, former };
+            Ok(Of::Folder(Box::new(Opened::new(files, 1, settings, shared)?)))
+        })
     }
 
     /// The slots of a store are opened once they are taken.
     pub fn of_store(joining: Joining, settings: &Settings) -> Result<Parts, Ended> {
-        let acts = Arc::new(Acts::in_folder(&settings.data));
-        let sink = told(settings, &acts).open_of_store(&joining.store)?;
-        let shared = Arc::new(Shared::new(settings.metrics.clone(), settings.clock));
-        Parts::of(Of::Store(joining), settings, shared, acts, sink)
+        let place = InStore::open(joining.store.clone()).context("the store can't be used")?;
+        Parts::of(Box::new(place), settings, |_| Ok(Of::Store(joining)))
     }
 
+    /// First the sink, as this place remembers it.
     fn of(
-        of: Of,
+        place: Box<dyn Remembers>,
         settings: &Settings,
-        shared: Arc<Shared>,
-        acts: Arc<Acts>,
-        sink: Arc<dyn Sink>,
+        of: impl FnOnce(&Shared) -> Result<Of, Ended>,
     ) -> Result<Parts, Ended> {
+        let acts = Arc::new(Acts::in_folder(&settings.data));
+        let told = Told {
+            address: &settings.sink,
+            retention: settings.retention,
+            takes_new: settings.new_sink,
+            acts: acts.clone(),
+        };
+        let sink = told.open(place)?;
+        let shared = Arc::new(Shared::new(settings.metrics.clone(), settings.clock));
         Ok(Parts {
-            of,
+            of: of(&shared)?,
             shared,
             acts,
             sink,
@@ -188,15 +192,6 @@ impl Of {
             }
             Of::Store(joining) => (super::instance::slots(&joining, settings), Some(joining)),
         }
-    }
-}
-
-fn told<'s>(settings: &'s Settings, acts: &Arc<Acts>) -> Told<'s> {
-    Told {
-        address: &settings.sink,
-        retention: settings.retention,
-        takes_new: settings.new_sink,
-        acts: acts.clone(),
     }
 }
 

@@ -20,7 +20,7 @@ impl Peers {
     pub async fn bind(of: &OfStore, metrics: &Arc<Metrics>) -> Result<Peers, Ended> {
         let listener = bind("--peer", &of.peer).await?;
         if !is_local(&listener) && of.peer_tls.is_none() && !of.peer_plain {
-            return Err(Ended::Open(anyhow!(
+            return Err(Ended::Line(anyhow!(
                 "--peer {} is open to other machines, where anybody could read the instances' secret along, and then post under \
                  any name: give --peer-ca and a certificate; or --peer-plain, if nobody but the instances reaches their network",
                 of.peer
@@ -110,19 +110,14 @@ mod tests {
             panic!("each other instance would call itself");
         };
         assert!(why.to_string().contains("by which the others reach this machine"), "{why}");
-        let Err(Ended::Open(why)) = bound(at("0.0.0.0:0", false, None)).await else {
+        let Err(Ended::Line(why)) = bound(at("0.0.0.0:0", false, None)).await else {
             panic!("it is not refused");
         };
         let text = why.to_string();
         assert!(text.contains("--peer-ca") && text.contains("--peer-plain"), "{text}");
         let folder = tests::folder();
         tests::server(folder.path());
-        let files = Files {
-            named: peer_tests::NAMED,
-            certificate: folder.path().join("server.pem"),
-            key: folder.path().join("server.key"),
-            client_ca: Some(folder.path().join("ca.pem")),
-        };
+        let files = peer_tests::files(folder.path(), "server", "ca");
         let peers = bound(at("localhost:0", false, Some(files.clone()))).await.unwrap();
         assert!(peers.tls.is_some());
         assert!(bound(at("127.0.0.1:0", false, Some(files))).await.is_err(), "no name");

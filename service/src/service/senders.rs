@@ -34,7 +34,7 @@ async fn bind_closed(option: &str, address: &str, settings: &Settings) -> Result
     let listener = bind(option, address).await?;
     match is_local(&listener) || settings.behind_proxy || settings.door.is_closed() {
         true => Ok(listener),
-        false => Err(Ended::Open(anyhow!(
+        false => Err(Ended::Line(anyhow!(
             "{option} {address} is open to other machines, where anybody could {}; or --behind-proxy, if nobody but a proxy \
              that has TLS and names reaches it",
             could(settings.door.has_tls(), settings.door.has_names())
@@ -53,38 +53,19 @@ fn could(has_tls: bool, has_names: bool) -> &'static str {
     }
 }
 
+#[derive(Clone)]
 pub(super) struct Senders {
-    pub senders: TcpListener,
-    pub callers: Option<TcpListener>,
-    pub door: Door,
-}
-
-/// The same socket twice. Who comes is accepted at the one or at the other.
-fn twins(listener: TcpListener) -> std::io::Result<[TcpListener; 2]> {
-    let one = listener.into_std()?;
-    let other = one.try_clone()?;
-    Ok([TcpListener::from_std(one)?, TcpListener::from_std(other)?])
-}
-
-/// The same of one that may not be there.
-pub(super) fn twins_if_any(listener: Option<TcpListener>) -> std::io::Result<[Option<TcpListener>; 2]> {
-    Ok(listener.map(twins).transpose()?.map_or([None, None], |both| both.map(Some)))
+    senders: Arc<TcpListener>,
+    callers: Option<Arc<TcpListener>>,
+    door: Door,
 }
 
 impl Senders {
-    /// The same addresses twice, of which the second is for who serves them before.
-    pub fn twins(self) -> std::io::Result<[Senders; 2]> {
-        let [senders, senders_before] = twins(self.senders)?;
-        let [callers, callers_before] = twins_if_any(self.callers)?;
-        let before = Senders { senders: senders_before, callers: callers_before, door: self.door.clone() };
-        Ok([Senders { senders, callers, door: self.door }, before])
-    }
-
     /// Listens at their addresses, which nobody accepts at yet.
     pub async fn bind(settings: &Settings) -> Result<Senders, Ended> {
-        let senders = bind_closed("--listen", &settings.listen, settings).await?;
+        let senders = Arc::new(bind_closed("--listen", &settings.listen, settings).await?);
         let callers = match &settings.listen_grpc {
-            Some(address) => Some(bind_closed("--listen-grpc", address, settings).await?),
+            Some(address) => Some(Arc::new(bind_closed("--listen-grpc", address, settings).await?)),
             None => None,
         };
         let door = settings.door.clone();

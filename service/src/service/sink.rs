@@ -6,24 +6,27 @@ use super::Ended;
 use crate::files::{Folder, KnownSink, Outbox};
 use crate::operate::{Act, Actor, Acts, Asked};
 use crate::sinks::{self, Address, Memory, Retention, Sink};
-use crate::store::postgres::PostgresStore;
 use anyhow::{anyhow, Context};
-use in_store::InStore;
+pub(super) use in_store::InStore;
 use std::sync::atomic::{AtomicBool, Ordering::Relaxed};
 use std::sync::Arc;
 
 /// Where the sink is remembered.
-trait Remembers: Send + Sync + 'static {
+pub(super) trait Remembers: Send + Sync + 'static {
     fn sink(&self) -> Option<KnownSink>;
 
     /// Durable, or not done, when this returns.
     fn set_sink(&self, sink: KnownSink) -> Result<(), Ended>;
 
-    /// The error is why it may not be another one now.
-    fn may_change(&self) -> Result<(), Ended>;
+    /// The error is why it may not be another one now. A folder is this process' own.
+    fn may_change(&self) -> Result<(), Ended> {
+        Ok(())
+    }
 
     /// How many requests wait, where that is known.
-    fn waiting(&self) -> Option<u64>;
+    fn waiting(&self) -> Option<u64> {
+        None
+    }
 
     fn refusal(&self, known: &KnownSink, found: &str) -> String;
 
@@ -33,9 +36,10 @@ trait Remembers: Send + Sync + 'static {
     }
 }
 
-struct InFolder {
-    folder: Arc<Folder>,
-    outboxes: Vec<Arc<Outbox>>,
+pub(super) struct InFolder {
+    pub folder: Arc<Folder>,
+    /// What waits in these goes into it.
+    pub outboxes: Vec<Arc<Outbox>>,
 }
 
 struct Remembered {
@@ -56,22 +60,8 @@ pub(super) struct Told<'a> {
 }
 
 impl Told<'_> {
-    /// Opens the sink of a store's instances.
-    pub fn open_of_store(self, store: &Arc<PostgresStore>) -> Result<Arc<dyn Sink>, Ended> {
-        let place = InStore::open(store.clone()).context("the store can't be used")?;
-        self.open(Box::new(place))
-    }
-
-    /// Opens the sink of a folder. What waits in these outboxes goes into it.
-    pub fn open_of_folder(
-        self,
-        folder: &Arc<Folder>,
-        outboxes: Vec<Arc<Outbox>>,
-    ) -> Result<Arc<dyn Sink>, Ended> {
-        self.open(Box::new(InFolder { folder: folder.clone(), outboxes }))
-    }
-
-    fn open(self, place: Box<dyn Remembers>) -> Result<Arc<dyn Sink>, Ended> {
+    /// Opens the sink of a folder, or of a store's instances.
+    pub fn open(self, place: Box<dyn Remembers>) -> Result<Arc<dyn Sink>, Ended> {
         let (now, takes_new) = (self.address.known(), AtomicBool::new(self.takes_new));
         let memory = Arc::new(Remembered { place, now, takes_new, acts: self.acts });
         memory.look_at_kind()?;
@@ -148,11 +138,6 @@ impl Remembers for InFolder {
 
     fn set_sink(&self, sink: KnownSink) -> Result<(), Ended> {
         Ok(self.folder.set_sink(sink)?)
-    }
-
-    /// The folder is this process' own.
-    fn may_change(&self) -> Result<(), Ended> {
-        Ok(())
     }
 
     fn waiting(&self) -> Option<u64> {

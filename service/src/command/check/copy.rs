@@ -1,5 +1,6 @@
 //! The copy of a folder that a check reads, which is gone however the check ends.
 
+use crate::service::is_kept;
 use anyhow::Context;
 use nix::sys::signal::{SigSet, Signal};
 use std::fs::{DirBuilder, File};
@@ -62,10 +63,7 @@ impl Copy {
     pub fn fill(&self, data: &Path, temporary: &Path) -> anyhow::Result<()> {
         for entry in std::fs::read_dir(data)? {
             let name = entry?.file_name();
-            let is_ours = name
-                .to_str()
-                .is_some_and(|name| name == "version" || name == "dead" || name.starts_with("slot-"));
-            if is_ours {
+            if is_kept(&name) {
                 let to = format!("can't be copied to {}: give --temporary", temporary.display());
                 copy_all(&data.join(&name), &self.0.join(&name), &to)?;
             }

@@ -1,8 +1,8 @@
 //! `totxegun check --posts`: each post that is in no group, a line of JSON, whichever form the journal has it in.
 
-use super::{opened, Failure};
+use super::Ended;
 use crate::command::show;
-use crate::files::{Body, Journal, OfRun, Outbox, Points, Replayed};
+use crate::files::{Body, Durability, Folder, Journal, OfRun, Outbox, Points, Replayed};
 use crate::otlp::series::{only, Kind, SeriesKey};
 use serde::Serialize;
 use serde_json::value::RawValue;
@@ -61,8 +61,8 @@ enum Says {
 struct Series(HashMap<u64, Option<(Box<RawValue>, Kind)>>);
 
 /// Prints those of a folder.
-pub(super) fn print(copy: &Path) -> Result<(), Failure> {
-    let folder = opened(copy)?;
+pub(super) fn print(copy: &Path) -> Result<(), Ended> {
+    let folder = Folder::open(copy, Durability::Process)?;
     for number in 0..folder.slots() {
         let (journal, outbox) = folder.slot(number)?;
         put_lines(&journal, &outbox, show)?;
@@ -75,7 +75,7 @@ pub(super) fn put_lines(
     journal: &Journal,
     outbox: &Outbox,
     mut put: impl FnMut(&[u8]) -> anyhow::Result<()>,
-) -> Result<(), Failure> {
+) -> Result<(), Ended> {
     let (mut series, mut text, mut done) = (Series::default(), Vec::new(), Ok(()));
     journal.posts(outbox.journal(), u64::MAX, |read| {
         done = series.put_line(&mut text, &read);

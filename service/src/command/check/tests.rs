@@ -37,7 +37,7 @@ fn what_is_in_a_store_is_shown_by_the_status() -> Result<()> {
 }
 
 /// What a check of a folder says, and how it ends.
-fn checked(data: &Path) -> Result<Vec<u8>, Failure> {
+fn checked(data: &Path) -> Result<Vec<u8>, Ended> {
     let temporary = tempdir().unwrap();
     let _kept_still = lock(data)?;
     let copy = Copy::made(temporary.path())?;
@@ -136,7 +136,7 @@ fn a_request_that_was_changed_is_a_fault_and_the_rest_is_told() -> Result<()> {
     bytes[item.unwrap() + 12] ^= 1;
     std::fs::write(&path, bytes)?;
     let error = checked(data.path()).unwrap_err();
-    assert!(matches!(error, Failure::Changed(_)));
+    assert!(matches!(error, Ended::Changed(_)));
     let text = error.to_string();
     assert!(text.contains(path.to_str().unwrap()) && text.contains("request 2"), "{text}");
     let outbox = Folder::open(data.path(), Durability::Disk).unwrap().slot(0)?.1;

@@ -4,9 +4,10 @@ use super::super::Ended;
 use super::Remembers;
 use crate::files::KnownSink;
 use crate::store::postgres::PostgresStore;
+use crate::work::Sound;
 use anyhow::{anyhow, Context};
 use std::collections::BTreeMap;
-use std::sync::{Arc, Mutex, MutexGuard, PoisonError};
+use std::sync::{Arc, Mutex};
 use std::thread::sleep;
 use std::time::Duration;
 use tokio::runtime::{Handle, RuntimeFlavor};
@@ -15,7 +16,7 @@ use tokio::task::block_in_place;
 /// So long an instance that lives beats once at least; and one that stood still delivers nothing any more.
 const STILL: Duration = Duration::from_secs(12);
 
-pub(super) struct InStore {
+pub struct InStore {
     store: Arc<PostgresStore>,
     /// As it was read last.
     known: Mutex<Option<KnownSink>>,
@@ -27,10 +28,6 @@ impl InStore {
         Ok(InStore { known: Mutex::new(KnownSink::of_line(&known)), store })
     }
 
-    fn known(&self) -> MutexGuard<'_, Option<KnownSink>> {
-        self.known.lock().unwrap_or_else(PoisonError::into_inner) // one value is sound at any time
-    }
-
     fn beats(&self) -> Result<BTreeMap<String, u64>, Ended> {
         Ok(self.store.beats().context("the store can't be read")?)
     }
@@ -38,12 +35,12 @@ impl InStore {
 
 impl Remembers for InStore {
     fn sink(&self) -> Option<KnownSink> {
-        self.known().clone()
+        self.known.sound().clone()
     }
 
     /// All instances deliver to one, so the first that meets it says so for all.
     fn set_sink(&self, sink: KnownSink) -> Result<(), Ended> {
-        let mut known = self.known();
+        let mut known = self.known.sound();
         let before = known.as_ref().map(KnownSink::line).unwrap_or_default();
         let line = sink.line();
         let there = in_place(|| self.store.set_sink(&before, &line));
@@ -77,10 +74,6 @@ impl Remembers for InStore {
                 living.join(", ")
             ))),
         }
-    }
-
-    fn waiting(&self) -> Option<u64> {
-        None
     }
 
     fn databases(&self) -> Vec<Option<String>> {

@@ -38,7 +38,8 @@ impl Place {
         }
         let acts = Arc::new(Acts::in_folder(&self.file("data")));
         let told = Told { address: &sink.parse().unwrap(), retention: Retention::default(), takes_new, acts };
-        told.open_of_folder(&folder, vec![Arc::new(outbox)]).map_err(|ended| ended.to_string())
+        let place = InFolder { folder, outboxes: vec![Arc::new(outbox)] };
+        told.open(Box::new(place)).map_err(|ended| ended.to_string())
     }
 
     fn starts(&self, sink: &Path) {
