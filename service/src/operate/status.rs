@@ -24,7 +24,6 @@ pub struct Status {
     /// Whether posts are taken.
     pub ready: bool,
     /// Why they are answered 503, in that answer's words.
-    #[serde(default)]
     pub unavailable: Option<String>,
     pub listen: String,
     pub data: String,
@@ -134,7 +133,6 @@ pub struct SlotStatus {
     #[serde(default, skip_serializing_if = "Option::is_none")]
     pub unknown: Option<String>,
     /// Why its posts are answered 503, in that answer's words.
-    #[serde(default)]
     pub unavailable: Option<String>,
     pub series: usize,
     pub quarantined: Vec<String>,
@@ -156,7 +154,6 @@ pub struct SlotStatus {
     /// Why the last try was not taken.
     pub trouble: Option<String>,
     /// Why the first waiting request can't be delivered: its file was changed.
-    #[serde(default)]
     pub stuck: Option<String>,
 }
 

@@ -2,7 +2,7 @@
 
 use super::parts::limits;
 use super::peers::Peers;
-use super::unit::Files;
+use super::unit::{End, Files};
 use super::units::Units;
 use super::{Ended, Settings};
 use crate::cluster::terms::{self, Doing, Unopened};
@@ -134,19 +134,14 @@ pub(super) struct Joined {
 }
 
 impl Joined {
-    /// A slot has ended alone: its writes found another owner.
-    pub fn lost(&self, slot: u16) {
-        if let Some(drive) = self.instance.forget(slot) {
-            self.instance.units.lose(slot);
-            self.cluster.lost(slot, drive.term());
-        }
-    }
-
-    /// A slot has ended by a fault. Nothing else ends: another instance may have what this one lacks.
-    pub fn failed(&self, slot: u16, why: &Ended) {
-        if let Some(drive) = self.instance.forget(slot) {
-            self.instance.units.lose(slot);
-            self.cluster.failed(slot, drive.term(), &why.to_string());
+    /// A slot has ended alone: its writes found another owner, or it has failed, and another instance may have what this one
+    /// lacks.
+    pub fn ended(&self, slot: u16, end: &End) {
+        let Some(drive) = self.instance.forget(slot) else { return };
+        self.instance.units.lose(slot);
+        match end {
+            End::Lost => self.cluster.lost(slot, drive.term()),
+            End::Failed(why) => self.cluster.failed(slot, drive.term(), &why.to_string()),
         }
     }
 

@@ -52,11 +52,10 @@ impl Running {
 
     /// What ends with a slot: all, where a folder has it and it failed, and else the slot alone.
     fn ended_with(&self, slot: u16, end: End) -> Option<Ended> {
-        match (end, &self.joined) {
-            (End::Lost, Some(joined)) => joined.lost(slot),
-            (End::Lost, None) => self.at_work.lose(slot),
-            (End::Failed(why), Some(joined)) => joined.failed(slot, &why),
-            (End::Failed(why), None) => return Some(why),
+        match (&self.joined, end) {
+            (Some(joined), end) => joined.ended(slot, &end),
+            (None, End::Lost) => self.at_work.lose(slot),
+            (None, End::Failed(why)) => return Some(why),
         }
         None
     }

@@ -37,7 +37,7 @@ const HEADERS: [(HeaderName, &str); 4] = [
 ];
 
 /// What a browser asks for.
-#[derive(Debug, PartialEq, Eq)]
+#[derive(Clone, Copy, Debug, PartialEq, Eq)]
 pub enum Page {
     Overview,
     /// The same, of dead requests only how many they are: where they are not listed.
@@ -45,13 +45,6 @@ pub enum Page {
     Series,
     Style,
     Script,
-}
-
-/// Which page it is: the other one is led to.
-#[derive(Clone, Copy, PartialEq, Eq)]
-enum Place {
-    Overview,
-    Series,
 }
 
 impl Desk {
@@ -77,13 +70,13 @@ impl Desk {
     }
 }
 
-/// A whole page around what it is of.
-fn frame(place: Place, status: &Status, body: Html) -> String {
+/// A whole page around what it is of. It leads to the other one.
+fn frame(page: Page, status: &Status, body: Html) -> String {
     let mut html = Html::default();
     html.markup("<!doctype html><html lang=en><head><meta charset=utf-8><title>totxegun</title>");
     html.markup("<meta name=viewport content=\"width=device-width, initial-scale=1\"><meta name=color-scheme content=\"light dark\">");
     html.markup("<link rel=stylesheet href=page.css><link rel=icon href=\"data:,\">");
-    if place == Place::Overview {
+    if page == Page::Overview {
         html.markup(
             "<script src=page.js defer></script><noscript><meta http-equiv=refresh content=10></noscript>",
         );
@@ -93,10 +86,10 @@ fn frame(place: Place, status: &Status, body: Html) -> String {
         None => html.markup("<p id=state class=\"state good\">takes posts</p>"),
         Some(why) => html.markup("<p id=state class=\"state bad\">posts get 503: ").text(why).markup("</p>"),
     };
-    let current = |here: Place| if here == place { " aria-current=page" } else { "" };
-    html.markup("<nav><a href=\"./\"").markup(current(Place::Overview)).markup(">Overview</a>");
+    let current = |here: Page| if here == page { " aria-current=page" } else { "" };
+    html.markup("<nav><a href=\"./\"").markup(current(Page::Overview)).markup(">Overview</a>");
     html.markup("<a href=series")
-        .markup(current(Place::Series))
+        .markup(current(Page::Series))
         .markup(">Series</a></nav></header>\n<main id=main>");
     html.put(body).markup("</main><footer>totxegun ").text(&status.version);
     html.markup(", up ").text(seconds_shown(status.uptime_seconds));

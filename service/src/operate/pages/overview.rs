@@ -3,7 +3,7 @@
 use super::html::{grouped, Cell, Html, ROWS};
 use super::plot::{lines, Line};
 use super::pulse::{Rates, KEPT};
-use super::{cluster, frame, Desk, Place};
+use super::{cluster, frame, Desk, Page};
 use crate::command::values::{bytes_shown, seconds_shown, sender_shown};
 use crate::files::dead::Letter;
 use crate::log::seconds;
@@ -40,7 +40,7 @@ impl Desk {
         seen.senders(&mut html);
         seen.limits(&mut html);
         seen.dead(&mut html);
-        frame(Place::Overview, &seen.status, html)
+        frame(Page::Overview, &seen.status, html)
     }
 
     /// None where there are many, the disk is not to be asked, or a slot does not answer.

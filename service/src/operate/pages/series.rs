@@ -2,7 +2,7 @@
 
 use super::html::{grouped, Cell, Html};
 use super::plot::{bars, Bar};
-use super::{frame, Desk, Place};
+use super::{frame, Desk, Page};
 use crate::log::{seconds, utc};
 use crate::operate::totals::{identity, Totals};
 use crate::sinks::sqlite::by_hour::Hour;
@@ -50,7 +50,7 @@ impl Desk {
                 }
             },
         }
-        frame(Place::Series, &status, html)
+        frame(Page::Series, &status, html)
     }
 }
 
