@@ -72,15 +72,9 @@ pub enum Reset {
     Count,
 }
 
-// How deltas are made of cumulative points. (A text for the manual would be that of `serve` itself.)
-#[derive(Clone, Copy, Debug, Default, clap::Args)]
-#[command(next_help_heading = "Options of cumulative points")]
+#[derive(Clone, Copy, Debug, Default)]
 pub struct Options {
-    /// Which first points of series count from their start; of others what they have already is left out
-    #[arg(long, env = "TOTXEGUN_FIRST", value_name = "WHICH", default_value = "auto", value_enum)]
     pub first: First,
-    /// What a point is that has less than the one before it, of the same start
-    #[arg(long, env = "TOTXEGUN_RESET", value_name = "WHAT", default_value = "refuse", value_enum)]
     pub reset: Reset,
 }
 
