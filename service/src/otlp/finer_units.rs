@@ -13,7 +13,6 @@ mod rounded;
 mod scale;
 mod units;
 
-pub(super) use plan::changes;
 pub(super) use rewrite::rewritten;
 pub(super) use rounded::{shown_of, RoundedPoint, ShownSeries};
 pub use rounded::{Rounded, Rounding};

@@ -339,9 +339,9 @@ impl<'a, 'r> Writer<'a, 'r> {
                 self.out.drop_attribute(from);
             }
         }
-        match std::ptr::eq(of, &KEY_VALUE) {
-            true => self.out.end_attributes(list),
-            false => self.out.text.push(b']'),
+        self.out.text.push(b']');
+        if std::ptr::eq(of, &KEY_VALUE) {
+            self.out.bound_attributes(list);
         }
         Ok(())
     }

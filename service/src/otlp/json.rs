@@ -5,6 +5,8 @@
 
 mod parser;
 
+pub(super) use parser::escaped;
+
 use std::borrow::Cow;
 
 /// How deep containers may be nested: the book reads no more.

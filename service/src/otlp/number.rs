@@ -52,6 +52,11 @@ pub fn mapped_double(value: Value<'_>) -> Option<f64> {
     }
 }
 
+/// Whether a histogram may have it as a bound or a sum.
+pub fn is_whole_double(whole: &i128) -> bool {
+    whole.unsigned_abs() <= u128::from(MAX_WHOLE_DOUBLE)
+}
+
 /// The double as the whole number that it is, if the book takes it.
 pub fn whole_double(double: f64) -> Option<i64> {
     let whole = double as i64; // the nearest one, 0 of what is no number

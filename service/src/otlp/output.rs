@@ -9,7 +9,7 @@ use std::borrow::Cow;
 /// delivered with all that identifies it: a resource of megabytes that thousands of points share would be gigabytes, and a
 /// longest post's series alone would fit into no body that tells it to a book.
 pub const LONGEST_LIST: usize = 16 << 10;
-/// A list that came in no more bytes is not too long either once it is written.
+/// A list in JSON that came in no more bytes is not too long either.
 pub const SHORT_LIST: usize = LONGEST_LIST / 2;
 
 /// As OTLP numbers temporalities.
@@ -131,10 +131,9 @@ impl<'r> Output<'r> {
         self.quoted(unit.as_bytes());
     }
 
-    /// Ends an attribute list that begins at `from`. In the place of one that is too long is a text, so that what it
+    /// Of an attribute list that begins at `from`, and is whole. In the place of one that is too long is a text, so that what it
     /// identifies is foreign.
-    pub fn end_attributes(&mut self, from: usize) {
-        self.text.push(b']');
+    pub fn bound_attributes(&mut self, from: usize) {
         if self.text.len() - from > LONGEST_LIST {
             self.text.truncate(from);
             self.quoted(format!("a list of over {LONGEST_LIST} bytes").as_bytes());

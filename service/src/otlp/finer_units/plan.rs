@@ -1,5 +1,5 @@
 //! In which unit a metric of a request is taken: by a rule for its unit, or as `units` decides. Its request is in the book's
-//! form, or in another of which nothing is said here.
+//! form.
 
 use super::units::{Decided, Unit};
 use super::{FinerUnits, Rule};
@@ -130,22 +130,6 @@ fn plan<'r>(
         Some(rule) if wanted != unit => Taken::In(rule),
         _ => Taken::Whole(unit),
     })
-}
-
-/// Whether a metric is taken otherwise than it is, or has something that can't be taken.
-pub fn changes(finer_units: &FinerUnits, metric: Value<'_>, decided: &mut Decided) -> bool {
-    let is_about = match metric.member("unit") {
-        None => finer_units.has_no_unit(),
-        Some(unit) => unit.text().is_some_and(|unit| finer_units.is_about(&unit)),
-    };
-    is_about
-        && match taken(finer_units, metric, decided) {
-            Taken::AsItIs => false,
-            Taken::In(rule) if !rule.is_same() => true,
-            Taken::Whole(_) | Taken::In(_) => {
-                Delta::of(finer_units, metric).is_some_and(|delta| delta.has_doubles())
-            }
-        }
 }
 
 /// The first double of a metric that is taken in whole numbers alone, and what it is.

@@ -9,7 +9,7 @@ use super::rounded::{resource_shown, rounded, Mark};
 use super::units::Decided;
 use super::{FinerUnits, Rounded, Rule};
 use crate::otlp::json::{write_text, Document, NotJson, Value};
-use crate::otlp::number::{double_shown, MAX_WHOLE_DOUBLE};
+use crate::otlp::number::{double_shown, is_whole_double, MAX_WHOLE_DOUBLE};
 use crate::otlp::series::{is_monotonic, name_shown};
 use std::borrow::Cow;
 use std::cell::OnceCell;
@@ -247,9 +247,4 @@ fn shown(value: Value<'_>) -> Option<String> {
 /// Whether a sum's point may have it.
 pub(super) fn is_word(whole: &i128) -> bool {
     whole.unsigned_abs() <= i64::MAX as u128
-}
-
-/// Whether a histogram may have it as a bound or a sum.
-pub(super) fn is_whole_double(whole: &i128) -> bool {
-    whole.unsigned_abs() <= u128::from(MAX_WHOLE_DOUBLE)
 }

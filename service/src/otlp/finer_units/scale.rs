@@ -2,10 +2,10 @@
 
 use super::decimal::Decimal;
 use super::plan::{decided, Delta, Taken};
-use super::rewrite::{is_whole_double, is_word};
+use super::rewrite::is_word;
 use super::FinerUnits;
 use crate::otlp::json::Document;
-use crate::otlp::number::MAX_WHOLE_DOUBLE;
+use crate::otlp::number::{is_whole_double, MAX_WHOLE_DOUBLE};
 use crate::otlp::series::{is_monotonic, metrics};
 use std::sync::Arc;
 
