@@ -20,11 +20,11 @@ use super::{Reading, Rounded};
 use crate::files::Points;
 use bytes::Bytes;
 use identity::{Learn, Learner};
-use levels::{Levels, LookupOnly};
+use levels::Levels;
 use std::cell::Cell;
 use std::sync::atomic::{AtomicBool, Ordering::Relaxed};
 use std::sync::{Arc, PoisonError, RwLock};
-use walk::{Find, Stop, Walk};
+use walk::Walk;
 
 /// What naming a series said.
 #[derive(Clone, Copy, Debug, PartialEq, Eq)]
@@ -90,15 +90,7 @@ impl Series {
         if reading.finer_units.has_no_unit() {
             return None; // all metrics have a unit of `--whole`
         }
-        let known = {
-            let levels = self.levels.read().unwrap_or_else(PoisonError::into_inner); // each change of it is whole
-            walk(LookupOnly(&levels), reading, body)
-        };
-        let read = match known {
-            Err(Stop::Unknown) if !self.is_full() => walk(self.learner(reading, &learn), reading, body),
-            known => known,
-        };
-        read.ok()
+        Walk::new(&self.learner(reading, &learn), body.len()).request(body).ok()
     }
 
     /// The points of a request in the book's form, also those that are cumulative; none where the book refuses it whole.
@@ -115,10 +107,6 @@ impl Series {
         let left = Cell::new(identity::LEARNT_AT_ONCE);
         Learner { levels: &self.levels, reading, is_full: &self.is_full, learn, left }
     }
-}
-
-fn walk(find: impl Find, reading: &Reading, body: &[u8]) -> Result<Numbered, Stop> {
-    Walk::new(reading, find, body.len()).request(body)
 }
 
 #[cfg(test)]

@@ -1,7 +1,6 @@
 //! What is known by its bytes: resources, in each its scopes, in each its metrics, in a histogram its bounds, and then the
 //! points' attributes, which have the number of their series. Beside them the keys of series, which have numbers too.
 
-use super::walk::{Find, Own, Path, Stop};
 use crate::otlp::finer_units::{Scale, ShownSeries};
 use ahash::RandomState;
 use std::collections::HashMap;
@@ -136,39 +135,5 @@ impl Levels {
     pub fn put(&mut self, within: Level, bytes: &[u8], number: u32) -> u32 {
         let known = self.all[within as usize].entry(bytes.into());
         *known.or_insert(number)
-    }
-}
-
-/// Who learns nothing.
-pub struct LookupOnly<'l>(pub &'l Levels);
-
-impl Find for LookupOnly<'_> {
-    #[inline]
-    fn top(&mut self, decides: u64) -> Result<Level, Stop> {
-        self.0.top(decides).ok_or(Stop::Unknown)
-    }
-
-    #[inline]
-    fn level(&mut self, _: &Path<'_>, within: Level, bytes: &[u8]) -> Result<Level, Stop> {
-        self.0.find(within, bytes).ok_or(Stop::Unknown)
-    }
-
-    #[inline]
-    fn bounds(&mut self, within: Level, bounds: &[u8]) -> Result<Level, Stop> {
-        self.0.find(within, bounds).ok_or(Stop::Unknown)
-    }
-
-    #[inline]
-    fn series(&mut self, _: &Path<'_>, within: Level, own: Own<'_>, _: Option<&Scale>) -> Result<u32, Stop> {
-        self.0.find(within, own.attributes).ok_or(Stop::Unknown)
-    }
-
-    #[inline]
-    fn scale(&self, level: Level) -> Option<Arc<Scale>> {
-        self.0.scale(level)
-    }
-
-    fn shown(&self, number: u32) -> Option<Arc<ShownSeries>> {
-        self.0.shown(number)
     }
 }

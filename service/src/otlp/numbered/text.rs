@@ -2,7 +2,7 @@
 
 use super::identity::Learner;
 use super::levels::{FOREIGN, KEYS};
-use super::walk::Stop;
+use super::walk::Slow;
 use super::{NotNamed, Numbered};
 use crate::otlp::series::{request_of, visit_body, Profile, Seen, SeriesKey, Temporality};
 
@@ -17,7 +17,7 @@ pub fn read(learner: &Learner<'_>, text: &[u8]) -> Result<Option<Numbered>, NotN
     Ok(whole.map(|()| read))
 }
 
-fn add(read: &mut Numbered, learner: &Learner<'_>, seen: &Seen<'_, '_>) -> Result<(), Stop> {
+fn add(read: &mut Numbered, learner: &Learner<'_>, seen: &Seen<'_, '_>) -> Result<(), Slow> {
     let Ok(temporality) = seen.found else {
         read.foreign += 1;
         return Ok(());
@@ -34,11 +34,11 @@ fn add(read: &mut Numbered, learner: &Learner<'_>, seen: &Seen<'_, '_>) -> Resul
     Ok(())
 }
 
-fn number(learner: &Learner<'_>, key: &str) -> Result<u32, Stop> {
+fn number(learner: &Learner<'_>, key: &str) -> Result<u32, Slow> {
     if let Some(number) = learner.known().find(KEYS, key.as_bytes()) {
         return Ok(number);
     }
     let end = 2; // of a point from 1 on
-    let request = request_of(&SeriesKey(key.into()), end).map_err(|_| Stop::Slow)?;
+    let request = request_of(&SeriesKey(key.into()), end).map_err(|_| Slow)?;
     learner.name(KEYS, key.as_bytes(), request.into_bytes(), 0)
 }
