@@ -8,10 +8,11 @@ mod send;
 use crate::log::RateLimit;
 use crate::metrics::Metrics;
 use crate::otlp::{Encoding, Outside};
+use crate::work::locked;
 use bytes::Bytes;
 use send::Receiver;
 use std::collections::VecDeque;
-use std::sync::{Arc, Mutex, MutexGuard, PoisonError};
+use std::sync::{Arc, Mutex};
 use std::time::Duration;
 use tokio::sync::Notify;
 
@@ -84,7 +85,7 @@ impl Pass {
     /// Waits for nothing.
     pub fn hand_on(&self, outside: Outside) {
         let points = outside.points;
-        match self.lock().put(outside) {
+        match locked(&self.waiting).put(outside) {
             true => self.arrived.notify_one(),
             false => self.count(points, Passed::Dropped, "too much waits already"),
         }
@@ -93,7 +94,7 @@ impl Pass {
     /// Sends what waits, for ever.
     pub async fn run(self: Arc<Self>) {
         loop {
-            let next = self.lock().take();
+            let next = locked(&self.waiting).take();
             let Some(next) = next else {
                 self.arrived.notified().await; // a call that came between is kept for this one
                 continue;
@@ -122,10 +123,6 @@ impl Pass {
                  has how many there are"
             );
         }
-    }
-
-    fn lock(&self) -> MutexGuard<'_, Waiting> {
-        self.waiting.lock().unwrap_or_else(PoisonError::into_inner) // each change of it is whole
     }
 }
 

@@ -9,6 +9,7 @@ pub use in_order::{in_order, WorkQueue};
 
 use std::future::{poll_fn, Future};
 use std::pin::pin;
+use std::sync::{Mutex, MutexGuard, PoisonError};
 use std::task::Poll;
 use std::thread;
 use std::time::Duration;
@@ -63,6 +64,11 @@ pub async fn within<T>(time: Duration, future: impl Future<Output = T>) -> Optio
         Poll::Ready(done) => Some(done),
         Poll::Pending => Box::pin(tokio::time::timeout(time, future)).await.ok(),
     }
+}
+
+/// The lock. A panic ends the process, so nobody finds what another has left half changed; in a test what is left is sound.
+pub fn locked<T>(mutex: &Mutex<T>) -> MutexGuard<'_, T> {
+    mutex.lock().unwrap_or_else(PoisonError::into_inner)
 }
 
 /// Goes on once all that is ready on this thread has had its turn.

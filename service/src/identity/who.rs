@@ -4,8 +4,9 @@ use super::{Sender, Stranger, Tokens};
 use crate::otlp::{self, NO_NAME};
 use crate::reloaded::Reloaded;
 use crate::tls::{Certificate, Contexts, Tls};
+use crate::work::locked;
 use std::net::IpAddr;
-use std::sync::{Arc, Mutex, PoisonError};
+use std::sync::{Arc, Mutex};
 use std::time::{SystemTime, UNIX_EPOCH};
 
 /// Who posts on a connection.
@@ -174,7 +175,7 @@ impl Certified {
     /// since. A chain is looked at once for each of that: it takes longer than a post, on the thread of others' posts.
     fn is_believed(&self) -> bool {
         let (now, contexts) = (now(), self.tls.contexts());
-        let mut judged = self.judged.lock().unwrap_or_else(PoisonError::into_inner); // any value of it is sound
+        let mut judged = locked(&self.judged);
         if now > judged.until || !Arc::ptr_eq(&judged.by, &contexts) {
             let is_believed = contexts.believes(&self.chain);
             *judged = Judged { by: contexts, is_believed, until: next_end(&self.chain, now) };

@@ -3,8 +3,9 @@
 use crate::log::shown;
 use crate::metrics::reason_of;
 use crate::otlp::Outcome;
+use crate::work::locked;
 use std::collections::{BTreeMap, HashMap};
-use std::sync::{Mutex, PoisonError};
+use std::sync::Mutex;
 use std::time::{SystemTime, UNIX_EPOCH};
 
 /// So many senders are known. Where there is another one, those that posted last are kept, so many.
@@ -48,7 +49,7 @@ impl SenderActivity {
 
     fn note_at(&self, sender: &str, outcome: &Outcome, now: u64) -> Option<&'static str> {
         let reason = reason_of(outcome);
-        let mut all = self.lock();
+        let mut all = locked(&self.0);
         let of = match all.get_mut(sender) {
             Some(of) => of,
             None => {
@@ -72,7 +73,7 @@ impl SenderActivity {
 
     /// Those that posted last, the last one first.
     pub fn last(&self, most: usize) -> Vec<(String, OfSender)> {
-        let all = self.lock();
+        let all = locked(&self.0);
         let mut last: Vec<(&String, &OfSender)> = all.iter().collect();
         last.sort_by(|(a, of_a), (b, of_b)| of_b.last.cmp(&of_a.last).then(a.cmp(b)));
         last.truncate(most);
@@ -81,11 +82,7 @@ impl SenderActivity {
 
     /// How many senders are known.
     pub fn count(&self) -> usize {
-        self.lock().len()
-    }
-
-    fn lock(&self) -> std::sync::MutexGuard<'_, HashMap<String, OfSender>> {
-        self.0.lock().unwrap_or_else(PoisonError::into_inner) // counts are sound at any time
+        locked(&self.0).len()
     }
 }
 

@@ -12,19 +12,18 @@ mod texts;
 pub use activity::{OfReason, OfSender, SenderActivity};
 pub(crate) use texts::SERIES_SHOWN;
 
-use crate::core;
 use crate::intake::{Hears, Taker};
 use crate::log::shown;
 use crate::metrics::{reason_of, Metrics};
 use crate::otlp::series::SeriesKey;
-use crate::otlp::{foreign_points, point_at, Cause, Causes, Original, Outcome, Profile, Reading, NO_NAME};
+use crate::otlp::{foreign_points, point_at, Cause, Causes, Original, Outcome, Profile, NO_NAME};
 use crate::pass::Pass;
-use crate::slot::{is_sender, ByNumber, Request, Source};
-use crate::work::Readers;
+use crate::slot::{is_sender, Request, Slot, Source};
+use crate::work::{locked, Readers};
 use bytes::Bytes;
 use logged::Logged;
 use std::sync::atomic::{AtomicBool, Ordering::Relaxed};
-use std::sync::{Arc, Mutex, PoisonError};
+use std::sync::{Arc, Mutex};
 use texts::{late_at, of_late, of_other_writer, of_twice, other_writer, place_of, reason};
 
 /// How many senders, series and refusals are remembered as told.
@@ -204,7 +203,7 @@ impl Reporter {
         let (Some(reason), Some(message)) = (self.activity.note(sender, outcome), outcome.refusal()) else {
             return;
         };
-        let (mut logged, status) = (self.logged(), outcome.status());
+        let (mut logged, status) = (locked(&self.logged), outcome.status());
         if status < 500 && logged.refusals < REMEMBERED {
             logged.refusals += 1;
             drop(logged);
@@ -221,7 +220,7 @@ impl Reporter {
         if off.points() == 0 {
             return;
         }
-        let mut logged = self.logged();
+        let mut logged = locked(&self.logged);
         if logged.clocks.len() < REMEMBERED && logged.clocks.insert(sender.to_string()) {
             drop(logged);
             let (points, reason) = (off.points(), off.to_string());
@@ -229,13 +228,9 @@ impl Reporter {
         }
     }
 
-    fn logged(&self) -> std::sync::MutexGuard<'_, Logged> {
-        self.logged.lock().unwrap_or_else(PoisonError::into_inner) // sets are sound at any time
-    }
-
     /// Whether the address of who has no name is one of those that are remembered.
     fn is_known_stranger(&self, address: &str) -> bool {
-        let mut logged = self.logged();
+        let mut logged = locked(&self.logged);
         if logged.strangers.len() < STRANGERS {
             logged.strangers.insert(address.to_string());
         }
@@ -246,7 +241,7 @@ impl Reporter {
         if self.options.log_foreign == 0 {
             return false;
         }
-        let logged = self.logged();
+        let logged = locked(&self.logged);
         match logged.foreign.get(sender) {
             None => logged.foreign.len() < REMEMBERED,
             Some(of) => of.reasons.len() < self.options.log_foreign && of.read < MOST_READ,
@@ -256,7 +251,7 @@ impl Reporter {
     /// Nobody who posts waits while a body is read: one at a time is.
     fn tell_reasons(&self, sender: &str, body: &Bytes) {
         let known = |logged: &Logged| logged.foreign.get(sender).map(|of| of.reasons.clone());
-        let mut reasons = known(&self.logged()).unwrap_or_default();
+        let mut reasons = known(&locked(&self.logged)).unwrap_or_default();
         foreign_points(body, self.options.profile, |point| {
             let is_expected = |cause| self.options.expected.contains(&cause);
             if point.cause.is_some_and(is_expected) || (self.pass.is_some() && point.is_passed()) {
@@ -268,7 +263,7 @@ impl Reporter {
             }
             reasons.len() >= self.options.log_foreign
         });
-        let mut logged = self.logged();
+        let mut logged = locked(&self.logged);
         let of = logged.foreign.entry(sender.to_string()).or_default();
         of.read += 1;
         of.reasons = reasons;
@@ -276,7 +271,7 @@ impl Reporter {
 
     fn tell_owner(&self, sender: &str, series: SeriesKey, owner: &Owner) {
         {
-            let logged = self.logged();
+            let logged = locked(&self.logged);
             if logged.series.contains(&series) || logged.series.len() >= REMEMBERED {
                 return;
             }
@@ -286,21 +281,13 @@ impl Reporter {
         };
         let line = other_writer(sender, &owner, &series);
         tracing::warn!(sender, owner, series = shown(&series.0, SERIES_SHOWN), "{line}");
-        self.logged().series.insert(series);
+        locked(&self.logged).series.insert(series);
     }
 }
 
 impl<T: Taker> Taker for Reported<T> {
-    fn reading<'r>(&'r self, of_all: &'r Arc<Reading>) -> &'r Arc<Reading> {
-        self.taker.reading(of_all)
-    }
-
-    fn of_protobuf(&self, body: &Bytes, reading: &Arc<Reading>) -> Option<Request> {
-        self.taker.of_protobuf(body, reading)
-    }
-
-    fn numbered_text(&self, text: &Bytes) -> Result<Option<ByNumber>, core::Refused> {
-        self.taker.numbered_text(text)
+    fn slot(&self) -> Option<&Slot> {
+        self.taker.slot()
     }
 
     fn wants_originals(&self) -> bool {
