@@ -7,7 +7,7 @@
 mod edge;
 mod view;
 
-use edge::{Edge, Number};
+use edge::Edge;
 use std::fmt::Write;
 use std::str::FromStr;
 use std::sync::Arc;
@@ -50,14 +50,12 @@ impl FromStr for Bound {
     type Err = String;
 
     fn from_str(text: &str) -> Result<Bound, String> {
-        let number: Number = text.parse()?;
-        let edge = match number.is_zero() {
-            true => None,
-            false => {
-                Some(Edge::of(number).ok_or_else(|| format!("{text} is too near to an edge of a bucket"))?)
-            }
+        let number = edge::number(text)?;
+        let edge = match number.numerator {
+            0 => None,
+            _ => Some(Edge::of(number).ok_or_else(|| format!("{text} is too near to an edge of a bucket"))?),
         };
-        Ok(Bound { double: number.double(), is_double: number.is_double(), edge })
+        Ok(Bound { double: edge::double(number), is_double: edge::is_double(number), edge })
     }
 }
 

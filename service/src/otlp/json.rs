@@ -3,8 +3,10 @@
 //! A text is read once into a list of places, 12 bytes for each value and name, and stays where it is. So the
 //! memory for a text is a small multiple of it whatever it says, and to pass over a value costs nothing.
 
+mod edited;
 mod parser;
 
+pub(super) use edited::Edited;
 pub(super) use parser::escaped;
 
 use std::borrow::Cow;

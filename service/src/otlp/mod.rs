@@ -15,6 +15,7 @@ mod answers;
 mod causes;
 mod clock;
 mod combined_outcome;
+mod decimal;
 mod explain;
 mod exponential;
 mod finer_units;

@@ -1,5 +1,6 @@
 //! Numbers: what the book reads as a whole number, and what the protobuf JSON mapping does.
 
+use super::decimal::Decimal;
 use super::json::{Document, Value};
 
 /// A whole double is exact up to here, and the book takes none beyond.
@@ -81,29 +82,6 @@ fn is_number(text: &str) -> bool {
 
 /// The exact value of a JSON number, if it is whole and below 2^64 in size.
 fn whole(number: &str) -> Option<i128> {
-    let (sign, size) = match number.strip_prefix('-') {
-        Some(size) => (-1, size),
-        None => (1, number),
-    };
-    let (digits, exponent) = size.split_once(['e', 'E']).unwrap_or((size, "0"));
-    let (before, after) = digits.split_once('.').unwrap_or((digits, ""));
-    let significant = || before.bytes().chain(after.bytes());
-    if significant().all(|digit| digit == b'0') {
-        return Some(0);
-    }
-    let exponent: i64 = exponent.parse().ok()?;
-    // How many of the digits are before the point once the exponent is applied.
-    let kept = exponent.checked_add(i64::try_from(before.len()).ok()?)?;
-    let written = usize::try_from(kept).ok()?;
-    if significant().skip(written).any(|digit| digit != b'0') {
-        return None;
-    }
-    let mut whole: i128 = 0;
-    for digit in significant().chain(std::iter::repeat(b'0')).take(written) {
-        whole = whole * 10 + i128::from(digit - b'0');
-        if whole > i128::from(u64::MAX) {
-            return None;
-        }
-    }
-    Some(sign * whole)
+    let whole = Decimal::times(number, 1)?.whole()?;
+    (whole.unsigned_abs() <= u128::from(u64::MAX)).then_some(whole)
 }

@@ -3,12 +3,12 @@
 //! A point that can't be had so stays foreign: what does not fit becomes a text with its unit, which no reader takes
 //! for a number. Nothing is changed in a metric that is foreign as a whole, but its unit.
 
-use super::decimal::Decimal;
 use super::plan::{first_double, taken, Taken, DATA};
 use super::rounded::{resource_shown, rounded, Mark};
 use super::units::Decided;
 use super::{FinerUnits, Rounded, Rule};
-use crate::otlp::json::{write_text, Document, NotJson, Value};
+use crate::otlp::decimal::Decimal;
+use crate::otlp::json::{write_text, Document, Edited, NotJson, Value};
 use crate::otlp::number::{double_shown, is_whole_double, MAX_WHOLE_DOUBLE};
 use crate::otlp::series::{is_monotonic, name_shown};
 use std::borrow::Cow;
@@ -23,26 +23,22 @@ const AS_DOUBLE: &str = "\"asDouble\":";
 pub fn rewritten(text: &[u8], finer_units: &FinerUnits) -> Result<(String, Rounded), NotJson> {
     let document = Document::parse(text)?;
     let mut rewriting = Rewriting {
-        text: document.text(),
+        edited: Edited::of(document.text()),
         finer_units,
-        copied: 0,
-        out: String::with_capacity(text.len() + text.len() / 8),
         marks: Vec::new(),
         unfit: None,
         decided: Decided::default(),
     };
     rewriting.request(&document);
-    let Rewriting { out, marks, unfit, decided, .. } = rewriting;
+    let Rewriting { edited, marks, unfit, decided, .. } = rewriting;
+    let out = edited.finished();
     let rounded = rounded(&out, marks, finer_units.profile)?;
     Ok((out, Rounded { unfit, decided, ..rounded }))
 }
 
 struct Rewriting<'r> {
-    text: &'r str,
+    edited: Edited<'r>,
     finer_units: &'r FinerUnits,
-    /// How much of the text is done.
-    copied: usize,
-    out: String,
     marks: Vec<Mark<'r>>,
     /// The first point that stays foreign though its unit has a rule, in words.
     unfit: Option<String>,
@@ -69,9 +65,6 @@ impl Resource<'_> {
     }
 }
 
-/// A part of the text, and what it becomes.
-type Edit = (Range<usize>, String);
-
 impl<'r> Rewriting<'r> {
     fn request(&mut self, document: &Document<'_>) {
         for element in document.root().list("resourceMetrics") {
@@ -80,13 +73,10 @@ impl<'r> Rewriting<'r> {
                 self.metric(metric, &resource);
             }
         }
-        self.out.push_str(&self.text[self.copied..]);
     }
 
-    fn put(&mut self, (range, new): Edit) {
-        self.out.push_str(&self.text[self.copied..range.start]);
-        self.out.push_str(&new);
-        self.copied = range.end;
+    fn put(&mut self, place: Range<usize>, new: &str) {
+        self.edited.at(place).push_str(new);
     }
 
     fn metric<'d>(&mut self, value: Value<'d>, resource: &'d Resource<'d>) {
@@ -99,11 +89,7 @@ impl<'r> Rewriting<'r> {
         let there = value.named(DATA).into_iter().flatten().flatten().count();
         for (name, part) in value.members().into_iter().flatten() {
             match &*name {
-                "unit" => {
-                    let mut unit = String::new();
-                    write_text(&mut unit, &rule.to);
-                    self.put((part.range(), unit));
-                }
+                "unit" => write_text(self.edited.at(part.range()), &rule.to),
                 "sum" if there == 1 && self.finer_units.adds_up(part) => self.sum(&metric, part),
                 "histogram" if there == 1 && self.finer_units.adds_up(part) => {
                     for point in part.list("dataPoints") {
@@ -133,7 +119,7 @@ impl<'r> Rewriting<'r> {
         let Some(text) = digits(value) else { return };
         let product = Decimal::times(&text, metric.rule.factor).and_then(|product| product.whole());
         match product.filter(is_word) {
-            Some(product) => self.put((value.range(), format!("\"{product}\""))),
+            Some(product) => self.put(value.range(), &format!("\"{product}\"")),
             None => self.unfit(metric, value, "the value"),
         }
     }
@@ -143,7 +129,7 @@ impl<'r> Rewriting<'r> {
         match product.map(|product| product.nearest()).filter(|near| is_word(&near.whole)) {
             Some(near) => {
                 let range = value.range().start - AS_DOUBLE.len()..value.range().end;
-                self.put((range, format!("\"asInt\":\"{}\"", near.whole)));
+                self.put(range, &format!("\"asInt\":\"{}\"", near.whole));
                 self.mark(metric, near.by);
             }
             None => self.note(metric, value, "the value"),
@@ -173,7 +159,7 @@ impl<'r> Rewriting<'r> {
             }
         }
         edits.sort_by_key(|edit| edit.0.start);
-        edits.into_iter().for_each(|edit| self.put(edit));
+        edits.into_iter().for_each(|(place, new)| self.put(place, &new));
         self.mark(metric, by);
     }
 
@@ -181,7 +167,7 @@ impl<'r> Rewriting<'r> {
     fn mark(&mut self, metric: &Metric<'r, '_>, by: f64) {
         if by > 0.0 {
             self.marks.push(Mark {
-                at: self.out.len() - 1,
+                at: self.edited.out.len() - 1,
                 by,
                 rule: metric.rule,
                 resource: metric.resource.shown(),
@@ -193,9 +179,8 @@ impl<'r> Rewriting<'r> {
     fn unfit(&mut self, metric: &Metric<'r, '_>, value: Value<'_>, what: &str) {
         self.note(metric, value, what);
         if let Some(shown) = shown(value) {
-            let mut text = String::new();
-            write_text(&mut text, format!("{shown} {}", metric.rule.from).trim_end());
-            self.put((value.range(), text));
+            let text = format!("{shown} {}", metric.rule.from);
+            write_text(self.edited.at(value.range()), text.trim_end());
         }
     }
 

@@ -1,9 +1,9 @@
 //! The numbers of a metric's points where these are read by number: as `rewrite` has them in the request's text.
 
-use super::decimal::Decimal;
 use super::plan::{decided, Delta, Taken};
 use super::rewrite::is_word;
 use super::FinerUnits;
+use crate::otlp::decimal::Decimal;
 use crate::otlp::json::Document;
 use crate::otlp::number::{is_whole_double, MAX_WHOLE_DOUBLE};
 use crate::otlp::series::{is_monotonic, metrics};

@@ -56,7 +56,7 @@ fn put_list<'d>(
 }
 
 /// Puts an object with what `each` puts of its members, but for their names; of some that may be nothing.
-pub fn put_members<'d>(
+fn put_members<'d>(
     out: &mut String,
     object: Value<'d>,
     mut each: impl FnMut(&mut String, &str, Value<'d>) -> Option<()>,
