@@ -1,7 +1,7 @@
 //! Numbers: what the book reads as a whole number, and what the protobuf JSON mapping does.
 
 use super::decimal::Decimal;
-use super::json::{Document, Value};
+use super::json::Value;
 
 /// A whole double is exact up to here, and the book takes none beyond.
 pub const MAX_WHOLE_DOUBLE: u64 = 1 << 53;
@@ -48,7 +48,7 @@ pub fn mapped_double(value: Value<'_>) -> Option<f64> {
         "NaN" => Some(f64::NAN),
         "Infinity" => Some(f64::INFINITY),
         "-Infinity" => Some(f64::NEG_INFINITY),
-        _ if is_number(&text) => text.parse().ok(),
+        _ if is_number(&text) => text.parse().ok().filter(|double: &f64| double.is_finite()),
         _ => None,
     }
 }
@@ -75,9 +75,12 @@ pub fn double_shown(double: f64) -> String {
 
 /// Whether a text is a JSON number and no more.
 fn is_number(text: &str) -> bool {
-    text.starts_with(|first: char| first == '-' || first.is_ascii_digit())
-        && text.ends_with(|last: char| last.is_ascii_digit())
-        && Document::parse(text.as_bytes()).is_ok()
+    let size = text.strip_prefix('-').unwrap_or(text);
+    let (digits, exponent) = size.split_once(['e', 'E']).unwrap_or((size, "0"));
+    let (before, after) = digits.split_once('.').unwrap_or((digits, "0"));
+    let exponent = exponent.strip_prefix(['+', '-']).unwrap_or(exponent);
+    let are_digits = |part: &str| !part.is_empty() && part.bytes().all(|byte| byte.is_ascii_digit());
+    [before, after, exponent].into_iter().all(are_digits) && (before.len() == 1 || !before.starts_with('0'))
 }
 
 /// The exact value of a JSON number, if it is whole and below 2^64 in size.

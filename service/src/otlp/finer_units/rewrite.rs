@@ -9,7 +9,7 @@ use super::units::Decided;
 use super::{FinerUnits, Rounded, Rule};
 use crate::otlp::decimal::Decimal;
 use crate::otlp::json::{write_text, Document, Edited, NotJson, Value};
-use crate::otlp::number::{double_shown, is_whole_double, MAX_WHOLE_DOUBLE};
+use crate::otlp::number::{book_whole, double_shown, is_whole_double, mapped_double, MAX_WHOLE_DOUBLE};
 use crate::otlp::series::{is_monotonic, name_shown};
 use std::borrow::Cow;
 use std::cell::OnceCell;
@@ -116,9 +116,8 @@ impl<'r> Rewriting<'r> {
         if metric.rule.is_same() {
             return;
         }
-        let Some(text) = digits(value) else { return };
-        let product = Decimal::times(&text, metric.rule.factor).and_then(|product| product.whole());
-        match product.filter(is_word) {
+        let Some(whole) = book_whole(value) else { return };
+        match Some(whole * i128::from(metric.rule.factor)).filter(is_word) {
             Some(product) => self.put(value.range(), &format!("\"{product}\"")),
             None => self.unfit(metric, value, "the value"),
         }
@@ -207,26 +206,26 @@ impl<'r> Rewriting<'r> {
     }
 }
 
-/// A number or a text, which may have one.
-fn digits(value: Value<'_>) -> Option<Cow<'_, str>> {
-    value.number().map(Cow::Borrowed).or_else(|| value.text())
+/// A double, as it is written too. What is no value of its field is none, however it looks.
+fn double(value: Value<'_>) -> Option<(Cow<'_, str>, f64)> {
+    let double = mapped_double(value)?;
+    Some((value.number().map(Cow::Borrowed).or_else(|| value.text())?, double))
 }
 
 /// A double of at most 2^53 in size, times the factor. Over that a shortest decimal is not the double's own value.
 fn exact(value: Value<'_>, rule: &Rule) -> Option<Decimal> {
-    let text = digits(value)?;
-    let double: f64 = text.parse().ok()?;
+    let (text, double) = double(value)?;
     let is_exact = double.abs() <= MAX_WHOLE_DOUBLE as f64;
     is_exact.then(|| Decimal::times(&text, rule.factor)).flatten()
 }
 
 /// A value as people write it; `None` where it was no number.
 fn shown(value: Value<'_>) -> Option<String> {
-    let text = digits(value)?;
-    match text.parse::<i128>() {
-        Ok(_) => Some(text.into_owned()),
-        Err(_) => Some(double_shown(text.parse().ok()?)),
-    }
+    let (text, double) = double(value)?;
+    Some(match text.parse::<i128>() {
+        Ok(_) => text.into_owned(),
+        Err(_) => double_shown(double),
+    })
 }
 
 /// Whether a sum's point may have it.
