@@ -1,6 +1,6 @@
 //! What a call is answered: a message and a status behind it, or a status alone.
 
-use crate::otlp::{Encoding, Outcome};
+use crate::otlp::{Detail, Encoding, Outcome, Status};
 use bytes::Bytes;
 use hyper::header::{HeaderMap, HeaderName, HeaderValue, CONTENT_TYPE};
 use hyper::{Body, Response};
@@ -9,26 +9,6 @@ use prost::Message;
 
 /// What is not written as it is in a status' message.
 const ESCAPED: &AsciiSet = &CONTROLS.add(b'%');
-
-/// `google.rpc.Status` with its details.
-#[derive(Clone, PartialEq, Message)]
-pub(super) struct Status {
-    #[prost(int32, tag = "1")]
-    pub code: i32,
-    #[prost(string, tag = "2")]
-    pub message: String,
-    #[prost(message, repeated, tag = "3")]
-    pub details: Vec<Any>,
-}
-
-/// `google.protobuf.Any`.
-#[derive(Clone, PartialEq, Message)]
-pub(super) struct Any {
-    #[prost(string, tag = "1")]
-    pub type_url: String,
-    #[prost(bytes = "vec", tag = "2")]
-    pub value: Vec<u8>,
-}
 
 /// `google.rpc.RetryInfo`.
 #[derive(Clone, PartialEq, Message)]
@@ -105,7 +85,7 @@ fn put_refusal(headers: &mut HeaderMap, outcome: &Outcome, message: &str) {
     if let Some(seconds) = outcome.again_in() {
         let seconds = i64::try_from(seconds).unwrap_or(i64::MAX);
         let retry_delay = Some(Duration { seconds });
-        let details = vec![Any {
+        let details = vec![Detail {
             type_url: "type.googleapis.com/google.rpc.RetryInfo".into(),
             value: RetryInfo { retry_delay }.encode_to_vec(),
         }];

@@ -1,13 +1,13 @@
 //! Who the sender of a connection is, and of each of its requests.
 
 use super::{Sender, Stranger, Tokens};
+use crate::log::seconds;
 use crate::otlp::{self, NO_NAME};
 use crate::reloaded::Reloaded;
 use crate::tls::{Certificate, Contexts, Tls};
 use crate::work::locked;
 use std::net::IpAddr;
 use std::sync::{Arc, Mutex};
-use std::time::{SystemTime, UNIX_EPOCH};
 
 /// Who posts on a connection.
 pub struct Who {
@@ -185,8 +185,7 @@ impl Certified {
 }
 
 fn now() -> i64 {
-    let now = SystemTime::now().duration_since(UNIX_EPOCH).unwrap_or_default();
-    now.as_secs() as i64
+    seconds() as i64
 }
 
 /// When the first of these certificates ends that has not ended by now.

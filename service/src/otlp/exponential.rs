@@ -8,7 +8,6 @@ mod edge;
 mod view;
 
 use edge::Edge;
-use std::fmt::Write;
 use std::str::FromStr;
 use std::sync::Arc;
 pub(super) use view::{most_more, viewed, why_not};
@@ -62,15 +61,11 @@ impl FromStr for Bound {
 impl Bounds {
     /// As they stand in a request in the book's form: a fraction is a text.
     fn written(&self) -> String {
-        let mut text = String::new();
-        for Bound { double, .. } in self.0.iter() {
-            let comma = if text.is_empty() { "" } else { "," };
-            let _ = match double.fract() == 0.0 {
-                true => write!(text, "{comma}{double}"),
-                false => write!(text, "{comma}\"{double}\""),
-            }; // into memory it never fails
-        }
-        text
+        let written = self.0.iter().map(|Bound { double, .. }| match double.fract() == 0.0 {
+            true => double.to_string(),
+            false => format!("\"{double}\""),
+        });
+        written.collect::<Vec<String>>().join(",")
     }
 }
 

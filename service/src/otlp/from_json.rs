@@ -6,12 +6,12 @@
 
 use super::json::{Document, Value};
 use super::number::{book_whole, is_whole_double, mapped_double, mapped_whole};
-use super::output::{Output, Written};
+use super::output::Output;
 use super::schema::{exponential_histogram, Field, Kind, Message, Wire, KEY_VALUE, REQUEST};
 use super::{Reading, Refused};
 use std::fmt;
 
-pub fn written(body: &[u8], reading: &Reading) -> Result<Written, Refused> {
+pub fn written<'r>(body: &[u8], reading: &'r Reading) -> Result<Output<'r>, Refused> {
     let document = Document::parse(body)?;
     let root = document.root();
     if root.members().is_none() {
@@ -20,7 +20,7 @@ pub fn written(body: &[u8], reading: &Reading) -> Result<Written, Refused> {
     let out = Output::new(root.raw().len(), reading);
     let mut writer = Writer { out, is_near_range: document.is_near_range() };
     writer.message(&REQUEST, root)?;
-    Ok(writer.out.written())
+    Ok(writer.out)
 }
 
 struct Writer<'r> {
@@ -153,7 +153,7 @@ impl Writer<'_> {
     /// Writes a value that is in nothing else; none of what is no value of its field.
     fn leaf(&mut self, kind: Kind, value: Value<'_>) -> Option<()> {
         match kind {
-            Kind::Text => self.out.quoted(value.text()?.as_bytes()),
+            Kind::Text => self.out.quoted(&value.text()?),
             Kind::Unit => self.out.unit(&value.text()?),
             Kind::Bool => self.out.push(if value.truth()? { "true" } else { "false" }),
             Kind::Temporality => self.out.temporality(temporality(value)?),

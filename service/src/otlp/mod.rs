@@ -44,7 +44,7 @@ pub use explain::{explained, foreign_points, point_at, second_at, taken_points, 
 pub use exponential::Bounds;
 pub use finer_units::{Choice, Decided, FinerUnits, Rounded, Rounding, Rule};
 pub use instance::{with_instance, INSTANCE};
-pub(crate) use messages::ExportMetricsServiceResponse;
+pub(crate) use messages::{Detail, ExportMetricsServiceResponse, Status};
 pub use numbered::{Learnt, NotNamed, Numbered, Series};
 pub use outside::{Original, Outside};
 pub(crate) use plain_protobuf::is_plain;
@@ -68,6 +68,14 @@ pub enum Encoding {
 }
 
 impl Encoding {
+    /// As a content type says it.
+    pub fn media_type(self) -> &'static str {
+        match self {
+            Encoding::Json => "application/json",
+            Encoding::Protobuf => "application/x-protobuf",
+        }
+    }
+
     /// How a body was written of which nothing is known.
     pub fn of(body: &[u8]) -> Encoding {
         let first = body.iter().find(|byte| !byte.is_ascii_whitespace());

@@ -303,7 +303,7 @@ fn answers_are_of_the_request_s_kind() {
             format!(r#"{{"code":{code},"message":"a \"b\""}}"#).into_bytes()
         );
         let found = Status::decode(&refused.body(Encoding::Protobuf)[..]).unwrap();
-        assert_eq!(found, Status { code, message: "a \"b\"".to_string() });
+        assert_eq!(found, Status { code, message: "a \"b\"".to_string(), details: Vec::new() });
     }
 }
 

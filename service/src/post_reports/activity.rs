@@ -1,12 +1,11 @@
 //! Who has posted, when last, and what was refused of whom: what an operator is shown, since the start.
 
-use crate::log::shown;
+use crate::log::{seconds, shown};
 use crate::metrics::reason_of;
 use crate::otlp::Outcome;
 use crate::work::locked;
 use std::collections::{BTreeMap, HashMap};
 use std::sync::Mutex;
-use std::time::{SystemTime, UNIX_EPOCH};
 
 /// So many senders are known. Where there is another one, those that posted last are kept, so many.
 const MOST: usize = 1000;
@@ -44,7 +43,7 @@ pub struct OfReason {
 impl SenderActivity {
     /// Notes an answer. The reason of a refusal that is the first of its sender and reason.
     pub fn note(&self, sender: &str, outcome: &Outcome) -> Option<&'static str> {
-        self.note_at(sender, outcome, now())
+        self.note_at(sender, outcome, seconds())
     }
 
     fn note_at(&self, sender: &str, outcome: &Outcome, now: u64) -> Option<&'static str> {
@@ -100,10 +99,6 @@ fn make_room(all: &mut HashMap<String, OfSender>) {
         left -= usize::from(goes);
         !goes
     });
-}
-
-fn now() -> u64 {
-    SystemTime::now().duration_since(UNIX_EPOCH).map_or(0, |since| since.as_secs())
 }
 
 #[cfg(test)]

@@ -2,11 +2,10 @@
 //!
 //! It stands before what takes a slot's posts, and changes nothing of them but the text of their answers. Of a post with
 //! points that were not taken it reads the body once more, for the answer (`texts`). What was told is of all slots: `activity` is
-//! who has posted, `logged` what the log has already. For the log one post is read at a time and beside the runtime's threads;
+//! who has posted, `Logged` what the log has already. For the log one post is read at a time and beside the runtime's threads;
 //! one that comes meanwhile is passed over, since its sender comes again.
 
 mod activity;
-mod logged;
 mod texts;
 
 pub use activity::{OfReason, OfSender, SenderActivity};
@@ -21,7 +20,7 @@ use crate::pass::Pass;
 use crate::slot::{is_sender, Request, Slot, Source};
 use crate::work::{locked, Readers};
 use bytes::Bytes;
-use logged::Logged;
+use std::collections::{HashMap, HashSet};
 use std::sync::atomic::{AtomicBool, Ordering::Relaxed};
 use std::sync::{Arc, Mutex};
 use texts::{late_at, of_late, of_other_writer, of_twice, other_writer, place_of, reason};
@@ -56,6 +55,24 @@ pub struct Reporter {
     readers: Readers,
     is_reading: AtomicBool,
     logged: Mutex<Logged>,
+}
+
+/// What the log has of each sender, so that it is told once.
+#[derive(Default)]
+struct Logged {
+    foreign: HashMap<String, LoggedOf>,
+    /// Senders whose clock is off.
+    clocks: HashSet<String>,
+    series: HashSet<SeriesKey>,
+    /// Addresses of who has no name.
+    strangers: HashSet<String>,
+    refusals: usize,
+}
+
+#[derive(Default)]
+struct LoggedOf {
+    read: usize,
+    reasons: HashSet<String>,
 }
 
 /// What is told of foreign points.

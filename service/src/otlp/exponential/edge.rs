@@ -25,7 +25,9 @@ pub fn number(text: &str) -> Result<Decimal, String> {
     let is_short = size.bytes().filter(u8::is_ascii_digit).count() <= MOST_DIGITS;
     let number = Decimal::times(text, 1).filter(|_| is_short && are_digits(before) && are_digits(after));
     number.ok_or_else(|| {
-        format!("a bound is a number of at most {MOST_DIGITS} digits, such as 0.5, and this is none: `{text}`")
+        format!(
+            "a bound is a number of at most {MOST_DIGITS} digits, such as 0.5, and this is none: `{text}`"
+        )
     })
 }
 

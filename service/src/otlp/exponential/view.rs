@@ -32,12 +32,8 @@ pub fn most_more(text: &[u8], bounds: &Bounds) -> Result<usize, NotJson> {
 /// The text is one that `otlp` has written.
 pub fn viewed(text: &[u8], bounds: &Bounds) -> Result<View, NotJson> {
     let document = Document::parse(text)?;
-    let mut viewing = Viewing {
-        edited: Edited::of(document.text()),
-        bounds,
-        explicit: bounds.written(),
-        unfit: None,
-    };
+    let mut viewing =
+        Viewing { edited: Edited::of(document.text()), bounds, explicit: bounds.written(), unfit: None };
     for (metric, data) in exponential(&document) {
         viewing.metric(metric, data);
     }
@@ -207,36 +203,40 @@ impl Bounds {
 impl Bucket {
     /// Whether all of it is over a bound.
     fn is_over(self, bound: &Bound) -> bool {
-        let is_below_zero = bound.double < 0.0;
-        match (self, bound.edge) {
+        match self {
             // Of a bound that is no double the nearest one says the same of every other.
-            (Bucket::Zero { threshold }, _) => bound.double < -threshold,
-            (Bucket::Positive { scale, index }, Some(edge)) if !is_below_zero => {
-                edge.compared(scale, index) != Ordering::Less
-            }
-            (Bucket::Positive { .. }, _) => true,
-            (Bucket::Negative { scale, index }, Some(edge)) if is_below_zero => {
-                edge.compared(scale, index + 1) == Ordering::Less
-            }
-            (Bucket::Negative { .. }, _) => false,
+            Bucket::Zero { threshold } => bound.double < -threshold,
+            Bucket::Positive { scale, index } => bound.positive(scale, index) != Ordering::Less,
+            Bucket::Negative { scale, index } => bound.negative(scale, index + 1) == Ordering::Greater,
         }
     }
 
     /// Whether nothing of it is over a bound.
     fn is_up_to(self, bound: &Bound) -> bool {
-        let is_below_zero = bound.double < 0.0;
-        match (self, bound.edge) {
-            (Bucket::Zero { threshold }, _) => {
+        match self {
+            Bucket::Zero { threshold } => {
                 threshold < bound.double || threshold == bound.double && bound.is_double
             }
-            (Bucket::Positive { scale, index }, Some(edge)) if !is_below_zero => {
-                edge.compared(scale, index + 1) != Ordering::Greater
-            }
-            (Bucket::Positive { .. }, _) => false,
-            (Bucket::Negative { scale, index }, Some(edge)) if is_below_zero => {
-                edge.compared(scale, index) != Ordering::Less
-            }
-            (Bucket::Negative { .. }, _) => true,
+            Bucket::Positive { scale, index } => bound.positive(scale, index + 1) != Ordering::Greater,
+            Bucket::Negative { scale, index } => bound.negative(scale, index) != Ordering::Greater,
+        }
+    }
+}
+
+impl Bound {
+    /// How base^index compares with it.
+    fn positive(&self, scale: i32, index: i64) -> Ordering {
+        match self.edge {
+            Some(edge) if self.double > 0.0 => edge.compared(scale, index),
+            _ => Ordering::Greater,
+        }
+    }
+
+    /// How minus base^index compares with it.
+    fn negative(&self, scale: i32, index: i64) -> Ordering {
+        match self.edge {
+            Some(edge) if self.double < 0.0 => edge.compared(scale, index).reverse(),
+            _ => Ordering::Less,
         }
     }
 }

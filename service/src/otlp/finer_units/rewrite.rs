@@ -3,11 +3,11 @@
 //! A point that can't be had so stays foreign: what does not fit becomes a text with its unit, which no reader takes
 //! for a number. Nothing is changed in a metric that is foreign as a whole, but its unit.
 
-use super::plan::{first_double, taken, Taken, DATA};
+use super::plan::{taken, Delta, Taken};
 use super::rounded::{resource_shown, rounded, Mark};
 use super::units::Decided;
 use super::{FinerUnits, Rounded, Rule};
-use crate::otlp::decimal::Decimal;
+use crate::otlp::decimal::{Decimal, Nearest};
 use crate::otlp::json::{write_text, Document, Edited, NotJson, Value};
 use crate::otlp::number::{book_whole, double_shown, is_whole_double, mapped_double, MAX_WHOLE_DOUBLE};
 use crate::otlp::series::{is_monotonic, name_shown};
@@ -86,15 +86,13 @@ impl<'r> Rewriting<'r> {
             Taken::In(rule) => rule,
         };
         let metric = Metric { rule, value, resource };
-        let there = value.named(DATA).into_iter().flatten().flatten().count();
+        let kind = Delta::of(self.finer_units, value).map(|delta| delta.kind);
         for (name, part) in value.members().into_iter().flatten() {
             match &*name {
                 "unit" => write_text(self.edited.at(part.range()), &rule.to),
-                "sum" if there == 1 && self.finer_units.adds_up(part) => self.sum(&metric, part),
-                "histogram" if there == 1 && self.finer_units.adds_up(part) => {
-                    for point in part.list("dataPoints") {
-                        self.histogram_point(&metric, point);
-                    }
+                "sum" if kind == Some("sum") => self.sum(&metric, part),
+                "histogram" if kind == Some("histogram") => {
+                    part.list("dataPoints").for_each(|point| self.histogram_point(&metric, point));
                 }
                 _ => {}
             }
@@ -124,8 +122,7 @@ impl<'r> Rewriting<'r> {
     }
 
     fn double(&mut self, metric: &Metric<'r, '_>, value: Value<'_>, is_monotonic: bool) {
-        let product = exact(value, metric.rule).filter(|product| !(is_monotonic && product.is_below_zero()));
-        match product.map(|product| product.nearest()).filter(|near| is_word(&near.whole)) {
+        match exact(value, metric.rule).and_then(|product| value_of_sum(product, is_monotonic)) {
             Some(near) => {
                 let range = value.range().start - AS_DOUBLE.len()..value.range().end;
                 self.put(range, &format!("\"asInt\":\"{}\"", near.whole));
@@ -148,8 +145,7 @@ impl<'r> Rewriting<'r> {
             }
         }
         if let Some(sum) = sum {
-            let product = exact(sum, metric.rule).filter(|product| !product.is_below_zero());
-            match product.map(|product| product.nearest()).filter(|near| is_whole_double(&near.whole)) {
+            match exact(sum, metric.rule).and_then(sum_of_histogram) {
                 Some(near) => {
                     edits.push((sum.range(), near.whole.to_string()));
                     by = near.by;
@@ -185,7 +181,8 @@ impl<'r> Rewriting<'r> {
 
     /// Names the first double of a metric that was first taken in whole numbers of its own unit.
     fn first_double(&mut self, metric: Value<'_>, unit: &str) {
-        if let (None, Some((what, value))) = (&self.unfit, first_double(self.finer_units, metric)) {
+        let found = Delta::of(self.finer_units, metric).and_then(|delta| delta.first_double());
+        if let (None, Some((what, value))) = (&self.unfit, found) {
             let name = name_shown(metric);
             let value = shown(value).unwrap_or_default();
             self.unfit = Some(format!(
@@ -226,6 +223,18 @@ fn shown(value: Value<'_>) -> Option<String> {
         Ok(_) => text.into_owned(),
         Err(_) => double_shown(double),
     })
+}
+
+/// What a sum's point has of a number, as near as may be; none of one that it may not have.
+pub(super) fn value_of_sum(product: Decimal, is_monotonic: bool) -> Option<Nearest> {
+    let near = (!(is_monotonic && product.is_below_zero())).then(|| product.nearest())?;
+    is_word(&near.whole).then_some(near)
+}
+
+/// The same of a histogram's sum.
+pub(super) fn sum_of_histogram(product: Decimal) -> Option<Nearest> {
+    let near = (!product.is_below_zero()).then(|| product.nearest())?;
+    is_whole_double(&near.whole).then_some(near)
 }
 
 /// Whether a sum's point may have it.

@@ -13,7 +13,7 @@ pub fn span(fields: &mut Fields<'_>) -> (u64, u64) {
 }
 
 /// Passes the least and the largest value, which say nothing.
-#[inline]
+#[inline(always)]
 pub fn pass_extremes(fields: &mut Fields<'_>) {
     let _ = fields.fixed64(11);
     let _ = fields.fixed64(12);

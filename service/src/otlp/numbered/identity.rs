@@ -5,7 +5,7 @@ use super::walk::{Head, Own, Path, Slow};
 use super::Learnt;
 use crate::otlp::finer_units::{rewritten, scale_of, shown_of, Scale, Scaled};
 use crate::otlp::from_protobuf;
-use crate::otlp::output::{self, Written};
+use crate::otlp::output::{self, Output};
 use crate::otlp::wire::{field, Fields, Payload};
 use crate::otlp::{Cumulative, Reading};
 use bytes::Bytes;
@@ -115,7 +115,7 @@ impl Learner<'_> {
     }
 
     /// A request of what is on a path, with these points, as it is written for the book.
-    fn written(&self, path: &Path<'_>, points: &[u8]) -> Result<Written, Slow> {
+    fn written(&self, path: &Path<'_>, points: &[u8]) -> Result<Output<'_>, Slow> {
         let request = match self.makes_deltas(path) {
             true => as_delta(path, points),
             false => request(path, points),

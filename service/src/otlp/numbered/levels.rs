@@ -72,10 +72,8 @@ impl Levels {
         if let Some(level) = self.top(decides) {
             return Ok(level);
         }
-        let level = self.next()?;
-        self.take_room(&[], LEVEL)?;
+        let level = self.fresh(&[])?;
         self.tops.insert(decides, level);
-        self.all.push(HashMap::with_hasher(self.hasher.clone()));
         Ok(level)
     }
 
@@ -84,15 +82,17 @@ impl Levels {
         if let Some(level) = self.find(within, bytes) {
             return Ok(level);
         }
-        let level = self.next()?;
-        self.take_room(bytes, LEVEL)?;
+        let level = self.fresh(bytes)?;
         self.put(within, bytes, level);
-        self.all.push(HashMap::with_hasher(self.hasher.clone()));
         Ok(level)
     }
 
-    fn next(&self) -> Result<Level, Full> {
-        Level::try_from(self.all.len()).map_err(|_| Full)
+    /// A level that has nothing yet, by these bytes.
+    fn fresh(&mut self, bytes: &[u8]) -> Result<Level, Full> {
+        let level = Level::try_from(self.all.len()).map_err(|_| Full)?;
+        self.take_room(bytes, LEVEL)?;
+        self.all.push(HashMap::with_hasher(self.hasher.clone()));
+        Ok(level)
     }
 
     /// The level of a metric that is taken in another unit. It is there with its scale, or not at all.

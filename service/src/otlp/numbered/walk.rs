@@ -262,9 +262,7 @@ impl<'b> Walk<'b> {
         let value = match (value, scale) {
             (Some(Number::Whole(bits)), None) => Some(bits),
             (None | Some(Number::Double(_)), None) | (None, Some(_)) => None,
-            (Some(_), Some(_)) if !(is_recorded(number, flags) && is_span(start, end)) => {
-                return Err(Slow)
-            }
+            (Some(_), Some(_)) if !(is_recorded(number, flags) && is_span(start, end)) => return Err(Slow),
             (Some(Number::Whole(bits)), Some(scale)) => Some(self.rounded(number, scale.whole(bits))?),
             (Some(Number::Double(double)), Some(scale)) => Some(self.rounded(number, scale.double(double))?),
         };
