@@ -79,14 +79,14 @@ fn put_members<'d>(
 fn put_metric(out: &mut String, object: Value<'_>, choose: &mut Choose<'_>) -> Option<()> {
     let mut chosen: [Option<String>; KINDS.len()] = Default::default();
     let place_of = |name: &str| kind_of(|field| field.name == name || field.proto_name == name);
-    for place in 0..KINDS.len() {
+    for (place, chosen) in chosen.iter_mut().enumerate() {
         let all = object.members().into_iter().flatten();
         for (_, data) in all.filter(|(name, _)| place_of(name) == Some(place)) {
             let mut text = String::new();
             let one = put_list(&mut text, data, POINTS, &mut |out, point| {
                 choose(place).then(|| out.push_str(point.raw()))
             });
-            chosen[place] = one.map(|()| text);
+            *chosen = one.map(|()| text);
         }
     }
     chosen.iter().flatten().next()?;
