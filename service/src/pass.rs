@@ -8,7 +8,7 @@ mod send;
 use crate::log::RateLimit;
 use crate::metrics::Metrics;
 use crate::otlp::{Encoding, Outside};
-use crate::work::Sound;
+use crate::work::locked;
 use bytes::Bytes;
 use send::Receiver;
 use std::collections::VecDeque;
@@ -85,7 +85,7 @@ impl Pass {
     /// Waits for nothing.
     pub fn hand_on(&self, outside: Outside) {
         let points = outside.points;
-        match self.waiting.sound().put(outside) {
+        match locked(&self.waiting).put(outside) {
             true => self.arrived.notify_one(),
             false => self.count(points, Passed::Dropped, "too much waits already"),
         }
@@ -94,7 +94,7 @@ impl Pass {
     /// Sends what waits, for ever.
     pub async fn run(self: Arc<Self>) {
         loop {
-            let next = self.waiting.sound().take();
+            let next = locked(&self.waiting).take();
             let Some(next) = next else {
                 self.arrived.notified().await; // a call that came between is kept for this one
                 continue;

@@ -77,6 +77,11 @@ pub async fn within<T>(time: Duration, future: impl Future<Output = T>) -> Optio
     }
 }
 
+/// The lock. A panic ends the process, so nobody finds what another has left half changed; in a test what is left is sound.
+pub fn locked<T>(mutex: &Mutex<T>) -> MutexGuard<'_, T> {
+    mutex.lock().unwrap_or_else(PoisonError::into_inner)
+}
+
 /// Goes on once all that is ready on this thread has had its turn.
 pub async fn others_first() {
     let mut had_theirs = false;

@@ -7,10 +7,11 @@ use crate::intake::connections::{Protocol, Shared, Transport};
 use crate::intake::Taker;
 use crate::latch::Latch;
 use crate::tls;
+use crate::work::locked;
 use hyper::server::conn::Http;
 use hyper::service::service_fn;
 use std::convert::Infallible;
-use std::sync::{Arc, Mutex, PoisonError};
+use std::sync::{Arc, Mutex};
 use std::time::{Duration, Instant};
 
 /// Calls of a connection at a time.
@@ -35,7 +36,7 @@ impl Calls {
     }
 
     fn with<T>(&self, change: impl FnOnce(&mut (usize, Instant)) -> T) -> T {
-        change(&mut self.0.lock().unwrap_or_else(PoisonError::into_inner)) // any value of it is sound
+        change(&mut locked(&self.0))
     }
 
     fn idle(&self) -> Duration {

@@ -23,21 +23,20 @@ use hyper::body::HttpBody;
 use hyper::header::{HeaderMap, HeaderName, CONTENT_TYPE};
 use hyper::http::request::Parts;
 use hyper::{Body, Method, Request, Response, StatusCode};
-use reply::Reply;
 use std::sync::Arc;
 
 const METHOD: &str = "/opentelemetry.proto.collector.metrics.v1.MetricsService/Export";
 static ENCODING: HeaderName = HeaderName::from_static("grpc-encoding");
 
 /// Answers one call.
-async fn answer<T: Taker>(intake: Arc<Intake<T>>, who: &Who, request: Request<Body>) -> Response<Reply> {
+async fn answer<T: Taker>(intake: Arc<Intake<T>>, who: &Who, request: Request<Body>) -> Response<Body> {
     let (parts, mut body) = request.into_parts();
     let is_grpc = is_grpc(&parts.headers);
     let (call, limit) = (call(&parts, who), timeout::of(&parts.headers));
     drop(parts); // they may be long, are in no budget, and a call may last
     if !is_grpc {
         message::throw_away(&mut body).await;
-        let mut response = Response::new(Reply::nothing());
+        let mut response = Response::new(Body::empty());
         *response.status_mut() = StatusCode::UNSUPPORTED_MEDIA_TYPE;
         return response;
     }
@@ -58,7 +57,7 @@ async fn answer<T: Taker>(intake: Arc<Intake<T>>, who: &Who, request: Request<Bo
         message::throw_away(&mut body).await;
     }
     intake.ended(&outcome);
-    reply::response(&outcome)
+    reply::response(&outcome).await
 }
 
 /// `application/grpc`, with or without `+proto`.

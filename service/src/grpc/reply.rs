@@ -1,70 +1,14 @@
 //! What a call is answered: a message and a status behind it, or a status alone.
 
-use crate::otlp::{Encoding, Outcome};
+use crate::otlp::{Detail, Encoding, Outcome, Status};
 use bytes::Bytes;
-use hyper::body::HttpBody;
 use hyper::header::{HeaderMap, HeaderName, HeaderValue, CONTENT_TYPE};
-use hyper::Response;
+use hyper::{Body, Response};
 use percent_encoding::{utf8_percent_encode, AsciiSet, CONTROLS};
 use prost::Message;
-use std::convert::Infallible;
-use std::pin::Pin;
-use std::task::{Context, Poll};
 
 /// What is not written as it is in a status' message.
 const ESCAPED: &AsciiSet = &CONTROLS.add(b'%');
-
-/// A body of at most one frame, and what is behind it.
-pub struct Reply {
-    data: Option<Bytes>,
-    trailers: Option<HeaderMap>,
-}
-
-impl Reply {
-    pub fn nothing() -> Reply {
-        Reply { data: None, trailers: None }
-    }
-}
-
-impl HttpBody for Reply {
-    type Data = Bytes;
-    type Error = Infallible;
-
-    fn poll_data(mut self: Pin<&mut Self>, _: &mut Context<'_>) -> Poll<Option<Result<Bytes, Infallible>>> {
-        Poll::Ready(self.data.take().map(Ok))
-    }
-
-    fn poll_trailers(
-        mut self: Pin<&mut Self>,
-        _: &mut Context<'_>,
-    ) -> Poll<Result<Option<HeaderMap>, Infallible>> {
-        Poll::Ready(Ok(self.trailers.take()))
-    }
-
-    fn is_end_stream(&self) -> bool {
-        self.data.is_none() && self.trailers.is_none()
-    }
-}
-
-/// `google.rpc.Status` with its details.
-#[derive(Clone, PartialEq, Message)]
-pub(super) struct Status {
-    #[prost(int32, tag = "1")]
-    pub code: i32,
-    #[prost(string, tag = "2")]
-    pub message: String,
-    #[prost(message, repeated, tag = "3")]
-    pub details: Vec<Any>,
-}
-
-/// `google.protobuf.Any`.
-#[derive(Clone, PartialEq, Message)]
-pub(super) struct Any {
-    #[prost(string, tag = "1")]
-    pub type_url: String,
-    #[prost(bytes = "vec", tag = "2")]
-    pub value: Vec<u8>,
-}
 
 /// `google.rpc.RetryInfo`.
 #[derive(Clone, PartialEq, Message)]
@@ -95,23 +39,27 @@ pub(super) fn code(status: u16) -> i32 {
     }
 }
 
-pub fn response(outcome: &Outcome) -> Response<Reply> {
-    let mut headers = HeaderMap::new();
+pub async fn response(outcome: &Outcome) -> Response<Body> {
+    let mut response = Response::new(Body::empty());
+    let headers = response.headers_mut();
     headers.insert(CONTENT_TYPE, HeaderValue::from_static("application/grpc"));
-    let reply = match outcome {
-        Outcome::Taken { .. } => {
-            let mut trailers = HeaderMap::new();
-            put(&mut trailers, "grpc-status", "0");
-            Reply { data: Some(framed(&outcome.body(Encoding::Protobuf))), trailers: Some(trailers) }
-        }
+    match outcome {
+        Outcome::Taken { .. } => *response.body_mut() = taken(outcome).await,
         Outcome::Refused { message, .. } | Outcome::Later { message, .. } => {
-            put_refusal(&mut headers, outcome, message);
-            Reply::nothing()
+            put_refusal(headers, outcome, message)
         }
-    };
-    let mut response = Response::new(reply);
-    *response.headers_mut() = headers;
+    }
     response
+}
+
+/// A message, and the status behind it. Both find room: nothing else is sent so.
+async fn taken(outcome: &Outcome) -> Body {
+    let (mut sender, body) = Body::channel();
+    let _ = sender.try_send_data(framed(&outcome.body(Encoding::Protobuf)));
+    let mut trailers = HeaderMap::new();
+    put(&mut trailers, "grpc-status", "0");
+    let _ = sender.send_trailers(trailers).await;
+    body
 }
 
 fn framed(message: &[u8]) -> Bytes {
@@ -137,7 +85,7 @@ fn put_refusal(headers: &mut HeaderMap, outcome: &Outcome, message: &str) {
     if let Some(seconds) = outcome.again_in() {
         let seconds = i64::try_from(seconds).unwrap_or(i64::MAX);
         let retry_delay = Some(Duration { seconds });
-        let details = vec![Any {
+        let details = vec![Detail {
             type_url: "type.googleapis.com/google.rpc.RetryInfo".into(),
             value: RetryInfo { retry_delay }.encode_to_vec(),
         }];

@@ -1,11 +1,12 @@
 //! What a client of gRPC is answered, and when its connection ends.
 
-use super::reply::{code, RetryInfo, Status};
+use super::reply::{code, RetryInfo};
 use super::*;
 use crate::identity::{Door, Options};
 use crate::intake::connections::{spread, Limits, Shared};
 use crate::intake::{Budget, Hears, Threads};
 use crate::metrics::Metrics;
+use crate::otlp::Status;
 use crate::otlp::{a_request_of_test, Original, Reading};
 use crate::slot::{Request as Posted, Slots};
 use bytes::Bytes;

@@ -208,22 +208,15 @@ fn read_share<'l>(words: impl Iterator<Item = &'l str>) -> Result<Share, &'stati
 
 fn digest(proof: &str) -> Option<[u8; 32]> {
     let digits = proof.strip_prefix(DIGEST)?;
-    let digits = digits.as_bytes();
-    let mut digest = [0; 32];
-    if digits.len() != 2 * digest.len() {
-        return None;
-    }
-    for (byte, two) in digest.iter_mut().zip(digits.chunks(2)) {
-        let value = |digit: u8| char::from(digit).to_digit(16);
-        *byte = (value(two[0])? << 4 | value(two[1])?) as u8;
-    }
-    Some(digest)
+    let (pairs, []) = digits.as_bytes().as_chunks() else { return None };
+    let value = |digit: u8| char::from(digit).to_digit(16);
+    let byte = |[high, low]: &[u8; 2]| Some((value(*high)? << 4 | value(*low)?) as u8);
+    pairs.iter().map(byte).collect::<Option<Vec<u8>>>()?.try_into().ok()
 }
 
 /// The line of a token for the file.
 pub fn line(name: &str, token: &str) -> String {
-    let digits = Sha256::digest(token).iter().map(|byte| format!("{byte:02x}")).collect::<String>();
-    format!("{name} {DIGEST}{digits}")
+    format!("{name} {DIGEST}{:x}", Sha256::digest(token))
 }
 
 #[cfg(test)]

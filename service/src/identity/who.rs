@@ -1,12 +1,13 @@
 //! Who the sender of a connection is, and of each of its requests.
 
 use super::{Sender, Stranger, Tokens};
+use crate::log::seconds;
 use crate::otlp::{self, NO_NAME};
 use crate::reloaded::Reloaded;
 use crate::tls::{Certificate, Contexts, Tls};
+use crate::work::locked;
 use std::net::IpAddr;
-use std::sync::{Arc, Mutex, PoisonError};
-use std::time::{SystemTime, UNIX_EPOCH};
+use std::sync::{Arc, Mutex};
 
 /// Who posts on a connection.
 pub struct Who {
@@ -174,7 +175,7 @@ impl Certified {
     /// since. A chain is looked at once for each of that: it takes longer than a post, on the thread of others' posts.
     fn is_believed(&self) -> bool {
         let (now, contexts) = (now(), self.tls.contexts());
-        let mut judged = self.judged.lock().unwrap_or_else(PoisonError::into_inner); // any value of it is sound
+        let mut judged = locked(&self.judged);
         if now > judged.until || !Arc::ptr_eq(&judged.by, &contexts) {
             let is_believed = contexts.believes(&self.chain);
             *judged = Judged { by: contexts, is_believed, until: next_end(&self.chain, now) };
@@ -184,8 +185,7 @@ impl Certified {
 }
 
 fn now() -> i64 {
-    let now = SystemTime::now().duration_since(UNIX_EPOCH).unwrap_or_default();
-    now.as_secs() as i64
+    seconds() as i64
 }
 
 /// When the first of these certificates ends that has not ended by now.

@@ -1,11 +1,12 @@
 //! An answer to a sender, as it goes over its connection.
 
 use super::head::Connection;
+use crate::log::seconds;
 use crate::otlp::{Encoding, Outcome};
 use hyper::StatusCode;
 use std::cell::RefCell;
 use std::io::Write;
-use std::time::{Duration, SystemTime, UNIX_EPOCH};
+use std::time::{Duration, UNIX_EPOCH};
 
 /// What most posts are answered; its date follows, and its body.
 const TAKEN: &str = "HTTP/1.1 200 OK\r\ncontent-type: application/json\r\ncontent-length: 2\r\ndate: ";
@@ -29,10 +30,7 @@ pub fn write_head(out: &mut Vec<u8>, outcome: &Outcome, encoding: Encoding, conn
 fn write_any(out: &mut Vec<u8>, outcome: &Outcome, encoding: Encoding, connection: Connection, date: &str) {
     let body = outcome.body(encoding);
     let status = outcome.status();
-    let kind = match encoding {
-        Encoding::Json => "application/json",
-        Encoding::Protobuf => "application/x-protobuf",
-    };
+    let kind = encoding.media_type();
     let again = outcome.again_in();
     let again = again.map_or(String::new(), |seconds| format!("retry-after: {seconds}\r\n"));
     let told = match status {
@@ -62,7 +60,7 @@ thread_local! {
 }
 
 fn with_date(write: impl FnOnce(&str)) {
-    let now = SystemTime::now().duration_since(UNIX_EPOCH).map_or(0, |since| since.as_secs());
+    let now = seconds();
     DATE.with_borrow_mut(|(second, text)| {
         if *second != now || text.is_empty() {
             *second = now;

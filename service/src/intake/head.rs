@@ -63,6 +63,7 @@ pub fn read(input: &[u8], who: &Who) -> Result<Option<(usize, Asked)>, Refusal> 
         return Err(Refusal::Malformed);
     }
     let head = Head::read(&request, who);
+    let mut expects = named(request.headers, "expect");
     let asked = Asked {
         encoding: match &head {
             Ok(head) => head.encoding,
@@ -70,7 +71,7 @@ pub fn read(input: &[u8], who: &Who) -> Result<Option<(usize, Asked)>, Refusal> 
         },
         head,
         body: framing(request.headers, is_old)?,
-        waits: !is_old && expects(request.headers),
+        waits: !is_old && expects.any(|value| value.eq_ignore_ascii_case(b"100-continue")),
         wants_head: request.method == Some("HEAD"),
         connection: connection(request.headers, is_old),
     };
@@ -100,10 +101,8 @@ impl Head {
 fn content(headers: &[Header]) -> Result<(Encoding, Packing), Refusal> {
     let encoding = encoding(headers).ok_or(Refusal::ContentType)?;
     let packing = packing(headers)?;
-    match has_length(headers) {
-        true => Ok((encoding, packing)),
-        false => Err(Refusal::NoLength),
-    }
+    let mut says = named(headers, "content-length").chain(named(headers, "transfer-encoding"));
+    says.next().map(|_| (encoding, packing)).ok_or(Refusal::NoLength)
 }
 
 /// Whether a target has the path of metrics, whatever its query and, in its absolute form, its host.
@@ -143,20 +142,10 @@ fn framing(headers: &[Header], is_old: bool) -> Result<Body, Refusal> {
     }
 }
 
-/// Whether it is said how long a body is.
-fn has_length(headers: &[Header]) -> bool {
-    let mut both = named(headers, "content-length").chain(named(headers, "transfer-encoding"));
-    both.next().is_some()
-}
-
 fn length(value: &[u8]) -> Result<u64, Refusal> {
     let text = std::str::from_utf8(value).ok();
     let digits = text.filter(|text| text.bytes().all(|byte| byte.is_ascii_digit()));
     digits.and_then(|text| text.parse().ok()).ok_or(Refusal::Malformed)
-}
-
-fn expects(headers: &[Header]) -> bool {
-    named(headers, "expect").any(|value| value.eq_ignore_ascii_case(b"100-continue"))
 }
 
 fn connection(headers: &[Header], is_old: bool) -> Connection {
@@ -182,13 +171,8 @@ fn encoding(headers: &[Header]) -> Option<Encoding> {
 }
 
 fn encoding_of(kind: &str) -> Option<Encoding> {
-    if kind.eq_ignore_ascii_case("application/json") {
-        Some(Encoding::Json)
-    } else if kind.eq_ignore_ascii_case("application/x-protobuf") {
-        Some(Encoding::Protobuf)
-    } else {
-        None
-    }
+    let is_so = |encoding: &Encoding| kind.eq_ignore_ascii_case(encoding.media_type());
+    [Encoding::Json, Encoding::Protobuf].into_iter().find(is_so)
 }
 
 /// One gzip at most. `x-gzip` is gzip (RFC 9110, 8.4.1.3); `identity` says nothing.

@@ -55,20 +55,15 @@ const READERS: usize = 2;
 
 /// What takes a slot's posts. Each is whole even where the caller goes away.
 pub trait Taker: Send + Sync + 'static {
-    /// How its posts are read: as all others here, or by itself.
-    fn reading<'r>(&'r self, of_all: &'r Arc<Reading>) -> &'r Arc<Reading> {
-        of_all
-    }
-
-    /// A request in protobuf as it is taken; none where it is to be written in the book's form.
-    fn of_protobuf(&self, _body: &Bytes, _reading: &Arc<Reading>) -> Option<Request> {
+    /// The slot itself, which says how its posts are read.
+    fn slot(&self) -> Option<&Slot> {
         None
     }
 
     /// The points of a request in the book's form by number, also those that are cumulative; none where it is to be taken as
     /// it is.
-    fn numbered_text(&self, _text: &Bytes) -> Result<Option<ByNumber>, core::Refused> {
-        Ok(None)
+    fn numbered_text(&self, text: &Bytes) -> Result<Option<ByNumber>, core::Refused> {
+        self.slot().map_or(Ok(None), |slot| slot.numbered_text(text))
     }
 
     /// Whether requests are wanted as they came, too.
@@ -97,16 +92,8 @@ pub trait Hears: Send + Sync + 'static {
 impl Hears for () {}
 
 impl Taker for Slot {
-    fn reading<'r>(&'r self, of_all: &'r Arc<Reading>) -> &'r Arc<Reading> {
-        Slot::reading(self, of_all)
-    }
-
-    fn of_protobuf(&self, body: &Bytes, reading: &Arc<Reading>) -> Option<Request> {
-        Slot::of_protobuf(self, body, reading)
-    }
-
-    fn numbered_text(&self, text: &Bytes) -> Result<Option<ByNumber>, core::Refused> {
-        Slot::numbered_text(self, text)
+    fn slot(&self) -> Option<&Slot> {
+        Some(self)
     }
 
     async fn post(self: &Arc<Self>, sender: &str, request: Request, _: Option<Original>) -> Outcome {

@@ -1,9 +1,10 @@
 //! How far a connection is with a request, so that a slow or an idle one is seen without a timer for each request.
 
 use super::connections::Limits;
+use crate::work::locked;
 use std::io::Result;
 use std::pin::Pin;
-use std::sync::{Arc, Mutex, MutexGuard, PoisonError};
+use std::sync::{Arc, Mutex};
 use std::task::{ready, Context, Poll};
 use std::time::{Duration, Instant};
 use tokio::io::{AsyncRead, AsyncWrite, ReadBuf};
@@ -50,7 +51,7 @@ impl Pace {
 
     /// Whether nothing came yet, so that nothing is owed.
     pub fn is_new(&self) -> bool {
-        self.now().0 == Phase::New
+        locked(&self.0).0 == Phase::New
     }
 
     /// Who idles, or reads nothing of an answer, is so much sooner where others wait for its place.
@@ -59,7 +60,7 @@ impl Pace {
             true => (limits.idle.min(SHORT), limits.idle.min(limits.head / 4)),
             false => (limits.idle, limits.idle),
         };
-        let (phase, since) = *self.now();
+        let (phase, since) = *locked(&self.0);
         let (most, overdue) = match phase {
             Phase::New | Phase::Idle => (idle, Overdue::Idle),
             Phase::Unread => (unread, Overdue::Idle),
@@ -84,14 +85,10 @@ impl Pace {
 
     /// The next phase begins now, where there is one.
     fn change(&self, next: impl FnOnce(Phase) -> Option<Phase>) {
-        let mut now = self.now();
+        let mut now = locked(&self.0);
         if let Some(next) = next(now.0) {
             *now = (next, Instant::now());
         }
-    }
-
-    fn now(&self) -> MutexGuard<'_, (Phase, Instant)> {
-        self.0.lock().unwrap_or_else(PoisonError::into_inner) // any value of it is sound
     }
 }
 

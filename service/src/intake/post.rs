@@ -191,10 +191,11 @@ impl<'r> Reader<'r> {
     fn here<T: Taker>(&mut self, taker: Arc<T>, body: Bytes) -> Result<Ask<T>, Refusal> {
         let encoding = self.encoding;
         let original = taker.wants_originals().then(|| Original { encoding, body: body.clone() });
-        let reading = taker.reading(self.reading);
+        let slot = taker.slot();
+        let reading = slot.map_or(self.reading, |slot| slot.reading(self.reading));
         let known = match encoding {
             Encoding::Json => None,
-            Encoding::Protobuf => taker.of_protobuf(&body, reading),
+            Encoding::Protobuf => slot.and_then(|slot| slot.of_protobuf(&body, reading)),
         };
         let (request, rounded) = match known {
             Some(mut request) => {

@@ -1,10 +1,11 @@
 //! What senders are answered, and what the answers of receivers say.
 
-use super::json::{write_text, Document, Value};
+use super::json::{Document, Value};
 use super::messages::{ExportMetricsPartialSuccess, ExportMetricsServiceResponse, Status};
 use super::number::mapped_whole;
 use super::{Causes, Encoding, OffClock, Outcome};
 use prost::Message;
+use serde_json::json;
 
 /// What is said of points that the book did not take.
 pub(super) const OUTSIDE: &str = "points outside the profile";
@@ -50,21 +51,17 @@ impl Outcome {
 }
 
 fn json(outcome: &Outcome) -> String {
-    match outcome {
-        Outcome::Taken { rejected: 0, message: None, .. } => "{}".to_string(),
-        Outcome::Taken { rejected, message, .. } => {
-            let mut text = r#"{"partialSuccess":{"errorMessage":"#.to_string();
-            write_text(&mut text, message.as_deref().unwrap_or(OUTSIDE));
-            text.push_str(&format!(r#","rejectedDataPoints":"{rejected}"}}}}"#));
-            text
-        }
+    let body = match outcome {
+        Outcome::Taken { rejected: 0, message: None, .. } => json!({}),
+        Outcome::Taken { rejected, message, .. } => json!({ "partialSuccess": {
+            "errorMessage": message.as_deref().unwrap_or(OUTSIDE),
+            "rejectedDataPoints": rejected.to_string(),
+        }}),
         Outcome::Refused { message, .. } | Outcome::Later { message, .. } => {
-            let mut text = format!(r#"{{"code":{},"message":"#, code(outcome.status()));
-            write_text(&mut text, message);
-            text.push('}');
-            text
+            json!({ "code": code(outcome.status()), "message": message })
         }
-    }
+    };
+    body.to_string()
 }
 
 fn protobuf(outcome: &Outcome) -> Vec<u8> {
@@ -78,7 +75,8 @@ fn protobuf(outcome: &Outcome) -> Vec<u8> {
             ExportMetricsServiceResponse { partial_success }.encode_to_vec()
         }
         Outcome::Refused { message, .. } | Outcome::Later { message, .. } => {
-            Status { code: code(outcome.status()), message: message.clone() }.encode_to_vec()
+            let (code, message) = (code(outcome.status()), message.clone());
+            Status { code, message, details: Vec::new() }.encode_to_vec()
         }
     }
 }

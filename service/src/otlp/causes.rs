@@ -95,11 +95,6 @@ impl Causes {
         turned.by.iter().map(|(refused, points)| (of(refused), *points)).collect()
     }
 
-    /// A point of each.
-    pub(super) fn of_points(points: impl Iterator<Item = Cause>) -> Causes {
-        points.map(|cause| (cause, 1)).collect()
-    }
-
     /// As they are shown.
     pub(super) fn read(text: &str) -> Option<Causes> {
         let of = |part: &str| {

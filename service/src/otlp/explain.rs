@@ -1,9 +1,9 @@
 //! What becomes of each point of a request in the book's form, in words.
 
 use super::causes::Cause;
-use super::clock::{Off, Window};
+use super::clock::Window;
 use super::json::Value;
-use super::outside::is_of_no_series;
+use super::outside::is_passed;
 use super::series::{said, visit_body, Profile, Seen, SeriesKey, What, LOOKED_AT};
 use crate::log::cut;
 use serde::Serialize;
@@ -34,7 +34,7 @@ pub struct Explained {
 impl Explained {
     /// Whether it is handed on where there is somebody who takes it.
     pub fn is_passed(&self) -> bool {
-        is_of_no_series(self.kind) || self.cause.is_some_and(Cause::is_passed)
+        is_passed(self.kind, self.cause)
     }
 }
 
@@ -42,18 +42,14 @@ impl Explained {
 pub fn explained(body: &[u8], profile: Profile, window: Window) -> Option<Vec<Explained>> {
     let mut all = Vec::new();
     visit_body(body, profile, |seen| {
-        let off = seen.found.ok().and_then(|_| window.off(seen.end()));
-        all.push(of(&seen).but(off));
+        let mut point = of(&seen);
+        // One that would be taken may be off by its clock.
+        if let Some(off) = seen.found.ok().and_then(|_| window.off(seen.end())) {
+            (point.foreign, point.cause) = (Some(off.to_string()), Some(Cause::of_clock(off)));
+        }
+        all.push(point);
     })?;
     Some(all)
-}
-
-impl Explained {
-    /// A point that would be taken, and is off by its clock.
-    fn but(self, off: Option<Off>) -> Explained {
-        let Some(off) = off else { return self };
-        Explained { foreign: Some(off.to_string()), cause: Some(Cause::of_clock(off)), ..self }
-    }
 }
 
 /// The first of its points that are foreign, until `is_enough` says so.

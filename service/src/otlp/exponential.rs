@@ -7,8 +7,7 @@
 mod edge;
 mod view;
 
-use edge::{Edge, Number};
-use std::fmt::Write;
+use edge::Edge;
 use std::str::FromStr;
 use std::sync::Arc;
 pub(super) use view::{most_more, viewed, why_not};
@@ -50,29 +49,23 @@ impl FromStr for Bound {
     type Err = String;
 
     fn from_str(text: &str) -> Result<Bound, String> {
-        let number: Number = text.parse()?;
-        let edge = match number.is_zero() {
-            true => None,
-            false => {
-                Some(Edge::of(number).ok_or_else(|| format!("{text} is too near to an edge of a bucket"))?)
-            }
+        let number = edge::number(text)?;
+        let edge = match number.numerator {
+            0 => None,
+            _ => Some(Edge::of(number).ok_or_else(|| format!("{text} is too near to an edge of a bucket"))?),
         };
-        Ok(Bound { double: number.double(), is_double: number.is_double(), edge })
+        Ok(Bound { double: edge::double(number), is_double: edge::is_double(number), edge })
     }
 }
 
 impl Bounds {
     /// As they stand in a request in the book's form: a fraction is a text.
     fn written(&self) -> String {
-        let mut text = String::new();
-        for Bound { double, .. } in self.0.iter() {
-            let comma = if text.is_empty() { "" } else { "," };
-            let _ = match double.fract() == 0.0 {
-                true => write!(text, "{comma}{double}"),
-                false => write!(text, "{comma}\"{double}\""),
-            }; // into memory it never fails
-        }
-        text
+        let written = self.0.iter().map(|Bound { double, .. }| match double.fract() == 0.0 {
+            true => double.to_string(),
+            false => format!("\"{double}\""),
+        });
+        written.collect::<Vec<String>>().join(",")
     }
 }
 

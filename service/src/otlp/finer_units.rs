@@ -1,11 +1,9 @@
 //! `--whole`: what is measured in one unit is taken as whole numbers of a finer one.
 //!
-//! `rewrite` does it to a request in the book's form, so it is the same for both encodings. `decimal` has the
-//! numbers: a double counts as its shortest decimal, which is what a program wrote or meant, and is multiplied
-//! exactly. `rounded` is what was rounded meanwhile. `units` decides for metrics that no rule is for, and `scale` is the same
+//! `rewrite` does it to a request in the book's form, so it is the same for both encodings. A double counts as its
+//! shortest decimal, which is what a program wrote or meant, and is multiplied exactly. `rounded` is what was rounded meanwhile. `units` decides for metrics that no rule is for, and `scale` is the same
 //! for points that are read by number.
 
-mod decimal;
 mod folder_units;
 mod plan;
 mod rewrite;
@@ -13,7 +11,6 @@ mod rounded;
 mod scale;
 mod units;
 
-pub(super) use plan::changes;
 pub(super) use rewrite::rewritten;
 pub(super) use rounded::{shown_of, RoundedPoint, ShownSeries};
 pub use rounded::{Rounded, Rounding};

@@ -2,33 +2,28 @@
 //! know. What it refuses is refused, also of a plain one.
 //!
 //! It is never held as a tree of messages: each is looked through once, and then its fields are written in the order of
-//! its table. So the memory is that of the JSON, however many small messages the bytes are. `fast_path` writes at once what
-//! has the form that nearly all points and attributes have.
+//! its table. So the memory is that of the JSON, however many small messages the bytes are.
 
-mod fast_path;
-mod lists;
-mod time;
-
-use super::json::is_text;
-use super::output::{Output, Written};
+use super::output::Output;
 use super::schema::{exponential_histogram, Field, Kind, Message, Wire, EXEMPLAR, KEY_VALUE, REQUEST};
 use super::wire::{numbers, Fields, Malformed, Payload};
 use super::{Reading, Refused};
-use lists::signed;
-use std::ops::Range;
-use time::Time;
 
 /// Messages may be nested as deep as protobuf's own readers allow.
 const MAX_DEPTH: usize = 100;
+/// As deep are the attributes of points, and of what is above them; of a list as many are remembered, where they are short.
+const ATTRIBUTES_DEPTH: usize = 6;
+const ATTRIBUTES: usize = 32;
+const LONGEST_KEPT: usize = 1 << 10;
 /// How many times its length of a body may be copied: once for each message in another that a point taken may have.
 const COPIES: usize = 4;
 
-pub fn written(body: &[u8], reading: &Reading) -> Result<Written, Refused> {
+pub fn written<'r>(body: &[u8], reading: &'r Reading) -> Result<Output<'r>, Refused> {
     written_with(body, reading, body.len() * COPIES)
 }
 
 /// The same, but that a message which is there in parts is refused.
-pub fn written_plainly(body: &[u8], reading: &Reading) -> Result<Written, Refused> {
+pub fn written_plainly<'r>(body: &[u8], reading: &'r Reading) -> Result<Output<'r>, Refused> {
     written_with(body, reading, 0)
 }
 
@@ -39,10 +34,10 @@ pub fn is_exemplar(bytes: &[u8], reading: &Reading) -> bool {
     writer.message(&EXEMPLAR, bytes, DEPTH).is_ok()
 }
 
-fn written_with(body: &[u8], reading: &Reading, may_copy: usize) -> Result<Written, Refused> {
+fn written_with<'r>(body: &[u8], reading: &'r Reading, may_copy: usize) -> Result<Output<'r>, Refused> {
     let mut writer = Writer::new(Output::new(body.len() * 3 + 64, reading), may_copy);
     writer.message(&REQUEST, body, 0)?;
-    Ok(writer.out.written())
+    Ok(writer.out)
 }
 
 fn refused(message: &Message, what: impl std::fmt::Display) -> Refused {
@@ -62,13 +57,8 @@ struct Writer<'a, 'r> {
     out: Output<'r>,
     /// Of the messages that are under way, each behind the one around it.
     found: Vec<FoundField<'a>>,
-    /// Of the last plain point its times,
-    start: Time,
-    end: Time,
-    /// and each attribute's field, and where it is written;
-    last: Vec<(&'a [u8], Range<usize>)>,
-    /// of the last plain one of a histogram its bounds, in the same way.
-    bounds: (&'a [u8], Range<usize>),
+    /// Of earlier lists, at each place the attribute that was written last, and how; as nothing where that is long.
+    last: Vec<(&'a [u8], Vec<u8>)>,
     /// How many bytes may be copied for messages that are there in parts.
     may_copy: usize,
 }
@@ -81,7 +71,7 @@ struct FoundField<'a> {
     times: usize,
     /// From the first time on.
     fields: Fields<'a>,
-    /// The last one, where it is no list.
+    /// The last one, which counts where it is no list.
     last: Payload<'a>,
 }
 
@@ -98,30 +88,6 @@ impl<'a> FoundField<'a> {
     /// The bytes of each time, in order.
     fn all_bytes(mut self, number: u8) -> impl Iterator<Item = &'a [u8]> {
         (0..self.times).map_while(move |_| self.fields.next_bytes(number))
-    }
-
-    /// The bytes of a text or a message; of several the last count.
-    fn bytes(self) -> &'a [u8] {
-        bytes_of(self.last)
-    }
-
-    /// The bits of a number; of several the last counts.
-    fn bits(self) -> u64 {
-        bits_of(self.last)
-    }
-}
-
-fn bytes_of(payload: Payload<'_>) -> &[u8] {
-    match payload {
-        Payload::Bytes(bytes) => bytes,
-        _ => &[],
-    }
-}
-
-fn bits_of(payload: Payload<'_>) -> u64 {
-    match payload {
-        Payload::Varint(bits) | Payload::Fixed64(bits) => bits,
-        _ => 0,
     }
 }
 
@@ -145,21 +111,14 @@ fn is_payload_of(kind: Kind, payload: Payload<'_>) -> bool {
     }
 }
 
-fn not_text(of: &'static Message, field: &Field) -> Refused {
-    refused(of, format_args!("{} is not UTF-8", field.name))
+fn text<'a>(of: &'static Message, field: &Field, found: FoundField<'a>) -> Result<&'a str, Refused> {
+    let text = std::str::from_utf8(found.last.bytes());
+    text.map_err(|_| refused(of, format_args!("{} is not UTF-8", field.name)))
 }
 
 impl<'a, 'r> Writer<'a, 'r> {
     fn new(out: Output<'r>, may_copy: usize) -> Writer<'a, 'r> {
-        Writer {
-            out,
-            found: Vec::new(),
-            start: Time::new(),
-            end: Time::new(),
-            last: Vec::new(),
-            bounds: Default::default(),
-            may_copy,
-        }
+        Writer { out, found: Vec::new(), last: Vec::new(), may_copy }
     }
 
     fn message(&mut self, of: &'static Message, bytes: &'a [u8], depth: usize) -> Result<(), Refused> {
@@ -248,23 +207,19 @@ impl<'a, 'r> Writer<'a, 'r> {
             Kind::Messages(inner) | Kind::Parts(inner) => self.messages(inner, field, found, depth)?,
             Kind::Exemplars => self.messages(&EXEMPLAR, field, found, depth)?,
             Kind::ResourceAttributes => self.messages(&KEY_VALUE, field, found, depth)?,
-            Kind::Text if is_text(found.bytes()) => self.out.quoted(found.bytes()),
-            Kind::Text => return Err(not_text(of, field)),
-            Kind::Unit => {
-                let unit = std::str::from_utf8(found.bytes());
-                self.out.unit(unit.map_err(|_| not_text(of, field))?);
-            }
-            Kind::Bool => self.out.push(match found.bits() {
+            Kind::Text => self.out.quoted(text(of, field, found)?),
+            Kind::Unit => self.out.unit(text(of, field, found)?),
+            Kind::Bool => self.out.push(match found.last.bits() {
                 0 => "false",
                 _ => "true",
             }),
             // An enum has 32 bits, of which a reader keeps the lowest.
-            Kind::Temporality => self.out.temporality((found.bits() as i32).into()),
-            Kind::Whole(Wire::Fixed64) => self.out.whole_number(found.bits()),
-            Kind::Whole(Wire::Uint32) => self.out.whole_number(found.bits() as u32),
-            Kind::Whole(Wire::Sint32) => self.out.whole_number(signed(found.bits())),
-            Kind::Whole(Wire::Int64 | Wire::Sfixed64) => self.out.whole_number(found.bits() as i64),
-            Kind::Double | Kind::Fraction => self.out.double(f64::from_bits(found.bits())),
+            Kind::Temporality => self.out.temporality((found.last.bits() as i32).into()),
+            Kind::Whole(Wire::Fixed64) => self.out.whole_number(found.last.bits()),
+            Kind::Whole(Wire::Uint32) => self.out.whole_number(found.last.bits() as u32),
+            Kind::Whole(Wire::Sint32) => self.out.whole_number(signed(found.last.bits())),
+            Kind::Whole(Wire::Int64 | Wire::Sfixed64) => self.out.whole_number(found.last.bits() as i64),
+            Kind::Double | Kind::Fraction => self.out.double(f64::from_bits(found.last.bits())),
             Kind::Wholes => self.list(found, number, |out, bits| out.whole_number(bits)),
             Kind::Numbers => self.numbers(found, number),
             Kind::Doubles => self.list(found, number, |out, bits| out.double(f64::from_bits(bits))),
@@ -292,7 +247,7 @@ impl<'a, 'r> Writer<'a, 'r> {
         depth: usize,
     ) -> Result<(), Refused> {
         match found.times {
-            1 => self.message(of, found.bytes(), depth),
+            1 => self.message(of, found.last.bytes(), depth),
             _ => self.parts(of, found.all_bytes(number), depth),
         }
     }
@@ -328,23 +283,85 @@ impl<'a, 'r> Writer<'a, 'r> {
         let list = self.out.text.len();
         self.out.text.push(b'[');
         let inside = self.out.text.len();
-        let may_be_plain = depth + 2 < MAX_DEPTH; // an attribute has a value within
-        for bytes in found.all_bytes(field.number) {
+        let are_attributes = std::ptr::eq(of, &KEY_VALUE);
+        for (place, bytes) in found.all_bytes(field.number).enumerate() {
             let from = self.out.text.len();
             self.out.separate(inside);
-            if !(may_be_plain && self.write_plain(of, bytes)) {
-                self.message(of, bytes, depth + 1)?;
+            match are_attributes && depth < ATTRIBUTES_DEPTH && place < ATTRIBUTES {
+                true => self.attribute(place, bytes, depth + 1)?,
+                false => self.message(of, bytes, depth + 1)?,
             }
             if let Kind::ResourceAttributes = field.kind {
                 self.out.drop_attribute(from);
             }
         }
-        match std::ptr::eq(of, &KEY_VALUE) {
-            true => self.out.end_attributes(list),
-            false => self.out.text.push(b']'),
+        self.out.text.push(b']');
+        if are_attributes {
+            self.out.bound_attributes(list);
         }
         Ok(())
     }
+
+    /// A list of 8 bytes each, packed or not.
+    fn list(&mut self, found: FoundField<'a>, number: u8, each: impl Fn(&mut Output<'_>, u64)) {
+        self.out.text.push(b'[');
+        let inside = self.out.text.len();
+        for payload in found.all(number) {
+            let one;
+            let all = match payload {
+                Payload::Bytes(packed) => packed.as_chunks().0,
+                other => {
+                    one = [other.bits().to_le_bytes()];
+                    &one
+                }
+            };
+            for bits in all {
+                self.out.separate(inside);
+                each(&mut self.out, u64::from_le_bytes(*bits));
+            }
+        }
+        self.out.text.push(b']');
+    }
+
+    /// A list of numbers of any length, packed or not.
+    fn numbers(&mut self, found: FoundField<'a>, number: u8) {
+        self.out.text.push(b'[');
+        let inside = self.out.text.len();
+        for payload in found.all(number) {
+            let one = matches!(payload, Payload::Varint(_)).then(|| payload.bits());
+            for bits in numbers(payload.bytes()).flatten().chain(one) {
+                self.out.separate(inside);
+                self.out.whole_number(bits);
+            }
+        }
+        self.out.text.push(b']');
+    }
+
+    /// Most points have most attributes as the point before has them.
+    fn attribute(&mut self, place: usize, bytes: &'a [u8], depth: usize) -> Result<(), Refused> {
+        match self.last.get(place) {
+            Some((same, written)) if *same == bytes && !written.is_empty() => {
+                self.out.text.extend_from_slice(written);
+                return Ok(());
+            }
+            _ => {}
+        }
+        let from = self.out.text.len();
+        self.message(&KEY_VALUE, bytes, depth)?;
+        let written = &self.out.text[from..];
+        let last = (bytes, if written.len() <= LONGEST_KEPT { written.to_vec() } else { Vec::new() });
+        match self.last.get_mut(place) {
+            Some(known) => *known = last,
+            None => self.last.push(last),
+        }
+        Ok(())
+    }
+}
+
+/// A number of 32 bits whose lowest says whether it is below zero.
+fn signed(bits: u64) -> i32 {
+    let bits = bits as u32; // of more a reader keeps these
+    (bits >> 1) as i32 ^ -((bits & 1) as i32)
 }
 
 /// Refuses a field that is not in the table and would be lost in silence.

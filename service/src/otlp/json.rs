@@ -3,7 +3,11 @@
 //! A text is read once into a list of places, 12 bytes for each value and name, and stays where it is. So the
 //! memory for a text is a small multiple of it whatever it says, and to pass over a value costs nothing.
 
+mod edited;
 mod parser;
+
+pub(super) use edited::Edited;
+pub(super) use parser::escaped;
 
 use std::borrow::Cow;
 
@@ -239,54 +243,10 @@ pub fn is_text(bytes: &[u8]) -> bool {
 
 /// Writes a text as the book does: only `"`, `\` and what is below 32 is escaped.
 pub fn write_text(out: &mut String, text: &str) {
-    if plain_length(text.as_bytes()) == text.len() {
-        out.push('"');
-        out.push_str(text);
-        out.push('"');
-        return;
+    match plain_length(text.as_bytes()) == text.len() {
+        true => out.extend(["\"", text, "\""]),
+        false => out.push_str(&serde_json::Value::from(text).to_string()),
     }
-    let mut escaped = Vec::new();
-    put_text(&mut escaped, text.as_bytes());
-    out.push_str(&String::from_utf8_lossy(&escaped)); // it is UTF-8, as the text is
-}
-
-/// The same of the bytes of a text.
-pub fn put_text(out: &mut Vec<u8>, text: &[u8]) {
-    out.reserve(text.len() + 2);
-    out.push(b'"');
-    put_inside(out, text);
-    out.push(b'"');
-}
-
-/// The same without its quotes.
-pub fn put_inside(out: &mut Vec<u8>, text: &[u8]) {
-    let mut rest = text;
-    loop {
-        let (plain, behind) = rest.split_at(plain_length(rest));
-        out.extend_from_slice(plain);
-        let Some((byte, behind)) = behind.split_first() else {
-            break;
-        };
-        put_escaped(out, *byte);
-        rest = behind;
-    }
-}
-
-fn put_escaped(out: &mut Vec<u8>, byte: u8) {
-    let short = match byte {
-        b'"' | b'\\' => byte,
-        8 => b'b',
-        b'\t' => b't',
-        b'\n' => b'n',
-        12 => b'f',
-        b'\r' => b'r',
-        _ => {
-            const DIGITS: &[u8; 16] = b"0123456789abcdef";
-            out.extend_from_slice(b"\\u00");
-            return out.extend([byte >> 4, byte & 15].map(|digit| DIGITS[usize::from(digit)]));
-        }
-    };
-    out.extend([b'\\', short]);
 }
 
 /// This in each byte of a word.
@@ -295,19 +255,6 @@ const EACH: u64 = u64::MAX / 255;
 /// How many bytes are before the first `"`, `\` or byte below 32: those that stand for themselves in a text.
 pub fn plain_length(bytes: &[u8]) -> usize {
     first_of_words(bytes, |word| first_marked(marks(word) & !word), is_special)
-}
-
-/// Whether a text is ASCII in which each byte stands for itself.
-pub fn is_plain_ascii(text: &[u8]) -> bool {
-    let marked = |eight: &[u8; 8]| {
-        let word = u64::from_le_bytes(*eight);
-        (word | marks(word)) & (EACH << 7)
-    };
-    let Some(last) = text.last_chunk() else {
-        return text.iter().all(|byte| byte.is_ascii() && !is_special(*byte));
-    };
-    let (eights, _) = text.as_chunks();
-    eights.iter().fold(marked(last), |all, eight| all | marked(eight)) == 0
 }
 
 fn is_special(byte: u8) -> bool {

@@ -1,11 +1,11 @@
 //! JSON in the form that most senders write: the book reads it as it is meant, which one look over the bytes says.
 //!
 //! Here is known what needs no thought: names as the book has them, each once, plain texts, short numbers. Of any
-//! other body nothing is said, and `from_json` looks at it.
+//! other body nothing is said, and `from_json` writes it anew.
 
 mod points;
 
-use super::json::{digits_length, is_text, plain_length};
+use super::json::{digits_length, escaped, is_text, plain_length};
 use super::schema::{
     exponential_histogram, Field, Kind, Message, HISTOGRAM_POINT, KEY_VALUE, METRIC, NUMBER_POINT, REQUEST,
 };
@@ -20,8 +20,18 @@ const DIGITS: usize = 19;
 /// Digits of a whole number that is exact as a double.
 const DIGITS_OF_DOUBLE: usize = 15;
 
-/// Whether the book reads the body as it is meant, as far as that is seen at once. False says nothing.
-pub fn may_go_as_it_came(body: &[u8], reading: &Reading) -> bool {
+/// A body that the book reads as it is meant.
+#[derive(Debug, PartialEq)]
+pub struct AsItCame {
+    /// Whether a metric is cumulative.
+    pub is_cumulative: bool,
+}
+
+/// What a body is that the book reads as it is meant, as far as that is seen at once. None says nothing.
+pub fn as_it_came(body: &[u8], reading: &Reading) -> Option<AsItCame> {
+    if reading.finer_units.has_no_unit() || !reading.dropped.is_empty() {
+        return None;
+    }
     let mut look = Look {
         rest: body,
         reading,
@@ -30,9 +40,11 @@ pub fn may_go_as_it_came(body: &[u8], reading: &Reading) -> bool {
         metric: &[],
         is_measured: false,
         has_doubles: false,
+        is_cumulative: false,
     };
-    let is_known = !reading.finer_units.has_no_unit() && look.message(&REQUEST, 0).is_some();
-    is_known && look.peek().is_none() && look.rest.is_empty() && is_text(body)
+    look.message(&REQUEST, 0)?;
+    let is_whole = look.peek().is_none() && look.rest.is_empty() && is_text(body);
+    is_whole.then_some(AsItCame { is_cumulative: look.is_cumulative })
 }
 
 /// What is not known is None.
@@ -49,6 +61,8 @@ struct Look<'a> {
     is_measured: bool,
     /// and of which a point has a double.
     has_doubles: bool,
+    /// Whether one of the metrics is cumulative.
+    is_cumulative: bool,
 }
 
 impl<'a> Look<'a> {
@@ -105,6 +119,17 @@ impl<'a> Look<'a> {
         Some(text)
     }
 
+    /// Passes a text, also one with escapes.
+    fn any_text(&mut self) -> Option<()> {
+        self.take(b'"')?;
+        self.inside();
+        while self.rest.first() == Some(&b'\\') {
+            self.rest = &self.rest[escaped(self.rest)?.1..];
+            self.inside();
+        }
+        self.word(b"\"")
+    }
+
     /// What is between the quotes of a text, up to an escape.
     fn inside(&mut self) -> &'a [u8] {
         let (text, behind) = self.rest.split_at(plain_length(self.rest));
@@ -136,12 +161,9 @@ impl<'a> Look<'a> {
         }
     }
 
-    /// That of metrics that are not cumulative: who reads these has to know.
     fn temporality(&mut self) -> Option<()> {
-        match self.peek()? {
-            b'2' => None,
-            _ => self.number(1),
-        }
+        self.is_cumulative |= self.peek()? == b'2'; // a number of one digit
+        self.number(1)
     }
 
     /// A whole number, or a text of one.
@@ -164,7 +186,7 @@ impl<'a> Look<'a> {
     /// A value that is passed over.
     fn scalar(&mut self) -> Option<()> {
         match self.peek()? {
-            b'"' => self.text().map(|_| ()),
+            b'"' => self.any_text(),
             b't' | b'f' => self.truth(),
             _ => {
                 self.number(DIGITS)?;
@@ -244,7 +266,7 @@ impl<'a> Look<'a> {
             Kind::Messages(inner) if std::ptr::eq(inner, &METRIC) => self.list(|look| look.metric(depth)),
             Kind::Messages(inner) | Kind::Parts(inner) => self.list(|look| look.message(inner, depth)),
             Kind::ResourceAttributes => self.attributes(depth),
-            Kind::Text | Kind::Bytes => self.text().map(|_| ()),
+            Kind::Text | Kind::Bytes => self.any_text(),
             Kind::Unit => self.unit(),
             Kind::Bool => self.truth(),
             Kind::Temporality => self.temporality(),
@@ -294,81 +316,4 @@ fn says_nothing(of: &Message, name: &[u8]) -> bool {
 }
 
 #[cfg(test)]
-mod tests {
-    use super::super::{from_json, json::Document};
-    use super::*;
-
-    const BODY: &str = r#"{"resourceMetrics":[{"resource":{"attributes":[{"key":"a","value":{"stringValue":"é"}}]},
-        "schemaUrl":"u","scopeMetrics": [{"scope":{"name":"s","version":"1"},"metrics":[{"name":"m","description":"d",
-        "unit":"By","sum":{"aggregationTemporality":1,"isMonotonic":true,"dataPoints":[{"attributes":[{"key":"k","value":
-        {"intValue":"-9"}},{"key":"l","value":{"arrayValue":{"values":[{"boolValue":false}]}}}],"asInt":-5,"exemplars":[],
-        "startTimeUnixNano":"1700000000000000000","timeUnixNano":2,"flags":0},{"attributes":[{"key":"a","value":{"stringValue":"é"}}],
-        "asDouble":0.5}]}},{"histogram":{"dataPoints":[{"count":"3","sum":120,"min":0.25,"bucketCounts":["1",2],
-        "explicitBounds":[10]}]}}]}]}]}"#;
-    /// Points that are looked at by their words.
-    const POINTS: &str = concat!(
-        r#"{"resourceMetrics":[{"scopeMetrics":[{"metrics":[{"sum":{"dataPoints":["#,
-        r#"{"attributes":[{"key":"k","value":{"intValue":"-9"}}],"#,
-        r#""startTimeUnixNano":"1700000000000000000","timeUnixNano":"1700000001000000000","asInt":5},"#,
-        r#"{"startTimeUnixNano":"1700000000000000000","timeUnixNano":"1700000001000000000","asInt":"-5","#,
-        r#""attributes":[{"key":"k","value":{"intValue":"-9"}},{"key":"l","value":{"stringValue":"é"}}]},"#,
-        r#"{"startTimeUnixNano":"1700000000000000000","timeUnixNano":"1700000001000000000","asInt":"7"}"#,
-        r#"]}},{"histogram":{"dataPoints":["#,
-        r#"{"attributes":[{"key":"k","value":{"intValue":"-9"}}],"#,
-        r#""startTimeUnixNano":"1700000000000000000","timeUnixNano":"1700000001000000000","count":"3","sum":120,"#,
-        r#""bucketCounts":["1","2"],"explicitBounds":[10],"min":0.5,"max":60},"#,
-        r#"{"startTimeUnixNano":"1700000000000000000","timeUnixNano":"1700000001000000000","count":3,"#,
-        r#""bucketCounts":[1,2],"explicitBounds":[10],"attributes":[{"key":"k","value":{"intValue":"-9"}}],"max":60},"#,
-        r#"{"startTimeUnixNano":"1700000000000000000","timeUnixNano":"1700000001000000000","count":"3","sum":-5,"#,
-        r#""bucketCounts":["3","0","0"],"explicitBounds":[-10,0]}"#,
-        r#"]}}]}]}]}"#,
-    );
-
-    #[test]
-    fn what_senders_write_is_usual() {
-        for body in [BODY, POINTS, " {} ", r#"{"resourceMetrics":[]}"#] {
-            assert!(may_go_as_it_came(body.as_bytes(), &Reading::default()), "{body}");
-        }
-    }
-
-    /// Why a look in full does not say that the book reads a body as it is meant.
-    fn otherwise(body: &[u8]) -> Option<String> {
-        let document = match Document::parse(body) {
-            Ok(document) => document,
-            Err(fault) => return Some(fault.to_string()),
-        };
-        match from_json::read_as_it_is(&document, &Reading::default()) {
-            Ok(Some(_)) => None,
-            Ok(None) => Some("it is written anew".to_string()),
-            Err(refused) => Some(refused.to_string()),
-        }
-    }
-
-    #[test]
-    fn a_body_with_any_change_is_usual_only_where_a_look_in_full_says_so() {
-        let (mut tried, mut usual) = (0, 0);
-        let mut is_sound = |changed: Vec<u8>| {
-            tried += 1;
-            if may_go_as_it_came(&changed, &Reading::default()) {
-                usual += 1;
-                assert_eq!(otherwise(&changed), None, "{}", String::from_utf8_lossy(&changed));
-            }
-        };
-        for body in [BODY, POINTS].map(str::as_bytes) {
-            for at in 0..body.len() {
-                let (before, behind) = body.split_at(at);
-                is_sound(before.to_vec());
-                for byte in b"\"\\{}[]:,. 0123-+eEtfn_x\n\x01\x80\xe9" {
-                    is_sound([before, &[*byte], &behind[1..]].concat());
-                    is_sound([before, &[*byte], behind].concat());
-                }
-                for length in [1, 2, 5, 9, 20, 40] {
-                    let (piece, rest) = behind.split_at(length.min(behind.len()));
-                    is_sound([before, rest].concat());
-                    is_sound([before, piece, piece, rest].concat());
-                }
-            }
-        }
-        assert!(usual > tried / 20, "{usual} of {tried} are usual");
-    }
-}
+mod tests;

@@ -1,7 +1,7 @@
 //! Requests and answers of OTLP, in protobuf and in JSON, and the series that a body has.
 //!
 //! `prepare` writes a request of either encoding as the book reads it: `from_protobuf` and `from_json` go
-//! by the tables of `schema`, over the readers `wire` and `json`; `json_fast_path` sees at once most JSON that goes on as
+//! by the tables of `schema`, over the readers `wire` and `json`; `json_fast_path` sees at once most JSON, which goes on as
 //! it came, and `plain_protobuf` most protobuf that the book's reader reads; `numbered` reads nearly all other protobuf without
 //! that, by the numbers of series that are known;
 //! `finer_units` takes fractions as whole numbers of a finer unit, `exponential` exponential histograms in given buckets. `series`
@@ -15,6 +15,7 @@ mod answers;
 mod causes;
 mod clock;
 mod combined_outcome;
+mod decimal;
 mod explain;
 mod exponential;
 mod finer_units;
@@ -43,7 +44,7 @@ pub use explain::{explained, foreign_points, point_at, second_at, taken_points, 
 pub use exponential::Bounds;
 pub use finer_units::{Choice, Decided, FinerUnits, Rounded, Rounding, Rule};
 pub use instance::{with_instance, INSTANCE};
-pub(crate) use messages::ExportMetricsServiceResponse;
+pub(crate) use messages::{Detail, ExportMetricsServiceResponse, Status};
 pub use numbered::{Learnt, NotNamed, Numbered, Series};
 pub use outside::{Original, Outside};
 pub(crate) use plain_protobuf::is_plain;
@@ -57,6 +58,7 @@ pub(crate) use tests::{
 };
 
 use bytes::Bytes;
+use json_fast_path::AsItCame;
 
 /// How a request was written, and so how it is answered.
 #[derive(Clone, Copy, Debug, PartialEq, Eq)]
@@ -66,6 +68,14 @@ pub enum Encoding {
 }
 
 impl Encoding {
+    /// As a content type says it.
+    pub fn media_type(self) -> &'static str {
+        match self {
+            Encoding::Json => "application/json",
+            Encoding::Protobuf => "application/x-protobuf",
+        }
+    }
+
     /// How a body was written of which nothing is known.
     pub fn of(body: &[u8]) -> Encoding {
         let first = body.iter().find(|byte| !byte.is_ascii_whitespace());
@@ -142,12 +152,6 @@ pub struct Prepared {
     pub is_cumulative: bool,
 }
 
-impl Prepared {
-    fn as_it_is(body: Bytes, is_cumulative: bool, decided: Decided) -> Prepared {
-        Prepared { body, is_cumulative, rounded: Rounded { decided, ..Rounded::default() } }
-    }
-}
-
 /// Puts a request into the book's form. Nothing of a request is lost in silence: it is read whole or refused whole.
 pub fn prepare(encoding: Encoding, body: Bytes, reading: &Reading) -> Result<Prepared, Refused> {
     prepare_with(encoding, body, reading, |_| Ok(()))
@@ -161,11 +165,14 @@ pub fn prepare_with<E: From<Refused>>(
     reading: &Reading,
     mut room: impl FnMut(usize) -> Result<(), E>,
 ) -> Result<Prepared, E> {
-    let mut written = match form(encoding, &body, reading)? {
-        Form::Written(written) => written,
-        Form::AsItCame { is_cumulative, decided } => {
-            return Ok(Prepared::as_it_is(body, is_cumulative, decided))
+    if encoding == Encoding::Json {
+        if let Some(AsItCame { is_cumulative }) = json_fast_path::as_it_came(&body, reading) {
+            return Ok(Prepared { body, is_cumulative, rounded: Rounded::default() });
         }
+    }
+    let mut written = match encoding {
+        Encoding::Json => from_json::written(&body, reading)?,
+        Encoding::Protobuf => from_protobuf::written(&body, reading)?,
     };
     let unfit = match &reading.exponential {
         Some(bounds) if written.is_exponential => {
@@ -188,31 +195,6 @@ pub fn prepare_with<E: From<Refused>>(
     };
     rounded.unfit = unfit.or(rounded.unfit);
     Ok(Prepared { body: Bytes::from(text), rounded, is_cumulative: written.is_cumulative })
-}
-
-/// A request in the book's form but for its units.
-enum Form {
-    AsItCame { is_cumulative: bool, decided: Decided },
-    Written(output::Written),
-}
-
-fn form(encoding: Encoding, body: &Bytes, reading: &Reading) -> Result<Form, Refused> {
-    if encoding == Encoding::Protobuf {
-        return from_protobuf::written(body, reading).map(Form::Written);
-    }
-    let may_go_on = reading.dropped.is_empty();
-    if may_go_on && json_fast_path::may_go_as_it_came(body, reading) {
-        return Ok(Form::AsItCame { is_cumulative: false, decided: Decided::default() });
-    }
-    let document = json::Document::parse(body)?;
-    if may_go_on {
-        if let Some(from_json::AsItIs { is_cumulative, decided }) =
-            from_json::read_as_it_is(&document, reading)?
-        {
-            return Ok(Form::AsItCame { is_cumulative, decided });
-        }
-    }
-    from_json::written(&document, reading).map(Form::Written)
 }
 
 /// What a sender is answered.

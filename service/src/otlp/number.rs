@@ -1,6 +1,7 @@
 //! Numbers: what the book reads as a whole number, and what the protobuf JSON mapping does.
 
-use super::json::{Document, Value};
+use super::decimal::Decimal;
+use super::json::Value;
 
 /// A whole double is exact up to here, and the book takes none beyond.
 pub const MAX_WHOLE_DOUBLE: u64 = 1 << 53;
@@ -47,9 +48,14 @@ pub fn mapped_double(value: Value<'_>) -> Option<f64> {
         "NaN" => Some(f64::NAN),
         "Infinity" => Some(f64::INFINITY),
         "-Infinity" => Some(f64::NEG_INFINITY),
-        _ if is_number(&text) => text.parse().ok(),
+        _ if is_number(&text) => text.parse().ok().filter(|double: &f64| double.is_finite()),
         _ => None,
     }
+}
+
+/// Whether a histogram may have it as a bound or a sum.
+pub fn is_whole_double(whole: &i128) -> bool {
+    whole.unsigned_abs() <= u128::from(MAX_WHOLE_DOUBLE)
 }
 
 /// The double as the whole number that it is, if the book takes it.
@@ -69,36 +75,16 @@ pub fn double_shown(double: f64) -> String {
 
 /// Whether a text is a JSON number and no more.
 fn is_number(text: &str) -> bool {
-    text.starts_with(|first: char| first == '-' || first.is_ascii_digit())
-        && text.ends_with(|last: char| last.is_ascii_digit())
-        && Document::parse(text.as_bytes()).is_ok()
+    let size = text.strip_prefix('-').unwrap_or(text);
+    let (digits, exponent) = size.split_once(['e', 'E']).unwrap_or((size, "0"));
+    let (before, after) = digits.split_once('.').unwrap_or((digits, "0"));
+    let exponent = exponent.strip_prefix(['+', '-']).unwrap_or(exponent);
+    let are_digits = |part: &str| !part.is_empty() && part.bytes().all(|byte| byte.is_ascii_digit());
+    [before, after, exponent].into_iter().all(are_digits) && (before.len() == 1 || !before.starts_with('0'))
 }
 
 /// The exact value of a JSON number, if it is whole and below 2^64 in size.
 fn whole(number: &str) -> Option<i128> {
-    let (sign, size) = match number.strip_prefix('-') {
-        Some(size) => (-1, size),
-        None => (1, number),
-    };
-    let (digits, exponent) = size.split_once(['e', 'E']).unwrap_or((size, "0"));
-    let (before, after) = digits.split_once('.').unwrap_or((digits, ""));
-    let significant = || before.bytes().chain(after.bytes());
-    if significant().all(|digit| digit == b'0') {
-        return Some(0);
-    }
-    let exponent: i64 = exponent.parse().ok()?;
-    // How many of the digits are before the point once the exponent is applied.
-    let kept = exponent.checked_add(i64::try_from(before.len()).ok()?)?;
-    let written = usize::try_from(kept).ok()?;
-    if significant().skip(written).any(|digit| digit != b'0') {
-        return None;
-    }
-    let mut whole: i128 = 0;
-    for digit in significant().chain(std::iter::repeat(b'0')).take(written) {
-        whole = whole * 10 + i128::from(digit - b'0');
-        if whole > i128::from(u64::MAX) {
-            return None;
-        }
-    }
-    Some(sign * whole)
+    let whole = Decimal::times(number, 1)?.whole()?;
+    (whole.unsigned_abs() <= u128::from(u64::MAX)).then_some(whole)
 }

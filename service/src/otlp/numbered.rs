@@ -8,23 +8,25 @@
 //! requests (`identity`), and named. **So nothing of a rule is here**: what was read once as sound is as sound where the same
 //! bytes come again, and whatever is not plainly a whole number or a histogram is not read here at all (`walk`).
 //!
-//! A text in the book's form is read as `series` reads it (`text`), where its points are wanted by number too.
+//! A text in the book's form is read as `series` reads it, where its points are wanted by number too: each series is known by its
+//! key.
 
 mod fields;
 mod identity;
 mod levels;
-mod text;
 mod walk;
 
+use super::series::{request_of, visit_body, Profile, Seen, SeriesKey, Temporality};
 use super::{Reading, Rounded};
 use crate::files::Points;
 use bytes::Bytes;
+pub(super) use fields::pass_extremes;
 use identity::{Learn, Learner};
-use levels::{Levels, LookupOnly};
+use levels::{Levels, FOREIGN, KEYS};
 use std::cell::Cell;
 use std::sync::atomic::{AtomicBool, Ordering::Relaxed};
 use std::sync::{Arc, PoisonError, RwLock};
-use walk::{Find, Stop, Walk};
+use walk::{Slow, Walk};
 
 /// What naming a series said.
 #[derive(Clone, Copy, Debug, PartialEq, Eq)]
@@ -90,15 +92,7 @@ impl Series {
         if reading.finer_units.has_no_unit() {
             return None; // all metrics have a unit of `--whole`
         }
-        let known = {
-            let levels = self.levels.read().unwrap_or_else(PoisonError::into_inner); // each change of it is whole
-            walk(LookupOnly(&levels), reading, body)
-        };
-        let read = match known {
-            Err(Stop::Unknown) if !self.is_full() => walk(self.learner(reading, &learn), reading, body),
-            known => known,
-        };
-        read.ok()
+        Walk::new(&self.learner(reading, &learn), body.len()).request(body).ok()
     }
 
     /// The points of a request in the book's form, also those that are cumulative; none where the book refuses it whole.
@@ -107,7 +101,15 @@ impl Series {
         text: &[u8],
         learn: impl Fn(Bytes) -> Option<Learnt>,
     ) -> Result<Option<Numbered>, NotNamed> {
-        text::read(&self.learner(&self.reading, &learn), text)
+        let learner = self.learner(&self.reading, &learn);
+        let (mut read, mut goes_on) = (Numbered::default(), Ok(()));
+        let whole = visit_body(text, Profile::AlsoCumulative, |seen| {
+            if goes_on.is_ok() {
+                goes_on = add(&mut read, &learner, &seen);
+            }
+        });
+        goes_on.map_err(|_| NotNamed)?;
+        Ok(whole.map(|()| read))
     }
 
     /// For one request.
@@ -117,8 +119,30 @@ impl Series {
     }
 }
 
-fn walk(find: impl Find, reading: &Reading, body: &[u8]) -> Result<Numbered, Stop> {
-    Walk::new(reading, find, body.len()).request(body)
+fn add(read: &mut Numbered, learner: &Learner<'_>, seen: &Seen<'_, '_>) -> Result<(), Slow> {
+    let Ok(temporality) = seen.found else {
+        read.foreign += 1;
+        return Ok(());
+    };
+    match number_of(learner, seen.key)? {
+        FOREIGN => read.foreign += 1,
+        number => {
+            if temporality == Temporality::Cumulative {
+                read.cumulative.push(read.points.count() as u32);
+            }
+            read.points.push_words(number.into(), seen.words);
+        }
+    }
+    Ok(())
+}
+
+fn number_of(learner: &Learner<'_>, key: &str) -> Result<u32, Slow> {
+    if let Some(number) = learner.known().find(KEYS, key.as_bytes()) {
+        return Ok(number);
+    }
+    let end = 2; // of a point from 1 on
+    let request = request_of(&SeriesKey(key.into()), end).map_err(|_| Slow)?;
+    learner.name(KEYS, key.as_bytes(), request.into_bytes(), 0)
 }
 
 #[cfg(test)]

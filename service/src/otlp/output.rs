@@ -1,6 +1,6 @@
 //! A request as it is written for the book, of whichever encoding it came in.
 
-use super::json::{is_plain_ascii, put_inside, put_text, Document};
+use super::json::Document;
 use super::number::whole_double;
 use super::Reading;
 use std::borrow::Cow;
@@ -9,7 +9,7 @@ use std::borrow::Cow;
 /// delivered with all that identifies it: a resource of megabytes that thousands of points share would be gigabytes, and a
 /// longest post's series alone would fit into no body that tells it to a book.
 pub const LONGEST_LIST: usize = 16 << 10;
-/// A list that came in no more bytes is not too long either once it is written.
+/// A list in JSON that came in no more bytes is not too long either.
 pub const SHORT_LIST: usize = LONGEST_LIST / 2;
 
 /// As OTLP numbers temporalities.
@@ -19,14 +19,6 @@ pub struct Output<'r> {
     /// UTF-8, since who gives a text has looked at it.
     pub text: Vec<u8>,
     reading: &'r Reading,
-    is_measured: bool,
-    is_cumulative: bool,
-    is_exponential: bool,
-}
-
-/// A whole request.
-pub struct Written {
-    pub text: Vec<u8>,
     /// Whether a metric has a unit that `--whole` is about.
     pub is_measured: bool,
     /// Whether a metric is cumulative.
@@ -50,15 +42,6 @@ impl<'r> Output<'r> {
     pub fn take(&mut self) -> Output<'r> {
         let reading = self.reading;
         std::mem::replace(self, Output::new(0, reading))
-    }
-
-    pub fn written(self) -> Written {
-        Written {
-            text: self.text,
-            is_measured: self.is_measured,
-            is_cumulative: self.is_cumulative,
-            is_exponential: self.is_exponential,
-        }
     }
 
     #[inline]
@@ -101,18 +84,8 @@ impl<'r> Output<'r> {
         }
     }
 
-    /// A text of UTF-8.
-    pub fn quoted(&mut self, text: &[u8]) {
-        put_text(&mut self.text, text);
-    }
-
-    /// What is between the quotes of a text, unless it is not UTF-8.
-    pub fn inside(&mut self, text: &[u8]) -> Option<()> {
-        match is_plain_ascii(text) {
-            true => self.text.extend_from_slice(text),
-            false => put_inside(&mut self.text, std::str::from_utf8(text).ok()?.as_bytes()),
-        }
-        Some(())
+    pub fn quoted(&mut self, text: &str) {
+        let _ = serde_json::to_writer(&mut self.text, text); // into memory it never fails
     }
 
     /// An exponential histogram comes: it is read so.
@@ -128,16 +101,15 @@ impl<'r> Output<'r> {
 
     pub fn unit(&mut self, unit: &str) {
         self.is_measured |= self.reading.finer_units.is_about(unit);
-        self.quoted(unit.as_bytes());
+        self.quoted(unit);
     }
 
-    /// Ends an attribute list that begins at `from`. In the place of one that is too long is a text, so that what it
+    /// Of an attribute list that begins at `from`, and is whole. In the place of one that is too long is a text, so that what it
     /// identifies is foreign.
-    pub fn end_attributes(&mut self, from: usize) {
-        self.text.push(b']');
+    pub fn bound_attributes(&mut self, from: usize) {
         if self.text.len() - from > LONGEST_LIST {
             self.text.truncate(from);
-            self.quoted(format!("a list of over {LONGEST_LIST} bytes").as_bytes());
+            self.quoted(&format!("a list of over {LONGEST_LIST} bytes"));
         }
     }
 

@@ -8,6 +8,7 @@ pub(super) mod json;
 pub(super) mod protobuf;
 
 use super::causes::{Cause, Causes};
+use super::schema::{Field, METRIC};
 use super::series::{visit_body, Profile};
 use super::Encoding;
 use bytes::Bytes;
@@ -28,27 +29,15 @@ pub struct Outside {
 }
 
 /// The kinds of data that have points, in the order in which a metric's are visited. The first are of no series.
-const KINDS: [Kind; 5] = [
-    Kind::new("gauge", "gauge", 5),
-    Kind::new("exponentialHistogram", "exponential_histogram", 10),
-    Kind::new("summary", "summary", 11),
-    Kind::new("sum", "sum", 7),
-    Kind::new("histogram", "histogram", 9),
-];
+const KINDS: [&str; 5] = ["gauge", "exponentialHistogram", "summary", "sum", "histogram"];
 const OF_NO_SERIES: usize = 3;
 /// Of these some may be taken: `--exponential`.
 const EXPONENTIAL: usize = 1;
 
-struct Kind {
-    name: &'static str,
-    proto_name: &'static str,
-    number: u32,
-}
-
-impl Kind {
-    const fn new(name: &'static str, proto_name: &'static str, number: u32) -> Kind {
-        Kind { name, proto_name, number }
-    }
+/// The place among these of a metric's field.
+fn kind_of(is_it: impl Fn(&Field) -> bool) -> Option<usize> {
+    let field = METRIC.fields.iter().find(|field| is_it(field))?;
+    KINDS.iter().position(|kind| *kind == field.name)
 }
 
 /// Says of each point in turn whether it is handed on, by the place of its kind.
@@ -74,12 +63,12 @@ impl Original {
         let Some(found) = points(&text, profile) else {
             return (None, Causes::of(&text, profile, foreign));
         };
-        let (passed, rest): (Vec<&Point>, Vec<&Point>) = found.iter().partition(|point| point.is_passed());
-        let rest = rest.into_iter().filter_map(|point| point.cause);
+        let passed = found.iter().filter(|(is_passed, _)| *is_passed).count();
+        let rest = found.iter().filter_map(|(is_passed, cause)| cause.filter(|_| !is_passed));
+        let causes: Causes = rest.map(|cause| (cause, 1)).collect();
         let mut of_each = found.iter();
-        let (body, points) = self.with(|_| of_each.next().is_some_and(|point| point.is_passed()));
-        let is_same = of_each.next().is_none() && points == passed.len() as u64;
-        let causes = Causes::of_points(rest);
+        let (body, points) = self.with(|_| of_each.next().is_some_and(|(is_passed, _)| *is_passed));
+        let is_same = of_each.next().is_none() && points == passed as u64;
         match is_same && points + causes.count() == foreign {
             true => (self.made(body, points), causes),
             false => (None, Causes::of(&text, profile, foreign)),
@@ -116,30 +105,18 @@ impl Original {
     }
 }
 
-/// Whether a metric's data is of a kind that no series has.
-pub fn is_of_no_series(kind: &str) -> bool {
-    KINDS[..OF_NO_SERIES].iter().any(|known| known.name == kind)
+/// Whether a point is handed on, by the kind of its metric's data, and by why it is foreign.
+pub fn is_passed(kind: &str, cause: Option<Cause>) -> bool {
+    let is_of_no_series = KINDS[..OF_NO_SERIES].contains(&kind);
+    is_of_no_series || cause.is_some_and(Cause::is_passed)
 }
 
-/// A point of a request.
-#[derive(Clone, Copy)]
-struct Point {
-    is_of_no_series: bool,
-    /// Why it is foreign.
-    cause: Option<Cause>,
-}
-
-impl Point {
-    fn is_passed(self) -> bool {
-        self.is_of_no_series || self.cause.is_some_and(Cause::is_passed)
-    }
-}
-
-/// All points of a request in the book's form; none where it can't be read.
-fn points(text: &[u8], profile: Profile) -> Option<Vec<Point>> {
+/// Of each point of a request in the book's form whether it is handed on, and why it is foreign; none where it can't be read.
+fn points(text: &[u8], profile: Profile) -> Option<Vec<(bool, Option<Cause>)>> {
     let mut points = Vec::new();
     visit_body(text, profile, |seen| {
-        points.push(Point { is_of_no_series: is_of_no_series(seen.kind), cause: Cause::of(&seen) });
+        let cause = Cause::of(&seen);
+        points.push((is_passed(seen.kind, cause), cause));
     })?;
     Some(points)
 }

@@ -6,6 +6,7 @@
 
 use super::json::is_text;
 use super::number::whole_double;
+use super::numbered::pass_extremes;
 use super::output::LONGEST_LIST;
 use super::wire::Fields;
 use super::Reading;
@@ -69,13 +70,6 @@ fn flags(fields: &mut Fields<'_>, number: u8) -> Option<()> {
 fn span(fields: &mut Fields<'_>) -> Option<()> {
     fields.fixed64(2)?;
     fields.fixed64(3).map(drop)
-}
-
-/// The least and the largest value, which say nothing.
-#[inline(always)]
-fn extremes(fields: &mut Fields<'_>) {
-    let _ = fields.fixed64(11);
-    let _ = fields.fixed64(12);
 }
 
 impl<'a> Look<'a> {
@@ -228,7 +222,7 @@ impl<'a> Look<'a> {
         if let Some(sum) = fields.fixed64(5) {
             is_whole_sum(sum).then_some(())?;
         }
-        extremes(&mut fields);
+        pass_extremes(&mut fields);
         let buckets = fields.bytes(6).unwrap_or_default();
         buckets.len().is_multiple_of(8).then_some(())?;
         let bounds = fields.bytes(7).unwrap_or_default();
@@ -238,7 +232,7 @@ impl<'a> Look<'a> {
         }
         self.attributes(&mut fields, 9)?;
         flags(&mut fields, 10)?;
-        extremes(&mut fields);
+        pass_extremes(&mut fields);
         at_end(fields)
     }
 }

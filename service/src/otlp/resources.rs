@@ -8,7 +8,7 @@ use super::from_json;
 use super::json::{Document, Value};
 use super::schema::REQUEST;
 use super::series::{self, SeriesKey};
-use super::wire::{field, Fields, Payload};
+use super::wire::{field, fields, Payload};
 use super::{prepare, Encoding, Reading};
 use ahash::RandomState;
 use bytes::Bytes;
@@ -110,37 +110,27 @@ impl Resources {
 
     /// None of what is refused whole.
     fn in_protobuf(&self, body: &[u8]) -> Option<Vec<PlacedResource>> {
-        let mut fields = Fields::of(body);
-        let mut found = Vec::new();
-        loop {
-            let at = body.len() - fields.rest().len();
-            match fields.next() {
-                None => return Some(found),
-                Some(Ok((1, Payload::Bytes(message)))) => {
-                    found.push((self.of_message(message), at..body.len() - fields.rest().len()));
-                }
-                Some(Ok((number, _))) if REQUEST.says_nothing(number) => {}
-                Some(_) => return None,
+        let (mut found, mut at) = (Vec::new(), 0);
+        for (number, payload, raw) in fields(body)? {
+            let end = at + raw.len();
+            match payload {
+                Payload::Bytes(message) if number == 1 => found.push((self.of_message(message), at..end)),
+                _ if REQUEST.says_nothing(number) => {}
+                _ => return None,
             }
+            at = end;
         }
+        Some(found)
     }
 
     /// The slot of a message of a resource and its scopes.
     fn of_message(&self, message: &[u8]) -> u16 {
-        let (mut resource, mut parts) = (&[][..], Vec::new());
-        let mut times = 0;
-        let mut fields = Fields::of(message);
-        loop {
-            let here = fields.rest();
-            match fields.next() {
-                None => break,
-                Some(Ok((1, Payload::Bytes(bytes)))) => {
-                    parts.extend_from_slice(fields.since(here));
-                    (resource, times) = (bytes, times + 1);
-                }
-                Some(Ok((1, _)) | Err(_)) => return UNREAD,
-                Some(Ok(_)) => {}
-            }
+        let Some(all) = fields(message) else { return UNREAD };
+        let (mut resource, mut parts, mut times) = (&[][..], Vec::new(), 0);
+        for (_, payload, raw) in all.filter(|(number, ..)| *number == 1) {
+            let Payload::Bytes(bytes) = payload else { return UNREAD };
+            parts.extend_from_slice(raw);
+            (resource, times) = (bytes, times + 1);
         }
         let hashed = || self.hashed(Encoding::Protobuf, field(1, &parts).into());
         match times {

@@ -5,11 +5,24 @@
 //! here, or are only looked through. Fields of older versions that carried points or their identity are here
 //! to be refused.
 
-#[macro_use]
-mod table;
-mod exponential;
+use super::Reading;
 
-pub use exponential::exponential_histogram;
+/// A line of a table.
+macro_rules! field {
+    ($name:literal, $proto_name:literal, $number:literal, $kind:expr $(,)?) => {
+        Field {
+            name: $name,
+            written: concat!("\"", $name, "\":"),
+            initial: $name.as_bytes()[0],
+            proto_name: $proto_name,
+            number: {
+                assert!($number < 16);
+                $number
+            },
+            kind: $kind,
+        }
+    };
+}
 
 pub struct Message {
     pub name: &'static str,
@@ -95,6 +108,9 @@ pub enum Wire {
     Sfixed64,
 }
 
+/// A message of which nothing more is to be said.
+const PLAIN: Message = Message { name: "", fields: &[], one_of: &[], refused: &[] };
+
 const fn refused(names: &'static [&'static str], number: u32, why: &'static str) -> RefusedField {
     RefusedField { names, number, why }
 }
@@ -106,7 +122,6 @@ const OLD: &str = "is of an old version of OTLP and can't be read: send it with 
 pub static REQUEST: Message = Message {
     name: "ExportMetricsServiceRequest",
     fields: &[field!("resourceMetrics", "resource_metrics", 1, Kind::Messages(&RESOURCE_METRICS),)],
-    one_of: &[],
     refused: &[
         refused(&["resourceSpans", "resource_spans"], 0, OTHER_SIGNAL),
         refused(&["resourceLogs", "resource_logs"], 0, OTHER_SIGNAL),
@@ -116,6 +131,7 @@ pub static REQUEST: Message = Message {
         refused(&["gauge", "sum", "histogram", "exponentialHistogram", "summary"], 0, MISPLACED),
         refused(&["instrumentationLibraryMetrics", "instrumentation_library_metrics"], 0, OLD),
     ],
+    ..PLAIN
 };
 
 pub static RESOURCE_METRICS: Message = Message {
@@ -124,19 +140,19 @@ pub static RESOURCE_METRICS: Message = Message {
         field!("resource", "resource", 1, Kind::Message(&RESOURCE)),
         field!("scopeMetrics", "scope_metrics", 2, Kind::Messages(&SCOPE_METRICS)),
     ],
-    one_of: &[],
     refused: &[
         refused(&["instrumentationLibraryMetrics", "instrumentation_library_metrics"], 1000, OLD),
         refused(&["scopeSpans", "scope_spans", "scopeLogs", "scope_logs"], 0, OTHER_SIGNAL),
         refused(&["metrics"], 0, "is not in ResourceMetrics: it belongs into scopeMetrics"),
     ],
+    ..PLAIN
 };
 
 pub static RESOURCE: Message = Message {
     name: "Resource",
     fields: &[field!("attributes", "attributes", 1, Kind::ResourceAttributes)],
-    one_of: &[],
     refused: &[refused(&["labels"], 0, OLD)],
+    ..PLAIN
 };
 
 pub static SCOPE_METRICS: Message = Message {
@@ -145,8 +161,8 @@ pub static SCOPE_METRICS: Message = Message {
         field!("scope", "scope", 1, Kind::Message(&SCOPE)),
         field!("metrics", "metrics", 2, Kind::Messages(&METRIC)),
     ],
-    one_of: &[],
     refused: &[refused(&["instrumentationLibrary", "instrumentation_library"], 0, OLD)],
+    ..PLAIN
 };
 
 static SCOPE: Message = Message {
@@ -156,8 +172,7 @@ static SCOPE: Message = Message {
         field!("version", "version", 2, Kind::Text),
         field!("attributes", "attributes", 3, Kind::Parts(&KEY_VALUE)),
     ],
-    one_of: &[],
-    refused: &[],
+    ..PLAIN
 };
 
 pub static METRIC: Message = Message {
@@ -171,7 +186,6 @@ pub static METRIC: Message = Message {
         field!("exponentialHistogram", "exponential_histogram", 10, Kind::Exponential,),
         field!("summary", "summary", 11, Kind::Message(&OTHER_DATA)),
     ],
-    one_of: &[],
     refused: &[
         refused(&["intGauge", "int_gauge"], 4, OLD),
         refused(&["intSum", "int_sum"], 6, OLD),
@@ -179,17 +193,17 @@ pub static METRIC: Message = Message {
         refused(&["doubleGauge", "double_gauge", "doubleSum", "double_sum"], 0, OLD),
         refused(&["doubleHistogram", "double_histogram", "doubleSummary", "double_summary"], 0, OLD),
     ],
+    ..PLAIN
 };
 
 /// A gauge, an exponential histogram or a summary: its points are counted, no more.
 static OTHER_DATA: Message = Message {
     name: "Metric.data",
     fields: &[field!("dataPoints", "data_points", 1, Kind::Messages(&COUNTED))],
-    one_of: &[],
-    refused: &[],
+    ..PLAIN
 };
 
-static COUNTED: Message = Message { name: "DataPoint", fields: &[], one_of: &[], refused: &[] };
+static COUNTED: Message = Message { name: "DataPoint", ..PLAIN };
 
 static SUM: Message = Message {
     name: "Sum",
@@ -198,8 +212,7 @@ static SUM: Message = Message {
         field!("aggregationTemporality", "aggregation_temporality", 2, Kind::Temporality,),
         field!("isMonotonic", "is_monotonic", 3, Kind::Bool),
     ],
-    one_of: &[],
-    refused: &[],
+    ..PLAIN
 };
 
 pub static NUMBER_POINT: Message = Message {
@@ -223,8 +236,7 @@ static HISTOGRAM: Message = Message {
         field!("dataPoints", "data_points", 1, Kind::Messages(&HISTOGRAM_POINT)),
         field!("aggregationTemporality", "aggregation_temporality", 2, Kind::Temporality,),
     ],
-    one_of: &[],
-    refused: &[],
+    ..PLAIN
 };
 
 pub static HISTOGRAM_POINT: Message = Message {
@@ -240,8 +252,8 @@ pub static HISTOGRAM_POINT: Message = Message {
         field!("attributes", "attributes", 9, Kind::Parts(&KEY_VALUE)),
         field!("flags", "flags", 10, Kind::Whole(Wire::Uint32)),
     ],
-    one_of: &[],
     refused: &[refused(&["labels"], 1, OLD)],
+    ..PLAIN
 };
 
 pub static EXEMPLAR: Message = Message {
@@ -261,8 +273,7 @@ pub static EXEMPLAR: Message = Message {
 pub static KEY_VALUE: Message = Message {
     name: "KeyValue",
     fields: &[field!("key", "key", 1, Kind::Text), field!("value", "value", 2, Kind::Part(&ANY_VALUE))],
-    one_of: &[],
-    refused: &[],
+    ..PLAIN
 };
 
 /// All that a value may be.
@@ -291,8 +302,7 @@ pub static ANY_VALUE: Message = Message {
 static ARRAY_VALUE: Message = Message {
     name: "ArrayValue",
     fields: &[field!("values", "values", 1, Kind::Parts(&SINGLE_VALUE))],
-    one_of: &[],
-    refused: &[],
+    ..PLAIN
 };
 
 /// A value in a list. It may be no list itself, so what is written is no deeper than the book reads.
@@ -306,6 +316,50 @@ static SINGLE_VALUE: Message = Message {
 static KEY_VALUE_LIST: Message = Message {
     name: "KeyValueList",
     fields: &[field!("values", "values", 1, Kind::Parts(&KEY_VALUE))],
-    one_of: &[],
-    refused: &[],
+    ..PLAIN
+};
+
+/// How exponential histograms are read: what their points say where it is wanted; else they are counted, as those of a gauge are.
+pub fn exponential_histogram(reading: &Reading) -> &'static Message {
+    match reading.exponential {
+        Some(_) => &EXPONENTIAL_HISTOGRAM,
+        None => &OTHER_DATA,
+    }
+}
+
+static EXPONENTIAL_HISTOGRAM: Message = Message {
+    name: "ExponentialHistogram",
+    fields: &[
+        field!("dataPoints", "data_points", 1, Kind::Messages(&EXPONENTIAL_POINT)),
+        field!("aggregationTemporality", "aggregation_temporality", 2, Kind::Temporality,),
+    ],
+    ..PLAIN
+};
+
+static EXPONENTIAL_POINT: Message = Message {
+    name: "ExponentialHistogramDataPoint",
+    fields: &[
+        field!("attributes", "attributes", 1, Kind::Parts(&KEY_VALUE)),
+        field!("startTimeUnixNano", "start_time_unix_nano", 2, Kind::Whole(Wire::Fixed64),),
+        field!("timeUnixNano", "time_unix_nano", 3, Kind::Whole(Wire::Fixed64)),
+        field!("count", "count", 4, Kind::Whole(Wire::Fixed64)),
+        field!("sum", "sum", 5, Kind::Double),
+        field!("scale", "scale", 6, Kind::Whole(Wire::Sint32)),
+        field!("zeroCount", "zero_count", 7, Kind::Whole(Wire::Fixed64)),
+        field!("positive", "positive", 8, Kind::Message(&BUCKETS)),
+        field!("negative", "negative", 9, Kind::Message(&BUCKETS)),
+        field!("flags", "flags", 10, Kind::Whole(Wire::Uint32)),
+        field!("exemplars", "exemplars", 11, Kind::Exemplars),
+        field!("zeroThreshold", "zero_threshold", 14, Kind::Double),
+    ],
+    ..PLAIN
+};
+
+static BUCKETS: Message = Message {
+    name: "Buckets",
+    fields: &[
+        field!("offset", "offset", 1, Kind::Whole(Wire::Sint32)),
+        field!("bucketCounts", "bucket_counts", 2, Kind::Numbers),
+    ],
+    ..PLAIN
 };

@@ -76,8 +76,7 @@ pub fn legal(value: &str) -> String {
         byte if byte.is_ascii_alphanumeric() || b"._-".contains(&byte) => char::from(byte),
         _ => '-',
     });
-    let digest = Sha256::digest(value.as_bytes());
-    let digits: String = digest.iter().map(|byte| format!("{byte:02x}")).collect();
+    let digits = format!("{:x}", Sha256::digest(value.as_bytes()));
     format!("{}.{}", kept.collect::<String>(), &digits[..DIGITS])
 }
 

@@ -93,8 +93,14 @@ fn within_request(metric: &[u8]) -> Vec<u8> {
     bytes(1, &bytes(2, &bytes(2, metric)))
 }
 
+/// What a body says of each of its points, as it is explained.
+fn told(body: &[u8]) -> Vec<Option<String>> {
+    let all = explained(body, Profile::AlsoCumulative, Clock::default().window()).unwrap();
+    all.into_iter().map(|point| point.foreign).collect()
+}
+
 #[test]
-fn json_that_the_book_reads_goes_on_as_it_came() {
+fn json_that_the_book_reads_says_the_same_once_it_is_written_anew() {
     let as_they_are = [
         "{}".to_string(),
         r#" {"resourceMetrics" : null , "other": [1.5e3]} "#.to_string(),
@@ -110,7 +116,8 @@ fn json_that_the_book_reads_goes_on_as_it_came() {
         request(r#"{"name":5,"unit":null}"#),
     ];
     for body in as_they_are {
-        assert_eq!(prepared(Encoding::Json, body.clone()), Ok(Bytes::from(body)));
+        let prepared = prepared(Encoding::Json, body.clone()).unwrap();
+        assert_eq!(told(&prepared), told(body.as_bytes()), "{body}");
     }
 }
 
@@ -150,18 +157,18 @@ fn json_of_any_encoder_is_written_as_the_book_reads_it() {
                 r#"{"as_int":1,"attributes":[{"key":"\u00e9","value":{"bytesValue":"AAE=","x":1}},5,{"value":{"kvlistValue":{"values":[]}}}]}"#,
             ),
             sum(
-                r#"{"asInt":"1","attributes":[{"key":"é","value":{"bytesValue":""}},false,{"value":{"kvlistValue":{}}}]}"#,
+                r#"{"asInt":"1","attributes":[{"key":"é","value":{"bytesValue":""}},5,{"value":{"kvlistValue":{}}}]}"#,
             ),
         ),
         (
             sum(r#"{"as_int":5.5,"startTimeUnixNano":true,"asDouble":5.0,"attributes":{}}"#),
-            sum(r#"{"asInt":false,"startTimeUnixNano":false,"asDouble":5,"attributes":false}"#),
+            sum(r#"{"asInt":5.5,"startTimeUnixNano":true,"asDouble":5,"attributes":{}}"#),
         ),
         (
             request(r#"{"gauge":{"data_points":[{"asDouble":1.7976931348623157e308},{}]},"name":null}"#),
             request(r#"{"gauge":{"dataPoints":[{},{}]}}"#),
         ),
-        (request(r#"{"sum":{"is_monotonic":"true"}}"#), request(r#"{"sum":{"isMonotonic":0}}"#)),
+        (request(r#"{"sum":{"is_monotonic":"true"}}"#), request(r#"{"sum":{"isMonotonic":"true"}}"#)),
         (sum(r#"{"asDouble":1.5e308}"#), sum(r#"{"asDouble":"1.5e308"}"#)),
     ];
     for (body, expected) in cases {
@@ -296,7 +303,7 @@ fn answers_are_of_the_request_s_kind() {
             format!(r#"{{"code":{code},"message":"a \"b\""}}"#).into_bytes()
         );
         let found = Status::decode(&refused.body(Encoding::Protobuf)[..]).unwrap();
-        assert_eq!(found, Status { code, message: "a \"b\"".to_string() });
+        assert_eq!(found, Status { code, message: "a \"b\"".to_string(), details: Vec::new() });
     }
 }
 

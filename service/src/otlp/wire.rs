@@ -28,6 +28,24 @@ pub enum Payload<'a> {
     Group,
 }
 
+impl<'a> Payload<'a> {
+    /// Of a text, a message or a packed list; none of what has a number.
+    pub fn bytes(self) -> &'a [u8] {
+        match self {
+            Payload::Bytes(bytes) => bytes,
+            _ => &[],
+        }
+    }
+
+    /// Of a number, whose bits are 64 or fewer.
+    pub fn bits(self) -> u64 {
+        match self {
+            Payload::Varint(bits) | Payload::Fixed64(bits) => bits,
+            _ => 0,
+        }
+    }
+}
+
 /// Numbers of any length, packed.
 pub fn numbers(packed: &[u8]) -> impl Iterator<Item = Result<u64, Malformed>> + '_ {
     let mut fields = Fields::of(packed);

@@ -78,12 +78,8 @@ impl Receiver {
     }
 
     fn post(&self, outside: Outside) -> Result<Request<Body>, hyper::http::Error> {
-        let content = match outside.encoding {
-            Encoding::Json => "application/json",
-            Encoding::Protobuf => "application/x-protobuf",
-        };
         Request::post(self.url.clone())
-            .header(CONTENT_TYPE, content)
+            .header(CONTENT_TYPE, outside.encoding.media_type())
             .header(USER_AGENT, concat!("totxegun/", env!("CARGO_PKG_VERSION")))
             .body(Body::from(outside.body))
     }

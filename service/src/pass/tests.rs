@@ -20,7 +20,7 @@ fn what_waits_has_a_bound() {
     let body = vec![0; MOST_WAITING / 4];
     (0..6).for_each(|_| pass.hand_on(outside(&body, 2)));
     assert_eq!(counted(&metrics), [0, 0, 0, 6]);
-    assert!(pass.waiting.sound().take().is_some());
+    assert!(locked(&pass.waiting).take().is_some());
     pass.hand_on(outside(&body, 2));
     assert_eq!(counted(&metrics), [0, 0, 0, 6]);
 }

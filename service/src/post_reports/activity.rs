@@ -1,11 +1,11 @@
 //! Who has posted, when last, and what was refused of whom: what an operator is shown, since the start.
 
-use crate::log::shown;
+use crate::log::{seconds, shown};
 use crate::metrics::reason_of;
 use crate::otlp::Outcome;
+use crate::work::locked;
 use std::collections::{BTreeMap, HashMap};
-use std::sync::{Mutex, PoisonError};
-use std::time::{SystemTime, UNIX_EPOCH};
+use std::sync::Mutex;
 
 /// So many senders are known. Where there is another one, those that posted last are kept, so many.
 const MOST: usize = 1000;
@@ -43,12 +43,12 @@ pub struct OfReason {
 impl SenderActivity {
     /// Notes an answer. The reason of a refusal that is the first of its sender and reason.
     pub fn note(&self, sender: &str, outcome: &Outcome) -> Option<&'static str> {
-        self.note_at(sender, outcome, now())
+        self.note_at(sender, outcome, seconds())
     }
 
     fn note_at(&self, sender: &str, outcome: &Outcome, now: u64) -> Option<&'static str> {
         let reason = reason_of(outcome);
-        let mut all = self.lock();
+        let mut all = locked(&self.0);
         let of = match all.get_mut(sender) {
             Some(of) => of,
             None => {
@@ -72,7 +72,7 @@ impl SenderActivity {
 
     /// Those that posted last, the last one first.
     pub fn last(&self, most: usize) -> Vec<(String, OfSender)> {
-        let all = self.lock();
+        let all = locked(&self.0);
         let mut last: Vec<(&String, &OfSender)> = all.iter().collect();
         last.sort_by(|(a, of_a), (b, of_b)| of_b.last.cmp(&of_a.last).then(a.cmp(b)));
         last.truncate(most);
@@ -81,11 +81,7 @@ impl SenderActivity {
 
     /// How many senders are known.
     pub fn count(&self) -> usize {
-        self.lock().len()
-    }
-
-    fn lock(&self) -> std::sync::MutexGuard<'_, HashMap<String, OfSender>> {
-        self.0.lock().unwrap_or_else(PoisonError::into_inner) // counts are sound at any time
+        locked(&self.0).len()
     }
 }
 
@@ -103,10 +99,6 @@ fn make_room(all: &mut HashMap<String, OfSender>) {
         left -= usize::from(goes);
         !goes
     });
-}
-
-fn now() -> u64 {
-    SystemTime::now().duration_since(UNIX_EPOCH).map_or(0, |since| since.as_secs())
 }
 
 #[cfg(test)]

@@ -2,29 +2,27 @@
 //!
 //! It stands before what takes a slot's posts, and changes nothing of them but the text of their answers. Of a post with
 //! points that were not taken it reads the body once more, for the answer (`texts`). What was told is of all slots: `activity` is
-//! who has posted, `logged` what the log has already. For the log one post is read at a time and beside the runtime's threads;
+//! who has posted, `Logged` what the log has already. For the log one post is read at a time and beside the runtime's threads;
 //! one that comes meanwhile is passed over, since its sender comes again.
 
 mod activity;
-mod logged;
 mod texts;
 
 pub use activity::{OfReason, OfSender, SenderActivity};
 pub(crate) use texts::SERIES_SHOWN;
 
-use crate::core;
 use crate::intake::{Hears, Taker};
 use crate::log::shown;
 use crate::metrics::{reason_of, Metrics};
 use crate::otlp::series::SeriesKey;
-use crate::otlp::{foreign_points, point_at, Cause, Causes, Original, Outcome, Profile, Reading, NO_NAME};
+use crate::otlp::{foreign_points, point_at, Cause, Causes, Original, Outcome, Profile, NO_NAME};
 use crate::pass::Pass;
-use crate::slot::{is_sender, ByNumber, Request, Source};
-use crate::work::Readers;
+use crate::slot::{is_sender, Request, Slot, Source};
+use crate::work::{locked, Readers};
 use bytes::Bytes;
-use logged::Logged;
+use std::collections::{HashMap, HashSet};
 use std::sync::atomic::{AtomicBool, Ordering::Relaxed};
-use std::sync::{Arc, Mutex, PoisonError};
+use std::sync::{Arc, Mutex};
 use texts::{late_at, of_late, of_other_writer, of_twice, other_writer, place_of, reason};
 
 /// How many senders, series and refusals are remembered as told.
@@ -57,6 +55,24 @@ pub struct Reporter {
     readers: Readers,
     is_reading: AtomicBool,
     logged: Mutex<Logged>,
+}
+
+/// What the log has of each sender, so that it is told once.
+#[derive(Default)]
+struct Logged {
+    foreign: HashMap<String, LoggedOf>,
+    /// Senders whose clock is off.
+    clocks: HashSet<String>,
+    series: HashSet<SeriesKey>,
+    /// Addresses of who has no name.
+    strangers: HashSet<String>,
+    refusals: usize,
+}
+
+#[derive(Default)]
+struct LoggedOf {
+    read: usize,
+    reasons: HashSet<String>,
 }
 
 /// What is told of foreign points.
@@ -204,7 +220,7 @@ impl Reporter {
         let (Some(reason), Some(message)) = (self.activity.note(sender, outcome), outcome.refusal()) else {
             return;
         };
-        let (mut logged, status) = (self.logged(), outcome.status());
+        let (mut logged, status) = (locked(&self.logged), outcome.status());
         if status < 500 && logged.refusals < REMEMBERED {
             logged.refusals += 1;
             drop(logged);
@@ -221,7 +237,7 @@ impl Reporter {
         if off.points() == 0 {
             return;
         }
-        let mut logged = self.logged();
+        let mut logged = locked(&self.logged);
         if logged.clocks.len() < REMEMBERED && logged.clocks.insert(sender.to_string()) {
             drop(logged);
             let (points, reason) = (off.points(), off.to_string());
@@ -229,13 +245,9 @@ impl Reporter {
         }
     }
 
-    fn logged(&self) -> std::sync::MutexGuard<'_, Logged> {
-        self.logged.lock().unwrap_or_else(PoisonError::into_inner) // sets are sound at any time
-    }
-
     /// Whether the address of who has no name is one of those that are remembered.
     fn is_known_stranger(&self, address: &str) -> bool {
-        let mut logged = self.logged();
+        let mut logged = locked(&self.logged);
         if logged.strangers.len() < STRANGERS {
             logged.strangers.insert(address.to_string());
         }
@@ -246,7 +258,7 @@ impl Reporter {
         if self.options.log_foreign == 0 {
             return false;
         }
-        let logged = self.logged();
+        let logged = locked(&self.logged);
         match logged.foreign.get(sender) {
             None => logged.foreign.len() < REMEMBERED,
             Some(of) => of.reasons.len() < self.options.log_foreign && of.read < MOST_READ,
@@ -256,7 +268,7 @@ impl Reporter {
     /// Nobody who posts waits while a body is read: one at a time is.
     fn tell_reasons(&self, sender: &str, body: &Bytes) {
         let known = |logged: &Logged| logged.foreign.get(sender).map(|of| of.reasons.clone());
-        let mut reasons = known(&self.logged()).unwrap_or_default();
+        let mut reasons = known(&locked(&self.logged)).unwrap_or_default();
         foreign_points(body, self.options.profile, |point| {
             let is_expected = |cause| self.options.expected.contains(&cause);
             if point.cause.is_some_and(is_expected) || (self.pass.is_some() && point.is_passed()) {
@@ -268,7 +280,7 @@ impl Reporter {
             }
             reasons.len() >= self.options.log_foreign
         });
-        let mut logged = self.logged();
+        let mut logged = locked(&self.logged);
         let of = logged.foreign.entry(sender.to_string()).or_default();
         of.read += 1;
         of.reasons = reasons;
@@ -276,7 +288,7 @@ impl Reporter {
 
     fn tell_owner(&self, sender: &str, series: SeriesKey, owner: &Owner) {
         {
-            let logged = self.logged();
+            let logged = locked(&self.logged);
             if logged.series.contains(&series) || logged.series.len() >= REMEMBERED {
                 return;
             }
@@ -286,21 +298,13 @@ impl Reporter {
         };
         let line = other_writer(sender, &owner, &series);
         tracing::warn!(sender, owner, series = shown(&series.0, SERIES_SHOWN), "{line}");
-        self.logged().series.insert(series);
+        locked(&self.logged).series.insert(series);
     }
 }
 
 impl<T: Taker> Taker for Reported<T> {
-    fn reading<'r>(&'r self, of_all: &'r Arc<Reading>) -> &'r Arc<Reading> {
-        self.taker.reading(of_all)
-    }
-
-    fn of_protobuf(&self, body: &Bytes, reading: &Arc<Reading>) -> Option<Request> {
-        self.taker.of_protobuf(body, reading)
-    }
-
-    fn numbered_text(&self, text: &Bytes) -> Result<Option<ByNumber>, core::Refused> {
-        self.taker.numbered_text(text)
+    fn slot(&self) -> Option<&Slot> {
+        self.taker.slot()
     }
 
     fn wants_originals(&self) -> bool {

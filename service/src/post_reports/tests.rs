@@ -43,7 +43,7 @@ async fn told(
             tokio::time::sleep(Duration::from_millis(1)).await;
         }
     }
-    let told = reported.reporter.logged();
+    let told = locked(&reported.reporter.logged);
     let of = told.foreign.get("a");
     let mut reasons: Vec<String> = of.into_iter().flat_map(|of| of.reasons.clone()).collect();
     reasons.sort();
@@ -164,7 +164,7 @@ async fn a_sender_whose_clock_is_off_is_told_by_how_much() {
     let wanted = "points outside the profile: 3 gauges, 1 point ahead of time: its clock is ";
     assert!(answer.starts_with(wanted) && answer.contains("d ahead: see"), "{answer}");
     answered(&reported, GAUGES).await;
-    assert_eq!(reported.reporter.logged().clocks.len(), 1, "it is in the log once");
+    assert_eq!(locked(&reported.reporter.logged).clocks.len(), 1, "it is in the log once");
     let page = String::from_utf8(reported.reporter.metrics.page()).unwrap();
     let line = "totxegun_foreign_points_total{cause=\"clock-ahead\",sender=\"a\"} 2";
     assert!(page.lines().any(|found| found == line), "{page}");
@@ -239,14 +239,14 @@ async fn refusals_are_noted() {
     while expected.reporter.is_reading.load(Relaxed) {
         tokio::time::sleep(Duration::from_millis(1)).await;
     }
-    assert!(expected.reporter.logged().foreign["a"].reasons.is_empty());
+    assert!(locked(&expected.reporter.logged).foreign["a"].reasons.is_empty());
     let late = Outcome::Refused { status: 400, message: "out of order: point 0, frontier 5".into() };
     let busy = Outcome::Refused { status: 503, message: "too many bytes in flight".into() };
     let refused = reported(late.clone(), None, ReportOptions::default()).reporter.clone();
     refused.answered("a", &late);
     refused.part_refused("a", &late);
     refused.answered("b", &busy);
-    assert_eq!(refused.logged().refusals, 1, "503 is not the sender's");
+    assert_eq!(locked(&refused.logged).refusals, 1, "503 is not the sender's");
     let of_a = &refused.activity.last(9).into_iter().find(|(name, _)| name == "a").unwrap().1;
     assert_eq!((of_a.taken, of_a.refused["out of order"].posts), (0, 2));
 }
@@ -260,7 +260,7 @@ async fn so_many_strangers_are_told_of() {
         reported.reporter.answered(&format!("address 10.0.{}.{}", number / 256, number % 256), &unknown);
     }
     reported.reporter.answered("shop-1", &unknown);
-    assert_eq!(reported.reporter.logged().refusals, STRANGERS + 2);
+    assert_eq!(locked(&reported.reporter.logged).refusals, STRANGERS + 2);
     let activity = reported.reporter.activity.last(1000);
     let of = |name: &str| activity.iter().find(|(activity, _)| activity == name).unwrap().1.clone();
     let posts = |name: &str| of(name).refused["the token is not known"].posts;

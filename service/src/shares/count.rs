@@ -3,9 +3,10 @@
 
 use super::{Named, Owned};
 use crate::otlp::series::only;
+use crate::work::locked;
 use std::collections::{HashMap, HashSet};
 use std::sync::atomic::{AtomicU64, Ordering::Relaxed};
-use std::sync::{Arc, Mutex, MutexGuard, PoisonError, Weak};
+use std::sync::{Arc, Mutex, Weak};
 use std::time::{Duration, Instant};
 
 /// What came, and is in no flush for so long, is not counted any more: its sender may be quarantined, or its slot another
@@ -49,7 +50,7 @@ impl Counted {
     /// Counts anew where something has come or gone.
     pub fn count(&self, owned: &dyn Owned) {
         let found = owned.seen();
-        if self.state().of == Some(found) {
+        if locked(&self.state).of == Some(found) {
             return;
         }
         // Ahead of the owners: what comes into a flush meanwhile is counted twice until the next time, and nothing is left out.
@@ -58,7 +59,7 @@ impl Counted {
         let of_owners: u64 = by_owner.values().sum();
         let of_owner = |(sender, series)| (sender, Has { series, claimed: 0 });
         let mut each: HashMap<String, Has> = by_owner.into_iter().map(of_owner).collect();
-        let mut state = self.state();
+        let mut state = locked(&self.state);
         state.there.retain(|number, came| came.is_some() && !gone.contains(number));
         state.there.shrink_to_fit();
         for came in state.there.values().flatten() {
@@ -75,7 +76,7 @@ impl Counted {
 
     /// Of what came since it was counted last what is in a flush, or can't be looked for.
     fn not_waited_for(&self, owned: &dyn Owned) -> HashSet<Number> {
-        let state = self.state();
+        let state = locked(&self.state);
         let came = |(number, came): (&Number, &Option<Came>)| {
             let came = came.as_ref()?;
             Some((*number, came.names.clone(), came.at))
@@ -94,7 +95,7 @@ impl Counted {
         if new == 0 {
             return Ok(());
         }
-        let mut state = self.state();
+        let mut state = locked(&self.state);
         let has = state.each.get(sender).copied().unwrap_or_default();
         if has.series + has.claimed + new > most {
             return Err(has);
@@ -105,7 +106,7 @@ impl Counted {
 
     /// A post is under way no more. Names are made up: nothing is kept of who has nothing.
     pub fn give_back(&self, sender: &str, claimed: u64) {
-        let mut state = self.state();
+        let mut state = locked(&self.state);
         if let Some(has) = state.each.get_mut(sender) {
             has.claimed = has.claimed.saturating_sub(claimed);
             if *has == Has::default() {
@@ -116,7 +117,7 @@ impl Counted {
 
     /// So many came of a sender. They are among these numbers, where they have some, of which others were there already.
     pub fn add(&self, sender: &str, series: u64, numbered: Option<(Arc<Named>, Vec<u64>)>) {
-        let mut state = self.state();
+        let mut state = locked(&self.state);
         state.each.entry(sender.to_string()).or_default().series += series;
         self.all.fetch_add(series, Relaxed);
         let Some((names, numbers)) = numbered else { return };
@@ -131,7 +132,7 @@ impl Counted {
     pub fn new_of(&self, owned: &dyn Owned, names: &Named, mut numbers: Vec<u64>, most: u64) -> u64 {
         let generation = names.generation();
         let is_there = |state: &State, number: u64| state.there.contains_key(&(generation, number));
-        let state = self.state();
+        let state = locked(&self.state);
         numbers.retain(|number| !is_there(&state, *number));
         drop(state);
         let (mut new, mut flushed) = (0, Vec::new());
@@ -144,7 +145,7 @@ impl Counted {
                 break;
             }
         }
-        let mut state = self.state();
+        let mut state = locked(&self.state);
         for number in flushed {
             state.there.entry((generation, number)).or_insert(None);
         }
@@ -156,15 +157,11 @@ impl Counted {
     }
 
     pub fn of(&self, sender: &str) -> u64 {
-        self.state().each.get(sender).map_or(0, |has| has.series)
+        locked(&self.state).each.get(sender).map_or(0, |has| has.series)
     }
 
     pub fn each(&self) -> HashMap<String, u64> {
-        self.state().each.iter().map(|(sender, has)| (sender.clone(), has.series)).collect()
-    }
-
-    fn state(&self) -> MutexGuard<'_, State> {
-        self.state.lock().unwrap_or_else(PoisonError::into_inner) // counts are sound at any time
+        locked(&self.state).each.iter().map(|(sender, has)| (sender.clone(), has.series)).collect()
     }
 }
 

@@ -13,12 +13,13 @@ pub use rules::{Owned, Rules, Share, MOST_POINTS};
 use crate::files::Names;
 use crate::otlp::series::others;
 use crate::otlp::Outcome;
+use crate::work::{blocking, locked};
 use bucket::{Buckets, BURST};
 use bytes::Bytes;
 use count::{Counted, Has};
 use serde::{Deserialize, Serialize};
 use std::future::Future;
-use std::sync::{Arc, Mutex, MutexGuard, OnceLock, PoisonError, Weak};
+use std::sync::{Arc, Mutex, OnceLock, Weak};
 use std::time::{Duration, Instant};
 
 /// How often it is looked whether series came or went.
@@ -155,7 +156,7 @@ impl Shares {
         }
         if let Some(most) = rules.of(sender).points {
             let cost = bucket::cost(points, most);
-            let waits = self.buckets().take(sender, cost, Instant::now());
+            let waits = locked(&self.buckets).take(sender, cost, Instant::now());
             waits.map_err(|wait| Over::Points {
                 sender: sender.to_string(),
                 points: most,
@@ -234,7 +235,7 @@ impl Shares {
         let Some(rules) = self.rules.get() else {
             return Vec::new();
         };
-        let mut buckets = self.buckets().used(Instant::now());
+        let mut buckets = locked(&self.buckets).used(Instant::now());
         let counted = self.counted.each();
         let (all, others) = (self.counted.all(), rules.kept_for_others());
         for sender in counted.keys() {
@@ -256,10 +257,6 @@ impl Shares {
         used.sort_by(|a, b| b.part().total_cmp(&a.part()).then_with(|| a.sender.cmp(&b.sender)));
         used.truncate(SHOWN);
         used
-    }
-
-    fn buckets(&self) -> MutexGuard<'_, Buckets> {
-        self.buckets.lock().unwrap_or_else(PoisonError::into_inner) // times are sound at any time
     }
 }
 
@@ -284,7 +281,7 @@ impl Drop for Claim<'_> {
             self.shares.counted.give_back(&self.sender, self.series);
         }
         if !self.points.is_zero() {
-            self.shares.buckets().give_back(&self.sender, self.points);
+            locked(&self.shares.buckets).give_back(&self.sender, self.points);
         }
     }
 }
@@ -295,7 +292,7 @@ async fn count(shares: Weak<Shares>) {
         looks.tick().await;
         let Some(shares) = shares.upgrade() else { return };
         let counting = move || shares.rules.get().map(|rules| shares.counted.count(&*rules.owned));
-        crate::work::blocking(counting).await;
+        blocking(counting).await;
     }
 }
 

@@ -3,7 +3,7 @@
 //! Each thread works at the next one that waits. Whoever has done one puts it, and what follows, as far as that is done: so no
 //! thread waits for another's work, and few are under way at a time.
 
-use super::threads;
+use super::{locked, threads};
 use std::collections::VecDeque;
 use std::sync::{Condvar, Mutex, MutexGuard, PoisonError};
 use std::thread;
@@ -59,11 +59,6 @@ pub fn in_order<T: Send, E: Send>(
     });
     let (_, ended) = putting.into_inner().unwrap_or_else(PoisonError::into_inner);
     ended.and(given)
-}
-
-/// A thread that panics ends all.
-fn locked<T>(mutex: &Mutex<T>) -> MutexGuard<'_, T> {
-    mutex.lock().unwrap_or_else(PoisonError::into_inner)
 }
 
 impl<T> WorkQueue<T> {

@@ -137,7 +137,7 @@ fn a_refusal_names_the_point_s_place_in_the_request() {
 #[test]
 fn causes_are_read_as_they_are_shown() {
     let all: Vec<_> = <crate::otlp::Cause as clap::ValueEnum>::value_variants().to_vec();
-    let once = Causes::of_points(all.iter().copied());
+    let once: Causes = all.iter().map(|cause| (*cause, 1)).collect();
     let twice = once.clone().and(&once);
     for causes in [once, twice] {
         assert_eq!(Causes::read(&causes.to_string()), Some(causes));

@@ -4,8 +4,8 @@
 //! the order counts, which is that of their logarithms: `Edge` has the number's to the finest scale, by squares that are bounded
 //! from both sides.
 
+use crate::otlp::decimal::Decimal;
 use std::cmp::Ordering;
-use std::str::FromStr;
 
 /// The scales that OpenTelemetry's SDKs have.
 pub const FINEST: u32 = 20;
@@ -17,64 +17,42 @@ const MOST_DIGITS: usize = 15;
 const PLACES: u32 = 62;
 const ONE: u128 = 1 << PLACES;
 
-/// A decimal: a numerator below 10^15 over a power of ten.
-#[derive(Clone, Copy, Debug)]
-pub struct Number {
-    is_negative: bool,
-    numerator: u128,
-    denominator: u128,
+/// Reads a bound: `0.5`, `-1`.
+pub fn number(text: &str) -> Result<Decimal, String> {
+    let size = text.strip_prefix('-').unwrap_or(text);
+    let (before, after) = size.split_once('.').unwrap_or((size, "0"));
+    let are_digits = |part: &str| !part.is_empty() && part.bytes().all(|byte| byte.is_ascii_digit());
+    let is_short = size.bytes().filter(u8::is_ascii_digit).count() <= MOST_DIGITS;
+    let number = Decimal::times(text, 1).filter(|_| is_short && are_digits(before) && are_digits(after));
+    number.ok_or_else(|| {
+        format!(
+            "a bound is a number of at most {MOST_DIGITS} digits, such as 0.5, and this is none: `{text}`"
+        )
+    })
 }
 
-impl FromStr for Number {
-    type Err = String;
-
-    fn from_str(text: &str) -> Result<Number, String> {
-        let wrong = || {
-            format!("a bound is a number of at most {MOST_DIGITS} digits, such as 0.5, and this is none: `{text}`")
-        };
-        let size = text.strip_prefix('-').unwrap_or(text);
-        let (before, after) = size.split_once('.').unwrap_or((size, ""));
-        let digits = format!("{before}{after}");
-        let are_digits = digits.bytes().all(|byte| byte.is_ascii_digit());
-        let is_sound =
-            are_digits && !before.is_empty() && !size.ends_with('.') && digits.len() <= MOST_DIGITS;
-        let numerator = digits.parse().ok().filter(|_| is_sound).ok_or_else(wrong)?;
-        Ok(Number {
-            is_negative: text.starts_with('-'),
-            numerator,
-            denominator: 10u128.pow(after.len() as u32), // at most as many as all digits
-        })
+/// The nearest double: both parts of the fraction are doubles.
+pub fn double(number: Decimal) -> f64 {
+    let size = number.numerator as f64 / number.denominator as f64;
+    if number.is_below_zero() {
+        -size
+    } else {
+        size
     }
 }
 
-impl Number {
-    pub fn is_zero(self) -> bool {
-        self.numerator == 0
-    }
+/// Whether that is the number itself.
+pub fn is_double(number: Decimal) -> bool {
+    lowest(number).1.is_power_of_two()
+}
 
-    /// The nearest double: both parts of the fraction are doubles.
-    pub fn double(self) -> f64 {
-        let size = self.numerator as f64 / self.denominator as f64;
-        if self.is_negative && !self.is_zero() {
-            -size
-        } else {
-            size
-        }
+/// The fraction in lowest terms.
+fn lowest(number: Decimal) -> (u128, u128) {
+    let (mut divisor, mut rest) = (number.numerator, number.denominator);
+    while rest != 0 {
+        (divisor, rest) = (rest, divisor % rest);
     }
-
-    /// Whether that is the number itself.
-    pub fn is_double(self) -> bool {
-        self.lowest().1.is_power_of_two()
-    }
-
-    /// The fraction in lowest terms.
-    fn lowest(self) -> (u128, u128) {
-        let (mut divisor, mut rest) = (self.numerator, self.denominator);
-        while rest != 0 {
-            (divisor, rest) = (rest, divisor % rest);
-        }
-        (self.numerator / divisor, self.denominator / divisor)
-    }
+    (number.numerator / divisor, number.denominator / divisor)
 }
 
 /// Of a number over zero its logarithm to the base 2, in parts of 2^-FINEST.
@@ -88,8 +66,8 @@ pub struct Edge {
 
 impl Edge {
     /// Of a number's size. None where it is so near to an edge that squares of these places do not tell on which side it is.
-    pub fn of(number: Number) -> Option<Edge> {
-        let (numerator, denominator) = number.lowest();
+    pub fn of(number: Decimal) -> Option<Edge> {
+        let (numerator, denominator) = lowest(number);
         let power = whole_logarithm(numerator, denominator);
         let at = i64::from(power) << FINEST;
         if numerator.is_power_of_two() && denominator.is_power_of_two() {

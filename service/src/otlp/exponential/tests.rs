@@ -11,7 +11,7 @@ fn bounds(text: &str) -> Bounds {
 }
 
 fn edge(text: &str) -> Edge {
-    Edge::of(text.parse().unwrap()).unwrap()
+    Edge::of(edge::number(text).unwrap()).unwrap()
 }
 
 /// A number without limits, its lowest digit first.

@@ -2,7 +2,7 @@
 
 use super::edge::{COARSEST, FINEST};
 use super::{Bound, Bounds};
-use crate::otlp::json::{write_text, Document, NotJson, Value};
+use crate::otlp::json::{write_text, Document, Edited, NotJson, Value};
 use crate::otlp::number::{book_whole, mapped_double};
 use crate::otlp::series::{metrics, name_shown};
 use std::cmp::Ordering;
@@ -32,20 +32,13 @@ pub fn most_more(text: &[u8], bounds: &Bounds) -> Result<usize, NotJson> {
 /// The text is one that `otlp` has written.
 pub fn viewed(text: &[u8], bounds: &Bounds) -> Result<View, NotJson> {
     let document = Document::parse(text)?;
-    let mut viewing = Viewing {
-        text: document.text(),
-        bounds,
-        explicit: bounds.written(),
-        copied: 0,
-        out: String::with_capacity(text.len()),
-        unfit: None,
-    };
+    let mut viewing =
+        Viewing { edited: Edited::of(document.text()), bounds, explicit: bounds.written(), unfit: None };
     for (metric, data) in exponential(&document) {
         viewing.metric(metric, data);
     }
-    viewing.out.push_str(&viewing.text[viewing.copied..]);
-    let Viewing { out, unfit, .. } = viewing;
-    Ok(View { text: out, unfit })
+    let Viewing { edited, unfit, .. } = viewing;
+    Ok(View { text: edited.finished(), unfit })
 }
 
 /// Of a histogram's point that is foreign, why its view is not taken.
@@ -63,13 +56,10 @@ fn exponential<'d>(document: &'d Document<'_>) -> impl Iterator<Item = (Value<'d
 }
 
 struct Viewing<'d, 'b> {
-    text: &'d str,
+    edited: Edited<'d>,
     bounds: &'b Bounds,
     /// The bounds as they are written.
     explicit: String,
-    /// How much of the text is done.
-    copied: usize,
-    out: String,
     unfit: Option<String>,
 }
 
@@ -77,12 +67,8 @@ impl Viewing<'_, '_> {
     fn metric(&mut self, metric: Value<'_>, data: Value<'_>) {
         // In the book's form the name is right before its value, with quotes and a colon.
         let name = data.range().start - KIND.len() - 2;
-        self.copy_to(name);
-        self.out.push_str("histogram\":");
-        self.copied = data.range().start;
+        self.edited.at(name..data.range().start).push_str("histogram\":");
         for point in data.list("dataPoints") {
-            self.copy_to(point.range().start);
-            self.copied = point.range().end;
             match self.bounds.counts(point) {
                 Ok(counts) => self.taken(point, &counts),
                 Err(why) => self.foreign(metric, point, &why),
@@ -90,23 +76,20 @@ impl Viewing<'_, '_> {
         }
     }
 
-    fn copy_to(&mut self, at: usize) {
-        self.out.push_str(&self.text[self.copied..at]);
-    }
-
     /// Puts members of a point as they are, and `more`.
     fn point(&mut self, point: Value<'_>, names: &[&str], more: &str) {
-        self.out.push('{');
+        let out = self.edited.at(point.range());
+        out.push('{');
         for (name, value) in point.members().into_iter().flatten() {
             if names.contains(&&*name) {
-                write_text(&mut self.out, &name);
-                self.out.push(':');
-                self.out.push_str(value.raw());
-                self.out.push(',');
+                write_text(out, &name);
+                out.push(':');
+                out.push_str(value.raw());
+                out.push(',');
             }
         }
-        self.out.push_str(more);
-        self.out.push('}');
+        out.push_str(more);
+        out.push('}');
     }
 
     fn taken(&mut self, point: Value<'_>, counts: &[u64]) {
@@ -220,36 +203,40 @@ impl Bounds {
 impl Bucket {
     /// Whether all of it is over a bound.
     fn is_over(self, bound: &Bound) -> bool {
-        let is_below_zero = bound.double < 0.0;
-        match (self, bound.edge) {
+        match self {
             // Of a bound that is no double the nearest one says the same of every other.
-            (Bucket::Zero { threshold }, _) => bound.double < -threshold,
-            (Bucket::Positive { scale, index }, Some(edge)) if !is_below_zero => {
-                edge.compared(scale, index) != Ordering::Less
-            }
-            (Bucket::Positive { .. }, _) => true,
-            (Bucket::Negative { scale, index }, Some(edge)) if is_below_zero => {
-                edge.compared(scale, index + 1) == Ordering::Less
-            }
-            (Bucket::Negative { .. }, _) => false,
+            Bucket::Zero { threshold } => bound.double < -threshold,
+            Bucket::Positive { scale, index } => bound.positive(scale, index) != Ordering::Less,
+            Bucket::Negative { scale, index } => bound.negative(scale, index + 1) == Ordering::Greater,
         }
     }
 
     /// Whether nothing of it is over a bound.
     fn is_up_to(self, bound: &Bound) -> bool {
-        let is_below_zero = bound.double < 0.0;
-        match (self, bound.edge) {
-            (Bucket::Zero { threshold }, _) => {
+        match self {
+            Bucket::Zero { threshold } => {
                 threshold < bound.double || threshold == bound.double && bound.is_double
             }
-            (Bucket::Positive { scale, index }, Some(edge)) if !is_below_zero => {
-                edge.compared(scale, index + 1) != Ordering::Greater
-            }
-            (Bucket::Positive { .. }, _) => false,
-            (Bucket::Negative { scale, index }, Some(edge)) if is_below_zero => {
-                edge.compared(scale, index) != Ordering::Less
-            }
-            (Bucket::Negative { .. }, _) => true,
+            Bucket::Positive { scale, index } => bound.positive(scale, index + 1) != Ordering::Greater,
+            Bucket::Negative { scale, index } => bound.negative(scale, index) != Ordering::Greater,
+        }
+    }
+}
+
+impl Bound {
+    /// How base^index compares with it.
+    fn positive(&self, scale: i32, index: i64) -> Ordering {
+        match self.edge {
+            Some(edge) if self.double > 0.0 => edge.compared(scale, index),
+            _ => Ordering::Greater,
+        }
+    }
+
+    /// How minus base^index compares with it.
+    fn negative(&self, scale: i32, index: i64) -> Ordering {
+        match self.edge {
+            Some(edge) if self.double < 0.0 => edge.compared(scale, index).reverse(),
+            _ => Ordering::Less,
         }
     }
 }

@@ -1,5 +1,5 @@
 //! In which unit a metric of a request is taken: by a rule for its unit, or as `units` decides. Its request is in the book's
-//! form, or in another of which nothing is said here.
+//! form.
 
 use super::units::{Decided, Unit};
 use super::{FinerUnits, Rule};
@@ -7,7 +7,7 @@ use crate::otlp::json::Value;
 use crate::otlp::number::book_whole;
 use crate::otlp::series::Profile;
 
-pub(super) const DATA: [&str; 5] = ["sum", "histogram", "gauge", "exponentialHistogram", "summary"];
+const DATA: [&str; 5] = ["sum", "histogram", "gauge", "exponentialHistogram", "summary"];
 /// No series has a longer name.
 const MAX_NAME: usize = 4096;
 
@@ -40,18 +40,18 @@ impl<'d> Delta<'d> {
         self.data.list("dataPoints")
     }
 
-    /// Whether its numbers are doubles, as far as that can be seen: those of a histogram may be whole by chance.
-    fn has_doubles(&self) -> bool {
+    /// The first of its numbers that is a double, and what it is, as far as that can be seen: one of a histogram may be whole by chance.
+    pub fn first_double(&self) -> Option<(&'static str, Value<'d>)> {
         match self.kind {
-            "sum" => self.points().any(is_double),
-            _ => self.points().any(has_fraction),
+            "sum" => self.points().find_map(double_of_sum),
+            _ => self.points().find_map(fraction_of_histogram),
         }
     }
 }
 
 impl FinerUnits {
     /// Whether points are added up, by their temporality.
-    pub(super) fn adds_up(&self, data: Value<'_>) -> bool {
+    fn adds_up(&self, data: Value<'_>) -> bool {
         match data.member("aggregationTemporality").and_then(Value::number) {
             Some("1") => true,
             Some("2") => self.profile == Profile::AlsoCumulative,
@@ -60,18 +60,21 @@ impl FinerUnits {
     }
 }
 
-/// Whether a sum's point has a double and no whole number.
-fn is_double(point: Value<'_>) -> bool {
-    matches!(point.named(["asInt", "asDouble"]), Some([None, Some(_)]))
+/// A double of a sum's point that has no whole number.
+fn double_of_sum(point: Value<'_>) -> Option<(&'static str, Value<'_>)> {
+    match point.named(["asInt", "asDouble"])? {
+        [None, Some(double)] => Some(("the value", double)),
+        _ => None,
+    }
 }
 
-/// Whether a histogram's point has a sum or a bound that is no whole number.
-fn has_fraction(point: Value<'_>) -> bool {
-    let Some([sum, bounds]) = point.named(["sum", "explicitBounds"]) else {
-        return false;
-    };
-    let bounds = bounds.and_then(Value::elements).into_iter().flatten();
-    sum.into_iter().chain(bounds).any(|value| book_whole(value).is_none())
+/// A sum or a bound of a histogram's point that is no whole number.
+fn fraction_of_histogram(point: Value<'_>) -> Option<(&'static str, Value<'_>)> {
+    let [sum, bounds] = point.named(["sum", "explicitBounds"])?;
+    let mut bounds = bounds.and_then(Value::elements).into_iter().flatten();
+    let is_fraction = |value: &Value<'_>| book_whole(*value).is_none();
+    let sum = sum.filter(is_fraction).map(|sum| ("the sum", sum));
+    bounds.find(is_fraction).map(|bound| ("the bound", bound)).or(sum)
 }
 
 /// How a metric is taken. Where nothing is known of its name yet, its points decide.
@@ -120,7 +123,7 @@ fn plan<'r>(
         Some(decided) => {
             // Durations are measured: one that is whole is so by chance.
             let is_duration = unit.is_time() && delta.kind == "histogram";
-            units.decide(&name, unit, is_duration || delta.has_doubles(), decided)
+            units.decide(&name, unit, is_duration || delta.first_double().is_some(), decided)
         }
         None => units.decided(&name, unit)?,
     };
@@ -129,40 +132,5 @@ fn plan<'r>(
         Some(rule) if unit.of_doubles() == unit => Taken::In(rule),
         Some(rule) if wanted != unit => Taken::In(rule),
         _ => Taken::Whole(unit),
-    })
-}
-
-/// Whether a metric is taken otherwise than it is, or has something that can't be taken.
-pub fn changes(finer_units: &FinerUnits, metric: Value<'_>, decided: &mut Decided) -> bool {
-    let is_about = match metric.member("unit") {
-        None => finer_units.has_no_unit(),
-        Some(unit) => unit.text().is_some_and(|unit| finer_units.is_about(&unit)),
-    };
-    is_about
-        && match taken(finer_units, metric, decided) {
-            Taken::AsItIs => false,
-            Taken::In(rule) if !rule.is_same() => true,
-            Taken::Whole(_) | Taken::In(_) => {
-                Delta::of(finer_units, metric).is_some_and(|delta| delta.has_doubles())
-            }
-        }
-}
-
-/// The first double of a metric that is taken in whole numbers alone, and what it is.
-pub(super) fn first_double<'d>(
-    finer_units: &FinerUnits,
-    metric: Value<'d>,
-) -> Option<(&'static str, Value<'d>)> {
-    let delta = Delta::of(finer_units, metric)?;
-    if delta.kind == "sum" {
-        let point = delta.points().find(|point| is_double(*point))?;
-        return Some(("the value", point.member("asDouble")?));
-    }
-    delta.points().find_map(|point| {
-        let [sum, bounds] = point.named(["sum", "explicitBounds"])?;
-        let mut bounds = bounds.and_then(Value::elements).into_iter().flatten();
-        let is_fraction = |value: &Value<'d>| book_whole(*value).is_none();
-        let sum = sum.filter(is_fraction).map(|sum| ("the sum", sum));
-        bounds.find(is_fraction).map(|bound| ("the bound", bound)).or(sum)
     })
 }

@@ -3,13 +3,13 @@
 //! A point that can't be had so stays foreign: what does not fit becomes a text with its unit, which no reader takes
 //! for a number. Nothing is changed in a metric that is foreign as a whole, but its unit.
 
-use super::decimal::Decimal;
-use super::plan::{first_double, taken, Taken, DATA};
+use super::plan::{taken, Delta, Taken};
 use super::rounded::{resource_shown, rounded, Mark};
 use super::units::Decided;
 use super::{FinerUnits, Rounded, Rule};
-use crate::otlp::json::{write_text, Document, NotJson, Value};
-use crate::otlp::number::{double_shown, MAX_WHOLE_DOUBLE};
+use crate::otlp::decimal::{Decimal, Nearest};
+use crate::otlp::json::{write_text, Document, Edited, NotJson, Value};
+use crate::otlp::number::{book_whole, double_shown, is_whole_double, mapped_double, MAX_WHOLE_DOUBLE};
 use crate::otlp::series::{is_monotonic, name_shown};
 use std::borrow::Cow;
 use std::cell::OnceCell;
@@ -23,26 +23,22 @@ const AS_DOUBLE: &str = "\"asDouble\":";
 pub fn rewritten(text: &[u8], finer_units: &FinerUnits) -> Result<(String, Rounded), NotJson> {
     let document = Document::parse(text)?;
     let mut rewriting = Rewriting {
-        text: document.text(),
+        edited: Edited::of(document.text()),
         finer_units,
-        copied: 0,
-        out: String::with_capacity(text.len() + text.len() / 8),
         marks: Vec::new(),
         unfit: None,
         decided: Decided::default(),
     };
     rewriting.request(&document);
-    let Rewriting { out, marks, unfit, decided, .. } = rewriting;
+    let Rewriting { edited, marks, unfit, decided, .. } = rewriting;
+    let out = edited.finished();
     let rounded = rounded(&out, marks, finer_units.profile)?;
     Ok((out, Rounded { unfit, decided, ..rounded }))
 }
 
 struct Rewriting<'r> {
-    text: &'r str,
+    edited: Edited<'r>,
     finer_units: &'r FinerUnits,
-    /// How much of the text is done.
-    copied: usize,
-    out: String,
     marks: Vec<Mark<'r>>,
     /// The first point that stays foreign though its unit has a rule, in words.
     unfit: Option<String>,
@@ -69,9 +65,6 @@ impl Resource<'_> {
     }
 }
 
-/// A part of the text, and what it becomes.
-type Edit = (Range<usize>, String);
-
 impl<'r> Rewriting<'r> {
     fn request(&mut self, document: &Document<'_>) {
         for element in document.root().list("resourceMetrics") {
@@ -80,13 +73,10 @@ impl<'r> Rewriting<'r> {
                 self.metric(metric, &resource);
             }
         }
-        self.out.push_str(&self.text[self.copied..]);
     }
 
-    fn put(&mut self, (range, new): Edit) {
-        self.out.push_str(&self.text[self.copied..range.start]);
-        self.out.push_str(&new);
-        self.copied = range.end;
+    fn put(&mut self, place: Range<usize>, new: &str) {
+        self.edited.at(place).push_str(new);
     }
 
     fn metric<'d>(&mut self, value: Value<'d>, resource: &'d Resource<'d>) {
@@ -96,19 +86,13 @@ impl<'r> Rewriting<'r> {
             Taken::In(rule) => rule,
         };
         let metric = Metric { rule, value, resource };
-        let there = value.named(DATA).into_iter().flatten().flatten().count();
+        let kind = Delta::of(self.finer_units, value).map(|delta| delta.kind);
         for (name, part) in value.members().into_iter().flatten() {
             match &*name {
-                "unit" => {
-                    let mut unit = String::new();
-                    write_text(&mut unit, &rule.to);
-                    self.put((part.range(), unit));
-                }
-                "sum" if there == 1 && self.finer_units.adds_up(part) => self.sum(&metric, part),
-                "histogram" if there == 1 && self.finer_units.adds_up(part) => {
-                    for point in part.list("dataPoints") {
-                        self.histogram_point(&metric, point);
-                    }
+                "unit" => write_text(self.edited.at(part.range()), &rule.to),
+                "sum" if kind == Some("sum") => self.sum(&metric, part),
+                "histogram" if kind == Some("histogram") => {
+                    part.list("dataPoints").for_each(|point| self.histogram_point(&metric, point));
                 }
                 _ => {}
             }
@@ -130,20 +114,18 @@ impl<'r> Rewriting<'r> {
         if metric.rule.is_same() {
             return;
         }
-        let Some(text) = digits(value) else { return };
-        let product = Decimal::times(&text, metric.rule.factor).and_then(|product| product.whole());
-        match product.filter(is_word) {
-            Some(product) => self.put((value.range(), format!("\"{product}\""))),
+        let Some(whole) = book_whole(value) else { return };
+        match Some(whole * i128::from(metric.rule.factor)).filter(is_word) {
+            Some(product) => self.put(value.range(), &format!("\"{product}\"")),
             None => self.unfit(metric, value, "the value"),
         }
     }
 
     fn double(&mut self, metric: &Metric<'r, '_>, value: Value<'_>, is_monotonic: bool) {
-        let product = exact(value, metric.rule).filter(|product| !(is_monotonic && product.is_below_zero()));
-        match product.map(|product| product.nearest()).filter(|near| is_word(&near.whole)) {
+        match exact(value, metric.rule).and_then(|product| value_of_sum(product, is_monotonic)) {
             Some(near) => {
                 let range = value.range().start - AS_DOUBLE.len()..value.range().end;
-                self.put((range, format!("\"asInt\":\"{}\"", near.whole)));
+                self.put(range, &format!("\"asInt\":\"{}\"", near.whole));
                 self.mark(metric, near.by);
             }
             None => self.note(metric, value, "the value"),
@@ -163,8 +145,7 @@ impl<'r> Rewriting<'r> {
             }
         }
         if let Some(sum) = sum {
-            let product = exact(sum, metric.rule).filter(|product| !product.is_below_zero());
-            match product.map(|product| product.nearest()).filter(|near| is_whole_double(&near.whole)) {
+            match exact(sum, metric.rule).and_then(sum_of_histogram) {
                 Some(near) => {
                     edits.push((sum.range(), near.whole.to_string()));
                     by = near.by;
@@ -173,7 +154,7 @@ impl<'r> Rewriting<'r> {
             }
         }
         edits.sort_by_key(|edit| edit.0.start);
-        edits.into_iter().for_each(|edit| self.put(edit));
+        edits.into_iter().for_each(|(place, new)| self.put(place, &new));
         self.mark(metric, by);
     }
 
@@ -181,7 +162,7 @@ impl<'r> Rewriting<'r> {
     fn mark(&mut self, metric: &Metric<'r, '_>, by: f64) {
         if by > 0.0 {
             self.marks.push(Mark {
-                at: self.out.len() - 1,
+                at: self.edited.out.len() - 1,
                 by,
                 rule: metric.rule,
                 resource: metric.resource.shown(),
@@ -193,15 +174,15 @@ impl<'r> Rewriting<'r> {
     fn unfit(&mut self, metric: &Metric<'r, '_>, value: Value<'_>, what: &str) {
         self.note(metric, value, what);
         if let Some(shown) = shown(value) {
-            let mut text = String::new();
-            write_text(&mut text, format!("{shown} {}", metric.rule.from).trim_end());
-            self.put((value.range(), text));
+            let text = format!("{shown} {}", metric.rule.from);
+            write_text(self.edited.at(value.range()), text.trim_end());
         }
     }
 
     /// Names the first double of a metric that was first taken in whole numbers of its own unit.
     fn first_double(&mut self, metric: Value<'_>, unit: &str) {
-        if let (None, Some((what, value))) = (&self.unfit, first_double(self.finer_units, metric)) {
+        let found = Delta::of(self.finer_units, metric).and_then(|delta| delta.first_double());
+        if let (None, Some((what, value))) = (&self.unfit, found) {
             let name = name_shown(metric);
             let value = shown(value).unwrap_or_default();
             self.unfit = Some(format!(
@@ -222,34 +203,41 @@ impl<'r> Rewriting<'r> {
     }
 }
 
-/// A number or a text, which may have one.
-fn digits(value: Value<'_>) -> Option<Cow<'_, str>> {
-    value.number().map(Cow::Borrowed).or_else(|| value.text())
+/// A double, as it is written too. What is no value of its field is none, however it looks.
+fn double(value: Value<'_>) -> Option<(Cow<'_, str>, f64)> {
+    let double = mapped_double(value)?;
+    Some((value.number().map(Cow::Borrowed).or_else(|| value.text())?, double))
 }
 
 /// A double of at most 2^53 in size, times the factor. Over that a shortest decimal is not the double's own value.
 fn exact(value: Value<'_>, rule: &Rule) -> Option<Decimal> {
-    let text = digits(value)?;
-    let double: f64 = text.parse().ok()?;
+    let (text, double) = double(value)?;
     let is_exact = double.abs() <= MAX_WHOLE_DOUBLE as f64;
     is_exact.then(|| Decimal::times(&text, rule.factor)).flatten()
 }
 
 /// A value as people write it; `None` where it was no number.
 fn shown(value: Value<'_>) -> Option<String> {
-    let text = digits(value)?;
-    match text.parse::<i128>() {
-        Ok(_) => Some(text.into_owned()),
-        Err(_) => Some(double_shown(text.parse().ok()?)),
-    }
+    let (text, double) = double(value)?;
+    Some(match text.parse::<i128>() {
+        Ok(_) => text.into_owned(),
+        Err(_) => double_shown(double),
+    })
+}
+
+/// What a sum's point has of a number, as near as may be; none of one that it may not have.
+pub(super) fn value_of_sum(product: Decimal, is_monotonic: bool) -> Option<Nearest> {
+    let near = (!(is_monotonic && product.is_below_zero())).then(|| product.nearest())?;
+    is_word(&near.whole).then_some(near)
+}
+
+/// The same of a histogram's sum.
+pub(super) fn sum_of_histogram(product: Decimal) -> Option<Nearest> {
+    let near = (!product.is_below_zero()).then(|| product.nearest())?;
+    is_whole_double(&near.whole).then_some(near)
 }
 
 /// Whether a sum's point may have it.
 pub(super) fn is_word(whole: &i128) -> bool {
     whole.unsigned_abs() <= i64::MAX as u128
-}
-
-/// Whether a histogram may have it as a bound or a sum.
-pub(super) fn is_whole_double(whole: &i128) -> bool {
-    whole.unsigned_abs() <= u128::from(MAX_WHOLE_DOUBLE)
 }

@@ -1,9 +1,9 @@
 //! The numbers of a metric's points where these are read by number: as `rewrite` has them in the request's text.
 
-use super::decimal::Decimal;
 use super::plan::{decided, Delta, Taken};
-use super::rewrite::{is_whole_double, is_word};
+use super::rewrite::{is_word, sum_of_histogram, value_of_sum};
 use super::FinerUnits;
+use crate::otlp::decimal::Decimal;
 use crate::otlp::json::Document;
 use crate::otlp::number::MAX_WHOLE_DOUBLE;
 use crate::otlp::series::{is_monotonic, metrics};
@@ -63,16 +63,14 @@ impl Scale {
 
     /// A sum's double, as the bits of a whole number.
     pub fn double(&self, double: f64) -> InFiner {
-        let product = self.exact(double)?;
-        let near = (!(self.is_monotonic && product.is_below_zero())).then(|| product.nearest())?;
-        is_word(&near.whole).then_some((near.whole as i64 as u64, near.by))
+        let near = value_of_sum(self.exact(double)?, self.is_monotonic)?;
+        Some((near.whole as i64 as u64, near.by))
     }
 
     /// The sum of a histogram.
     pub fn sum(&self, double: f64) -> InFiner {
-        let product = self.exact(double)?;
-        let near = (!product.is_below_zero()).then(|| product.nearest())?;
-        is_whole_double(&near.whole).then_some((near.whole as u64, near.by))
+        let near = sum_of_histogram(self.exact(double)?)?;
+        Some((near.whole as u64, near.by))
     }
 
     fn exact(&self, double: f64) -> Option<Decimal> {

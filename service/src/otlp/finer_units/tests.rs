@@ -1,7 +1,7 @@
 //! Whole numbers of a finer unit, and what stays as it is.
 
-use super::decimal::{Decimal, Nearest};
 use super::*;
+use crate::otlp::decimal::{Decimal, Nearest};
 use crate::otlp::tests::posted;
 use crate::otlp::{prepare, Encoding, Prepared, Reading};
 

@@ -63,7 +63,7 @@ pub(super) fn unescaped(raw: &str) -> Cow<'_, str> {
 }
 
 /// The character of an escape that begins these bytes, and its length.
-fn escaped(bytes: &[u8]) -> Option<(char, usize)> {
+pub fn escaped(bytes: &[u8]) -> Option<(char, usize)> {
     let simple = match bytes.get(1)? {
         b'"' => '"',
         b'\\' => '\\',

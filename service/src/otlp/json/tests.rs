@@ -164,8 +164,6 @@ fn the_ends_of_texts_and_digits_are_those_that_a_look_at_each_byte_finds() {
                 let plain = bytes.iter().take_while(|byte| is_plain(byte)).count();
                 let digits = bytes.iter().take_while(|byte| byte.is_ascii_digit()).count();
                 assert_eq!((plain_length(&bytes), digits_length(&bytes)), (plain, digits), "{bytes:?}");
-                let is_plain_ascii = plain == length && bytes.is_ascii();
-                assert_eq!(super::is_plain_ascii(&bytes), is_plain_ascii, "{bytes:?}");
             }
         }
     }

@@ -1,7 +1,7 @@
 //! The fields of a point, where they are in its bytes.
 
 use super::levels::FOREIGN;
-use super::walk::Stop;
+use super::walk::Slow;
 use crate::otlp::number::whole_double;
 use crate::otlp::wire::Fields;
 
@@ -13,7 +13,7 @@ pub fn span(fields: &mut Fields<'_>) -> (u64, u64) {
 }
 
 /// Passes the least and the largest value, which say nothing.
-#[inline]
+#[inline(always)]
 pub fn pass_extremes(fields: &mut Fields<'_>) {
     let _ = fields.fixed64(11);
     let _ = fields.fixed64(12);
@@ -59,9 +59,9 @@ pub fn is_recorded(number: u32, flags: Option<u64>) -> bool {
 
 /// A list of eight bytes each; empty where it is not there.
 #[inline]
-pub fn eights(packed: Option<&[u8]>) -> Result<&[[u8; 8]], Stop> {
+pub fn eights(packed: Option<&[u8]>) -> Result<&[[u8; 8]], Slow> {
     match packed.unwrap_or_default().as_chunks() {
         (all, []) => Ok(all),
-        _ => Err(Stop::Slow),
+        _ => Err(Slow),
     }
 }

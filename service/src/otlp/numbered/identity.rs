@@ -1,17 +1,17 @@
 //! What is not known yet is read once by the reader for all requests: a request that has this alone.
 
 use super::levels::{Full, Level, Levels, CUMULATIVE, FOREIGN};
-use super::walk::{Find, Head, Own, Path, Stop};
+use super::walk::{Head, Own, Path, Slow};
 use super::Learnt;
-use crate::otlp::finer_units::{rewritten, scale_of, shown_of, Scale, Scaled, ShownSeries};
+use crate::otlp::finer_units::{rewritten, scale_of, shown_of, Scale, Scaled};
 use crate::otlp::from_protobuf;
-use crate::otlp::output::{self, Written};
+use crate::otlp::output::{self, Output};
 use crate::otlp::wire::{field, Fields, Payload};
 use crate::otlp::{Cumulative, Reading};
 use bytes::Bytes;
 use std::cell::Cell;
 use std::sync::atomic::{AtomicBool, Ordering::Relaxed};
-use std::sync::{Arc, PoisonError, RwLock, RwLockReadGuard};
+use std::sync::{PoisonError, RwLock, RwLockReadGuard};
 
 /// Names a series by a request of one point.
 pub type Learn<'s> = dyn Fn(Bytes) -> Option<Learnt> + 's;
@@ -30,41 +30,39 @@ pub struct Learner<'s> {
     pub left: Cell<usize>,
 }
 
-impl Find for Learner<'_> {
-    fn top(&mut self, decides: u64) -> Result<Level, Stop> {
+impl Learner<'_> {
+    /// The level of resources where these decisions count.
+    pub fn top(&self, decides: u64) -> Result<Level, Slow> {
         self.fitting(|levels| levels.make_top(decides))
     }
 
-    fn level(&mut self, path: &Path<'_>, within: Level, bytes: &[u8]) -> Result<Level, Stop> {
-        if let Some(level) = self.known().find(within, bytes) {
-            return Ok(level);
-        }
+    /// The level of these bytes, which are the last part of the path.
+    pub fn level(&self, path: &Path<'_>, within: Level, bytes: &[u8]) -> Result<Level, Slow> {
         let written = self.written(path, &[])?;
         let scaled = match written.is_measured {
-            true => scale_of(&written.text, &self.reading.finer_units).ok_or(Stop::Slow)?,
+            true => scale_of(&written.text, &self.reading.finer_units).ok_or(Slow)?,
             false => Scaled::Plain,
         };
         match scaled {
             Scaled::Plain => self.fitting(|levels| levels.level(within, bytes)),
             Scaled::By(scale) => self.fitting(|levels| levels.scaled(within, bytes, scale)),
-            Scaled::Undecided => Err(Stop::Slow), // what reads it as a text decides
+            Scaled::Undecided => Err(Slow), // what reads it as a text decides
         }
     }
 
-    fn bounds(&mut self, within: Level, bounds: &[u8]) -> Result<Level, Stop> {
+    /// The level of a histogram's bounds.
+    pub fn bounds(&self, within: Level, bounds: &[u8]) -> Result<Level, Slow> {
         self.fitting(|levels| levels.level(within, bounds))
     }
 
-    fn series(
-        &mut self,
+    /// The number of a series.
+    pub fn series(
+        &self,
         path: &Path<'_>,
         within: Level,
         own: Own<'_>,
         scale: Option<&Scale>,
-    ) -> Result<u32, Stop> {
-        if let Some(number) = self.known().find(within, own.attributes) {
-            return Ok(number);
-        }
+    ) -> Result<u32, Slow> {
         let written = self.written(path, &field(1, &point(own)))?;
         let text = match scale {
             Some(_) => self.in_finer(&written.text)?,
@@ -80,16 +78,6 @@ impl Find for Learner<'_> {
         Ok(number)
     }
 
-    fn scale(&self, level: Level) -> Option<Arc<Scale>> {
-        self.known().scale(level)
-    }
-
-    fn shown(&self, number: u32) -> Option<Arc<ShownSeries>> {
-        self.known().shown(number)
-    }
-}
-
-impl Learner<'_> {
     /// Whether deltas are made of a metric's points.
     fn makes_deltas(&self, path: &Path<'_>) -> bool {
         let is_wanted = self.reading.cumulative == Cumulative::On;
@@ -97,11 +85,11 @@ impl Learner<'_> {
     }
 
     /// The number of a series that has these bytes, by a request of one point, with these flags.
-    pub fn name(&self, within: Level, bytes: &[u8], request: Vec<u8>, flags: u32) -> Result<u32, Stop> {
+    pub fn name(&self, within: Level, bytes: &[u8], request: Vec<u8>, flags: u32) -> Result<u32, Slow> {
         self.fitting(|levels| levels.take_room(bytes, request.len()))?;
-        let number = match (self.learn)(request.into_boxed_slice().into()).ok_or(Stop::Slow)? {
+        let number = match (self.learn)(request.into_boxed_slice().into()).ok_or(Slow)? {
             Learnt::Foreign => FOREIGN,
-            Learnt::Number(number) => u32::try_from(number).map_err(|_| Stop::Slow)? | flags,
+            Learnt::Number(number) => u32::try_from(number).map_err(|_| Slow)? | flags,
         };
         self.fitting(|levels| Ok(levels.put(within, bytes, number)))
     }
@@ -110,30 +98,30 @@ impl Learner<'_> {
         self.levels.read().unwrap_or_else(PoisonError::into_inner) // each change of it is whole
     }
 
-    fn fitting<T>(&self, change: impl FnOnce(&mut Levels) -> Result<T, Full>) -> Result<T, Stop> {
+    fn fitting<T>(&self, change: impl FnOnce(&mut Levels) -> Result<T, Full>) -> Result<T, Slow> {
         let mut levels = self.levels.write().unwrap_or_else(PoisonError::into_inner);
         change(&mut levels).map_err(|Full| {
             self.is_full.store(true, Relaxed);
-            Stop::Slow
+            Slow
         })
     }
 
     /// A request in the finer unit. What can't be had in it is named by who reads the whole request.
-    fn in_finer(&self, text: &[u8]) -> Result<Vec<u8>, Stop> {
+    fn in_finer(&self, text: &[u8]) -> Result<Vec<u8>, Slow> {
         match rewritten(text, &self.reading.finer_units) {
             Ok((text, rounded)) if rounded.unfit.is_none() => Ok(text.into_bytes()),
-            _ => Err(Stop::Slow),
+            _ => Err(Slow),
         }
     }
 
     /// A request of what is on a path, with these points, as it is written for the book.
-    fn written(&self, path: &Path<'_>, points: &[u8]) -> Result<Written, Stop> {
+    fn written(&self, path: &Path<'_>, points: &[u8]) -> Result<Output<'_>, Slow> {
         let request = match self.makes_deltas(path) {
             true => as_delta(path, points),
             false => request(path, points),
         };
-        self.left.set(self.left.get().checked_sub(request.len()).ok_or(Stop::Slow)?);
-        from_protobuf::written_plainly(&request, self.reading).map_err(|_| Stop::Slow)
+        self.left.set(self.left.get().checked_sub(request.len()).ok_or(Slow)?);
+        from_protobuf::written_plainly(&request, self.reading).map_err(|_| Slow)
     }
 }
 

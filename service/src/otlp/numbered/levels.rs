@@ -1,7 +1,6 @@
 //! What is known by its bytes: resources, in each its scopes, in each its metrics, in a histogram its bounds, and then the
 //! points' attributes, which have the number of their series. Beside them the keys of series, which have numbers too.
 
-use super::walk::{Find, Own, Path, Stop};
 use crate::otlp::finer_units::{Scale, ShownSeries};
 use ahash::RandomState;
 use std::collections::HashMap;
@@ -73,10 +72,8 @@ impl Levels {
         if let Some(level) = self.top(decides) {
             return Ok(level);
         }
-        let level = self.next()?;
-        self.take_room(&[], LEVEL)?;
+        let level = self.fresh(&[])?;
         self.tops.insert(decides, level);
-        self.all.push(HashMap::with_hasher(self.hasher.clone()));
         Ok(level)
     }
 
@@ -85,15 +82,17 @@ impl Levels {
         if let Some(level) = self.find(within, bytes) {
             return Ok(level);
         }
-        let level = self.next()?;
-        self.take_room(bytes, LEVEL)?;
+        let level = self.fresh(bytes)?;
         self.put(within, bytes, level);
-        self.all.push(HashMap::with_hasher(self.hasher.clone()));
         Ok(level)
     }
 
-    fn next(&self) -> Result<Level, Full> {
-        Level::try_from(self.all.len()).map_err(|_| Full)
+    /// A level that has nothing yet, by these bytes.
+    fn fresh(&mut self, bytes: &[u8]) -> Result<Level, Full> {
+        let level = Level::try_from(self.all.len()).map_err(|_| Full)?;
+        self.take_room(bytes, LEVEL)?;
+        self.all.push(HashMap::with_hasher(self.hasher.clone()));
+        Ok(level)
     }
 
     /// The level of a metric that is taken in another unit. It is there with its scale, or not at all.
@@ -136,39 +135,5 @@ impl Levels {
     pub fn put(&mut self, within: Level, bytes: &[u8], number: u32) -> u32 {
         let known = self.all[within as usize].entry(bytes.into());
         *known.or_insert(number)
-    }
-}
-
-/// Who learns nothing.
-pub struct LookupOnly<'l>(pub &'l Levels);
-
-impl Find for LookupOnly<'_> {
-    #[inline]
-    fn top(&mut self, decides: u64) -> Result<Level, Stop> {
-        self.0.top(decides).ok_or(Stop::Unknown)
-    }
-
-    #[inline]
-    fn level(&mut self, _: &Path<'_>, within: Level, bytes: &[u8]) -> Result<Level, Stop> {
-        self.0.find(within, bytes).ok_or(Stop::Unknown)
-    }
-
-    #[inline]
-    fn bounds(&mut self, within: Level, bounds: &[u8]) -> Result<Level, Stop> {
-        self.0.find(within, bounds).ok_or(Stop::Unknown)
-    }
-
-    #[inline]
-    fn series(&mut self, _: &Path<'_>, within: Level, own: Own<'_>, _: Option<&Scale>) -> Result<u32, Stop> {
-        self.0.find(within, own.attributes).ok_or(Stop::Unknown)
-    }
-
-    #[inline]
-    fn scale(&self, level: Level) -> Option<Arc<Scale>> {
-        self.0.scale(level)
-    }
-
-    fn shown(&self, number: u32) -> Option<Arc<ShownSeries>> {
-        self.0.shown(number)
     }
 }

@@ -2,16 +2,18 @@
 //! it says `Slow`, and then the request is read as any other.
 
 use super::fields::{adds_up, eights, is_recorded, is_span, number, pass_extremes, span, whole_sum, Number};
-use super::levels::{Level, CUMULATIVE};
+use super::identity::Learner;
+use super::levels::{Level, Levels, CUMULATIVE};
 use super::Numbered;
 use crate::files::Points;
-use crate::otlp::finer_units::{InFiner, RoundedPoint, Scale, ShownSeries};
+use crate::otlp::finer_units::{InFiner, RoundedPoint, Scale};
 use crate::otlp::from_protobuf::is_exemplar;
 use crate::otlp::output::LONGEST_LIST;
 use crate::otlp::schema::{Message, METRIC, REQUEST, RESOURCE_METRICS, SCOPE_METRICS};
 use crate::otlp::wire::{is_sound, Fields, Payload};
-use crate::otlp::{Reading, Rounded};
-use std::sync::Arc;
+use crate::otlp::Rounded;
+use std::sync::atomic::Ordering::Relaxed;
+use std::sync::RwLockReadGuard;
 
 /// The fields of a metric that have points.
 const DATA: [u32; 5] = [5, SUM, HISTOGRAM, EXPONENTIAL, 11];
@@ -26,18 +28,13 @@ const BYTES_OF_A_WORD: usize = 16;
 const BYTES_OF_A_POINT: usize = 64;
 
 /// What is above points, where it is short. It is written once more for each metric and series below it that is not known yet.
-fn short(above: &[u8]) -> Result<&[u8], Stop> {
-    (above.len() <= LONGEST_LIST).then_some(above).ok_or(Stop::Slow)
+fn short(above: &[u8]) -> Result<&[u8], Slow> {
+    (above.len() <= LONGEST_LIST).then_some(above).ok_or(Slow)
 }
 
-/// Why a request is not read here.
-#[derive(Clone, Copy, Debug, PartialEq, Eq)]
-pub enum Stop {
-    /// It is to be read as any other.
-    Slow,
-    /// It has something that is not known yet.
-    Unknown,
-}
+/// A request that is to be read as any other.
+#[derive(Debug)]
+pub struct Slow;
 
 /// Where in a request it is.
 #[derive(Clone, Copy, Default)]
@@ -67,31 +64,10 @@ pub struct Own<'b> {
     pub attributes: &'b [u8],
 }
 
-/// Who knows what is known.
-pub trait Find {
-    /// The level of resources where these decisions count.
-    fn top(&mut self, decides: u64) -> Result<Level, Stop>;
-    /// The level of these bytes, which are the last part of the path.
-    fn level(&mut self, path: &Path<'_>, within: Level, bytes: &[u8]) -> Result<Level, Stop>;
-    /// The level of a histogram's bounds.
-    fn bounds(&mut self, within: Level, bounds: &[u8]) -> Result<Level, Stop>;
-    /// The number of a series.
-    fn series(
-        &mut self,
-        path: &Path<'_>,
-        within: Level,
-        own: Own<'_>,
-        scale: Option<&Scale>,
-    ) -> Result<u32, Stop>;
-    /// How the points of a metric are taken, where it is in another unit.
-    fn scale(&self, level: Level) -> Option<Arc<Scale>>;
-    /// How a series of such a metric is shown.
-    fn shown(&self, number: u32) -> Option<Arc<ShownSeries>>;
-}
-
-pub struct Walk<'b, F> {
-    reading: &'b Reading,
-    find: F,
+pub struct Walk<'b> {
+    learner: &'b Learner<'b>,
+    /// What is known; none while something is learnt.
+    known: Option<RwLockReadGuard<'b, Levels>>,
     path: Path<'b>,
     /// By which a metric is found.
     key: Vec<u8>,
@@ -111,8 +87,8 @@ fn each<'b>(
     of: &'static Message,
     number: u8,
     mut fields: Fields<'b>,
-    mut one: impl FnMut(&'b [u8]) -> Result<(), Stop>,
-) -> Result<(), Stop> {
+    mut one: impl FnMut(&'b [u8]) -> Result<(), Slow>,
+) -> Result<(), Slow> {
     loop {
         while let Some(message) = fields.bytes(number) {
             one(message)?;
@@ -124,11 +100,11 @@ fn each<'b>(
 }
 
 /// Passes a field that says nothing, if there is one more.
-fn pass(of: &'static Message, fields: &mut Fields<'_>) -> Result<bool, Stop> {
+fn pass(of: &'static Message, fields: &mut Fields<'_>) -> Result<bool, Slow> {
     match fields.next() {
         None => Ok(false),
         Some(Ok((number, _))) if of.says_nothing(number) => Ok(true),
-        Some(_) => Err(Stop::Slow),
+        Some(_) => Err(Slow),
     }
 }
 
@@ -140,12 +116,12 @@ fn run<'b>(fields: &mut Fields<'b>, number: u8) -> &'b [u8] {
     fields.since(begin)
 }
 
-impl<'b, F: Find> Walk<'b, F> {
+impl<'b> Walk<'b> {
     /// `length` is the request's.
-    pub fn new(reading: &'b Reading, find: F, length: usize) -> Walk<'b, F> {
+    pub fn new(learner: &'b Learner<'b>, length: usize) -> Walk<'b> {
         Walk {
-            reading,
-            find,
+            learner,
+            known: Some(learner.known()),
             path: Path::default(),
             key: Vec::new(),
             bounds: None,
@@ -157,9 +133,9 @@ impl<'b, F: Find> Walk<'b, F> {
         }
     }
 
-    pub fn request(mut self, body: &'b [u8]) -> Result<Numbered, Stop> {
+    pub fn request(mut self, body: &'b [u8]) -> Result<Numbered, Slow> {
         each(&REQUEST, 1, Fields::of(body), |resource| self.resource(resource))?;
-        let points = Points::new(self.words, self.ends).ok_or(Stop::Slow)?;
+        let points = Points::new(self.words, self.ends).ok_or(Slow)?;
         Ok(Numbered {
             points,
             foreign: self.foreign,
@@ -168,24 +144,25 @@ impl<'b, F: Find> Walk<'b, F> {
         })
     }
 
-    fn resource(&mut self, message: &'b [u8]) -> Result<(), Stop> {
+    fn resource(&mut self, message: &'b [u8]) -> Result<(), Slow> {
         let mut fields = Fields::of(message);
         let resource = short(fields.bytes(1).unwrap_or_default())?;
         self.path = Path { resource, ..Path::default() };
-        let top = self.find.top(self.reading.finer_units.decides())?;
-        let level = self.find.level(&self.path, top, resource)?;
+        let decides = self.learner.reading.finer_units.decides();
+        let top = self.known_or(|levels| levels.top(decides), |learner, _| learner.top(decides))?;
+        let level = self.level(top, resource)?;
         each(&RESOURCE_METRICS, 2, fields, |scope| self.scope(level, scope))
     }
 
-    fn scope(&mut self, resource: Level, message: &'b [u8]) -> Result<(), Stop> {
+    fn scope(&mut self, resource: Level, message: &'b [u8]) -> Result<(), Slow> {
         let mut fields = Fields::of(message);
         let scope = short(fields.bytes(1).unwrap_or_default())?;
         (self.path.scope, self.path.head) = (Some(scope), None);
-        let level = self.find.level(&self.path, resource, scope)?;
+        let level = self.level(resource, scope)?;
         each(&SCOPE_METRICS, 2, fields, |metric| self.metric(level, metric))
     }
 
-    fn metric(&mut self, scope: Level, metric: &'b [u8]) -> Result<(), Stop> {
+    fn metric(&mut self, scope: Level, metric: &'b [u8]) -> Result<(), Slow> {
         let mut fields = Fields::of(metric);
         let (mut before, mut number, mut data) = (metric, 0, &[][..]);
         loop {
@@ -198,17 +175,17 @@ impl<'b, F: Find> Walk<'b, F> {
                     break;
                 }
                 Some(Ok(_)) => {} // it is looked at where the metric is not known yet
-                Some(Err(_)) => return Err(Stop::Slow),
+                Some(Err(_)) => return Err(Slow),
             }
         }
-        if number == EXPONENTIAL && self.reading.exponential.is_some() {
-            return Err(Stop::Slow);
+        if number == EXPONENTIAL && self.learner.reading.exponential.is_some() {
+            return Err(Slow);
         }
         let mut behind = Fields::of(data);
         let points = run(&mut behind, POINTS);
         let tail = behind.rest();
         if !behind.all(|field| matches!(field, Ok((number, _)) if number != u32::from(POINTS))) {
-            return Err(Stop::Slow);
+            return Err(Slow);
         }
         let head = Head { before: short(before)?, data: number, tail: short(tail)? };
         let level = self.head(scope, head)?;
@@ -216,19 +193,47 @@ impl<'b, F: Find> Walk<'b, F> {
     }
 
     /// The level of a metric.
-    fn head(&mut self, scope: Level, head: Head<'b>) -> Result<Level, Stop> {
-        self.key.clear();
+    fn head(&mut self, scope: Level, head: Head<'b>) -> Result<Level, Slow> {
+        let mut key = std::mem::take(&mut self.key);
+        key.clear();
         // With the length no two metrics have the same key.
-        self.key.extend_from_slice(&head.before.len().to_le_bytes());
-        self.key.extend_from_slice(head.before);
-        self.key.push(head.data as u8);
-        self.key.extend_from_slice(head.tail);
+        key.extend_from_slice(&head.before.len().to_le_bytes());
+        key.extend_from_slice(head.before);
+        key.push(head.data as u8);
+        key.extend_from_slice(head.tail);
         self.path.head = Some(head);
-        self.find.level(&self.path, scope, &self.key)
+        let level = self.level(scope, &key);
+        self.key = key;
+        level
     }
 
-    fn points(&mut self, level: Level, data: u32, mut points: Fields<'b>) -> Result<(), Stop> {
-        let scale = self.find.scale(level);
+    /// The level of these bytes, which are the last part of the path.
+    #[inline]
+    fn level(&mut self, within: Level, bytes: &[u8]) -> Result<Level, Slow> {
+        self.known_or(|levels| levels.find(within, bytes), |learner, path| learner.level(path, within, bytes))
+    }
+
+    /// What is known, or else learnt. No lock is held while it is read or named.
+    #[inline]
+    fn known_or<T>(
+        &mut self,
+        known: impl FnOnce(&Levels) -> Option<T>,
+        learnt: impl FnOnce(&Learner<'_>, &Path<'_>) -> Result<T, Slow>,
+    ) -> Result<T, Slow> {
+        if let Some(found) = self.known.as_deref().and_then(known) {
+            return Ok(found);
+        }
+        if self.learner.is_full.load(Relaxed) {
+            return Err(Slow);
+        }
+        self.known = None;
+        let learnt = learnt(self.learner, &self.path)?;
+        self.known = Some(self.learner.known());
+        Ok(learnt)
+    }
+
+    fn points(&mut self, level: Level, data: u32, mut points: Fields<'b>) -> Result<(), Slow> {
+        let scale = self.known.as_ref().and_then(|levels| levels.scale(level));
         let scale = scale.as_deref();
         while let Some(point) = points.bytes(POINTS) {
             match data {
@@ -236,13 +241,13 @@ impl<'b, F: Find> Walk<'b, F> {
                 HISTOGRAM => self.histogram(level, scale, point)?,
                 // Of no other kind a point is taken.
                 _ if is_sound(point) => self.foreign += 1,
-                _ => return Err(Stop::Slow),
+                _ => return Err(Slow),
             }
         }
         Ok(())
     }
 
-    fn sum(&mut self, level: Level, scale: Option<&Scale>, point: &'b [u8]) -> Result<(), Stop> {
+    fn sum(&mut self, level: Level, scale: Option<&Scale>, point: &'b [u8]) -> Result<(), Slow> {
         let mut fields = Fields::of(point);
         let (start, end) = span(&mut fields);
         // Some encoders have it before the exemplars, some behind them, some last.
@@ -257,9 +262,7 @@ impl<'b, F: Find> Walk<'b, F> {
         let value = match (value, scale) {
             (Some(Number::Whole(bits)), None) => Some(bits),
             (None | Some(Number::Double(_)), None) | (None, Some(_)) => None,
-            (Some(_), Some(_)) if !(is_recorded(number, flags) && is_span(start, end)) => {
-                return Err(Stop::Slow)
-            }
+            (Some(_), Some(_)) if !(is_recorded(number, flags) && is_span(start, end)) => return Err(Slow),
             (Some(Number::Whole(bits)), Some(scale)) => Some(self.rounded(number, scale.whole(bits))?),
             (Some(Number::Double(double)), Some(scale)) => Some(self.rounded(number, scale.double(double))?),
         };
@@ -274,7 +277,7 @@ impl<'b, F: Find> Walk<'b, F> {
         Ok(())
     }
 
-    fn histogram(&mut self, level: Level, scale: Option<&Scale>, point: &'b [u8]) -> Result<(), Stop> {
+    fn histogram(&mut self, level: Level, scale: Option<&Scale>, point: &'b [u8]) -> Result<(), Slow> {
         let mut fields = Fields::of(point);
         let (start, end) = span(&mut fields);
         let count = fields.fixed64(4).unwrap_or(0);
@@ -302,10 +305,10 @@ impl<'b, F: Find> Walk<'b, F> {
             (Some(_), Some(_))
                 if !(is_recorded(number, flags) && is_span(start, end) && adds_up(buckets, count)) =>
             {
-                return Err(Stop::Slow)
+                return Err(Slow)
             }
             (Some(sum), Some(scale)) if scale.is_finer() => Some([1, self.rounded(number, scale.sum(sum))?]),
-            (Some(sum), Some(_)) => Some(whole_sum(sum).ok_or(Stop::Slow)?),
+            (Some(sum), Some(_)) => Some(whole_sum(sum).ok_or(Slow)?),
         };
         match sum {
             Some([has, sum]) if is_recorded(number, flags) && buckets.len() == bound_count + 1 => {
@@ -322,10 +325,10 @@ impl<'b, F: Find> Walk<'b, F> {
 
     /// A number in the finer unit. What it was rounded by is noted of its series; a request with one that is not taken is
     /// read as a text, which names it.
-    fn rounded(&mut self, number: u32, in_finer: InFiner) -> Result<u64, Stop> {
-        let (value, by) = in_finer.ok_or(Stop::Slow)?;
+    fn rounded(&mut self, number: u32, in_finer: InFiner) -> Result<u64, Slow> {
+        let (value, by) = in_finer.ok_or(Slow)?;
         if by > 0.0 {
-            let of = self.find.shown(number).ok_or(Stop::Slow)?;
+            let of = self.known.as_ref().and_then(|levels| levels.shown(number)).ok_or(Slow)?;
             self.rounded.push(RoundedPoint { of, by });
         }
         Ok(value)
@@ -341,23 +344,24 @@ impl<'b, F: Find> Walk<'b, F> {
     }
 
     /// Passes the exemplars that come next. They are new each time, and say nothing.
-    fn exemplars(&self, fields: &mut Fields<'b>, number: u8) -> Result<(), Stop> {
+    fn exemplars(&self, fields: &mut Fields<'b>, number: u8) -> Result<(), Slow> {
         while let Some(exemplar) = fields.bytes(number) {
-            if !is_exemplar(exemplar, self.reading) {
-                return Err(Stop::Slow);
+            if !is_exemplar(exemplar, self.learner.reading) {
+                return Err(Slow);
             }
         }
         Ok(())
     }
 
     /// Most points have the bounds of the point before.
-    fn level_of_bounds(&mut self, within: Level, bounds: &'b [u8]) -> Result<Level, Stop> {
+    fn level_of_bounds(&mut self, within: Level, bounds: &'b [u8]) -> Result<Level, Slow> {
         match self.bounds {
             Some((level, same, known)) if level == within && same == bounds => Ok(known),
             _ => {
-                let known = self.find.bounds(within, bounds)?;
-                self.bounds = Some((within, bounds, known));
-                Ok(known)
+                let known = |levels: &Levels| levels.find(within, bounds);
+                let level = self.known_or(known, |learner, _| learner.bounds(within, bounds))?;
+                self.bounds = Some((within, bounds, level));
+                Ok(level)
             }
         }
     }
@@ -370,10 +374,11 @@ impl<'b, F: Find> Walk<'b, F> {
         own: Own<'b>,
         scale: Option<&Scale>,
         rest: &Fields<'b>,
-    ) -> Result<u32, Stop> {
-        match rest.rest().is_empty() {
-            true => self.find.series(&self.path, level, own, scale),
-            false => Err(Stop::Slow),
+    ) -> Result<u32, Slow> {
+        if !rest.rest().is_empty() {
+            return Err(Slow);
         }
+        let known = |levels: &Levels| levels.find(level, own.attributes);
+        self.known_or(known, |learner, path| learner.series(path, level, own, scale))
     }
 }

@@ -1,6 +1,6 @@
 //! The same in JSON: members are copied as they are, but the lists on the way to a point.
 
-use super::{Choose, Kind, KINDS};
+use super::{kind_of, Choose, KINDS};
 use crate::otlp::json::{write_text, Document, Value};
 
 /// A member by the name that it has in JSON, and by that of the `.proto` files.
@@ -56,7 +56,7 @@ fn put_list<'d>(
 }
 
 /// Puts an object with what `each` puts of its members, but for their names; of some that may be nothing.
-pub fn put_members<'d>(
+fn put_members<'d>(
     out: &mut String,
     object: Value<'d>,
     mut each: impl FnMut(&mut String, &str, Value<'d>) -> Option<()>,
@@ -78,26 +78,21 @@ pub fn put_members<'d>(
 /// No kind is there twice: who reads it first refuses that.
 fn put_metric(out: &mut String, object: Value<'_>, choose: &mut Choose<'_>) -> Option<()> {
     let mut chosen: [Option<String>; KINDS.len()] = Default::default();
-    for (place, kind) in KINDS.iter().enumerate() {
-        for (_, data) in object.members().into_iter().flatten().filter(|(name, _)| kind.is(name)) {
+    let place_of = |name: &str| kind_of(|field| field.name == name || field.proto_name == name);
+    for (place, chosen) in chosen.iter_mut().enumerate() {
+        let all = object.members().into_iter().flatten();
+        for (_, data) in all.filter(|(name, _)| place_of(name) == Some(place)) {
             let mut text = String::new();
             let one = put_list(&mut text, data, POINTS, &mut |out, point| {
                 choose(place).then(|| out.push_str(point.raw()))
             });
-            chosen[place] = one.map(|()| text);
+            *chosen = one.map(|()| text);
         }
     }
     chosen.iter().flatten().next()?;
     put_members(out, object, |out, name, value| {
-        let kind = KINDS.iter().position(|kind| kind.is(name));
-        let text = kind.map_or_else(|| Some(value.raw()), |place| chosen[place].as_deref());
+        let text = place_of(name).map_or_else(|| Some(value.raw()), |place| chosen[place].as_deref());
         text.map(|text| out.push_str(text))
     });
     Some(())
-}
-
-impl Kind {
-    fn is(&self, name: &str) -> bool {
-        [self.name, self.proto_name].contains(&name)
-    }
 }

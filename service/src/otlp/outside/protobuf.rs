@@ -1,6 +1,7 @@
 //! The same in protobuf: fields are copied as they are, but the lists on the way to a point.
 
-use super::{Choose, KINDS};
+use super::{kind_of, Choose, KINDS};
+use crate::otlp::schema::METRIC;
 use crate::otlp::wire::{bytes_of, fields, put_field, Payload};
 use std::collections::VecDeque;
 
@@ -43,8 +44,9 @@ fn metric(message: &[u8], choose: &mut Choose<'_>) -> Option<Vec<u8>> {
     let fields = fields(message)?;
     // Of each kind what becomes of its parts, in order.
     let mut chosen: [VecDeque<Option<Vec<u8>>>; KINDS.len()] = Default::default();
-    for (place, kind) in KINDS.iter().enumerate() {
-        for data in bytes_of(message, kind.number) {
+    let fields_of = KINDS.map(|kind| METRIC.fields.iter().find(|field| field.name == kind));
+    for (place, field) in fields_of.into_iter().flatten().enumerate() {
+        for data in bytes_of(message, field.number.into()) {
             chosen[place].push_back(list(data, POINTS, |point| choose(place).then(|| point.to_vec())));
         }
     }
@@ -53,8 +55,7 @@ fn metric(message: &[u8], choose: &mut Choose<'_>) -> Option<Vec<u8>> {
     }
     let mut out = Vec::with_capacity(message.len());
     for (number, payload, raw) in fields {
-        let place = KINDS.iter().position(|kind| kind.number == number);
-        match (place, payload) {
+        match (kind_of(|field| u32::from(field.number) == number), payload) {
             (Some(place), Payload::Bytes(_)) => {
                 if let Some(Some(data)) = chosen[place].pop_front() {
                     put_field(&mut out, number, &data);

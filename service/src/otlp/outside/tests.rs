@@ -97,8 +97,8 @@ fn random_requests_have_their_points() {
                 continue;
             };
             let all = points(&prepared.body, Profile::Deltas).unwrap();
-            let foreign = all.iter().filter(|point| point.cause.is_some()).count() as u64;
-            let passed = all.iter().filter(|point| point.is_passed()).count() as u64;
+            let foreign = all.iter().filter(|(_, cause)| cause.is_some()).count() as u64;
+            let passed = all.iter().filter(|(is_passed, _)| *is_passed).count() as u64;
             let original = Original { encoding: Encoding::Protobuf, body };
             let (outside, causes) = original.outside(foreign, Profile::Deltas, || Some(prepared.body));
             let points = outside.as_ref().map_or(0, |outside| outside.points);

@@ -227,9 +227,9 @@ fn both_mean_the_same(reading: &Reading) -> BTreeMap<String, Rounding> {
     rounded
 }
 
-/// What is written at once is as if it were written field by field, as all with long keys is.
+/// Also what is remembered of the attributes before is written as if its key were another.
 #[test]
-fn plain_points_are_written_as_any_other() {
+fn fields_with_long_keys_are_written_as_any_other() {
     let (mut random, mut other) = (Random(0x2545_f491_4f6c_dd1d), Random(7));
     for _ in 0..2000 {
         let body = random.request().encode_to_vec();

@@ -139,7 +139,7 @@ fn other_histograms_are_taken_so_where_they_have_a_fraction() {
     }
 }
 
-/// What is not changed goes on as it came, with no look at all of it.
+/// What is not changed goes on as it came once it is decided, with no look at all of it.
 #[test]
 fn what_stays_as_it_is_is_not_written_anew() {
     let reading = auto(&[]);
@@ -150,8 +150,9 @@ fn what_stays_as_it_is_is_not_written_anew() {
         vec![sum("d", "1", &[WHOLE]), sum("a", "By", &[WHOLE])],
     ] {
         let body = request(&metrics);
-        let prepared = taken_of_test(Encoding::Json, body.clone().into(), &reading).unwrap();
-        assert_eq!(prepared.body, body.as_bytes());
+        let post = || taken_of_test(Encoding::Json, body.clone().into(), &reading).unwrap();
+        assert_eq!(post().rounded.unfit, None);
+        assert_eq!(post().body, body.as_bytes());
     }
     for (metric, may_go) in [
         (sum("a", "By", &[WHOLE]), true),
@@ -162,8 +163,8 @@ fn what_stays_as_it_is_is_not_written_anew() {
         (sum("new", "{request}", &[DOUBLE]), true),
     ] {
         let body = request(&[metric]);
-        let found = crate::otlp::json_fast_path::may_go_as_it_came(body.as_bytes(), &reading);
-        assert_eq!(found, may_go, "{body}");
+        let found = crate::otlp::json_fast_path::as_it_came(body.as_bytes(), &reading);
+        assert_eq!(found.is_some(), may_go, "{body}");
     }
 }
 
@@ -200,7 +201,7 @@ fn what_a_folder_has_of_a_foreign_point_decides_nothing() {
 
 /// Else a later unit of its name was taken otherwise than behind a start, or than of protobuf.
 #[test]
-fn what_goes_on_as_it_came_decides_too() {
+fn what_is_not_changed_decides_too() {
     let reading = auto(&[]);
     assert_eq!(taken(&reading, &[sum("a", "By", &[WHOLE])]), ("By".into(), values(&["7"]), 0, None));
     assert_eq!(taken(&reading, &[sum("a", "KiBy", &[WHOLE])]), ("By".into(), values(&["7168"]), 0, None));

@@ -203,6 +203,21 @@ fn what_is_beside_nothing_any_more_decides_again() {
     }
 }
 
+/// The outbox may have it already, and a start believes that: who forgot it here could decide otherwise than a start.
+#[test]
+fn what_a_refused_post_put_beside_another_decides_nothing_until_a_start() {
+    let units = Arc::new(Units::default());
+    units.begin([]);
+    let [mut finer, mut by_rule] = [(); 2].map(|()| Decided::default());
+    assert_eq!(units.decide("a", unit("s"), true, &mut finer).name(), "us");
+    units.note_of_rule("a", unit("ms"), &mut by_rule);
+    drop((finer, by_rule));
+    let is_noted = || (units.has_of_rule("a", unit("ms")), units.has("a", unit("ms")));
+    assert_eq!((is_noted(), units.unkept()), ((true, false), vec![("a".into(), unit("ms"))]));
+    assert_eq!(decide(&units, "a", unit("s"), true, false).name(), "us", "as if it was not there");
+    assert_eq!((units.settle(), is_noted()), (vec![("a".into(), unit("ms"))], (false, false)));
+}
+
 #[test]
 fn a_slot_decides_by_what_it_has_and_else_as_the_others_here() {
     let all = Arc::new(Units::default());

@@ -5,9 +5,9 @@ use std::cmp::Ordering;
 /// A number with a sign, and its size as a fraction whose denominator is a power of ten.
 #[derive(Clone, Copy, Debug, PartialEq, Eq)]
 pub struct Decimal {
-    is_negative: bool,
-    numerator: u128,
-    denominator: u128,
+    pub is_negative: bool,
+    pub numerator: u128,
+    pub denominator: u128,
 }
 
 /// A whole number, and how far it is from what it was made of: 0 to 1/2.
@@ -17,35 +17,52 @@ pub struct Nearest {
     pub by: f64,
 }
 
+fn power(exponent: i64) -> Option<u128> {
+    10u128.checked_pow(u32::try_from(exponent).ok()?)
+}
+
+/// What digits say without the zeros at their end, and how many these are.
+fn significant(digits: impl Iterator<Item = u8>) -> Option<(u128, i64)> {
+    let (mut number, mut zeros) = (0u128, 0);
+    for digit in digits {
+        match digit {
+            b'0' if number == 0 => {}
+            b'0' => zeros += 1,
+            b'1'..=b'9' => {
+                let shift = if zeros == 0 { 10 } else { power(zeros + 1)? };
+                number = number.checked_mul(shift)?.checked_add(u128::from(digit - b'0'))?;
+                zeros = 0;
+            }
+            _ => return None,
+        }
+    }
+    Some((number, zeros))
+}
+
 impl Decimal {
-    /// Reads `-1.5e-3` and the like, of at most 20 digits, and multiplies it. `None` where it is no such number, or is
-    /// over 2^127 in size then.
+    /// Reads `-1.5e-3` and the like, and multiplies it. `None` where it is no such number, or is over 2^127 in size then, or has too
+    /// many digits but for zeros at its ends: more than 20.
     pub fn times(text: &str, factor: u64) -> Option<Decimal> {
         let (is_negative, size) = match text.strip_prefix('-') {
             Some(size) => (true, size),
             None => (false, text),
         };
-        let (digits, exponent) = size.split_once('e').unwrap_or((size, "0"));
+        let (digits, exponent) = size.split_once(['e', 'E']).unwrap_or((size, "0"));
         let (before, after) = digits.split_once('.').unwrap_or((digits, ""));
-        let exponent = exponent.parse::<i64>().ok()? - i64::try_from(after.len()).ok()?;
-        let mut numerator = 0u128;
-        for digit in before.bytes().chain(after.bytes()) {
-            if !digit.is_ascii_digit() {
-                return None;
-            }
-            numerator = numerator.checked_mul(10)?.checked_add(u128::from(digit - b'0'))?;
+        let (numerator, zeros) = significant(before.bytes().chain(after.bytes()))?;
+        if numerator == 0 {
+            return Some(Decimal { is_negative, numerator, denominator: 1 });
         }
-        numerator = numerator.checked_mul(u128::from(factor))?;
-        let power = |exponent: i64| 10u128.checked_pow(u32::try_from(exponent).ok()?);
-        let (numerator, denominator) = match exponent {
-            _ if numerator == 0 => (0, 1),
-            0.. => (numerator.checked_mul(power(exponent)?)?, 1),
+        let numerator = numerator.checked_mul(u128::from(factor))?;
+        let exponent = exponent.parse::<i64>().ok()?.checked_sub(i64::try_from(after.len()).ok()?)?;
+        let (numerator, denominator) = match exponent.checked_add(zeros)? {
+            exponent @ 0.. => (numerator.checked_mul(power(exponent)?)?, 1),
             // Far below 1. What is cut off is rounded up: it is over zero, and what it is off by is told as a bound.
-            ..-38 => {
+            exponent @ ..-38 => {
                 let cut = power(-38 - exponent).unwrap_or(u128::MAX);
                 (numerator.div_ceil(cut), 10u128.pow(38))
             }
-            _ => (numerator, power(-exponent)?),
+            exponent => (numerator, power(-exponent)?),
         };
         (numerator <= i128::MAX as u128).then_some(Decimal { is_negative, numerator, denominator })
     }
