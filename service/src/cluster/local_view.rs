@@ -6,9 +6,10 @@
 use super::owners::{Owners, Whose};
 use super::status::{Counted, Status, Unserved};
 use super::terms::Silence;
+use crate::lock::lock;
 use crate::log::shown;
 use std::collections::{BTreeMap, BTreeSet};
-use std::sync::{Arc, Mutex, MutexGuard, PoisonError};
+use std::sync::{Arc, Mutex, MutexGuard};
 use std::time::Duration;
 use tokio::sync::{watch, Notify};
 use tokio::time::Instant;
@@ -65,7 +66,7 @@ impl Cluster {
     }
 
     pub(super) fn counted(&self) -> MutexGuard<'_, Counted> {
-        self.counted.lock().unwrap_or_else(PoisonError::into_inner) // numbers are sound at any time
+        lock(&self.counted)
     }
 
     /// Who has which slot, as far as is known; it tells when that changes.
@@ -188,16 +189,12 @@ impl Database {
 
     /// It is changed whole under the lock.
     pub fn owners(&self) -> MutexGuard<'_, Owners> {
-        self.owners.lock().unwrap_or_else(PoisonError::into_inner)
-    }
-
-    fn own_beats(&self) -> MutexGuard<'_, OwnBeats> {
-        self.own_beats.lock().unwrap_or_else(PoisonError::into_inner) // two values are sound at any time
+        lock(&self.owners)
     }
 
     /// An own beat that was sent then is committed.
     pub fn has_beaten(&self, sent: Instant) {
-        *self.own_beats() = OwnBeats { beaten: Some(sent), why: None };
+        *lock(&self.own_beats) = OwnBeats { beaten: Some(sent), why: None };
     }
 
     /// Its last beat that is committed was so long ago.
@@ -208,12 +205,12 @@ impl Database {
 
     /// An own beat got no answer.
     pub fn is_silent(&self, silence: &Silence) {
-        self.own_beats().why = Some(silence.0.clone());
+        lock(&self.own_beats).why = Some(silence.0.clone());
         self.owners().unanswered();
     }
 
     fn beat_age(&self) -> Option<Duration> {
-        self.own_beats().beaten.map(|beaten| beaten.elapsed())
+        lock(&self.own_beats).beaten.map(|beaten| beaten.elapsed())
     }
 
     fn is_stalled(&self) -> bool {
@@ -222,19 +219,14 @@ impl Database {
 
     /// Why it does not answer, where it does not.
     fn silence(&self) -> Option<String> {
-        let said = self.own_beats().why.clone();
+        let said = lock(&self.own_beats).why.clone();
         let why = said.unwrap_or_else(|| format!("no answer within {} s", STALL.as_secs()));
         self.is_stalled().then_some(why)
     }
 
-    /// It is changed whole under the lock.
-    fn unserved(&self) -> MutexGuard<'_, Unserved> {
-        self.unserved.lock().unwrap_or_else(PoisonError::into_inner)
-    }
-
     /// These take no posts yet, though they are open here.
     pub fn fill(&self, slots: BTreeSet<u16>) {
-        self.unserved().filling = slots;
+        lock(&self.unserved).filling = slots;
     }
 
     fn whose(&self) -> BTreeMap<u16, Whose> {
@@ -242,13 +234,13 @@ impl Database {
             let owners = self.owners();
             (owners.whose(), owners.slots())
         };
-        self.unserved().note(&slots, Instant::now());
+        lock(&self.unserved).note(&slots, Instant::now());
         places
     }
 
     fn add_to(&self, status: &mut Status) {
         let owners = self.owners();
-        let unserved = self.unserved();
+        let unserved = lock(&self.unserved);
         status.name = owners.name().into();
         status.slots.extend(owners.slots());
         status.has_namesake |= owners.has_namesake();

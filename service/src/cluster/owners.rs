@@ -207,17 +207,12 @@ impl Owners {
     }
 
     fn drop_lost(&mut self) -> Vec<Step> {
-        let is_lost = |row: &&Row| {
-            let mine = self.mine.get(&row.slot);
-            // What is being opened or closed finds that by itself.
-            mine.is_some_and(|mine| mine.phase == Phase::Serving && mine.term < row.term)
-        };
-        let lost: Vec<u16> = self.rows.iter().filter(is_lost).map(|row| row.slot).collect();
-        let steps = lost.into_iter().filter_map(|slot| {
-            let term = self.mine.remove(&slot)?.term;
-            Some(Step::Drop { slot, term })
-        });
-        steps.collect()
+        let is_later = |slot: u16, term: u64| self.rows.iter().any(|row| row.slot == slot && row.term > term);
+        // What is being opened or closed finds that by itself.
+        let is_lost =
+            |slot: &u16, mine: &mut Mine| mine.phase == Phase::Serving && is_later(*slot, mine.term);
+        let lost = self.mine.extract_if(.., is_lost);
+        lost.map(|(slot, mine)| Step::Drop { slot, term: mine.term }).collect()
     }
 
     fn note_places(&mut self) {
@@ -330,21 +325,25 @@ impl Owners {
     /// It could not be opened, or has ended by a fault: it is let go with the next beat, for another to try. False where no
     /// other may, so that it is tried here again.
     pub fn failed(&mut self, slot: u16, term: u64, reason: &str) -> bool {
-        if self.ended(slot, term) {
+        if self.lost(slot, term) {
             self.refusals.failed(slot, reason);
             self.left_alone.insert(slot, (term, 1));
         }
         self.others.staying().any(|(_, refused)| !refused.contains_key(&slot))
     }
 
-    /// Another has it: seen by what writes to it. False where it was no more open here under that term.
+    /// It is open here no more: another has it, as is seen by what writes to it. False where it was not under that term.
     pub fn lost(&mut self, slot: u16, term: u64) -> bool {
-        self.ended(slot, term)
+        let is_it = self.mine.get(&slot).is_some_and(|mine| mine.term == term);
+        if is_it {
+            self.mine.remove(&slot);
+        }
+        is_it
     }
 
     /// It was handed over, or it isn't known whether the store has that. Who leaves hands over the next one at once.
     pub fn released(&mut self, slot: u16, term: u64) -> Option<Step> {
-        self.ended(slot, term);
+        self.lost(slot, term);
         if let Some(handed) = self.handed.as_mut().filter(|handed| handed.slot == slot) {
             handed.is_released = true;
         }
@@ -353,14 +352,6 @@ impl Owners {
         }
         self.note_handed();
         self.hand_over()
-    }
-
-    fn ended(&mut self, slot: u16, term: u64) -> bool {
-        let is_it = self.mine.get(&slot).is_some_and(|mine| mine.term == term);
-        if is_it {
-            self.mine.remove(&slot);
-        }
-        is_it
     }
 }
 

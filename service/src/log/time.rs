@@ -38,7 +38,7 @@ fn written(since_1970: Duration) -> String {
 
 /// The date so many days from 1970 on. Years are counted from March on: a leap day is the last one of its year, and
 /// each 400 years are 146,097 days.
-fn date(days: u64) -> (u64, u64, u64) {
+pub fn date(days: u64) -> (u64, u64, u64) {
     let since_0 = days + 719_468;
     let (era, day) = (since_0 / 146_097, since_0 % 146_097);
     let year = (day - day / 1460 + day / 36_524 - day / 146_096) / 365;

@@ -2,11 +2,14 @@
 
 use super::tls::Tls;
 use super::Server;
+use crate::lock::lock;
 use crate::sinks::roots::{self, NoRoots};
 use std::future::poll_fn;
-use std::sync::{Arc, Mutex, PoisonError};
+use std::sync::{Arc, Mutex};
+use std::time::Duration;
 use tokio::io::{AsyncRead, AsyncWrite};
 use tokio::task::JoinHandle;
+use tokio::time::timeout;
 use tokio_postgres::error::SqlState;
 use tokio_postgres::{AsyncMessage, Client, Config, Connection, Error, NoTls};
 
@@ -17,22 +20,34 @@ pub(crate) enum NotConnected {
     Roots(#[from] NoRoots),
     #[error("{}", super::shown(.0))]
     Server(#[from] Error),
+    #[error("no answer within {} s", .0.as_secs_f64())]
+    Silent(Duration),
 }
 
-pub(crate) struct Connected {
-    pub client: Client,
-    pub driver: Driver,
+/// Connects to a server of an address, of which `config` is the whole or one host, and sets what the session is to have.
+/// What takes a connection and then is silent, as a proxy whose server is away, would be waited for without end.
+pub(crate) async fn connect(
+    server: &Server,
+    config: &Config,
+    settings: &str,
+    limit: Duration,
+) -> Result<(Client, Driver), NotConnected> {
+    let connecting = async {
+        let (client, driver) = connect_to(server, config).await?;
+        client.batch_execute(settings).await?;
+        Ok((client, driver))
+    };
+    timeout(limit, connecting).await.unwrap_or(Err(NotConnected::Silent(limit)))
 }
 
-/// Connects to a server of an address, of which `config` is the whole or one host.
-pub(crate) async fn connect(server: &Server, config: &Config) -> Result<Connected, NotConnected> {
+async fn connect_to(server: &Server, config: &Config) -> Result<(Client, Driver), NotConnected> {
     if server.wants_tls() {
         let tls = Tls::new(roots::client_config(roots::of_machine()?));
         let (client, connection) = config.connect(tls).await?;
-        Ok(Connected { client, driver: Driver::of(connection) })
+        Ok((client, Driver::of(connection)))
     } else {
         let (client, connection) = config.connect(NoTls).await?;
-        Ok(Connected { client, driver: Driver::of(connection) })
+        Ok((client, Driver::of(connection)))
     }
 }
 
@@ -83,20 +98,31 @@ impl Warnings {
     fn note(&self, message: &AsyncMessage) {
         if let AsyncMessage::Notice(notice) = message {
             if is_doubt(notice.code(), notice.routine()) {
-                *self.0.lock().unwrap_or_else(PoisonError::into_inner) = Some(notice.message().into());
+                *lock(&self.0) = Some(notice.message().into());
             }
         }
     }
 
     pub(crate) fn take(&self) -> Option<String> {
-        let mut last = self.0.lock().unwrap_or_else(PoisonError::into_inner); // any value of it is sound
-        last.take()
+        lock(&self.0).take()
     }
 }
 
 #[cfg(test)]
 mod tests {
     use super::*;
+
+    /// Else nothing is made ahead or deleted any more, and nobody is told.
+    #[tokio::test]
+    async fn a_server_that_is_silent_is_not_waited_for_without_end() {
+        let listener = tokio::net::TcpListener::bind("127.0.0.1:0").await.expect("a port");
+        let address = format!("//u@{}/d", listener.local_addr().expect("its address"));
+        let server = Server::read(&address).expect("an address");
+        let config = server.config();
+        let connecting = connect(&server, &config, "", Duration::from_millis(50));
+        let fault = timeout(Duration::from_secs(20), connecting).await.expect("an end").err();
+        assert_eq!(fault.expect("no connection").to_string(), "no answer within 0.05 s");
+    }
 
     /// Else nothing is taken any more long before the server takes nothing.
     #[test]

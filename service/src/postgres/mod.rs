@@ -7,6 +7,6 @@ mod server_error;
 mod tls;
 
 pub use address::Server;
-pub(crate) use connection::{connect, Connected, Driver, NotConnected, Warnings};
+pub(crate) use connection::{connect, Driver, NotConnected, Warnings};
 pub(crate) use identity::identity;
 pub(crate) use server_error::shown;

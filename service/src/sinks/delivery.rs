@@ -4,11 +4,12 @@ use super::{backoff, Fate, Forwarded, Sink};
 use crate::files::outbox::Waiting;
 use crate::files::{Dead, Fault, Lost, Outbox};
 use crate::latch::Latch;
+use crate::lock::lock;
 use crate::metrics::Metrics;
 use crate::work::blocking;
 use std::future::Future;
 use std::pin::pin;
-use std::sync::{Arc, Mutex, MutexGuard, PoisonError};
+use std::sync::{Arc, Mutex};
 use std::time::{Duration, Instant};
 use tokio::sync::watch;
 use tokio::time::timeout;
@@ -56,20 +57,15 @@ trait Store: Sync {
     fn term(&self) -> Option<u64> {
         None
     }
-    fn first(&self) -> impl Future<Output = Result<(Waiting, Vec<u8>), Fault>> + Send;
+    async fn first(&self) -> Result<(Waiting, Vec<u8>), Fault>;
     /// Returns once a request may be sent: it is durable, and the slot is this instance's.
-    fn may_deliver(&self, number: u64) -> impl Future<Output = Result<(), Fault>> + Send;
-    fn lost(&self) -> impl Future<Output = Lost> + Send;
-    fn acknowledge(&self, number: u64) -> impl Future<Output = Result<(), Fault>> + Send;
+    async fn may_deliver(&self, number: u64) -> Result<(), Fault>;
+    async fn lost(&self) -> Lost;
+    async fn acknowledge(&self, number: u64) -> Result<(), Fault>;
     /// Durable once it returns. Whether the disk has room for it.
-    fn keep(
-        &self,
-        key: String,
-        reason: String,
-        body: Vec<u8>,
-    ) -> impl Future<Output = Result<bool, Fault>> + Send;
+    async fn keep(&self, key: String, reason: String, body: Vec<u8>) -> Result<bool, Fault>;
     /// The sink has what an earlier run may have kept under this key, before it was killed.
-    fn let_go(&self, key: String, body: Vec<u8>) -> impl Future<Output = Result<(), Fault>> + Send;
+    async fn let_go(&self, key: String, body: Vec<u8>) -> Result<(), Fault>;
 }
 
 struct Files {
@@ -135,23 +131,14 @@ struct Run<S> {
     stop: watch::Receiver<bool>,
 }
 
-/// Why a delivery ends.
-enum End {
-    Stopped,
-    Failed(Fault),
-}
-
-impl From<Fault> for End {
-    fn from(fault: Fault) -> End {
-        End::Failed(fault)
-    }
-}
+/// Why a delivery ends: by a fault, or else it was stopped.
+type End = Option<Fault>;
 
 impl<S: Store> Run<S> {
     async fn until_it_ends(&self) -> Result<(), Fault> {
         match self.run().await {
-            Err(End::Failed(fault)) => Err(fault),
-            Ok(()) | Err(End::Stopped) => Ok(()),
+            Err(Some(fault)) => Err(fault),
+            Ok(()) | Err(None) => Ok(()),
         }
     }
 
@@ -213,9 +200,9 @@ impl<S: Store> Run<S> {
              or away"
         );
         tracing::warn!(slot, reason, "slot {slot}: {reason}");
-        let before = self.state().trouble.replace(reason);
+        let before = lock(&self.state).trouble.replace(reason);
         sure.await??;
-        self.state().trouble = before;
+        lock(&self.state).trouble = before;
         tracing::info!(
             slot,
             "slot {slot}: the store says in time that it is this instance's: requests are sent again"
@@ -231,12 +218,12 @@ impl<S: Store> Run<S> {
                 let full =
                     format!("the disk has no room to keep {key} in dead/, which the sink refused: {reason}");
                 tracing::warn!(key, reason = full, "{full}; nothing is sent until there is more");
-                before = Some(self.state().trouble.replace(full));
+                before = Some(lock(&self.state).trouble.replace(full));
             }
             self.unless_stopped(tokio::time::sleep(ROOM)).await?;
         }
         if let Some(before) = before {
-            self.state().trouble = before;
+            lock(&self.state).trouble = before;
         }
         Ok(())
     }
@@ -274,8 +261,8 @@ impl<S: Store> Run<S> {
         let mut stop = self.stop.clone();
         tokio::select! {
             biased;
-            () = stop.wait_true() => Err(End::Stopped),
-            lost = self.files.lost() => Err(End::Failed(lost.into())),
+            () = stop.wait_true() => Err(None),
+            lost = self.files.lost() => Err(Some(lost.into())),
             done = work => Ok(done),
         }
     }
@@ -305,14 +292,10 @@ impl<S: Store> Run<S> {
         Ok(())
     }
 
-    fn state(&self) -> MutexGuard<'_, Delivery> {
-        self.state.lock().unwrap_or_else(PoisonError::into_inner) // two values are sound at any time
-    }
-
     /// Notes a try that failed. How many it were.
     fn failed(&self, key: &str, reason: String, outcome: &str) -> u64 {
         self.metrics.deliveries.with_label_values(&[outcome]).inc();
-        let mut state = self.state();
+        let mut state = lock(&self.state);
         state.tries += 1;
         if state.trouble.is_none() {
             let sink = self.sink.name();
@@ -329,7 +312,7 @@ impl<S: Store> Run<S> {
 
     fn ended(&self, outcome: &str) {
         self.metrics.deliveries.with_label_values(&[outcome]).inc();
-        let mut state = self.state();
+        let mut state = lock(&self.state);
         if state.trouble.is_some() {
             let (sink, tries) = (self.sink.name(), state.tries);
             tracing::info!(sink, tries, "{sink} answers again; attempts that failed: {tries}");

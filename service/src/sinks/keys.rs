@@ -1,8 +1,9 @@
 //! One key is sent once at a time: the delivery and an operator may have the same request, where a run was killed before
 //! the outbox knew that it lies in `dead/`.
 
+use crate::lock::lock;
 use std::collections::HashSet;
-use std::sync::{Mutex, MutexGuard, PoisonError};
+use std::sync::Mutex;
 use tokio::sync::Notify;
 
 /// The keys that are under way at a sink.
@@ -23,22 +24,18 @@ impl Keys {
     pub async fn hold(&self, key: &str) -> Held<'_> {
         loop {
             let freed = self.freed.notified(); // before it is looked, so that no end is missed
-            if self.held().insert(key.to_string()) {
+            if lock(&self.held).insert(key.to_string()) {
                 let key = key.to_string();
                 return Held { keys: self, key };
             }
             freed.await;
         }
     }
-
-    fn held(&self) -> MutexGuard<'_, HashSet<String>> {
-        self.held.lock().unwrap_or_else(PoisonError::into_inner) // a set is sound at any time
-    }
 }
 
 impl Drop for Held<'_> {
     fn drop(&mut self) {
-        self.keys.held().remove(&self.key);
+        lock(&self.keys.held).remove(&self.key);
         self.keys.freed.notify_waiters();
     }
 }

@@ -96,13 +96,13 @@ pub type Answer<'a, T> = Pin<Box<dyn Future<Output = T> + Send + 'a>>;
 
 /// A sink takes a request whole or not at all, and once under one key.
 pub trait Sink: Send + Sync {
-    fn deliver<'a>(&'a self, request: &'a Forwarded) -> Answer<'a, Fate>;
+    fn deliver<'a>(&'a self, request: &'a Forwarded) -> Answer<'a, Fate> {
+        self.deliver_of(request, None)
+    }
 
     /// The same of a slot that this instance has under a term: where the sink is in the database that has the slot's row, it
     /// takes the request and notes that it has, in one transaction, and takes none of an earlier term.
-    fn deliver_of<'a>(&'a self, request: &'a Forwarded, _term: Option<u64>) -> Answer<'a, Fate> {
-        self.deliver(request)
-    }
+    fn deliver_of<'a>(&'a self, request: &'a Forwarded, term: Option<u64>) -> Answer<'a, Fate>;
 
     /// Closes or opens a period, or corrects: wholly or not at all, between two requests.
     fn settle<'a>(&'a self, _who: &'a str, _deed: &'a Deed) -> Answer<'a, Told> {

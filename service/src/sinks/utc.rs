@@ -1,5 +1,7 @@
 //! Hours, days and months since 1970, in UTC: in which a span counts.
 
+use crate::log::date;
+
 pub(super) const HOUR_NS: u64 = 3_600_000_000_000;
 
 /// The hour in which a span counts that ends then: one that ends at a full hour, in the hour before.
@@ -11,14 +13,9 @@ pub(super) fn day_of(hour: i64) -> i64 {
     hour / 24
 }
 
-/// By the days of 400 years, which begin in March: so a leap day is the last of its year.
 pub(super) fn month_of(day: i64) -> i64 {
-    let day = day + 719_468; // since 0000-03-01
-    let of_era = day % 146_097;
-    let year = (of_era - of_era / 1460 + of_era / 36_524 - of_era / 146_096) / 365;
-    let of_year = of_era - (365 * year + year / 4 - year / 100);
-    let month = (5 * of_year + 2) / 153; // since March
-    (day / 146_097 * 400 + year) * 12 + month + 2 - 1970 * 12
+    let (year, month, _) = date(day.unsigned_abs());
+    (year * 12 + month - 1) as i64 - 1970 * 12
 }
 
 /// The first hour after the month of this one.

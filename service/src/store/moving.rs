@@ -98,6 +98,25 @@ impl Place {
         Ok(now)
     }
 
+    /// A move is under way from here on, as all databases say, and no instance runs.
+    fn begin(
+        &self,
+        seen: Standing,
+        to: Standing,
+        check: fn(&Place) -> Result<(), MoveFault>,
+    ) -> Result<Standing, MoveFault> {
+        let now = match seen.state == to.state && seen.id == to.id {
+            true => seen,
+            false => {
+                check(self)?;
+                self.go(&seen, to)?
+            }
+        };
+        self.store.follow(&now)?;
+        self.check_idle()?;
+        Ok(now)
+    }
+
     /// From here on the other one counts: all of it is there, and nobody had a slot meanwhile.
     fn decide(&self, seen: &Standing, state: State) -> Result<(), MoveFault> {
         if !self.store.all_say(seen)? {
@@ -182,17 +201,8 @@ pub fn from_folder(folder: &Path, servers: &[Server], copies: Copies) -> Result<
             Some(why) => refused(why),
         };
     }
-    let filling = match seen.state == State::Filling && seen.id == id {
-        true => seen,
-        false => {
-            place.check_unused()?;
-            let filling =
-                Standing { state: State::Filling, id: id.clone(), folder: path.display().to_string() };
-            place.go(&seen, filling)?
-        }
-    };
-    place.store.follow(&filling)?;
-    place.check_idle()?;
+    let to = Standing { state: State::Filling, id: id.clone(), folder: path.display().to_string() };
+    let filling = place.begin(seen, to, Place::check_unused)?;
     let moved = fill_store(&folder, &place.store, &id)?;
     place.decide(&filling, State::Counts)?;
     folder.set_mark(Some(place.mark(Way::Left, &id)))?;
@@ -250,12 +260,12 @@ fn fill_store(folder: &Folder, store: &PostgresStore, id: &str) -> Result<Moved,
             })?;
         }
         moved.posts = posts.count;
-        for (term, to) in all {
+        for (term, mut to) in all {
             let number = to.number;
             // Operators look for a letter in the slot of its key.
             let is_its = |slot| slot == number || number == 0 && slot >= slots;
             moved.letters += to.take_letters(&dead, is_its)?;
-            to.end()?;
+            to.settle()?;
             store.release_moved(number, term)?;
         }
     }
@@ -300,17 +310,8 @@ pub fn to_folder(folder: &Path, servers: &[Server], copies: Copies) -> Result<Op
             id
         }
     };
-    let leaving = match seen.state == State::Leaving && seen.id == id {
-        true => seen,
-        false => {
-            place.check_idle()?;
-            let leaving =
-                Standing { state: State::Leaving, id: id.clone(), folder: path.display().to_string() };
-            place.go(&seen, leaving)?
-        }
-    };
-    place.store.follow(&leaving)?;
-    place.check_idle()?;
+    let to = Standing { state: State::Leaving, id: id.clone(), folder: path.display().to_string() };
+    let leaving = place.begin(seen, to, Place::check_idle)?;
     folder.clear()?;
     let moved = fill_folder(&place.store, &folder, &id)?;
     place.decide(&leaving, State::Gone)?;
@@ -340,7 +341,7 @@ fn fill_folder(store: &PostgresStore, folder: &Folder, id: &str) -> Result<Moved
         }
         store.release_moved(number, term)?;
     }
-    to.end()?;
+    to.settle()?;
     if let Some(sink) = KnownSink::of_line(&store.sink()?) {
         folder.set_sink(sink)?;
     }

@@ -2,9 +2,9 @@
 //! knows.
 
 use super::internal::{whole, Internal};
-use super::peer::lock;
 use super::{owner_answer, Broken, Forward, Forwarded, Here, Unanswering};
 use crate::cluster::terms::Doing;
+use crate::lock::lock;
 use bytes::Bytes;
 use hyper::{Body, Request, Response};
 use std::sync::Arc;

@@ -1,7 +1,8 @@
 //! The other instances as they are asked: how much at once, and since when one is silent.
 
+use crate::lock::lock;
 use std::collections::HashMap;
-use std::sync::{Arc, Mutex, MutexGuard, PoisonError};
+use std::sync::{Arc, Mutex};
 use std::time::Duration;
 use tokio::sync::{Semaphore, SemaphorePermit};
 use tokio::time::Instant;
@@ -110,9 +111,4 @@ impl Peer {
         let since = before.map_or(came, |before| before.since);
         silent.insert(Silent { since, last: Instant::now(), why: why.into() }).is_long()
     }
-}
-
-/// One value is sound at any time.
-pub(super) fn lock<T>(mutex: &Mutex<T>) -> MutexGuard<'_, T> {
-    mutex.lock().unwrap_or_else(PoisonError::into_inner)
 }

@@ -1,12 +1,14 @@
 //! What instances speak with each other, and the connections that are kept.
 
 use super::{peer, CONNECT, IDLE};
+use crate::lock::lock;
+use crate::sinks::roots::client_config;
 use crate::tls::{Contexts, Tls};
 use hyper::client::HttpConnector;
 use hyper::{Body, Client};
 use hyper_rustls::HttpsConnector;
-use rustls::ClientConfig;
-use std::sync::{Arc, Mutex, PoisonError};
+use rustls::{ClientConfig, RootCertStore};
+use std::sync::{Arc, Mutex};
 
 type Asks = Client<HttpsConnector<HttpConnector>, Body>;
 
@@ -25,7 +27,9 @@ struct Now {
 impl Now {
     fn of(by: Option<Arc<Contexts>>) -> Now {
         let config = by.as_ref().and_then(|by| by.client());
-        Now { asks: client(config.unwrap_or_else(|| Arc::new(no_roots()))), by }
+        // Nothing is asked over TLS by a client that believes no root.
+        let config = config.unwrap_or_else(|| Arc::new(client_config(RootCertStore::empty())));
+        Now { asks: client(config), by }
     }
 }
 
@@ -43,7 +47,7 @@ impl Connections {
     }
 
     pub fn asks(&self) -> Asks {
-        let mut now = self.now.lock().unwrap_or_else(PoisonError::into_inner); // it is changed whole
+        let mut now = lock(&self.now);
         if let Some(tls) = &self.tls {
             let latest = tls.contexts();
             if !now.by.as_ref().is_some_and(|by| Arc::ptr_eq(by, &latest)) {
@@ -62,12 +66,4 @@ fn client(config: Arc<ClientConfig>) -> Asks {
     let mut client = Client::builder();
     client.pool_idle_timeout(IDLE).pool_max_idle_per_host(peer::POSTS);
     client.build(HttpsConnector::from((http, config)))
-}
-
-/// Nothing is asked over TLS by it.
-fn no_roots() -> ClientConfig {
-    ClientConfig::builder()
-        .with_safe_defaults()
-        .with_root_certificates(rustls::RootCertStore::empty())
-        .with_no_client_auth()
 }

@@ -34,7 +34,7 @@ struct Taken {
 }
 
 impl Sink for Taken {
-    fn deliver<'a>(&'a self, request: &'a Forwarded) -> Answer<'a, Fate> {
+    fn deliver_of<'a>(&'a self, request: &'a Forwarded, _term: Option<u64>) -> Answer<'a, Fate> {
         self.came.lock().unwrap().push(request.clone());
         Box::pin(async { Fate::Taken })
     }

@@ -1,9 +1,8 @@
 //! What becomes of requests, by a sink that answers by a script and files that are in memory.
 
 use super::*;
-use crate::sinks::Keys;
+use crate::sinks::{Answer, Keys};
 use std::collections::VecDeque;
-use std::pin::Pin;
 
 mod files;
 mod held;
@@ -19,7 +18,7 @@ struct Script {
 }
 
 impl Sink for Script {
-    fn deliver<'a>(&'a self, request: &'a Forwarded) -> Pin<Box<dyn Future<Output = Fate> + Send + 'a>> {
+    fn deliver_of<'a>(&'a self, request: &'a Forwarded, _term: Option<u64>) -> Answer<'a, Fate> {
         self.came.lock().expect("came").push(request.clone());
         self.at.lock().expect("at").push(Instant::now());
         let fate = self.fates.lock().expect("fates").pop_front().unwrap_or(Fate::Taken);

@@ -69,7 +69,11 @@ pub(super) async fn fate(response: Response<Body>, sent: Encoding, deadline: Ins
         }
         _ => message(body, encoding),
     };
-    let (reason, after) = (join(&head.status.to_string(), &more), asked(&head.headers));
+    let reason = match more.is_empty() {
+        true => head.status.to_string(),
+        false => format!("{}: {more}", head.status),
+    };
+    let after = head.headers.get(RETRY_AFTER).and_then(|value| after(value.to_str().ok()?));
     match status {
         408 | 425 | 429 | 502..=504 => Fate::Again { reason, after },
         401 | 403 => Fate::Denied { reason, after },
@@ -143,18 +147,6 @@ fn message(body: Read, encoding: Encoding) -> String {
 
 fn shown(text: &str) -> String {
     log::shown(text, LONGEST_MESSAGE)
-}
-
-fn join(status: &str, more: &str) -> String {
-    if more.is_empty() {
-        status.into()
-    } else {
-        format!("{status}: {more}")
-    }
-}
-
-fn asked(headers: &HeaderMap) -> Option<Duration> {
-    after(headers.get(RETRY_AFTER)?.to_str().ok()?)
 }
 
 /// `Retry-After`, in seconds or as a date. A date that has passed means now.

@@ -67,7 +67,8 @@ impl OtlpSink {
         headers: &[(String, String)],
     ) -> Result<OtlpSink, BadOtlp> {
         let encoding = if protobuf { Encoding::Protobuf } else { Encoding::Json };
-        let headers = read_headers(headers)?;
+        let headers = headers.iter().map(|(name, value)| header_of(name, value));
+        let headers = headers.collect::<Result<HeaderMap, _>>()?;
         let url: Uri = url.parse().map_err(|error| BadOtlp::Url(format!("{error}")))?;
         let client = connect::client(url.scheme_str() == Some("https"))?;
         Ok(OtlpSink { url, encoding, gzip, headers, client, patience: PATIENCE, keys: Keys::default() })
@@ -130,7 +131,7 @@ impl OtlpSink {
 }
 
 impl Sink for OtlpSink {
-    fn deliver<'a>(&'a self, request: &'a Forwarded) -> Answer<'a, Fate> {
+    fn deliver_of<'a>(&'a self, request: &'a Forwarded, _term: Option<u64>) -> Answer<'a, Fate> {
         Box::pin(self.send(request))
     }
 
@@ -148,15 +149,6 @@ fn packed(body: &[u8]) -> std::io::Result<Vec<u8>> {
     let mut encoder = flate2::write::GzEncoder::new(Vec::new(), flate2::Compression::fast());
     encoder.write_all(body)?;
     encoder.finish()
-}
-
-fn read_headers(pairs: &[(String, String)]) -> Result<HeaderMap, BadOtlp> {
-    let mut headers = HeaderMap::new();
-    for (name, value) in pairs {
-        let (name, value) = header_of(name, value)?;
-        headers.append(name, value);
-    }
-    Ok(headers)
 }
 
 /// A header that an operator may give.

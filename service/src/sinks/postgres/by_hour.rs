@@ -1,6 +1,6 @@
 //! Reads what came of one series in its last hours, by the view `by_hour`.
 
-use super::fault::PostgresFault;
+use super::fault::{Fault, PostgresFault};
 use super::session;
 use super::totals::{number, parts_of, Odd, PATIENCE};
 use super::Server;
@@ -16,46 +16,34 @@ pub async fn read(
     series: &SeriesTotal,
     from: u64,
 ) -> Result<Option<Vec<Hour>>, PostgresFault> {
-    let name = server.to_string();
-    let late = || PostgresFault::told(&name, format!("no hours within {} s", PATIENCE.as_secs()));
-    let rows = timeout(PATIENCE, rows(server, &name, series, from)).await;
-    let Some(rows) = rows.map_err(|_| late())?? else {
-        return Ok(None);
-    };
-    let hours: Result<Vec<Hour>, Odd> = rows.iter().map(hour).collect();
-    hours.map(Some).map_err(|odd| PostgresFault::told(&name, odd.to_string()))
+    let late = |_| Fault::told(format!("no hours within {} s", PATIENCE.as_secs()));
+    let rows = timeout(PATIENCE, rows(server, series, from)).await.map_err(late);
+    let hours = |rows: Vec<Row>| rows.iter().map(hour).collect::<Result<_, Odd>>();
+    let read = rows.flatten().and_then(|rows| Ok(rows.map(hours).transpose()?));
+    read.map_err(|fault| fault.at(server))
 }
 
-async fn rows(
-    server: &Server,
-    name: &str,
-    series: &SeriesTotal,
-    from: u64,
-) -> Result<Option<Vec<Row>>, PostgresFault> {
-    let fault = |error| PostgresFault::of(name, &error);
+async fn rows(server: &Server, series: &SeriesTotal, from: u64) -> Result<Option<Vec<Row>>, Fault> {
     let (client, _connection) = session::connect_to_read(server).await?;
     let view = client.query_one("select to_regclass('totxegun.by_hour') is not null", &[]);
-    if !view.await.map_err(fault)?.get::<_, bool>(0) {
+    if !view.await?.get::<_, bool>(0) {
         return Ok(None);
     }
-    let Some(id) = found(&client, name, series).await? else {
+    let Some(id) = found(&client, series).await? else {
         return Ok(None);
     };
     let hours =
         "select extract(epoch from hour)::bigint / 3600, total::text, count::text from totxegun.by_hour
          where series = $1 and hour >= to_timestamp($2 * 3600.0::double precision) order by hour";
-    let rows = client.query(hours, &[&id, &(from as f64)]).await;
-    rows.map(Some).map_err(fault)
+    Ok(Some(client.query(hours, &[&id, &(from as f64)]).await?))
 }
 
 /// A series' identifier. A column has U+FFFD for what no text of the server holds, so all of that name are compared.
-async fn found(client: &Client, name: &str, series: &SeriesTotal) -> Result<Option<i64>, PostgresFault> {
+async fn found(client: &Client, series: &SeriesTotal) -> Result<Option<i64>, Fault> {
     let named = "select id, identity from totxegun.series where name = $1";
     let shown = series.name.replace('\0', "\u{fffd}");
-    let rows = client.query(named, &[&shown]).await;
-    for row in rows.map_err(|error| PostgresFault::of(name, &error))? {
-        let found = parts_of(row.get(1)).map_err(|odd| PostgresFault::told(name, odd.to_string()))?;
-        if found.is_of_series(series) {
+    for row in client.query(named, &[&shown]).await? {
+        if parts_of(row.get(1))?.is_of_series(series) {
             return Ok(Some(row.get(0)));
         }
     }

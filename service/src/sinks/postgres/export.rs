@@ -1,6 +1,6 @@
 //! Reads what a database has of a month or a day, as of one moment.
 
-use super::fault::PostgresFault;
+use super::fault::{Fault, PostgresFault};
 use super::totals::parts_of;
 use super::Server;
 use super::{periods, schema, session, statements};
@@ -8,7 +8,7 @@ use crate::sinks::export::{view_of, Each, Line};
 use crate::sinks::periods::{deleted, Closed, Period};
 use anyhow::{bail, Result};
 use serde_json::value::{to_raw_value, RawValue};
-use tokio_postgres::{Row, Transaction};
+use tokio_postgres::{Error, Row, Transaction};
 
 /// Rows that are in memory at once.
 const ROWS: i32 = 1000;
@@ -25,26 +25,30 @@ pub fn read(server: &Server, period: &Period, each: Each<'_>) -> Result<Closed> 
 }
 
 async fn lines(server: &Server, period: &Period, each: Each<'_>) -> Result<Closed> {
-    let name = server.to_string();
-    let fault = |error| PostgresFault::of(&name, &error);
-    let (mut client, _connection) = session::connect(server).await?;
-    if schema::version(&client, &name).await? != schema::KNOWN {
-        bail!("{name} is of an older version: start the service, which updates it");
+    let at = |fault: Fault| fault.at(server);
+    let fault = |error: Error| at(error.into());
+    let (mut client, _connection) = session::connect(server).await.map_err(at)?;
+    if schema::version(&client).await.map_err(at)? != schema::KNOWN {
+        bail!("{server} is of an older version: start the service, which updates it");
     }
     client.batch_execute(SETTINGS).await.map_err(fault)?;
     let transaction = client.transaction().await.map_err(fault)?;
     transaction.batch_execute(ONE_MOMENT).await.map_err(fault)?;
     let hours_from: i32 = transaction.query_one(HOURS_FROM, &[]).await.map_err(fault)?.get(0);
     if period.from < hours_from.into() {
-        bail!("{name}: {}", deleted(period, hours_from.into())); // the views leave it out, also where a part is there
+        bail!("{server}: {}", deleted(period, hours_from.into())); // the views leave it out, also where a part is there
     }
-    each_line(&transaction, &name, period, each).await?;
+    each_line(&transaction, &fault, period, each).await?;
     let closed = transaction.query(statements::CLOSED, &[]).await;
     Ok(periods::closed_of(&closed.map_err(fault)?))
 }
 
-async fn each_line(transaction: &Transaction<'_>, name: &str, period: &Period, each: Each<'_>) -> Result<()> {
-    let fault = |error| PostgresFault::of(name, &error);
+async fn each_line(
+    transaction: &Transaction<'_>,
+    fault: &impl Fn(Error) -> PostgresFault,
+    period: &Period,
+    each: Each<'_>,
+) -> Result<()> {
     let (time, at) = view_of(period);
     let query = format!(
         "select of.series, identity, points, total::text, corrections::text, billed::text, count::text,

@@ -1,64 +1,92 @@
 //! What can be wrong with the server, and what to do about it.
 
+use super::Server;
 use crate::otlp::series::NotForwarded;
-use crate::postgres::shown;
+use crate::postgres::{shown, NotConnected};
 use std::time::Duration;
+use tokio_postgres::Error;
 
+/// It says of which server it is.
 #[derive(Debug, thiserror::Error)]
-pub enum PostgresFault {
-    #[error("the schema totxegun of {server} was written by a later version of totxegun (schema {found}; this one knows {known}): use that version, or another database")]
-    Later { server: String, found: i32, known: i32 },
-    #[error("the schema totxegun of {server} is of another program: name another database")]
-    Foreign { server: String },
-    #[error("the database of {server} is in {encoding}, which can't hold each text: make one with `encoding utf8`")]
-    Encoding { server: String, encoding: String },
-    #[error("{0}")]
+#[error("{0}")]
+pub struct PostgresFault(String);
+
+#[derive(Debug)]
+pub(super) enum Fault {
+    Later {
+        found: i32,
+        known: i32,
+    },
+    Foreign,
+    Encoding(String),
+    /// It says all by itself.
     Another(String),
-    #[error("{server}: {what}")]
-    Server { server: String, what: String },
+    /// What may mend itself.
+    Server(String),
 }
 
-impl PostgresFault {
-    pub(super) fn told(server: &str, what: impl Into<String>) -> PostgresFault {
-        PostgresFault::Server { server: server.into(), what: what.into() }
+impl Fault {
+    pub(super) fn told(what: impl Into<String>) -> Fault {
+        Fault::Server(what.into())
     }
 
-    pub(super) fn of(server: &str, error: &tokio_postgres::Error) -> PostgresFault {
-        PostgresFault::told(server, shown(error))
-    }
-
-    pub(super) fn late(server: &str, patience: Duration) -> PostgresFault {
-        PostgresFault::told(server, format!("no answer within {} s", patience.as_secs_f64()))
+    pub(super) fn late(patience: Duration) -> Fault {
+        Fault::Server(format!("no answer within {} s", patience.as_secs_f64()))
     }
 
     /// Whether it stays until somebody names another database or starts another version.
     pub(super) fn is_lasting(&self) -> bool {
-        !matches!(self, PostgresFault::Server { .. })
+        !matches!(self, Fault::Server(_))
+    }
+
+    pub(super) fn at(self, server: &Server) -> PostgresFault {
+        PostgresFault(match self {
+            Fault::Later { found, known } => format!("the schema totxegun of {server} was written by a later version of totxegun (schema {found}; this one knows {known}): use that version, or another database"),
+            Fault::Foreign => format!("the schema totxegun of {server} is of another program: name another database"),
+            Fault::Encoding(encoding) => format!("the database of {server} is in {encoding}, which can't hold each text: make one with `encoding utf8`"),
+            Fault::Another(what) => what,
+            Fault::Server(what) => format!("{server}: {what}"),
+        })
+    }
+}
+
+impl From<Error> for Fault {
+    fn from(error: Error) -> Fault {
+        Fault::Server(shown(&error))
+    }
+}
+
+impl From<NotConnected> for Fault {
+    fn from(error: NotConnected) -> Fault {
+        Fault::Server(error.to_string())
     }
 }
 
 /// Why a request was not taken.
-#[derive(Debug, thiserror::Error)]
+#[derive(Debug)]
 pub(super) enum NotTaken {
     /// It never will be.
-    #[error("{0}")]
     Refused(String),
     /// A limit was met, and nobody says whether it is one of the request or of the server, which may pass.
-    #[error("{0}")]
-    Failed(PostgresFault),
-    #[error(transparent)]
-    Fault(#[from] PostgresFault),
+    Failed(Fault),
+    Fault(Fault),
 }
 
-impl NotTaken {
+impl From<Fault> for NotTaken {
+    fn from(fault: Fault) -> NotTaken {
+        NotTaken::Fault(fault)
+    }
+}
+
+impl From<Error> for NotTaken {
     /// Content that no PostgreSQL takes (a data exception) is refused for good. A program's limit is met by content, but
     /// also by each request where a server has no number left for a transaction. All else may mend itself.
-    pub(super) fn of(server: &str, error: &tokio_postgres::Error) -> NotTaken {
+    fn from(error: Error) -> NotTaken {
         let code = error.code().map_or("", |code| code.code());
         match code.get(..2) {
-            Some("22") => NotTaken::Refused(format!("no PostgreSQL takes it: {}", shown(error))),
-            Some("54") => NotTaken::Failed(PostgresFault::of(server, error)),
-            _ => NotTaken::Fault(PostgresFault::of(server, error)),
+            Some("22") => NotTaken::Refused(format!("no PostgreSQL takes it: {}", shown(&error))),
+            Some("54") => NotTaken::Failed(error.into()),
+            _ => NotTaken::Fault(error.into()),
         }
     }
 }

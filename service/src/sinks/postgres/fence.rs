@@ -3,7 +3,7 @@
 //!
 //! The row is one beside the slot's: that one is locked by each sync of the journal, which would wait for the delivery.
 
-use super::fault::{NotTaken, PostgresFault};
+use super::fault::{Fault, NotTaken};
 use super::store::Writing;
 use crate::postgres::identity;
 use crate::sinks::Forwarded;
@@ -61,7 +61,7 @@ impl Writing<'_> {
                 let why = format!(
                     "slot {slot} was taken by another instance: this one delivers nothing more of it"
                 );
-                Err(PostgresFault::told(self.server, why).into())
+                Err(Fault::told(why).into())
             }
         }
     }

@@ -29,7 +29,7 @@ pub use fault::PostgresFault;
 use super::left_out::LeftOut;
 use super::periods::{Deed, Told};
 use super::{Answer, Fate, Forwarded, Keys, Memory, Retention, Sink};
-use fault::NotTaken;
+use fault::{Fault, NotTaken};
 use rows::Content;
 use session::Session;
 use std::sync::atomic::{AtomicBool, Ordering::Relaxed};
@@ -46,7 +46,6 @@ const AT_START: Duration = Duration::from_secs(6);
 
 pub struct PostgresSink {
     server: Server,
-    name: String,
     memory: Arc<dyn Memory>,
     /// One delivery at a time. It is taken out while it is used: one that was left half-way is closed.
     session: Mutex<Option<Session>>,
@@ -69,15 +68,14 @@ impl PostgresSink {
         let was_there = Arc::new(AtomicBool::new(tried.is_ok()));
         if let Err(fault) = tried {
             if fault.is_lasting() {
-                return Err(fault.into());
+                return Err(fault.at(server).into());
             }
-            let reason = fault.to_string();
+            let reason = fault.at(server).to_string();
             tracing::warn!(reason, "{reason}; it is tried again at each delivery");
         }
         let upkeep = Upkeep::start(server.clone(), retention, memory.clone(), was_there.clone())?;
         Ok(PostgresSink {
             server: server.clone(),
-            name: server.to_string(),
             memory,
             session: Mutex::new(None),
             was_there,
@@ -91,7 +89,7 @@ impl PostgresSink {
         let body = request.body.clone();
         // Milliseconds of work, too much for the runtime.
         let read = tokio::task::spawn_blocking(move || rows::read(&body)).await;
-        read.map_err(|error| PostgresFault::told(&self.name, error.to_string()))?
+        read.map_err(|error| Fault::told(error.to_string()))?
     }
 
     /// By the session that is there, or by a new one, which may have to bring the schema up first.
@@ -110,10 +108,10 @@ impl PostgresSink {
             }
         };
         self.was_there.store(true, Relaxed);
-        let taking = store::take(&mut session, &self.name, request, term, content);
+        let taking = store::take(&mut session, request, term, content);
         let taken = match timeout(self.patience, taking).await {
             Ok(taken) => taken,
-            Err(_) => Err(PostgresFault::late(&self.name, self.patience).into()),
+            Err(_) => Err(Fault::late(self.patience).into()),
         };
         if matches!(taken, Ok(_) | Err(NotTaken::Refused(_))) {
             *place = Some(session);
@@ -129,18 +127,19 @@ impl PostgresSink {
     }
 
     async fn send(&self, request: &Forwarded, term: Option<u64>) -> Fate {
+        let reason = |fault: Fault| fault.at(&self.server).to_string();
         match self.tried(request, term).await {
             Ok(None) => Fate::Taken,
             Ok(Some(left)) => left.fate(&request.body),
             Err(NotTaken::Refused(reason)) => Fate::refused(reason),
-            Err(NotTaken::Failed(fault)) => Fate::Failed { reason: fault.to_string(), after: None },
-            Err(NotTaken::Fault(fault)) => Fate::again(fault.to_string()),
+            Err(NotTaken::Failed(fault)) => Fate::Failed { reason: reason(fault), after: None },
+            Err(NotTaken::Fault(fault)) => Fate::again(reason(fault)),
         }
     }
 }
 
 /// On a thread with a runtime of its own, since a start is not asynchronous.
-fn try_once(server: &Server, memory: Arc<dyn Memory>) -> anyhow::Result<Result<(), PostgresFault>> {
+fn try_once(server: &Server, memory: Arc<dyn Memory>) -> anyhow::Result<Result<(), Fault>> {
     let runtime = tokio::runtime::Builder::new_current_thread().enable_all().build()?;
     let server = server.clone();
     let open = async move { Session::open(&server, &*memory, false, AT_START).await.map(drop) };
@@ -150,10 +149,6 @@ fn try_once(server: &Server, memory: Arc<dyn Memory>) -> anyhow::Result<Result<(
 }
 
 impl Sink for PostgresSink {
-    fn deliver<'a>(&'a self, request: &'a Forwarded) -> Answer<'a, Fate> {
-        Box::pin(self.send(request, None))
-    }
-
     fn deliver_of<'a>(&'a self, request: &'a Forwarded, term: Option<u64>) -> Answer<'a, Fate> {
         Box::pin(self.send(request, term))
     }
@@ -163,7 +158,7 @@ impl Sink for PostgresSink {
     }
 
     fn name(&self) -> String {
-        format!("postgres {}", self.name)
+        format!("postgres {}", self.server)
     }
 
     fn keys(&self) -> &Keys {
@@ -192,7 +187,6 @@ mod tests {
         });
         let server = Server::read(&address).expect("an address");
         let sink = PostgresSink {
-            name: server.to_string(),
             server,
             memory: Arc::new(()),
             session: Mutex::new(None),

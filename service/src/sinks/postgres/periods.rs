@@ -1,6 +1,6 @@
 //! Periods that are closed, and corrections: by a connection of its own, between two requests of any service.
 
-use super::fault::PostgresFault;
+use super::fault::Fault;
 use super::schema::{self, is_filling};
 use super::session;
 use super::statements;
@@ -9,7 +9,6 @@ use super::Server;
 use crate::sinks::periods::{closed, Closed, Corrected, Correction, Deed, Period, Row, Told, NOT_FILLED};
 use crate::sinks::Memory;
 use std::time::Duration;
-use tokio::time::timeout;
 use tokio_postgres::{Error, Row as DatabaseRow, Transaction};
 
 /// `totxegun` and two more, as the number of an advisory lock.
@@ -69,33 +68,22 @@ pub(super) fn closed_of(rows: &[DatabaseRow]) -> Closed {
 
 /// Carries a deed out, or leaves all as it was, unless the answer to the commit was lost: the same may be asked again.
 pub(super) async fn settle(server: &Server, memory: &dyn Memory, who: &str, deed: &Deed) -> Told {
-    let name = server.to_string();
-    match timeout(PATIENCE, settled(server, &name, memory, who, deed)).await {
-        Ok(told) => told.unwrap_or_else(|fault| Told::Later(fault.to_string())),
-        Err(_) => Told::Later(PostgresFault::late(&name, PATIENCE).to_string()),
-    }
+    let told = session::within(PATIENCE, settled(server, memory, who, deed)).await;
+    told.unwrap_or_else(|fault| Told::Later(fault.at(server).to_string()))
 }
 
-async fn settled(
-    server: &Server,
-    name: &str,
-    memory: &dyn Memory,
-    who: &str,
-    deed: &Deed,
-) -> Result<Told, PostgresFault> {
-    let fault = |error: Error| PostgresFault::of(name, &error);
+async fn settled(server: &Server, memory: &dyn Memory, who: &str, deed: &Deed) -> Result<Told, Fault> {
     let (mut client, connection) = session::connect(server).await?;
-    if schema::version(&client, name).await? != schema::KNOWN {
-        return Err(PostgresFault::told(name, "the schema is not of this version yet: the log says why"));
+    if schema::version(&client).await? != schema::KNOWN {
+        return Err(Fault::told("the schema is not of this version yet: the log says why"));
     }
-    let transaction = client.transaction().await.map_err(fault)?;
-    transaction.query(ALONE, &[&LOCK]).await.map_err(fault)?;
+    let transaction = client.transaction().await?;
+    transaction.query(ALONE, &[&LOCK]).await?;
     // A row that is locked makes the commit a write, which waits for the standby: also where nothing is done any more.
-    let id = transaction.query_one("select id from totxegun.sink for update", &[]);
-    let id: String = id.await.map_err(fault)?.get(0);
-    memory.admit(Some(&id), false).map_err(PostgresFault::Another)?;
-    let told = carried_out(&transaction, who, deed).await.map_err(fault)?;
-    commit(transaction, &connection.warnings, name).await.map(|()| told)
+    let id = transaction.query_one("select id from totxegun.sink for update", &[]).await?;
+    memory.admit(Some(id.get(0)), false).map_err(Fault::Another)?;
+    let told = carried_out(&transaction, who, deed).await?;
+    commit(transaction, &connection.warnings).await.map(|()| told)
 }
 
 async fn carried_out(transaction: &Transaction<'_>, who: &str, deed: &Deed) -> Result<Told, Error> {

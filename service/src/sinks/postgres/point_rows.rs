@@ -2,41 +2,23 @@
 
 use super::rows::{InHour, OfSeries};
 use super::series::StoredSeries;
-use super::values::{of_rows, row, Numeric, Written};
+use super::values::{row, NewRow, Numeric};
 use crate::otlp::series::{ForwardedPoint, Value};
 use crate::sinks::periods::Closed;
 use crate::sinks::sums::Sums;
-use bytes::BytesMut;
-use tokio_postgres::types::{ToSql, Type};
 
 /// A row of `totxegun.new_span`. Times from 2^63 on, in the year 2262, are less 2^64.
-#[derive(Debug)]
-pub(super) struct SpanRow<'a> {
-    pub(super) series: i64,
-    pub(super) point: &'a ForwardedPoint,
-}
-
-impl ToSql for SpanRow<'_> {
-    fn to_sql(&self, of: &Type, out: &mut BytesMut) -> Written {
-        let (value, count, sum, counts) = match &self.point.value {
+pub(super) fn span_row(series: i64, point: &ForwardedPoint) -> NewRow<'_> {
+    row(move |write| {
+        let (value, count, sum, counts) = match &point.value {
             Value::Sum(value) => (Some(*value), None, None, None),
             Value::Histogram { count, sum, buckets } => {
                 (None, beside(*count, buckets), *sum, Some(packed(buckets)))
             }
         };
-        let values: [&dyn ToSql; 7] = [
-            &self.series,
-            &(self.point.start as i64),
-            &(self.point.end as i64),
-            &value,
-            &count.map(Numeric::from),
-            &sum.map(Numeric::from),
-            &counts,
-        ];
-        row(&values, of, out)
-    }
-
-    of_rows!();
+        let (start, end) = (point.start as i64, point.end as i64);
+        write(&[&series, &start, &end, &value, &count.map(Numeric::from), &sum.map(Numeric::from), &counts])
+    })
 }
 
 /// A count that is not what the buckets come to.
@@ -90,9 +72,9 @@ impl<'a> Adding<'a> {
 
 impl Adding<'_> {
     /// What of it belongs to closed hours.
-    pub(super) fn late(&self) -> impl Iterator<Item = LateRow<'_>> {
+    pub(super) fn late(&self) -> impl Iterator<Item = NewRow<'_>> {
         let late = self.hours.iter().filter(|hour| hour.is_late());
-        late.map(|late| LateRow { series: self.known.id, late })
+        late.map(|late| late_row(self.known.id, late))
     }
 }
 
@@ -111,51 +93,38 @@ fn in_time<'a>(hours: &'a [InHour]) -> &'a [ForwardedPoint] {
 }
 
 /// A row of `totxegun.new_total`.
-#[derive(Debug)]
-pub(super) struct TotalRow<'a>(pub(super) &'a Adding<'a>);
-
-impl ToSql for TotalRow<'_> {
-    fn to_sql(&self, of: &Type, out: &mut BytesMut) -> Written {
-        let Adding { of: series, known, .. } = self.0;
-        let (earlier, last) = self.0.parted();
-        let (all, before) = (sums_of(&series.points), sums_of(points(earlier)));
-        let values: [&dyn ToSql; 15] = [
-            &known.id,
+pub(super) fn total_row<'a>(adding: &'a Adding<'a>) -> NewRow<'a> {
+    row(move |write| {
+        let (earlier, last) = adding.parted();
+        let points_of = &adding.of.points;
+        let (all, before) = (sums_of(points_of), sums_of(points(earlier)));
+        write(&[
+            &adding.known.id,
             &all.points,
-            &first_start(&series.points),
-            &last_end(&series.points),
+            &first_start(points_of),
+            &last_end(points_of),
             &Numeric(all.total),
             &Numeric(all.count),
             &all.without_sum,
             &all.buckets.map(numerics),
-            &self.0.last_hour(),
+            &adding.last_hour(),
             &first_start(in_time(last)),
             &before.points,
             &Numeric(before.total),
             &Numeric(before.count),
             &before.without_sum,
             &before.buckets.map(numerics),
-        ];
-        row(&values, of, out)
-    }
-
-    of_rows!();
+        ])
+    })
 }
 
 /// A row of `totxegun.new_hour`: points of one series, at least one, that count in one hour.
-#[derive(Debug)]
-pub(super) struct HourRow<'a> {
-    pub(super) series: i64,
-    pub(super) hours: &'a [InHour<'a>],
-}
-
-impl ToSql for HourRow<'_> {
-    fn to_sql(&self, of: &Type, out: &mut BytesMut) -> Written {
-        let all = sums_of(points(self.hours));
-        let in_time = in_time(self.hours);
-        let values: [&dyn ToSql; 9] = [
-            &self.series,
-            &self.hours.first().map(|hour| hour.hour),
+pub(super) fn hour_row<'a>(series: i64, hours: &'a [InHour<'a>]) -> NewRow<'a> {
+    row(move |write| {
+        let (all, in_time) = (sums_of(points(hours)), in_time(hours));
+        write(&[
+            &series,
+            &hours.first().map(|hour| hour.hour),
             &all.points,
             &first_start(in_time),
             &last_end(in_time),
@@ -163,39 +132,27 @@ impl ToSql for HourRow<'_> {
             &Numeric(all.count),
             &all.without_sum,
             &all.buckets.map(numerics),
-        ];
-        row(&values, of, out)
-    }
-
-    of_rows!();
+        ])
+    })
 }
 
-/// A row of `totxegun.new_late`.
-#[derive(Debug)]
-pub(super) struct LateRow<'a> {
-    pub(super) series: i64,
-    pub(super) late: &'a InHour<'a>,
-}
-
-impl ToSql for LateRow<'_> {
-    fn to_sql(&self, of: &Type, out: &mut BytesMut) -> Written {
-        let all = sums_of(self.late.points);
-        let values: [&dyn ToSql; 10] = [
-            &self.series,
-            &self.late.of,
-            &self.late.hour,
+/// A row of `totxegun.new_late`, of points that belong to a closed hour.
+fn late_row<'a>(series: i64, late: &'a InHour<'a>) -> NewRow<'a> {
+    row(move |write| {
+        let all = sums_of(late.points);
+        write(&[
+            &series,
+            &late.of,
+            &late.hour,
             &all.points,
-            &first_start(self.late.points),
-            &last_end(self.late.points),
+            &first_start(late.points),
+            &last_end(late.points),
             &Numeric(all.total),
             &Numeric(all.count),
             &all.without_sum,
             &all.buckets.map(numerics),
-        ];
-        row(&values, of, out)
-    }
-
-    of_rows!();
+        ])
+    })
 }
 
 fn first_start(points: &[ForwardedPoint]) -> Option<Numeric> {

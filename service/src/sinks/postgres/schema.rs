@@ -1,7 +1,8 @@
 //! The schema `totxegun` of a database: a version in it, and the steps that lead from each version to the next.
 
-use super::fault::PostgresFault;
+use super::fault::Fault;
 use super::upkeep::days;
+use super::Server;
 use crate::sinks::Memory;
 use tokio_postgres::{Client, Error, GenericClient, Transaction};
 
@@ -43,66 +44,57 @@ struct FoundSchema {
 /// remembered.
 pub(super) async fn migrate(
     client: &mut Client,
-    server: &str,
+    server: &Server,
     found: i32,
     memory: &dyn Memory,
     was_there: bool,
-) -> Result<(), PostgresFault> {
+) -> Result<(), Fault> {
     // One that is gone in this run is told of, and made again.
     let is_replaced = found == 0 && was_there;
     if found != KNOWN {
         let id = match found >= WITH_ID {
-            true => Some(id(client, server).await?),
+            true => Some(id(client).await?),
             false => None,
         };
-        memory.admit(id.as_deref(), is_replaced).map_err(PostgresFault::Another)?;
+        memory.admit(id.as_deref(), is_replaced).map_err(Fault::Another)?;
         bring_up(client, server, was_there).await?;
     }
-    let id = id(client, server).await?;
-    memory.admit(Some(&id), is_replaced).map_err(PostgresFault::Another)
+    memory.admit(Some(&id(client).await?), is_replaced).map_err(Fault::Another)
 }
 
-async fn id(client: &Client, server: &str) -> Result<String, PostgresFault> {
-    let row = client.query_one("select id from totxegun.sink", &[]).await;
-    row.map(|row| row.get(0)).map_err(|error| PostgresFault::of(server, &error))
+async fn id(client: &Client) -> Result<String, Error> {
+    Ok(client.query_one("select id from totxegun.sink", &[]).await?.get(0))
 }
 
-async fn bring_up(client: &mut Client, server: &str, was_there: bool) -> Result<(), PostgresFault> {
-    let fault = |error| PostgresFault::of(server, &error);
-    let mut transaction = client.transaction().await.map_err(fault)?;
+async fn bring_up(client: &mut Client, server: &Server, was_there: bool) -> Result<(), Fault> {
+    let mut transaction = client.transaction().await?;
     // Some seconds for a million series, once.
-    let patient = transaction.batch_execute("set local statement_timeout = '5min'");
-    patient.await.map_err(fault)?;
-    transaction.execute("select pg_advisory_xact_lock($1)", &[&LOCK]).await.map_err(fault)?;
+    transaction.batch_execute("set local statement_timeout = '5min'").await?;
+    transaction.execute("select pg_advisory_xact_lock($1)", &[&LOCK]).await?;
     // Another service may have done it since: the version is read anew, under the lock.
-    let found = check(&transaction, server).await?;
+    let found = check(&transaction).await?;
     if found.version == KNOWN {
-        return transaction.commit().await.map_err(fault);
+        return Ok(transaction.commit().await?);
     }
     if found.version == 0 {
         tell_of_lost(&transaction, server, was_there).await?;
     }
     if !found.is_there {
-        transaction.batch_execute("create schema totxegun").await.map_err(fault)?;
+        transaction.batch_execute("create schema totxegun").await?;
     }
     for step in &STEPS[found.version as usize..] {
-        transaction.batch_execute(step).await.map_err(fault)?;
+        transaction.batch_execute(step).await?;
     }
     if found.version <= WITHOUT_HOURS {
-        begin_hours(&mut transaction).await.map_err(fault)?;
+        begin_hours(&mut transaction).await?;
     }
-    make_views(&transaction).await.map_err(fault)?;
+    transaction.batch_execute(&views(is_filling(&transaction).await?)).await?;
     let row =
         format!("delete from totxegun.version; insert into totxegun.version values ('totxegun', {KNOWN})");
-    transaction.batch_execute(&row).await.map_err(fault)?;
-    transaction.commit().await.map_err(fault)?;
+    transaction.batch_execute(&row).await?;
+    transaction.commit().await?;
     tracing::info!("{server}: the schema totxegun was brought from version {} to {KNOWN}", found.version);
     Ok(())
-}
-
-async fn make_views(transaction: &Transaction<'_>) -> Result<(), Error> {
-    let views = views(is_filling(transaction).await?);
-    transaction.batch_execute(&views).await
 }
 
 /// The views, while hours of version 4 are filled in and behind that.
@@ -130,16 +122,11 @@ async fn begin_hours(transaction: &mut Transaction<'_>) -> Result<(), Error> {
 }
 
 /// Says so where the tables are made although there were some: these are under another name, or gone.
-async fn tell_of_lost(
-    client: &impl GenericClient,
-    server: &str,
-    was_there: bool,
-) -> Result<(), PostgresFault> {
+async fn tell_of_lost(client: &impl GenericClient, server: &Server, was_there: bool) -> Result<(), Error> {
     let query = "select nspname::text from pg_namespace where nspname <> 'totxegun' and 5 = (select count(*) from pg_class
         where relnamespace = pg_namespace.oid and relname in ('version', 'request', 'series', 'series_total', 'span'))
         order by nspname limit 1";
-    let found = client.query_opt(query, &[]).await;
-    let found = found.map_err(|error| PostgresFault::of(server, &error))?;
+    let found = client.query_opt(query, &[]).await?;
     let how = match found.map(|row| row.get::<_, String>(0)) {
         Some(other) => format!("is not there, and {other} has its tables"),
         None if was_there => "is gone".to_string(),
@@ -152,40 +139,36 @@ async fn tell_of_lost(
 }
 
 /// The version of a schema that is ours; 0 where there is none, or an empty one.
-pub(super) async fn version(client: &impl GenericClient, server: &str) -> Result<i32, PostgresFault> {
-    Ok(check(client, server).await?.version)
+pub(super) async fn version(client: &impl GenericClient) -> Result<i32, Fault> {
+    Ok(check(client).await?.version)
 }
 
-async fn check(client: &impl GenericClient, server: &str) -> Result<FoundSchema, PostgresFault> {
-    let fault = |error| PostgresFault::of(server, &error);
+async fn check(client: &impl GenericClient) -> Result<FoundSchema, Fault> {
     let query = "select exists (select from pg_namespace where nspname = 'totxegun'),
         exists (select from pg_class join pg_namespace on pg_namespace.oid = relnamespace where nspname = 'totxegun'),
         2 = (select count(*) from pg_attribute join pg_class on pg_class.oid = attrelid
             join pg_namespace on pg_namespace.oid = relnamespace where nspname = 'totxegun' and relname = 'version'
             and attname in ('program', 'version')),
         current_setting('server_encoding')";
-    let row = client.query_one(query, &[]).await.map_err(fault)?;
+    let row = client.query_one(query, &[]).await?;
     let encoding: String = row.get(3);
     if encoding != "UTF8" {
-        return Err(PostgresFault::Encoding { server: server.into(), encoding });
+        return Err(Fault::Encoding(encoding));
     }
     let (is_there, is_used, is_marked): (bool, bool, bool) = (row.get(0), row.get(1), row.get(2));
     if !is_used {
         return Ok(FoundSchema { is_there, version: 0 });
     }
-    let foreign = || PostgresFault::Foreign { server: server.into() };
     if !is_marked {
-        return Err(foreign());
+        return Err(Fault::Foreign);
     }
     let query = "select version::text from totxegun.version where program::text = 'totxegun'";
-    let rows = client.query(query, &[]).await.map_err(fault)?;
-    let [row] = &rows[..] else { return Err(foreign()) };
+    let rows = client.query(query, &[]).await?;
+    let [row] = &rows[..] else { return Err(Fault::Foreign) };
     let version = row.get::<_, Option<String>>(0).and_then(|text| text.parse().ok());
     match version {
-        Some(found) if found > KNOWN => {
-            Err(PostgresFault::Later { server: server.into(), found, known: KNOWN })
-        }
+        Some(found) if found > KNOWN => Err(Fault::Later { found, known: KNOWN }),
         Some(version) if version > 0 => Ok(FoundSchema { is_there, version }),
-        _ => Err(foreign()),
+        _ => Err(Fault::Foreign),
     }
 }

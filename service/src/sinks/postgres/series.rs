@@ -1,8 +1,8 @@
 //! The rows of a request's series: made where they are new, found, and locked.
 
-use super::fault::{NotTaken, PostgresFault};
+use super::fault::{Fault, NotTaken};
 use super::rows::OfSeries;
-use super::series_rows::SeriesRows;
+use super::series_rows::Objects;
 use super::store::Writing;
 use std::collections::HashSet;
 use tokio_postgres::Row;
@@ -66,7 +66,7 @@ impl Writing<'_> {
         self.make(all, seen, &mut found).await?;
         self.find(all, &mut found).await?;
         let known: Option<Vec<StoredSeries>> = found.into_iter().collect();
-        let known = known.ok_or_else(|| self.fault("a series that was there is gone: it is made anew"))?;
+        let known = known.ok_or_else(|| Fault::told("a series that was there is gone: it is made anew"))?;
         self.lock(all, known).await
     }
 
@@ -84,7 +84,7 @@ impl Writing<'_> {
             *found = made.next_if(is_of).map(|row| StoredSeries::of(&row, true));
         }
         if made.next().is_some() {
-            return Err(self.fault("new series came back in another order").into());
+            return Err(Fault::told("new series came back in another order").into());
         }
         self.metrics(found).await
     }
@@ -102,9 +102,9 @@ impl Writing<'_> {
         if series.is_empty() {
             return Ok(Vec::new());
         }
-        let mut new = SeriesRows::default();
-        series.iter().try_for_each(|series| new.add(series))?;
-        self.rows(&self.statements.make, &[&new.rows, &new.objects]).await
+        let mut objects = Objects::default();
+        let rows = series.iter().map(|series| objects.row(series)).collect::<Result<Vec<_>, _>>()?;
+        self.rows(&self.statements.make, &[&rows, &objects.all]).await
     }
 
     /// Finds those that were not made.
@@ -133,7 +133,7 @@ impl Writing<'_> {
         let ids: Vec<i64> = places.iter().map(|place| known[*place].id).collect();
         let rows = self.rows(&self.statements.lock, &[&ids]).await?;
         if rows.len() != ids.len() {
-            return Err(self.fault("a series has no row in series_total").into());
+            return Err(Fault::told("a series has no row in series_total").into());
         }
         for row in rows {
             let place = places[row.get::<_, i64>(0) as usize - 1];
@@ -143,9 +143,5 @@ impl Writing<'_> {
             known[place].last_hour = row.get(3);
         }
         Ok(known)
-    }
-
-    fn fault(&self, what: &str) -> PostgresFault {
-        PostgresFault::told(self.server, what)
     }
 }

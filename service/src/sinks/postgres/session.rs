@@ -1,11 +1,12 @@
 //! A connection with its statements, to a schema of the right version.
 
-use super::fault::PostgresFault;
+use super::fault::Fault;
 use super::fence::Fence;
 use super::series::Seen;
 use super::{schema, statements, Server, PATIENCE};
-use crate::postgres::{self, Connected, Driver, NotConnected};
+use crate::postgres::{self, Driver};
 use crate::sinks::Memory;
+use std::future::Future;
 use std::time::Duration;
 use tokio::time::timeout;
 use tokio_postgres::{Client, Statement};
@@ -85,53 +86,42 @@ impl Session {
         memory: &dyn Memory,
         was_there: bool,
         patience: Duration,
-    ) -> Result<Session, PostgresFault> {
-        let name = server.to_string();
-        let late = |_| PostgresFault::late(&name, patience);
+    ) -> Result<Session, Fault> {
         let connecting = async {
             let (client, connection) = connect(server).await?;
-            let version = schema::version(&client, &name).await?;
+            let version = schema::version(&client).await?;
             Ok((client, connection, version))
         };
-        let (mut client, connection, version) = timeout(patience, connecting).await.map_err(late)??;
-        schema::migrate(&mut client, &name, version, memory, was_there).await?;
+        let (mut client, connection, version) = within(patience, connecting).await?;
+        schema::migrate(&mut client, server, version, memory, was_there).await?;
         let preparing = async {
             client.batch_execute(PLANS).await?;
             let statements = Statements::prepare(&client).await?;
             Ok((statements, Fence::prepare(&client, &memory.databases()).await?))
         };
-        let prepared = timeout(patience, preparing).await.map_err(late)?;
-        let (statements, fence) = prepared.map_err(|error| PostgresFault::of(&name, &error))?;
+        let (statements, fence) = within(patience, preparing).await?;
         Ok(Session { client, statements, seen: Seen::default(), fence, connection })
     }
 }
 
+/// What comes of it, where the server answers in time.
+pub(super) async fn within<T>(
+    patience: Duration,
+    work: impl Future<Output = Result<T, Fault>>,
+) -> Result<T, Fault> {
+    timeout(patience, work).await.unwrap_or_else(|_| Err(Fault::late(patience)))
+}
+
 /// A connection with our settings, whatever schema is there.
-pub(super) async fn connect(server: &Server) -> Result<(Client, Driver), PostgresFault> {
-    connect_within(server, PATIENCE).await
+pub(super) async fn connect(server: &Server) -> Result<(Client, Driver), Fault> {
+    Ok(postgres::connect(server, &server.config(), SETTINGS, PATIENCE).await?)
 }
 
 /// One that only reads.
-pub(super) async fn connect_to_read(server: &Server) -> Result<(Client, Driver), PostgresFault> {
+pub(super) async fn connect_to_read(server: &Server) -> Result<(Client, Driver), Fault> {
     let (client, driver) = connect(server).await?;
-    let set = client.batch_execute("set default_transaction_read_only = on").await;
-    set.map_err(|error| PostgresFault::of(&server.to_string(), &error))?;
+    client.batch_execute("set default_transaction_read_only = on").await?;
     Ok((client, driver))
-}
-
-/// What takes a connection and then is silent, as a proxy whose server is away, would be waited for without end.
-async fn connect_within(server: &Server, patience: Duration) -> Result<(Client, Driver), PostgresFault> {
-    let name = server.to_string();
-    let connecting = async {
-        let connected = postgres::connect(server, &server.config()).await;
-        let Connected { client, driver } =
-            connected.map_err(|error: NotConnected| PostgresFault::told(&name, error.to_string()))?;
-        let set = client.batch_execute(SETTINGS).await;
-        set.map_err(|error| PostgresFault::of(&name, &error))?;
-        Ok((client, driver))
-    };
-    let connected = timeout(patience, connecting).await;
-    connected.unwrap_or_else(|_| Err(PostgresFault::late(&name, patience)))
 }
 
 impl Before {
@@ -144,22 +134,5 @@ impl Before {
             left: client.prepare(statements::LEFT_BEFORE).await?,
             overlap: client.prepare(statements::OVERLAP_BEFORE).await?,
         }))
-    }
-}
-
-#[cfg(test)]
-mod tests {
-    use super::*;
-
-    /// Else nothing is made ahead or deleted any more, and nobody is told.
-    #[tokio::test]
-    async fn a_server_that_is_silent_is_not_waited_for_without_end() {
-        let listener = tokio::net::TcpListener::bind("127.0.0.1:0").await.expect("a port");
-        let address = format!("//u@{}/d", listener.local_addr().expect("its address"));
-        let server = Server::read(&address).expect("an address");
-        let connecting = connect_within(&server, Duration::from_millis(50));
-        let fault = timeout(Duration::from_secs(20), connecting).await.expect("an end").err();
-        let said = fault.expect("no connection").to_string();
-        assert!(said.ends_with("no answer within 0.05 s"), "{said}");
     }
 }

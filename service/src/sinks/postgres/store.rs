@@ -1,15 +1,15 @@
 //! One transaction a request, whole or not at all.
 
-use super::fault::{NotTaken, PostgresFault};
+use super::fault::{Fault, NotTaken};
 use super::metric_rows;
 use super::periods;
-use super::point_rows::{Adding, HourRow, LateRow, SpanRow, TotalRow};
+use super::point_rows::{hour_row, span_row, total_row, Adding};
 use super::repeat::{self, Taken};
 use super::rows::{Content, OfSeries};
 use super::schema::KNOWN;
 use super::series::StoredSeries;
 use super::session::{Session, Statements};
-use super::values::Numeric;
+use super::values::{NewRow, Numeric};
 use crate::otlp::series::ForwardedPoint;
 use crate::postgres::Warnings;
 use crate::sinks::left_out::LeftOut;
@@ -28,15 +28,13 @@ enum Key {
 /// there, unless the answer to the commit was lost; then the key says so the next time.
 pub(super) async fn take(
     session: &mut Session,
-    server: &str,
     request: &Forwarded,
     term: Option<u64>,
     content: Content,
 ) -> Result<Option<LeftOut>, NotTaken> {
     let warnings = &session.connection.warnings;
-    let transaction = session.client.transaction().await;
-    let transaction = transaction.map_err(|error| NotTaken::of(server, &error))?;
-    let writing = Writing { transaction, warnings, statements: &session.statements, server };
+    let transaction = session.client.transaction().await?;
+    let writing = Writing { transaction, warnings, statements: &session.statements };
     let (_, key) = tokio::try_join!(writing.hold_periods(), writing.key(request, &content))?;
     let row = match key {
         Key::New(row) => row,
@@ -76,12 +74,11 @@ pub(super) struct Writing<'a> {
     transaction: Transaction<'a>,
     warnings: &'a Warnings,
     pub(super) statements: &'a Statements,
-    pub(super) server: &'a str,
 }
 
 impl Writing<'_> {
     async fn commit(self) -> Result<(), NotTaken> {
-        Ok(commit(self.transaction, self.warnings, self.server).await?)
+        Ok(commit(self.transaction, self.warnings).await?)
     }
 
     pub(super) async fn rows(
@@ -89,13 +86,11 @@ impl Writing<'_> {
         statement: &Statement,
         columns: &[&(dyn ToSql + Sync)],
     ) -> Result<Vec<Row>, NotTaken> {
-        let rows = self.transaction.query(statement, columns).await;
-        rows.map_err(|error| NotTaken::of(self.server, &error))
+        Ok(self.transaction.query(statement, columns).await?)
     }
 
     pub(super) async fn settings(&self, text: &str) -> Result<(), NotTaken> {
-        let set = self.transaction.batch_execute(text).await;
-        set.map_err(|error| NotTaken::of(self.server, &error))
+        Ok(self.transaction.batch_execute(text).await?)
     }
 
     /// Each statement must write the rows that it was given: else the tables are not as they were made.
@@ -105,14 +100,21 @@ impl Writing<'_> {
         columns: &[&(dyn ToSql + Sync)],
         count: usize,
     ) -> Result<(), NotTaken> {
-        let written = self.transaction.execute(statement, columns).await;
-        let written = written.map_err(|error| NotTaken::of(self.server, &error))?;
+        let written = self.transaction.execute(statement, columns).await?;
         if written == count as u64 {
             return Ok(());
         }
         let what =
             format!("{written} rows were written in the place of {count}: look for triggers and rules");
-        Err(PostgresFault::told(self.server, what).into())
+        Err(Fault::told(what).into())
+    }
+
+    /// The same of all rows of a kind that there are.
+    async fn write_rows(&self, statement: &Statement, rows: Vec<NewRow<'_>>) -> Result<(), NotTaken> {
+        match rows.is_empty() {
+            true => Ok(()),
+            false => self.write(statement, &[&rows], rows.len()).await,
+        }
     }
 
     /// The number of the request's row, made where there is none.
@@ -129,7 +131,7 @@ impl Writing<'_> {
         if let Some(row) = rows.first() {
             return Ok(Key::Taken(Taken::of(row)));
         }
-        Err(PostgresFault::told(self.server, "the schema's version has changed: it is read again").into())
+        Err(Fault::told("the schema's version has changed: it is read again").into())
     }
 
     /// Writes down what of the request is not added, so a repeat is told the same.
@@ -139,23 +141,19 @@ impl Writing<'_> {
     }
 
     async fn spans(&self, all: &[OfSeries], known: &[StoredSeries]) -> Result<(), NotTaken> {
-        let row = |(point, known): (_, &StoredSeries)| SpanRow { series: known.id, point };
-        let rows: Vec<SpanRow> = each(all, known).map(row).collect();
-        self.write(&self.statements.spans, &[&rows], rows.len()).await
+        let rows = each(all, known).map(|(point, known)| span_row(known.id, point));
+        self.write_rows(&self.statements.spans, rows.collect()).await
     }
 
     async fn totals(&self, all: &[Adding<'_>]) -> Result<(), NotTaken> {
         self.past_hours(all).await?;
-        let (first, more): (Vec<_>, Vec<_>) = all.iter().map(TotalRow).partition(|row| row.0.known.is_new);
-        for (statement, rows) in [(&self.statements.first_totals, first), (&self.statements.totals, more)] {
-            if !rows.is_empty() {
-                self.write(statement, &[&rows], rows.len()).await?;
-            }
+        let (first, more): (Vec<_>, Vec<_>) = all.iter().partition(|one| one.known.is_new);
+        for (statement, some) in [(&self.statements.first_totals, first), (&self.statements.totals, more)] {
+            self.write_rows(statement, some.into_iter().map(total_row).collect()).await?;
         }
         self.late(all).await?;
         // Behind all else, since other services wait for these rows.
-        let rows = metric_rows::rows(all);
-        self.write(&self.statements.metric_hours, &[&rows], rows.len()).await
+        self.write_rows(&self.statements.metric_hours, metric_rows::rows(all)).await
     }
 
     /// Writes hours that are over by this request, and adds to those what comes late.
@@ -168,22 +166,16 @@ impl Writing<'_> {
         let of_series = |one| {
             let (earlier, _) = Adding::parted(one);
             let hours = earlier.chunk_by(|one, next| one.hour == next.hour);
-            hours.map(|hours| HourRow { series: one.known.id, hours })
+            hours.map(|hours| hour_row(one.known.id, hours))
         };
-        let rows: Vec<HourRow> = all.iter().flat_map(of_series).collect();
-        match rows.is_empty() {
-            true => Ok(()),
-            false => self.write(&self.statements.past_hours, &[&rows], rows.len()).await,
-        }
+        let rows = all.iter().flat_map(of_series).collect();
+        self.write_rows(&self.statements.past_hours, rows).await
     }
 
     /// Writes down to which closed hours it belongs.
     async fn late(&self, all: &[Adding<'_>]) -> Result<(), NotTaken> {
-        let rows: Vec<LateRow> = all.iter().flat_map(Adding::late).collect();
-        match rows.is_empty() {
-            true => Ok(()),
-            false => self.write(&self.statements.late_hours, &[&rows], rows.len()).await,
-        }
+        let rows = all.iter().flat_map(Adding::late).collect();
+        self.write_rows(&self.statements.late_hours, rows).await
     }
 
     /// No period is closed or opened until the transaction ends.
@@ -200,16 +192,12 @@ impl Writing<'_> {
 }
 
 /// A warning is a doubt: as after `pg_cancel_backend` in the wait for a standby, it is on this server alone.
-pub(super) async fn commit(
-    transaction: Transaction<'_>,
-    warnings: &Warnings,
-    server: &str,
-) -> Result<(), PostgresFault> {
+pub(super) async fn commit(transaction: Transaction<'_>, warnings: &Warnings) -> Result<(), Fault> {
     warnings.take(); // of before
-    transaction.commit().await.map_err(|error| PostgresFault::of(server, &error))?;
+    transaction.commit().await?;
     match warnings.take() {
         None => Ok(()),
-        Some(warning) => Err(PostgresFault::told(server, format!("the server warns: {warning}"))),
+        Some(warning) => Err(Fault::told(format!("the server warns: {warning}"))),
     }
 }
 

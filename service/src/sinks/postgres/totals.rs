@@ -1,6 +1,6 @@
 //! Reads a database's totals, also while services write it.
 
-use super::fault::PostgresFault;
+use super::fault::{Fault, PostgresFault};
 use super::Server;
 use super::{schema, session};
 use crate::otlp::series::{NotForwarded, SeriesKey};
@@ -22,32 +22,25 @@ const READ: &str =
 
 /// The totals of a database, by name and attributes, as of one moment; none where no service has written it yet.
 pub async fn read(server: &Server) -> Result<Vec<SeriesTotal>, PostgresFault> {
-    let name = server.to_string();
-    match timeout(PATIENCE, rows(server, &name)).await {
-        Ok(rows) => made(&name, rows?).await,
-        Err(_) => Err(PostgresFault::told(&name, format!("no totals within {} s", PATIENCE.as_secs()))),
-    }
+    let late = |_| Fault::told(format!("no totals within {} s", PATIENCE.as_secs()));
+    let rows = timeout(PATIENCE, rows(server)).await.map_err(late).flatten();
+    let made = async { made(rows?).await };
+    made.await.map_err(|fault| fault.at(server))
 }
 
 /// By a connection of its own: a delivery that waits holds nothing up here.
-async fn rows(server: &Server, name: &str) -> Result<Vec<Row>, PostgresFault> {
-    let fault = |error| PostgresFault::of(name, &error);
+async fn rows(server: &Server) -> Result<Vec<Row>, Fault> {
     let (client, _connection) = session::connect_to_read(server).await?;
-    if schema::version(&client, name).await? == 0 {
-        return Ok(Vec::new());
+    match schema::version(&client).await? {
+        0 => Ok(Vec::new()),
+        _ => Ok(client.query(READ, &[]).await?),
     }
-    client.query(READ, &[]).await.map_err(fault)
 }
 
 /// Thousands of identities are too much work for the runtime.
-async fn made(name: &str, rows: Vec<Row>) -> Result<Vec<SeriesTotal>, PostgresFault> {
-    let reading = tokio::task::spawn_blocking(move || rows.iter().map(total).collect());
-    let read: Result<Result<Vec<_>, Odd>, _> = reading.await;
-    match read {
-        Ok(Ok(totals)) => Ok(totals),
-        Ok(Err(odd)) => Err(PostgresFault::told(name, odd.to_string())),
-        Err(error) => Err(PostgresFault::told(name, error.to_string())),
-    }
+async fn made(rows: Vec<Row>) -> Result<Vec<SeriesTotal>, Fault> {
+    let reading = tokio::task::spawn_blocking(move || rows.iter().map(total).collect::<Result<_, Odd>>());
+    Ok(reading.await.map_err(|error| Fault::told(error.to_string()))??)
 }
 
 /// A row that no service has written so.
@@ -59,6 +52,12 @@ pub(super) enum Odd {
     Row(#[from] tokio_postgres::Error),
     #[error("the column {0} of totxegun.series_total has no whole number: {1}")]
     Number(&'static str, String),
+}
+
+impl From<Odd> for Fault {
+    fn from(odd: Odd) -> Fault {
+        Fault::told(odd.to_string())
+    }
 }
 
 fn total(row: &Row) -> Result<SeriesTotal, Odd> {

@@ -2,6 +2,7 @@
 
 use bytes::{BufMut, BytesMut};
 use std::error::Error;
+use std::fmt;
 use tokio_postgres::types::{accepts, to_sql_checked, IsNull, Kind, ToSql, Type};
 
 pub(super) type Written = Result<IsNull, Box<dyn Error + Sync + Send>>;
@@ -65,8 +66,35 @@ impl ToSql for Jsonb {
     to_sql_checked!();
 }
 
-/// A row as a value of a composite type.
-pub(super) fn row(values: &[&dyn ToSql], of: &Type, out: &mut BytesMut) -> Written {
+/// Who writes the columns of a row.
+pub(super) type Write<'w> = &'w mut dyn FnMut(&[&dyn ToSql]) -> Written;
+
+/// A row as a value of a composite type, by what hands its columns on.
+pub(super) struct NewRow<'a>(Box<dyn Fn(Write<'_>) -> Written + Send + Sync + 'a>);
+
+pub(super) fn row<'a>(columns: impl Fn(Write<'_>) -> Written + Send + Sync + 'a) -> NewRow<'a> {
+    NewRow(Box::new(columns))
+}
+
+impl fmt::Debug for NewRow<'_> {
+    fn fmt(&self, formatter: &mut fmt::Formatter<'_>) -> fmt::Result {
+        formatter.write_str("NewRow(..)")
+    }
+}
+
+impl ToSql for NewRow<'_> {
+    fn to_sql(&self, of: &Type, out: &mut BytesMut) -> Written {
+        (self.0)(&mut |values| put_row(values, of, out))
+    }
+
+    fn accepts(of: &Type) -> bool {
+        matches!(of.kind(), Kind::Composite(_))
+    }
+
+    to_sql_checked!();
+}
+
+fn put_row(values: &[&dyn ToSql], of: &Type, out: &mut BytesMut) -> Written {
     let columns = match of.kind() {
         Kind::Composite(columns) if columns.len() == values.len() => columns,
         _ => return Err(format!("{of} has not the columns that it was made with").into()),
@@ -83,18 +111,6 @@ pub(super) fn row(values: &[&dyn ToSql], of: &Type, out: &mut BytesMut) -> Writt
     }
     Ok(IsNull::No)
 }
-
-/// The rest of `ToSql` of a type whose values are rows.
-macro_rules! of_rows {
-    () => {
-        fn accepts(of: &Type) -> bool {
-            matches!(of.kind(), tokio_postgres::types::Kind::Composite(_))
-        }
-
-        tokio_postgres::types::to_sql_checked!();
-    };
-}
-pub(super) use of_rows;
 
 #[cfg(test)]
 mod tests {

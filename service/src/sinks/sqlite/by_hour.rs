@@ -1,7 +1,8 @@
 //! Reads what came of one series in its last hours, by the view `by_hour`.
 
 use super::fault::SqliteFault;
-use super::totals::{odd, open, row, SeriesTotal, READ};
+use super::store::SeriesRow;
+use super::totals::{odd, open, SeriesTotal};
 use super::wide_integers::Exact;
 use rusqlite::{Connection, OptionalExtension, Row};
 use std::path::Path;
@@ -16,9 +17,6 @@ pub struct Hour {
     pub count: Option<Exact>,
 }
 
-/// Where the series' identifier is in a row of `READ`.
-const ID: usize = 18;
-
 /// The hours of a series from this one on (since 1970), in order; none where the file has no hours, or not this series.
 pub fn read(path: &Path, series: &SeriesTotal, from: u64) -> Result<Option<Vec<Hour>>, SqliteFault> {
     let fault = |error| SqliteFault::of(path, error);
@@ -32,17 +30,10 @@ pub fn read(path: &Path, series: &SeriesTotal, from: u64) -> Result<Option<Vec<H
 /// A series' identifier, in a file that has hours.
 fn found(connection: &Connection, series: &SeriesTotal) -> rusqlite::Result<Option<i64>> {
     let view = "select 1 from sqlite_schema where type = 'view' and name = 'by_hour'";
-    if connection.query_row(view, [], |_| Ok(())).optional()?.is_none() {
-        return Ok(None);
+    match connection.query_row(view, [], |_| Ok(())).optional()? {
+        Some(()) => SeriesRow::of(series).find(connection),
+        None => Ok(None),
     }
-    let mut query = connection.prepare(READ)?;
-    let mut rows = query.query([Some(&series.name)])?;
-    while let Some(found) = rows.next()? {
-        if row(found)?.is_of_series(series) {
-            return found.get(ID).map(Some);
-        }
-    }
-    Ok(None)
 }
 
 /// An hour is a text there, which begins with its date.
@@ -68,6 +59,7 @@ fn exact(row: &Row, column: usize) -> rusqlite::Result<Option<Exact>> {
 
 #[cfg(test)]
 mod tests {
+    use super::super::totals::{row, READ};
     use super::*;
 
     /// Two series that differ in an attribute, and hours as `by_hour` has them.

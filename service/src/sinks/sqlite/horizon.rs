@@ -1,5 +1,6 @@
 //! How far back the file goes.
 
+use super::cached;
 use super::wide_integers::Unsigned;
 use crate::sinks::periods::Period;
 use crate::sinks::utc::{day_of, month_of};
@@ -19,16 +20,15 @@ pub(super) struct Horizon {
 
 impl Horizon {
     pub(super) fn read(transaction: &Transaction) -> rusqlite::Result<Horizon> {
-        transaction
-            .prepare_cached("select spans_from_ns, hours_from, filled, fill_to from horizon")?
-            .query_row([], |row| {
-                Ok(Horizon {
-                    spans_from: row.get(0)?,
-                    hours_from: row.get(1)?,
-                    filled: row.get(2)?,
-                    fill_to: row.get(3)?,
-                })
+        let query = "select spans_from_ns, hours_from, filled, fill_to from horizon";
+        cached::one(transaction, query, [], |row| {
+            Ok(Horizon {
+                spans_from: row.get(0)?,
+                hours_from: row.get(1)?,
+                filled: row.get(2)?,
+                fill_to: row.get(3)?,
             })
+        })
     }
 
     /// Whether all that an older file had is in hours and in its place.
@@ -46,11 +46,8 @@ impl Horizon {
     }
 
     pub(super) fn write(&self, transaction: &Transaction) -> rusqlite::Result<()> {
-        transaction
-            .prepare_cached(
-                "update horizon set spans_from_ns = ?1, hours_from = ?2, filled = ?3, fill_to = ?4",
-            )?
-            .execute(params![self.spans_from, self.hours_from, self.filled, self.fill_to])
-            .map(drop)
+        let update = "update horizon set spans_from_ns = ?1, hours_from = ?2, filled = ?3, fill_to = ?4";
+        let values = params![self.spans_from, self.hours_from, self.filled, self.fill_to];
+        cached::run(transaction, update, values).map(drop)
     }
 }

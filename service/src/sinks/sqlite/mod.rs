@@ -4,6 +4,7 @@
 //! again after a fault, so whatever is wrong with the file is a reason to try again: no request is lost by it.
 
 pub mod by_hour;
+mod cached;
 pub mod export;
 mod fault;
 mod horizon;
@@ -47,10 +48,7 @@ pub struct SqliteSink {
     keys: Keys,
 }
 
-enum Job {
-    Take(Forwarded, oneshot::Sender<Fate>),
-    Settle { who: String, deed: Deed, done: oneshot::Sender<Told> },
-}
+type Job = Box<dyn FnOnce(&mut Writer) + Send>;
 
 impl SqliteSink {
     /// Opens the file, made where there is none. A file that can't be opened now is opened at a later delivery; one
@@ -86,33 +84,30 @@ impl SqliteSink {
     }
 
     /// What the thread answers.
-    async fn ask<T>(&self, job: impl FnOnce(oneshot::Sender<T>) -> Job) -> Result<T, String> {
+    async fn ask<T: Send + 'static>(
+        &self,
+        job: impl FnOnce(&mut Writer) -> T + Send + 'static,
+    ) -> Result<T, String> {
         let ended = || format!("{}: the thread that writes it has ended", self.path.display());
         let (done, answer) = oneshot::channel();
         let jobs = self.jobs.as_ref().ok_or_else(ended)?;
-        jobs.send(job(done)).map_err(|_| ended())?;
+        let job = |writer: &mut Writer| drop(done.send(job(writer)));
+        jobs.send(Box::new(job)).map_err(|_| ended())?;
         answer.await.map_err(|_| ended())
-    }
-
-    async fn send(&self, request: &Forwarded) -> Fate {
-        let fate = self.ask(|done| Job::Take(request.clone(), done)).await;
-        fate.unwrap_or_else(Fate::again)
-    }
-
-    async fn settled(&self, who: &str, deed: &Deed) -> Told {
-        let (who, deed) = (who.to_string(), deed.clone());
-        let told = self.ask(|done| Job::Settle { who, deed, done }).await;
-        told.unwrap_or_else(Told::Later)
     }
 }
 
 impl Sink for SqliteSink {
-    fn deliver<'a>(&'a self, request: &'a Forwarded) -> Answer<'a, Fate> {
-        Box::pin(self.send(request))
+    fn deliver_of<'a>(&'a self, request: &'a Forwarded, _term: Option<u64>) -> Answer<'a, Fate> {
+        let request = request.clone();
+        let fate = self.ask(move |writer| writer.take(&request));
+        Box::pin(async { fate.await.unwrap_or_else(Fate::again) })
     }
 
     fn settle<'a>(&'a self, who: &'a str, deed: &'a Deed) -> Answer<'a, Told> {
-        Box::pin(self.settled(who, deed))
+        let (who, deed) = (who.to_string(), deed.clone());
+        let told = self.ask(move |writer| writer.settle(&who, &deed));
+        Box::pin(async { told.await.unwrap_or_else(Told::Later) })
     }
 
     fn name(&self) -> String {
@@ -210,8 +205,7 @@ impl Writer {
         let (mut wait, mut before) = (LOOK, None);
         loop {
             match received.recv_timeout(wait) {
-                Ok(Job::Take(request, done)) => drop(done.send(self.take(&request))),
-                Ok(Job::Settle { who, deed, done }) => drop(done.send(self.settle(&who, &deed))),
+                Ok(job) => job(self),
                 Err(RecvTimeoutError::Timeout) => {
                     self.look();
                     before = give_back_of_thread(before);

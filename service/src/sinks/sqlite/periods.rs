@@ -1,5 +1,6 @@
 //! Periods that are closed, and corrections.
 
+use super::cached;
 use super::horizon::Horizon;
 use super::store::hours;
 use crate::sinks::periods::{closed, Closed, Corrected, Correction, Deed, Period, Row, Told, NOT_FILLED};
@@ -8,7 +9,7 @@ use rusqlite::{params, Connection, OptionalExtension, Transaction, TransactionBe
 /// What is closed, as a transaction sees it.
 pub(super) fn read(transaction: &Transaction) -> rusqlite::Result<Closed> {
     let now = "select cast(strftime('%s', 'now') as integer)";
-    let now: i64 = transaction.prepare_cached(now)?.query_row([], |row| row.get(0))?;
+    let now: i64 = cached::one(transaction, now, [], |row| row.get(0))?;
     let rows = transaction
         .prepare_cached(
             "select period, from_hour, to_hour, who, closed_at from closed order by from_hour, to_hour",

@@ -45,19 +45,7 @@ pub(super) fn migrate(
 }
 
 /// From this version on a file has an id.
-const WITH_ID: i64 = 2;
-
-/// The id of a file of this version, where it has one.
-pub(super) fn id_of(
-    connection: &Connection,
-    path: &Path,
-    version: i64,
-) -> Result<Option<String>, SqliteFault> {
-    match version >= WITH_ID {
-        true => id(connection, path).map(Some),
-        false => Ok(None),
-    }
-}
+pub(super) const WITH_ID: i64 = 2;
 
 /// By which a file is told from others.
 pub(super) fn id(connection: &Connection, path: &Path) -> Result<String, SqliteFault> {

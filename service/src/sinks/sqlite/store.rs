@@ -1,9 +1,11 @@
 //! The open file: one transaction a request, whole or not at all.
 
+use super::cached;
 use super::fault::{NotTaken, SqliteFault};
 use super::horizon::Horizon;
 use super::periods;
 use super::schema::{self, STEPS};
+use super::totals::SeriesTotal;
 use super::upkeep::Upkeep;
 use super::views::views;
 use super::wide_integers::Unsigned;
@@ -22,11 +24,10 @@ pub(super) mod hours;
 mod repeat;
 mod series_row;
 pub(super) mod spans;
-mod sums;
 mod total;
 
 pub(super) use hours::Hours;
-pub(super) use series_row::SeriesIds;
+pub(super) use series_row::{SeriesIds, SeriesRow};
 use total::Total;
 
 /// How long another process may keep the lock before a delivery is given up for this time.
@@ -68,7 +69,7 @@ impl Store {
         connection.set_prepared_statement_cache_capacity(STATEMENTS);
         // Before anything is changed: the file may be another program's.
         let version = schema::check(&connection, path, STEPS.len() as i64)?;
-        let id = schema::id_of(&connection, path, version)?;
+        let id = (version >= schema::WITH_ID).then(|| schema::id(&connection, path)).transpose()?;
         admit(id.as_deref()).map_err(SqliteFault::Another)?;
         let mode: String =
             connection.query_row("pragma journal_mode = wal", [], |row| row.get(0)).map_err(fault)?;
@@ -126,10 +127,8 @@ impl Store {
         let fault = |error: rusqlite::Error| -> NotTaken { not_taken(&self.path, error) };
         let transaction =
             self.connection.transaction_with_behavior(TransactionBehavior::Immediate).map_err(fault)?;
-        let version: i64 = transaction
-            .prepare_cached("pragma data_version")
-            .and_then(|mut pragma| pragma.query_row([], |row| row.get(0)))
-            .map_err(fault)?;
+        let version: i64 =
+            cached::one(&transaction, "pragma data_version", [], |row| row.get(0)).map_err(fault)?;
         if version != self.data_version || self.series.len() > CACHED {
             self.series.clear();
             self.data_version = version;
@@ -261,19 +260,17 @@ impl Writing<'_> {
     ) -> Result<Option<LeftOut>, NotTaken> {
         let (first_start, last) = time_of(points);
         let row = self.of(|transaction| {
-            transaction
-                .prepare_cached(
-                    "insert into request (slot, epoch, number, taken_at, points, first_start_ns, last_end_ns)
-                     values (?1, ?2, ?3, cast(strftime('%s', 'now') as integer), ?4, ?5, ?6)",
-                )?
-                .insert(params![
-                    request.slot,
-                    request.epoch,
-                    Unsigned(request.number),
-                    points.len() as i64,
-                    Unsigned(first_start),
-                    Unsigned(last)
-                ])
+            let insert =
+                "insert into request (slot, epoch, number, taken_at, points, first_start_ns, last_end_ns)
+                     values (?1, ?2, ?3, cast(strftime('%s', 'now') as integer), ?4, ?5, ?6)";
+            transaction.prepare_cached(insert)?.insert(params![
+                request.slot,
+                request.epoch,
+                Unsigned(request.number),
+                points.len() as i64,
+                Unsigned(first_start),
+                Unsigned(last)
+            ])
         })?;
         let mut left = LeftOut::default();
         for (place, point) in points.iter().enumerate() {
@@ -330,9 +327,8 @@ impl Writing<'_> {
         if let Some(known) = self.known.get(&digest).or_else(|| self.new.get(&digest)) {
             return Ok((*known, false));
         }
-        let parts = key.parts()?;
-        let row = series_row::SeriesRow::of(&parts)?;
-        let (known, is_new) = self.of(|transaction| row.known(transaction))?;
+        let series = SeriesTotal::of_none(key)?;
+        let (known, is_new) = self.of(|transaction| SeriesRow::of(&series).known(transaction))?;
         self.new.insert(digest, known);
         Ok((known, is_new))
     }

@@ -5,10 +5,12 @@ use super::schema::{self, STEPS};
 use super::wide_integers::{Exact, Unsigned};
 use crate::otlp::series::{Kind as Identified, NotForwarded, SeriesKey};
 use crate::sinks::attributes::object;
+use percent_encoding::{percent_encode, AsciiSet, NON_ALPHANUMERIC};
 use rusqlite::types::Type;
 use rusqlite::{Connection, ErrorCode, OpenFlags, Row};
 use serde::Serialize;
 use serde_json::{Map, Value};
+use std::os::unix::ffi::OsStrExt;
 use std::path::Path;
 use std::time::Duration;
 
@@ -22,8 +24,9 @@ pub struct Filter {
 }
 
 /// All series, or those of one name.
-pub(super) const READ: &str = "select name, unit, kind, attributes, resource, scope_name, scope_version, scope_attributes, points,
-    first_start_ns, last_end_ns, total_high, total_low, count_high, count_low, without_sum, bounds, buckets, series.id
+pub(super) const READ: &str =
+    "select name, unit, kind, attributes, resource, scope_name, scope_version, scope_attributes, points,
+    first_start_ns, last_end_ns, total_high, total_low, count_high, count_low, without_sum, bounds, buckets
     from series join series_total on series_total.series = series.id where ?1 is null or name = ?1
     order by name, attributes, resource, series.id";
 
@@ -203,15 +206,8 @@ fn has_log(path: &Path) -> bool {
 }
 
 fn uri(path: &Path) -> String {
-    use std::os::unix::ffi::OsStrExt;
-    let mut uri = String::from("file:");
-    for byte in path.as_os_str().as_bytes() {
-        match byte {
-            b'a'..=b'z' | b'A'..=b'Z' | b'0'..=b'9' | b'/' | b'.' | b'-' | b'_' => uri.push(*byte as char),
-            _ => uri.push_str(&format!("%{byte:02X}")),
-        }
-    }
-    uri + "?immutable=1"
+    const PLAIN: &AsciiSet = &NON_ALPHANUMERIC.remove(b'/').remove(b'.').remove(b'-').remove(b'_');
+    format!("file:{}?immutable=1", percent_encode(path.as_os_str().as_bytes(), PLAIN))
 }
 
 pub(super) fn row(row: &Row) -> rusqlite::Result<SeriesTotal> {
@@ -251,6 +247,11 @@ fn whole(row: &Row, column: usize) -> rusqlite::Result<u64> {
 pub(super) fn json<T: serde::de::DeserializeOwned>(row: &Row, column: usize) -> rusqlite::Result<Option<T>> {
     let text: Option<String> = row.get(column)?;
     text.map(|text| serde_json::from_str(&text)).transpose().map_err(|error| odd(column, error))
+}
+
+/// Numbers as a JSON array.
+pub(super) fn list(numbers: &[impl Serialize]) -> String {
+    serde_json::to_string(numbers).unwrap_or_default() // numbers are always written
 }
 
 /// A text that is not as it was written.

@@ -5,6 +5,7 @@
 mod ended;
 mod fill;
 
+use super::cached;
 use super::horizon::Horizon;
 use super::wide_integers::Unsigned;
 use crate::sinks::retention::tell_of_spans;
@@ -43,7 +44,11 @@ impl Upkeep {
 
     /// One step, at this time in nanoseconds since 1970. Whether another is to follow; else it is due some time later.
     pub(super) fn go_on(&mut self, connection: &mut Connection, now: u64) -> rusqlite::Result<bool> {
-        let more = self.try_step(connection, now);
+        let more =
+            connection.transaction_with_behavior(TransactionBehavior::Immediate).and_then(|transaction| {
+                let more = self.of(&transaction, now)?;
+                transaction.commit().map(|()| more)
+            });
         match more {
             Ok(true) => self.due = Instant::now(),
             Ok(false) => self.due = Instant::now() + EVERY,
@@ -53,13 +58,6 @@ impl Upkeep {
             }
         }
         more
-    }
-
-    fn try_step(&mut self, connection: &mut Connection, now: u64) -> rusqlite::Result<bool> {
-        let transaction = connection.transaction_with_behavior(TransactionBehavior::Immediate)?;
-        let more = self.of(&transaction, now)?;
-        transaction.commit()?;
-        Ok(more)
     }
 
     fn of(&mut self, transaction: &Transaction, now: u64) -> rusqlite::Result<bool> {
@@ -150,7 +148,7 @@ fn hours(transaction: &Transaction, mut horizon: Horizon, until: u64, step: usiz
     let (day, month) = (day_of(from), month_of(day_of(from)));
     for (delete, before) in BY_TIME.into_iter().zip([from, from, day, month, from]) {
         let few = params![before, step as i64];
-        if transaction.prepare_cached(delete)?.execute(few)? > 0 {
+        if cached::run(transaction, delete, few)? > 0 {
             return Ok(true);
         }
     }

@@ -1,5 +1,6 @@
 //! Whole numbers past SQLite's own: 64 bits without sign, and totals of 128 bits.
 
+use crate::sinks::sums::Sums;
 use rusqlite::types::{FromSql, FromSqlError, FromSqlResult, ToSql, ToSqlOutput, ValueRef};
 
 /// A number of 64 bits without sign. From 2^63 on it is a text of 20 digits: SQLite sorts texts behind integers, so
@@ -45,6 +46,11 @@ impl Exact {
 
     pub(super) fn of_parts(high: i64, low: i64) -> Exact {
         Exact(i128::from(high) * BASE + i128::from(low))
+    }
+
+    /// Of total and count; none where one of them is too great for two integers.
+    pub(super) fn parts_of(sums: &Sums) -> Option<[(i64, i64); 2]> {
+        Some([Exact(sums.total).parts()?, Exact(sums.count).parts()?])
     }
 }
 

@@ -57,15 +57,11 @@ impl To {
         Ok(letters)
     }
 
-    fn settle(&mut self) -> Result<(), Fault> {
+    /// All of it is durable then.
+    pub fn settle(&mut self) -> Result<(), Fault> {
         self.written = 0;
         self.journal.settle(self.journal.now());
         self.outbox.settle()
-    }
-
-    /// All of it is durable then.
-    pub fn end(mut self) -> Result<(), Fault> {
-        self.settle()
     }
 }
 

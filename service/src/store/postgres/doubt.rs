@@ -89,6 +89,7 @@ impl From<NotConnected> for Doubt {
     fn from(error: NotConnected) -> Doubt {
         match error {
             NotConnected::Server(error) => Doubt::Said(error),
+            NotConnected::Silent(limit) => Doubt::Silent(limit),
             NotConnected::Roots(_) => Doubt::Refused(error.to_string()),
         }
     }

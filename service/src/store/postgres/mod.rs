@@ -31,15 +31,17 @@ pub use state::{Standing, State};
 use crate::cluster::terms::{Instance, Refused, Row};
 use crate::files::drive::Lost;
 use crate::postgres::identity;
-use drive::{Together, Writer};
+use drive::{on_this_thread, Together, Writer};
 use session::{within, SILENT};
 use shared::Shared;
 use std::collections::BTreeMap;
 use std::future::Future;
-use std::sync::{mpsc, Arc};
+use std::sync::Arc;
 use std::thread;
 use std::time::{Duration, Instant};
 use tokio::runtime::{Builder, Handle, Runtime};
+use tokio::task::unconstrained;
+use tokio_postgres::types::ToSql;
 
 /// Connections live on these, so that a thread of the service that waits for the store never keeps the store waiting.
 const THREADS: usize = 2;
@@ -83,17 +85,10 @@ impl Threads {
         Ok(Threads { handle: runtime.handle().clone(), runtime: Some(runtime) })
     }
 
-    /// On the store's threads: this one only waits, whatever it is.
-    fn wait<T: Send + 'static>(
-        &self,
-        work: impl Future<Output = Result<T, StoreFault>> + Send + 'static,
-    ) -> Result<T, StoreFault> {
-        let (tell, told) = mpsc::sync_channel(1);
-        self.handle.spawn(async move {
-            let _ = tell.send(work.await); // who waits is there
-        });
-        let ended = |_| Err(StoreFault::System(std::io::Error::other("its threads have ended")));
-        told.recv().unwrap_or_else(ended)
+    /// Waits, whatever thread this is. Connections that it makes live on the store's threads.
+    fn wait<T>(&self, work: impl Future<Output = T>) -> T {
+        let _entered = self.handle.enter();
+        on_this_thread(unconstrained(work))
     }
 
     async fn run<T: Send + 'static>(
@@ -125,8 +120,7 @@ pub fn address(text: &str) -> Result<Server, String> {
 impl PostgresStore {
     /// Makes the tables of a store in these databases.
     pub fn make(servers: &[Server], slots: u16) -> Result<Cluster, StoreFault> {
-        let servers = servers.to_vec();
-        Threads::start()?.wait(async move { schema::make(&servers, slots).await })
+        Threads::start()?.wait(schema::make(servers, slots))
     }
 
     /// `reading` is what the meaning of posts hangs on: all instances have to say the same.
@@ -145,10 +139,7 @@ impl PostgresStore {
 
     /// Passes where it reads posts as the instance that started first.
     pub fn agree(&self, reading: &str) -> Result<(), StoreFault> {
-        let there = self.told(|taker| {
-            let reading = reading.to_string();
-            async move { taker.agree(&reading).await }
-        })?;
+        let there = self.told(schema::AGREE, &[&reading])?;
         match there == reading {
             true => Ok(()),
             false => Err(StoreFault::Reading { here: reading.into(), there }),
@@ -158,16 +149,15 @@ impl PostgresStore {
     /// The same where nothing is served, whether it counts or not.
     pub fn look_into(servers: &[Server], copies: Copies) -> Result<PostgresStore, StoreFault> {
         let runtime = Threads::start()?;
-        let all = servers.to_vec();
-        let checking = async move {
-            let cluster = schema::check(&all).await?;
+        let checking = async {
+            let cluster = schema::check(servers).await?;
             let mut identities = Vec::new();
-            for server in &all {
+            for server in servers {
                 let (client, _driver) = session::connect(server).await?;
                 copies::check(&client, server, copies).await?;
                 identities.push(within(SILENT, identity(&client)).await?);
             }
-            Ok((cluster, identities))
+            Ok::<_, StoreFault>((cluster, identities))
         };
         let (cluster, identities) = runtime.wait(checking)?;
         let shared = |server: &Server| Arc::new(Shared::new(server.clone()));
@@ -188,54 +178,36 @@ impl PostgresStore {
 
     /// Asks again, for a while, where the server that was there when the store was opened has gone away: it comes back, or
     /// another takes its place. What it asks for may be done again.
-    fn waited<T, W>(&self, work: impl Fn() -> W) -> Result<T, StoreFault>
-    where
-        T: Send + 'static,
-        W: Future<Output = Result<T, StoreFault>> + Send + 'static,
-    {
+    fn waited<T>(&self, work: impl AsyncFn() -> Result<T, Doubt>) -> Result<T, StoreFault> {
         let begun = Instant::now();
         loop {
             match self.runtime.wait(work()) {
-                Err(fault) if fault.may_pass() && begun.elapsed() < PATIENCE => thread::sleep(PAUSE),
-                done => return done,
+                Err(doubt) if doubt.may_pass() && begun.elapsed() < PATIENCE => thread::sleep(PAUSE),
+                done => return Ok(done?),
             }
         }
     }
 
     /// What the first database says of the store.
-    fn told<W>(&self, ask: impl Fn(Arc<Shared>) -> W) -> Result<String, StoreFault>
-    where
-        W: Future<Output = Result<String, Doubt>> + Send + 'static,
-    {
-        self.waited(|| {
-            let asking = ask(self.databases[0].taker.clone());
-            async move { Ok(asking.await?) }
-        })
+    fn told(&self, text: &str, values: &[&(dyn ToSql + Sync)]) -> Result<String, StoreFault> {
+        self.waited(async || Ok(self.databases[0].taker.told(text, values).await?.get(0)))
     }
 
     /// Where instances deliver to, as the first that started has said; empty before.
     pub fn sink(&self) -> Result<String, StoreFault> {
-        self.told(|taker| async move { taker.sink().await })
+        self.told(schema::SINK, &[])
     }
 
     /// Writes it where it is as before: what it is then.
     pub fn set_sink(&self, before: &str, now: &str) -> Result<String, StoreFault> {
-        self.told(|taker| {
-            let (before, now) = (before.to_string(), now.to_string());
-            async move { taker.set_sink(&before, &now).await }
-        })
+        self.told(schema::SET_SINK, &[&before, &now])
     }
 
     /// How often each instance has beaten, in all databases together.
     pub fn beats(&self) -> Result<BTreeMap<String, u64>, StoreFault> {
         let mut beats: BTreeMap<String, u64> = BTreeMap::new();
-        for database in 0..self.databases.len() {
-            let beater = self.beater(database);
-            let instances = self.waited(|| {
-                let beater = beater.clone();
-                async move { Ok(beater.instances().await?) }
-            })?;
-            for one in instances {
+        for database in &self.databases {
+            for one in self.waited(async || database.beater.clone().instances().await)? {
                 *beats.entry(one.name).or_default() += one.beat;
             }
         }
@@ -261,14 +233,17 @@ impl PostgresStore {
         let server = database.taker.server.clone();
         let together = database.together[usize::from(slot) / self.databases.len() % TOGETHER].clone();
         let mut writer = Writer::new(server, slot.into(), term as i64, self.counts.clone(), together);
-        let opening = async move { Ok(writer.open().await.map(|files| (writer, files))) };
-        let (writer, files) = self.runtime.wait(opening).unwrap_or(Err(Lost))?;
+        let files = self.runtime.wait(writer.open())?;
         let (reader, runtime) = (database.reader.clone(), self.runtime.handle.clone());
         Ok(Arc::new(PostgresDrive::new(writer, files, reader, runtime)))
     }
 
     fn beater(&self, database: usize) -> Arc<Shared> {
         self.databases[database].beater.clone()
+    }
+
+    fn taker(&self, slot: u16) -> Arc<Shared> {
+        self.database(slot).taker.clone()
     }
 
     /// Adds one to this instance's beat in a database, which is committed when this is `Ok`.
@@ -279,54 +254,42 @@ impl PostgresStore {
         address: &str,
         refused: Refused,
     ) -> Result<(), Doubt> {
-        let (beater, name, address) = (self.beater(database), name.to_string(), address.to_string());
-        let beating = async move {
-            let version = env!("CARGO_PKG_VERSION");
-            beater.beat(&name, &address, version, &refused).await
-        };
-        self.runtime.run(beating).await
+        self.runtime.run(self.beater(database).beat(name.into(), address.into(), refused)).await
     }
 
     pub async fn instances(&self, database: usize) -> Result<Vec<Instance>, Doubt> {
-        let beater = self.beater(database);
-        self.runtime.run(async move { beater.instances().await }).await
+        self.runtime.run(self.beater(database).instances()).await
     }
 
     /// Those that are in a database.
     pub async fn slots(&self, database: usize) -> Result<Vec<Row>, Doubt> {
-        let beater = self.beater(database);
-        self.runtime.run(async move { beater.slots().await }).await
+        self.runtime.run(self.beater(database).slots()).await
     }
 
     /// Writes the term behind the one that was seen: the new one, or none where another was first.
     pub async fn take(&self, slot: u16, seen: u64, owner: &str) -> Result<Option<u64>, Doubt> {
-        let (taker, owner) = (self.database(slot).taker.clone(), owner.to_string());
-        self.runtime.run(async move { taker.take(slot, seen, &owner).await }).await
+        self.runtime.run(self.taker(slot).take(slot, seen, owner.into())).await
     }
 
     /// Says that nobody has the slot, where it has this term. The one who had it writes no more.
     pub async fn release(&self, slot: u16, term: u64) -> Result<(), Doubt> {
-        let taker = self.database(slot).taker.clone();
-        self.runtime.run(async move { taker.release(slot, term).await }).await
+        self.runtime.run(self.taker(slot).release(slot, term)).await
     }
 
     /// Where the database is silent its row stays, and is that of one that is gone.
     pub async fn leave(&self, database: usize, name: &str) -> Result<(), Doubt> {
-        let (beater, name) = (self.beater(database), name.to_string());
-        self.runtime.run(async move { beater.leave(&name).await }).await
+        self.runtime.run(self.beater(database).leave(name.into())).await
     }
 
     /// Takes the row of an instance away that has not come back, where its beat is still this. Whether it was.
     pub async fn forget(&self, database: usize, name: &str, beat: u64) -> Result<bool, Doubt> {
-        let (taker, name) = (self.databases[database].taker.clone(), name.to_string());
-        self.runtime.run(async move { taker.forget(&name, beat).await }).await
+        self.runtime.run(self.databases[database].taker.clone().forget(name.into(), beat)).await
     }
 
     /// On how many servers what is committed in a database is now; none where this role may not look. Its writes may wait
     /// meanwhile.
     pub async fn copies(&self, database: usize) -> Result<Option<u64>, Doubt> {
-        let reader = self.databases[database].reader.clone();
-        self.runtime.run(async move { reader.copies().await }).await
+        self.runtime.run(self.databases[database].reader.clone().copies()).await
     }
 
     /// The databases, in their order.

@@ -3,7 +3,6 @@
 use super::doubt::Doubt;
 use super::fault::StoreFault;
 use super::session::{connect, within, SILENT};
-use super::shared::Shared;
 use crate::postgres::Server;
 use std::fs::File;
 use std::io::{self, Read};
@@ -142,7 +141,24 @@ pub(super) async fn check(servers: &[Server]) -> Result<Cluster, StoreFault> {
         let (client, _driver) = connect(server).await?;
         let found = find(&client).await.map_err(|doubt| StoreFault::of(server, doubt))?;
         let found = found.ok_or_else(|| StoreFault::None(server.to_string()))?;
-        check_one(&found, server, servers, place)?;
+        if found.version != KNOWN {
+            return Err(StoreFault::Version {
+                server: server.to_string(),
+                found: found.version,
+                known: KNOWN,
+            });
+        }
+        let has = found.cluster.databases;
+        if has as usize != servers.len() {
+            return Err(StoreFault::Databases { has, given: servers.len() });
+        }
+        if found.place as usize != place {
+            return Err(StoreFault::Place {
+                server: server.to_string(),
+                found: found.place,
+                expected: place,
+            });
+        }
         let first = all.get_or_insert_with(|| found.cluster.clone());
         if *first != found.cluster {
             return Err(StoreFault::Another {
@@ -154,46 +170,15 @@ pub(super) async fn check(servers: &[Server]) -> Result<Cluster, StoreFault> {
     all.ok_or(StoreFault::Nowhere)
 }
 
-fn check_one(
-    found: &ClusterRow,
-    server: &Server,
-    servers: &[Server],
-    place: usize,
-) -> Result<(), StoreFault> {
-    if found.version != KNOWN {
-        return Err(StoreFault::Version { server: server.to_string(), found: found.version, known: KNOWN });
-    }
-    if found.cluster.databases as usize != servers.len() {
-        return Err(StoreFault::Databases { has: found.cluster.databases, given: servers.len() });
-    }
-    if found.place as usize != place {
-        return Err(StoreFault::Place { server: server.to_string(), found: found.place, expected: place });
-    }
-    Ok(())
-}
-
 /// Each of these writes, whether it changes something or not: so what it says is there for good. A server shows what its
 /// standby has not got, as after a restart.
-const AGREE: &str =
+/// How posts are read, as the first instance that started has said.
+pub(super) const AGREE: &str =
     "update totxegun_store.cluster set reading = case reading when '' then $1 else reading end
     returning reading";
-const SINK: &str = "update totxegun_store.cluster set sink = sink returning sink";
-const SET_SINK: &str = "update totxegun_store.cluster set sink = case sink when $1 then $2 else sink end
+/// Where instances deliver to; empty before the first has started.
+pub(super) const SINK: &str = "update totxegun_store.cluster set sink = sink returning sink";
+/// The same, once it is written where it still was as before.
+pub(super) const SET_SINK: &str =
+    "update totxegun_store.cluster set sink = case sink when $1 then $2 else sink end
     returning sink";
-
-impl Shared {
-    /// How posts are read, as the first instance that started has said.
-    pub(super) async fn agree(&self, reading: &str) -> Result<String, Doubt> {
-        Ok(self.told(AGREE, &[&reading]).await?.get(0))
-    }
-
-    /// Where instances deliver to; empty before the first has started.
-    pub(super) async fn sink(&self) -> Result<String, Doubt> {
-        Ok(self.told(SINK, &[]).await?.get(0))
-    }
-
-    /// The same, once it is written where it still was as before.
-    pub(super) async fn set_sink(&self, before: &str, now: &str) -> Result<String, Doubt> {
-        Ok(self.told(SET_SINK, &[&before, &now]).await?.get(0))
-    }
-}

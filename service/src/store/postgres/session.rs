@@ -2,7 +2,7 @@
 
 use super::doubt::Doubt;
 use super::shared::Stored;
-use crate::postgres::{self, Connected, Driver, Server};
+use crate::postgres::{self, Driver, Server};
 use std::future::Future;
 use std::sync::atomic::{AtomicUsize, Ordering::Relaxed};
 use std::time::Duration;
@@ -102,14 +102,11 @@ pub(super) struct Session {
 impl Session {
     pub async fn open(server: &Server) -> Result<Session, Doubt> {
         let (client, driver) = connect(server).await?;
+        let of = |text| client.prepare(text);
         let preparing = async {
-            let put = client.prepare(PUT).await?;
-            let append = client.prepare(APPEND).await?;
-            let append_new = client.prepare(APPEND_NEW).await?;
-            let pieces = client.prepare(PIECES).await?;
-            Ok::<_, Error>((put, append, append_new, pieces))
+            Ok::<_, Error>([of(PUT).await?, of(APPEND).await?, of(APPEND_NEW).await?, of(PIECES).await?])
         };
-        let (put, append, append_new, pieces) = within(CONNECT, preparing).await?;
+        let [put, append, append_new, pieces] = within(CONNECT, preparing).await?;
         Ok(Session { client, put, append, append_new, pieces, driver, writing: Mutex::new(()) })
     }
 
@@ -185,13 +182,7 @@ pub(super) async fn connect(server: &Server) -> Result<(Client, Driver), Doubt> 
 }
 
 async fn connect_to(server: &Server, host: &Config) -> Result<(Client, Driver), Doubt> {
-    let connecting = async {
-        let Connected { client, driver } = postgres::connect(server, host).await?;
-        client.batch_execute(SETTINGS).await?;
-        Ok((client, driver))
-    };
-    let connected = timeout(CONNECT, connecting).await;
-    let (client, driver) = connected.unwrap_or(Err(Doubt::Silent(CONNECT)))?;
+    let (client, driver) = postgres::connect(server, host, SETTINGS, CONNECT).await?;
     // Another engine may not know them.
     let _ = within(CONNECT, client.batch_execute(PLANS)).await;
     Ok((client, driver))

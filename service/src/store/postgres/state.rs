@@ -9,7 +9,6 @@ use super::terms::RELEASE;
 use super::PostgresStore;
 use crate::cluster::terms::Instance;
 use std::collections::BTreeSet;
-use std::future::Future;
 use std::sync::Arc;
 use std::time::Duration;
 use tokio_postgres::types::ToSql;
@@ -114,40 +113,33 @@ impl Shared {
     }
 }
 
-/// Those that each database has.
-async fn instances(databases: &[Arc<Shared>]) -> Result<Vec<Vec<Instance>>, Doubt> {
-    let mut all = Vec::new();
-    for database in databases {
-        all.push(database.instances().await?);
-    }
-    Ok(all)
-}
-
 impl PostgresStore {
+    fn takers(&self) -> impl Iterator<Item = &Arc<Shared>> {
+        self.databases.iter().map(|one| &one.taker)
+    }
+
+    fn first(&self) -> &Shared {
+        &self.databases[0].taker
+    }
+
     /// Tries until there is an answer, but not for ever.
-    fn tried<T, F>(&self, step: impl Fn(Vec<Arc<Shared>>) -> F + Send + 'static) -> Result<T, StoreFault>
-    where
-        T: Send + 'static,
-        F: Future<Output = Result<T, Doubt>> + Send,
-    {
-        let databases: Vec<Arc<Shared>> = self.databases.iter().map(|one| one.taker.clone()).collect();
-        let trying = async move {
+    fn tried<T>(&self, step: impl AsyncFn() -> Result<T, Doubt>) -> Result<T, StoreFault> {
+        self.runtime.wait(async {
             let mut backoff = Backoff::default();
             let mut last = Doubt::NotConnected(String::new());
             for _ in 0..TRIES {
-                match step(databases.clone()).await {
+                match step().await {
                     Ok(done) => return Ok(done),
                     Err(doubt) => last = doubt,
                 }
                 backoff.wait().await;
             }
             Err(StoreFault::Doubt(last))
-        };
-        self.runtime.wait(trying)
+        })
     }
 
     pub fn standing(&self) -> Result<Standing, StoreFault> {
-        self.tried(|databases| async move { databases[0].standing().await })
+        self.tried(async || self.first().standing().await)
     }
 
     /// Passes where the store counts. Databases that a move which was killed has not told so are told now.
@@ -161,53 +153,41 @@ impl PostgresStore {
 
     /// Changes the state, where it is as it was seen: the one that there is then.
     pub fn change(&self, seen: &Standing, to: &Standing) -> Result<Standing, StoreFault> {
-        let (seen, to) = (seen.clone(), to.clone());
-        self.tried(move |databases| {
-            let (seen, to) = (seen.clone(), to.clone());
-            async move {
-                databases[0].change(&seen, &to).await?;
-                databases[0].standing().await
-            }
+        self.tried(async || {
+            self.first().change(seen, to).await?;
+            self.first().standing().await
         })
     }
 
     /// The other databases come to what the first says.
     pub fn follow(&self, standing: &Standing) -> Result<(), StoreFault> {
-        let standing = standing.clone();
-        self.tried(move |databases| {
-            let standing = standing.clone();
-            async move {
-                for database in &databases[1..] {
-                    let there = database.standing().await?;
-                    if there != standing {
-                        database.change(&there, &standing).await?;
-                    }
+        self.tried(async || {
+            for database in self.takers().skip(1) {
+                let there = database.standing().await?;
+                if there != *standing {
+                    database.change(&there, standing).await?;
                 }
-                Ok(())
             }
+            Ok(())
         })
     }
 
     /// Whether each database says the same.
     pub fn all_say(&self, standing: &Standing) -> Result<bool, StoreFault> {
-        let standing = standing.clone();
-        self.tried(move |databases| {
-            let standing = standing.clone();
-            async move {
-                for database in &databases {
-                    if database.standing().await? != standing {
-                        return Ok(false);
-                    }
+        self.tried(async || {
+            for database in self.takers() {
+                if database.standing().await? != *standing {
+                    return Ok(false);
                 }
-                Ok(true)
             }
+            Ok(true)
         })
     }
 
     /// Whether no slot ever had anything.
     pub fn is_empty(&self) -> Result<bool, StoreFault> {
-        self.tried(|databases| async move {
-            for database in &databases {
+        self.tried(async || {
+            for database in self.takers() {
                 if database.has_files().await? {
                     return Ok(false);
                 }
@@ -216,15 +196,24 @@ impl PostgresStore {
         })
     }
 
+    /// Those that each database has.
+    async fn all_instances(&self) -> Result<Vec<Vec<Instance>>, Doubt> {
+        let mut all = Vec::new();
+        for database in self.takers() {
+            all.push(database.clone().instances().await?);
+        }
+        Ok(all)
+    }
+
     /// Instances whose beats go on. It takes some seconds where there were any.
     pub fn running(&self) -> Result<Vec<String>, StoreFault> {
-        self.tried(|databases| async move {
-            let before = instances(&databases).await?;
+        self.tried(async || {
+            let before = self.all_instances().await?;
             if before.iter().all(Vec::is_empty) {
                 return Ok(Vec::new());
             }
             tokio::time::sleep(STILL).await;
-            let after = instances(&databases).await?;
+            let after = self.all_instances().await?;
             let changed = before.iter().zip(&after);
             let goes_on =
                 changed.flat_map(|(before, after)| after.iter().filter(|one| !before.contains(one)));
@@ -235,29 +224,20 @@ impl PostgresStore {
 
     /// Takes a slot to move what it has. Nobody else can take it meanwhile.
     pub fn take_to_move(&self, slot: u16, id: &str) -> Result<u64, StoreFault> {
-        let (id, place) = (id.to_string(), usize::from(slot) % self.databases.len());
-        let taken = self.tried(move |databases| {
-            let id = id.clone();
-            async move {
-                let taker = &databases[place];
-                let rows = taker.slots().await?;
-                let seen = rows.iter().find(|row| row.slot == slot).map_or(0, |row| row.term);
-                let values: [&(dyn ToSql + Sync); 4] = [&i32::from(slot), &(seen as i64), &MOVER, &id];
-                let taken = taker.write(TAKE, &values).await?;
-                Ok((taken == 1).then_some(seen + 1))
-            }
+        let taker = self.taker(slot);
+        let taken = self.tried(async || {
+            let rows = taker.clone().slots().await?;
+            let seen = rows.iter().find(|row| row.slot == slot).map_or(0, |row| row.term);
+            let taken = taker.write(TAKE, &[&i32::from(slot), &(seen as i64), &MOVER, &id]).await?;
+            Ok((taken == 1).then_some(seen + 1))
         });
         taken?.ok_or(StoreFault::Meanwhile)
     }
 
     /// Gives back a slot that was taken so.
     pub fn release_moved(&self, slot: u16, term: u64) -> Result<(), StoreFault> {
-        let place = usize::from(slot) % self.databases.len();
-        let released = self.tried(move |databases| async move {
-            let values: [&(dyn ToSql + Sync); 2] = [&i32::from(slot), &(term as i64)];
-            databases[place].write(RELEASE, &values).await
-        });
-        match released? {
+        let taker = self.taker(slot);
+        match self.tried(async || taker.write(RELEASE, &[&i32::from(slot), &(term as i64)]).await)? {
             1 => Ok(()),
             _ => Err(StoreFault::Meanwhile),
         }

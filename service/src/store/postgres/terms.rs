@@ -5,6 +5,7 @@ use super::doubt::Doubt;
 use super::session::within;
 use super::shared::Shared;
 use crate::cluster::terms::{Instance, Refused, Row};
+use std::sync::Arc;
 use std::time::Duration;
 use tokio_postgres::types::ToSql;
 use tokio_postgres::Row as DatabaseRow;
@@ -55,25 +56,25 @@ impl Shared {
 
     /// Adds one to the instance's beat.
     pub(super) async fn beat(
-        &self,
-        name: &str,
-        address: &str,
-        version: &str,
-        refused: &Refused,
+        self: Arc<Self>,
+        name: String,
+        address: String,
+        refused: Refused,
     ) -> Result<(), Doubt> {
-        let refused = serde_json::to_string(refused).unwrap_or_default(); // numbers and texts are always written
+        let refused = serde_json::to_string(&refused).unwrap_or_default(); // numbers and texts are always written
+        let version = env!("CARGO_PKG_VERSION");
         self.write(BEAT, &[&name, &address, &version, &refused]).await.map(drop)
     }
 
-    pub(super) async fn leave(&self, name: &str) -> Result<(), Doubt> {
+    pub(super) async fn leave(self: Arc<Self>, name: String) -> Result<(), Doubt> {
         self.write(LEAVE, &[&name]).await.map(drop)
     }
 
-    pub(super) async fn forget(&self, name: &str, beat: u64) -> Result<bool, Doubt> {
+    pub(super) async fn forget(self: Arc<Self>, name: String, beat: u64) -> Result<bool, Doubt> {
         Ok(self.write(FORGET, &[&name, &(beat as i64)]).await? == 1)
     }
 
-    pub(super) async fn instances(&self) -> Result<Vec<Instance>, Doubt> {
+    pub(super) async fn instances(self: Arc<Self>) -> Result<Vec<Instance>, Doubt> {
         let instance = |row: &DatabaseRow| Instance {
             name: row.get(0),
             address: row.get(1),
@@ -84,7 +85,7 @@ impl Shared {
         self.read(INSTANCES, instance).await
     }
 
-    pub(super) async fn slots(&self) -> Result<Vec<Row>, Doubt> {
+    pub(super) async fn slots(self: Arc<Self>) -> Result<Vec<Row>, Doubt> {
         let owned = |row: &DatabaseRow| Row {
             slot: row.get::<_, i32>(0) as u16,
             term: row.get::<_, i64>(1) as u64,
@@ -95,17 +96,22 @@ impl Shared {
 
     /// The term that was written; none where another was first. After a doubt nothing was taken: the next try sees which
     /// term there is, and what comes late finds another.
-    pub(super) async fn take(&self, slot: u16, seen: u64, owner: &str) -> Result<Option<u64>, Doubt> {
+    pub(super) async fn take(
+        self: Arc<Self>,
+        slot: u16,
+        seen: u64,
+        owner: String,
+    ) -> Result<Option<u64>, Doubt> {
         let taken = self.write(TAKE, &[&i32::from(slot), &(seen as i64), &owner]).await?;
         Ok((taken == 1).then_some(seen + 1))
     }
 
-    pub(super) async fn release(&self, slot: u16, term: u64) -> Result<(), Doubt> {
+    pub(super) async fn release(self: Arc<Self>, slot: u16, term: u64) -> Result<(), Doubt> {
         self.write(RELEASE, &[&i32::from(slot), &(term as i64)]).await.map(drop)
     }
 
     /// How many servers have what is committed; none where this role may not look.
-    pub(super) async fn copies(&self) -> Result<Option<u64>, Doubt> {
+    pub(super) async fn copies(self: Arc<Self>) -> Result<Option<u64>, Doubt> {
         let session = self.session().await?;
         let counted = within(READ, copies::count(&session.client)).await;
         self.heard(&session, counted).await

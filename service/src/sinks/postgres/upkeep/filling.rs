@@ -4,6 +4,7 @@
 use super::STEP;
 use crate::sinks::postgres::schema::{is_filling, views};
 use crate::sinks::postgres::statements::added;
+use crate::sinks::postgres::Server;
 use tokio_postgres::{Client, Error, Transaction};
 
 /// From where a step goes on.
@@ -82,7 +83,7 @@ const ALL_DONE: &str =
     "update totxegun.horizon set before_to_ns = (select ended_by_ns from totxegun.filling);
     drop view totxegun.hour_before; drop table totxegun.filling";
 
-pub(super) async fn fill(client: &mut Client, server: &str) -> Result<(), Error> {
+pub(super) async fn fill(client: &mut Client, server: &Server) -> Result<(), Error> {
     if !is_filling(client).await? {
         return Ok(());
     }

@@ -11,7 +11,7 @@ mod hours;
 mod reader;
 mod spans;
 
-use super::fault::PostgresFault;
+use super::fault::Fault;
 use super::Server;
 use super::{schema, session};
 use crate::sinks::{Memory, Retention};
@@ -73,15 +73,14 @@ impl Drop for Upkeep {
 
 async fn rounds(server: &Server, retention: Retention, memory: &dyn Memory, was_there: &AtomicBool) {
     let (mut wait, mut told) = (FIRST, None);
-    let mut reader = reader::Reader::default();
     loop {
         tokio::time::sleep(wait).await;
         if !was_there.load(Relaxed) {
             continue;
         }
         wait = PAUSE;
-        let fault = round(server, retention, memory, &mut reader).await.err();
-        let reason = fault.map(|fault| fault.to_string());
+        let fault = round(server, retention, memory).await.err();
+        let reason = fault.map(|fault| fault.at(server).to_string());
         if let Some(reason) = reason.as_ref().filter(|_| told != reason) {
             tracing::warn!(
                 reason,
@@ -93,29 +92,22 @@ async fn rounds(server: &Server, retention: Retention, memory: &dyn Memory, was_
 }
 
 /// Whatever fails, the others are tried: a lock that somebody keeps holds up one of them.
-async fn round(
-    server: &Server,
-    retention: Retention,
-    memory: &dyn Memory,
-    reader: &mut reader::Reader,
-) -> Result<(), PostgresFault> {
-    let name = server.to_string();
-    let fault = |error: Error| PostgresFault::of(&name, &error);
+async fn round(server: &Server, retention: Retention, memory: &dyn Memory) -> Result<(), Fault> {
     let (mut client, _connection) = session::connect(server).await?;
-    let is_known = schema::version(&client, &name).await? == schema::KNOWN;
-    if !is_known || !is_ours(&client, memory).await.map_err(fault)? {
+    let is_known = schema::version(&client).await? == schema::KNOWN;
+    if !is_known || !is_ours(&client, memory).await? {
         return Ok(());
     }
     let all = [
-        reader.let_in(&client, &name).await,
+        reader::let_in(&client, server).await,
         days::make(&mut client).await,
-        filling::fill(&mut client, &name).await,
+        filling::fill(&mut client, server).await,
         spans::delete(&mut client, retention.spans).await,
         hours::delete(&client, retention.hours).await,
         ending::delete(&client, retention.series).await,
         days::summarize(&client).await,
     ];
-    all.into_iter().collect::<Result<(), Error>>().map_err(fault)
+    Ok(all.into_iter().collect::<Result<(), Error>>()?)
 }
 
 /// Whether this is the sink that is remembered, and no other service does the same. The lock ends with the connection.

@@ -1,5 +1,7 @@
 //! The role `totxegun_read`, which may read all.
 
+use crate::sinks::postgres::Server;
+use std::sync::Once;
 use tokio_postgres::error::SqlState;
 use tokio_postgres::{Client, Error};
 
@@ -10,41 +12,35 @@ const GRANT: &str = "grant usage on schema totxegun to totxegun_read;
     grant select on all tables in schema totxegun to totxegun_read;
     alter default privileges in schema totxegun grant select on tables to totxegun_read";
 
-#[derive(Default)]
-pub(super) struct Reader {
-    /// Whether this run has said what to type.
-    is_told: bool,
+/// This run has said what to type.
+static TOLD: Once = Once::new();
+
+/// Makes the role where there is none and we may; lets it in where it is not.
+pub(super) async fn let_in(client: &Client, server: &Server) -> Result<(), Error> {
+    let query = "select exists (select from pg_roles where rolname = 'totxegun_read'),
+            exists (select from pg_roles where rolname = 'totxegun_read' and has_schema_privilege(oid, 'totxegun', 'usage'))";
+    let row = client.query_one(query, &[]).await?;
+    match (row.get(0), row.get(1)) {
+        (_, true) => Ok(()),
+        (true, false) => client.batch_execute(GRANT).await,
+        (false, false) => make(client, server).await,
+    }
 }
 
-impl Reader {
-    /// Makes the role where there is none and we may; lets it in where it is not.
-    pub(super) async fn let_in(&mut self, client: &Client, server: &str) -> Result<(), Error> {
-        let query = "select exists (select from pg_roles where rolname = 'totxegun_read'),
-            exists (select from pg_roles where rolname = 'totxegun_read' and has_schema_privilege(oid, 'totxegun', 'usage'))";
-        let row = client.query_one(query, &[]).await?;
-        match (row.get(0), row.get(1)) {
-            (_, true) => Ok(()),
-            (true, false) => client.batch_execute(GRANT).await,
-            (false, false) => self.make(client, server).await,
+async fn make(client: &Client, server: &Server) -> Result<(), Error> {
+    match client.batch_execute(MAKE).await {
+        Ok(()) => client.batch_execute(GRANT).await,
+        Err(error) if error.code() == Some(&SqlState::INSUFFICIENT_PRIVILEGE) => {
+            TOLD.call_once(|| {
+                tracing::info!(
+                    "{server}: there is no role to read it by: type `CREATE ROLE totxegun_read NOLOGIN` as one who \
+                     may, and the service lets it in"
+                )
+            });
+            Ok(())
         }
-    }
-
-    async fn make(&mut self, client: &Client, server: &str) -> Result<(), Error> {
-        match client.batch_execute(MAKE).await {
-            Ok(()) => client.batch_execute(GRANT).await,
-            Err(error) if error.code() == Some(&SqlState::INSUFFICIENT_PRIVILEGE) => {
-                if !self.is_told {
-                    tracing::info!(
-                        "{server}: there is no role to read it by: type `CREATE ROLE totxegun_read NOLOGIN` as one who \
-                         may, and the service lets it in"
-                    );
-                }
-                self.is_told = true;
-                Ok(())
-            }
-            // Made by the service of another database meanwhile.
-            Err(error) if error.code() == Some(&SqlState::DUPLICATE_OBJECT) => Ok(()),
-            Err(error) => Err(error),
-        }
+        // Made by the service of another database meanwhile.
+        Err(error) if error.code() == Some(&SqlState::DUPLICATE_OBJECT) => Ok(()),
+        Err(error) => Err(error),
     }
 }

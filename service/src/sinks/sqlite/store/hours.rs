@@ -1,13 +1,14 @@
 //! The rows of hours, days and months: what the points of a request add to them.
 
-use super::super::totals::json;
+use super::super::cached;
+use super::super::totals::{json, list};
+use super::super::wide_integers::Exact;
 use super::series_row::SeriesIds;
-use super::sums::{self, list};
 use crate::otlp::series::Value;
 use crate::sinks::periods::Closed;
 use crate::sinks::sums::Sums;
 use crate::sinks::utc::{day_of, hour_of, month_of};
-use rusqlite::{params, OptionalExtension, Transaction};
+use rusqlite::{params, Transaction};
 use std::collections::{BTreeMap, BTreeSet};
 use std::sync::LazyLock;
 
@@ -167,7 +168,7 @@ fn add_found(transaction: &Transaction, found: &str, key: [i64; 3], sums: &mut S
     if sums.buckets.is_none() {
         return Ok(());
     }
-    let found = transaction.prepare_cached(found)?.query_row(key, |row| json(row, 0)).optional()?;
+    let found = cached::find(transaction, found, key, |row| json(row, 0))?;
     let before: Vec<i128> = found.flatten().unwrap_or_default();
     sums.add_buckets(before.into_iter());
     Ok(())
@@ -191,5 +192,5 @@ pub(in super::super) fn correct(
 
 /// A request has too few points for more than two integers.
 fn parts(sums: &Sums) -> [(i64, i64); 2] {
-    sums::parts(sums).unwrap_or_default()
+    Exact::parts_of(sums).unwrap_or_default()
 }

@@ -1,11 +1,11 @@
 //! A request whose key is taken: what was left of it then is left again.
 
-use super::{spans, time_of, Total, Unsigned, Writing};
+use super::{cached, spans, time_of, Total, Unsigned, Writing};
 use crate::otlp::series::ForwardedPoint;
 use crate::sinks::left_out::{LeftOut, OTHER_REQUEST};
 use crate::sinks::sqlite::fault::NotTaken;
 use crate::sinks::Forwarded;
-use rusqlite::{params, OptionalExtension, Transaction};
+use rusqlite::{params, Transaction};
 
 /// The row of a request that was taken.
 pub(super) struct Taken {
@@ -17,27 +17,22 @@ pub(super) struct Taken {
 }
 
 pub(super) fn find(transaction: &Transaction, request: &Forwarded) -> rusqlite::Result<Option<Taken>> {
-    transaction
-        .prepare_cached(
-            "select id, points, first_start_ns, last_end_ns from request
-             where slot = ?1 and epoch = ?2 and number = ?3",
-        )?
-        .query_row(params![request.slot, request.epoch, Unsigned(request.number)], |row| {
-            Ok(Taken {
-                row: row.get(0)?,
-                points: row.get::<_, i64>(1)? as usize,
-                time: (row.get::<_, Unsigned>(2)?.0, row.get::<_, Unsigned>(3)?.0),
-            })
+    let query = "select id, points, first_start_ns, last_end_ns from request
+             where slot = ?1 and epoch = ?2 and number = ?3";
+    let key = params![request.slot, request.epoch, Unsigned(request.number)];
+    cached::find(transaction, query, key, |row| {
+        Ok(Taken {
+            row: row.get(0)?,
+            points: row.get::<_, i64>(1)? as usize,
+            time: (row.get::<_, Unsigned>(2)?.0, row.get::<_, Unsigned>(3)?.0),
         })
-        .optional()
+    })
 }
 
 /// Notes how many points of a request were added, where it is not all of them.
 pub(super) fn set_points(transaction: &Transaction, row: i64, points: usize) -> rusqlite::Result<()> {
-    transaction
-        .prepare_cached("update request set points = ?2 where id = ?1")?
-        .execute(params![row, points as i64])
-        .map(drop)
+    let update = "update request set points = ?2 where id = ?1";
+    cached::run(transaction, update, params![row, points as i64]).map(drop)
 }
 
 impl Writing<'_> {

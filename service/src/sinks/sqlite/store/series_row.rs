@@ -1,11 +1,8 @@
 //! The row of a series.
 
-use super::super::fault::NotTaken;
-use super::super::totals::Kind;
-use crate::otlp::series::SeriesParts;
-use crate::sinks::attributes::object;
-use rusqlite::{params, Transaction};
-use serde_json::Value;
+use super::super::cached;
+use super::super::totals::{list, SeriesTotal};
+use rusqlite::{params, Connection, ToSql, Transaction};
 
 /// The numbers of a series' row and of its metric's.
 #[derive(Clone, Copy, Debug, PartialEq, Eq)]
@@ -15,8 +12,8 @@ pub(in super::super) struct SeriesIds {
 }
 
 /// A series as its columns. Two series have the same columns only where they are the same.
-pub(super) struct SeriesRow<'a> {
-    parts: &'a SeriesParts,
+pub(in super::super) struct SeriesRow<'a> {
+    of: &'a SeriesTotal,
     kind: &'static str,
     bounds: String,
     attributes: String,
@@ -25,16 +22,31 @@ pub(super) struct SeriesRow<'a> {
 }
 
 impl<'a> SeriesRow<'a> {
-    pub(super) fn of(parts: &'a SeriesParts) -> Result<SeriesRow<'a>, NotTaken> {
-        let (kind, bounds) = Kind::identified(parts.kind.clone());
-        Ok(SeriesRow {
-            parts,
-            kind: kind.name(),
-            bounds: Value::from(bounds.unwrap_or_default()).to_string(),
-            attributes: text(&parts.attributes)?,
-            resource: text(&parts.resource)?,
-            scope_attributes: text(&parts.scope_attributes)?,
-        })
+    pub(in super::super) fn of(of: &'a SeriesTotal) -> SeriesRow<'a> {
+        let bounds: &[i64] = of.histogram.as_ref().map_or(&[], |histogram| &histogram.bounds);
+        let text = |object| serde_json::to_string(object).unwrap_or_default(); // each object is written
+        SeriesRow {
+            of,
+            kind: of.kind.name(),
+            bounds: list(bounds),
+            attributes: text(&of.attributes),
+            resource: text(&of.resource),
+            scope_attributes: text(&of.scope_attributes),
+        }
+    }
+
+    fn columns(&self) -> [&dyn ToSql; 9] {
+        let SeriesRow { of, kind, bounds, attributes, resource, scope_attributes } = self;
+        let (name, unit, scope_name, scope_version) = (&of.name, &of.unit, &of.scope_name, &of.scope_version);
+        [name, attributes, resource, kind, unit, bounds, scope_name, scope_version, scope_attributes]
+    }
+
+    /// The number of its row, where there is one.
+    pub(in super::super) fn find(&self, connection: &Connection) -> rusqlite::Result<Option<i64>> {
+        let find =
+            "select id from series where name = ?1 and attributes = ?2 and resource = ?3 and kind = ?4 and unit = ?5
+                 and bounds = ?6 and scope_name = ?7 and scope_version = ?8 and scope_attributes = ?9";
+        cached::find(connection, find, &self.columns()[..], |row| row.get(0))
     }
 
     /// Its row, which is made where there is none, and whether it was.
@@ -45,51 +57,23 @@ impl<'a> SeriesRow<'a> {
     }
 
     fn metric(&self, transaction: &Transaction, is_new: bool) -> rusqlite::Result<i64> {
-        let columns = params![self.parts.name, self.kind, self.parts.unit];
+        let columns = params![self.of.name, self.kind, self.of.unit];
         if is_new {
-            transaction
-                .prepare_cached(
-                    "insert into metric (name, kind, unit) values (?1, ?2, ?3) on conflict do nothing",
-                )?
-                .execute(columns)?;
+            let make = "insert into metric (name, kind, unit) values (?1, ?2, ?3) on conflict do nothing";
+            cached::run(transaction, make, columns)?;
         }
-        transaction
-            .prepare_cached("select id from metric where name = ?1 and kind = ?2 and unit = ?3")?
-            .query_row(columns, |row| row.get(0))
+        let find = "select id from metric where name = ?1 and kind = ?2 and unit = ?3";
+        cached::one(transaction, find, columns, |row| row.get(0))
     }
 
     fn id(&self, transaction: &Transaction) -> rusqlite::Result<(i64, bool)> {
-        let columns = params![
-            self.parts.name,
-            self.attributes,
-            self.resource,
-            self.kind,
-            self.parts.unit,
-            self.bounds,
-            self.parts.scope_name,
-            self.parts.scope_version,
-            self.scope_attributes
-        ];
         // Most series that are looked for here are new: those of earlier requests are known.
-        let made = transaction
-            .prepare_cached(
-                "insert into series (name, attributes, resource, kind, unit, bounds, scope_name, scope_version,
-                 scope_attributes) values (?1, ?2, ?3, ?4, ?5, ?6, ?7, ?8, ?9) on conflict do nothing",
-            )?
-            .execute(columns)?;
-        if made == 1 {
+        let make =
+            "insert into series (name, attributes, resource, kind, unit, bounds, scope_name, scope_version,
+                 scope_attributes) values (?1, ?2, ?3, ?4, ?5, ?6, ?7, ?8, ?9) on conflict do nothing";
+        if cached::run(transaction, make, &self.columns()[..])? == 1 {
             return Ok((transaction.last_insert_rowid(), true));
         }
-        let found = transaction
-            .prepare_cached(
-                "select id from series where name = ?1 and attributes = ?2 and resource = ?3 and kind = ?4 and unit = ?5
-                 and bounds = ?6 and scope_name = ?7 and scope_version = ?8 and scope_attributes = ?9",
-            )?
-            .query_row(columns, |row| row.get(0))?;
-        Ok((found, false))
+        Ok((self.find(transaction)?.ok_or(rusqlite::Error::QueryReturnedNoRows)?, false))
     }
-}
-
-fn text(list: &str) -> Result<String, NotTaken> {
-    Ok(Value::Object(object(list)?).to_string())
 }

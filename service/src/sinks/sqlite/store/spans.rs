@@ -1,11 +1,12 @@
 //! The rows of spans. Their times are told from the first start of their request, so that they are short.
 
+use super::super::cached;
 use super::super::horizon::Horizon;
+use super::super::totals::list;
 use super::super::wide_integers::Unsigned;
-use super::sums::list;
 use crate::otlp::series::{ForwardedPoint, Value};
 use rusqlite::types::Value as Cell;
-use rusqlite::{params, OptionalExtension, Transaction};
+use rusqlite::{params, Transaction};
 
 /// A request's row, and the earliest start of its points.
 #[derive(Clone, Copy)]
@@ -33,22 +34,12 @@ pub(super) fn insert(
             (None, Some(Unsigned(*count)), sum.map(Unsigned), Some(list(buckets)))
         }
     };
-    transaction
-        .prepare_cached(
-            "insert into span_row (request, series, after_ns, length_ns, value, count, sum, buckets)
-             values (?1, ?2, ?3, ?4, ?5, ?6, ?7, ?8)",
-        )?
-        .execute(params![
-            request.row,
-            series,
-            Unsigned(point.start - request.first_start),
-            Unsigned(point.end - point.start),
-            value,
-            count,
-            sum,
-            buckets
-        ])
-        .map(drop)
+    let insert = "insert into span_row (request, series, after_ns, length_ns, value, count, sum, buckets)
+             values (?1, ?2, ?3, ?4, ?5, ?6, ?7, ?8)";
+    let after = Unsigned(point.start - request.first_start);
+    let length = Unsigned(point.end - point.start);
+    let row = params![request.row, series, after, length, value, count, sum, buckets];
+    cached::run(transaction, insert, row).map(drop)
 }
 
 /// Whether a request has this very span.
@@ -62,19 +53,14 @@ pub(super) fn has(
         return Ok(false);
     };
     let length = point.end.saturating_sub(point.start);
+    let here =
+        "select 1 from span_row where request = ?1 and series = ?2 and after_ns = ?3 and length_ns = ?4";
     let row = params![request.row, series, Unsigned(after), Unsigned(length)];
-    let is_there = transaction
-        .prepare_cached(
-            "select 1 from span_row where request = ?1 and series = ?2 and after_ns = ?3 and length_ns = ?4",
-        )?
-        .exists(row)?;
-    let before = params![request.row, series, Unsigned(point.start), Unsigned(point.end)];
-    Ok(is_there
-        || transaction
-            .prepare_cached(
-                "select 1 from span_before where request = ?1 and series = ?2 and start_ns = ?3 and end_ns = ?4",
-            )?
-            .exists(before)?)
+    let before =
+        "select 1 from span_before where request = ?1 and series = ?2 and start_ns = ?3 and end_ns = ?4";
+    let row_before = params![request.row, series, Unsigned(point.start), Unsigned(point.end)];
+    Ok(transaction.prepare_cached(here)?.exists(row)?
+        || transaction.prepare_cached(before)?.exists(row_before)?)
 }
 
 /// A span of the series that overlaps the point. Only requests whose own time overlaps are looked through, by the
@@ -131,21 +117,15 @@ fn before(
     series: i64,
     point: &ForwardedPoint,
 ) -> rusqlite::Result<Option<StoredSpan>> {
-    transaction
-        .prepare_cached(
-            "select span.request, span.start_ns, span.end_ns from request
+    let query = "select span.request, span.start_ns, span.end_ns from request
              cross join span_before as span on span.request = request.id
              where request.has_spans and request.last_end_ns > ?2 and request.first_start_ns < ?3
-             and span.series = ?1 and span.start_ns < ?3 and span.end_ns > ?2 limit 1",
-        )?
-        .query_row(params![series, Unsigned(point.start), Unsigned(point.end)], |row| {
-            Ok(StoredSpan {
-                request: row.get(0)?,
-                start: row.get::<_, Unsigned>(1)?.0,
-                end: row.get::<_, Unsigned>(2)?.0,
-            })
-        })
-        .optional()
+             and span.series = ?1 and span.start_ns < ?3 and span.end_ns > ?2 limit 1";
+    let values = params![series, Unsigned(point.start), Unsigned(point.end)];
+    cached::find(transaction, query, values, |row| {
+        let (start, end): (Unsigned, Unsigned) = (row.get(1)?, row.get(2)?);
+        Ok(StoredSpan { request: row.get(0)?, start: start.0, end: end.0 })
+    })
 }
 
 /// Moves the spans of a request of an older file.
@@ -173,6 +153,5 @@ pub(in super::super) fn move_one(
             row.get::<_, Cell>(6)?
         ])?;
     }
-    let mut delete = transaction.prepare_cached("delete from span_before where request = ?1")?;
-    delete.execute([request]).map(drop)
+    cached::run(transaction, "delete from span_before where request = ?1", [request]).map(drop)
 }

@@ -1,11 +1,11 @@
 //! The row of what a series' spans come to.
 
-use super::super::totals::json;
+use super::super::cached;
+use super::super::totals::{json, list};
 use super::super::wide_integers::{Exact, Unsigned};
-use super::sums::{self, list};
 use crate::otlp::series::ForwardedPoint;
 use crate::sinks::sums::Sums;
-use rusqlite::{params, OptionalExtension, Row, Transaction};
+use rusqlite::{params, Row, Transaction};
 
 /// What a series' spans come to.
 pub(super) struct Total {
@@ -18,13 +18,10 @@ pub(super) struct Total {
 
 impl Total {
     pub(super) fn read(transaction: &Transaction, series: i64) -> rusqlite::Result<Option<Total>> {
-        transaction
-            .prepare_cached(
-                "select points, first_start_ns, last_end_ns, total_high, total_low, count_high, count_low, without_sum,
-                 buckets, spans_from_ns from series_total where series = ?1",
-            )?
-            .query_row([series], Total::of_row)
-            .optional()
+        let query =
+            "select points, first_start_ns, last_end_ns, total_high, total_low, count_high, count_low, without_sum,
+                 buckets, spans_from_ns from series_total where series = ?1";
+        cached::find(transaction, query, [series], Total::of_row)
     }
 
     fn of_row(row: &Row) -> rusqlite::Result<Total> {
@@ -59,7 +56,7 @@ impl Total {
             return Err("its value is not of the series' kind");
         }
         sums.merge(&one);
-        sums::parts(&sums).ok_or("the series' total is over 9 * 10^30")?;
+        Exact::parts_of(&sums).ok_or("the series' total is over 9 * 10^30")?;
         Ok(Total {
             first_start: self.first_start.min(Unsigned(point.start)),
             last_end: self.last_end.max(Unsigned(point.end)),
@@ -79,27 +76,25 @@ impl Total {
     }
 
     pub(super) fn write(&self, transaction: &Transaction, series: i64) -> rusqlite::Result<()> {
-        let [total, count] = sums::parts(&self.sums).unwrap_or_default();
+        let [total, count] = Exact::parts_of(&self.sums).unwrap_or_default();
         let buckets = self.sums.buckets.as_ref().map(|buckets| list(buckets));
-        transaction
-            .prepare_cached(
-                "insert or replace into series_total (series, points, first_start_ns, last_end_ns, total_high, total_low,
+        let replace =
+            "insert or replace into series_total (series, points, first_start_ns, last_end_ns, total_high, total_low,
                  count_high, count_low, without_sum, buckets, spans_from_ns)
-                 values (?1, ?2, ?3, ?4, ?5, ?6, ?7, ?8, ?9, ?10, ?11)",
-            )?
-            .execute(params![
-                series,
-                self.sums.points,
-                self.first_start,
-                self.last_end,
-                total.0,
-                total.1,
-                count.0,
-                count.1,
-                self.sums.without_sum,
-                buckets,
-                self.spans_from
-            ])
-            .map(drop)
+                 values (?1, ?2, ?3, ?4, ?5, ?6, ?7, ?8, ?9, ?10, ?11)";
+        let row = params![
+            series,
+            self.sums.points,
+            self.first_start,
+            self.last_end,
+            total.0,
+            total.1,
+            count.0,
+            count.1,
+            self.sums.without_sum,
+            buckets,
+            self.spans_from
+        ];
+        cached::run(transaction, replace, row).map(drop)
     }
 }

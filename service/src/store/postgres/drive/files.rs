@@ -41,10 +41,11 @@ struct File {
     is_sent: bool,
 }
 
-struct Piece {
-    file: u64,
-    at: u64,
-    bytes: Bytes,
+#[derive(Clone)]
+pub struct Piece {
+    pub file: u64,
+    pub at: u64,
+    pub bytes: Bytes,
 }
 
 /// What was done since the batch before. Each part of it says what is there behind it, so it may be done again.
@@ -52,15 +53,8 @@ struct Piece {
 pub struct Batch {
     pub gone: Vec<u64>,
     pub named: Vec<(u64, String)>,
-    pub pieces: Vec<Row>,
-}
-
-/// A piece as the store has it.
-pub struct Row {
-    pub number: u64,
-    pub file: u64,
-    pub at: u64,
-    pub bytes: Bytes,
+    /// Under their numbers.
+    pub pieces: Vec<(u64, Piece)>,
 }
 
 /// What is known of a piece that is in the store.
@@ -239,13 +233,8 @@ impl Files {
     }
 
     pub fn batch(&mut self) -> Batch {
-        let pieces = self.held.range(self.queued..).map(|(number, piece)| Row {
-            number: *number,
-            file: piece.file,
-            at: piece.at,
-            bytes: piece.bytes.clone(),
-        });
-        let pieces = pieces.collect();
+        let pieces = self.held.range(self.queued..);
+        let pieces = pieces.map(|(number, piece)| (*number, piece.clone())).collect();
         self.queued = self.next + 1;
         let mut named = Vec::new();
         for number in std::mem::take(&mut self.named) {
@@ -259,8 +248,8 @@ impl Files {
 
     /// The store has it: its bytes need not be held any more.
     pub fn is_there(&mut self, batch: &Batch) {
-        for piece in &batch.pieces {
-            self.held.remove(&piece.number);
+        for (number, _) in &batch.pieces {
+            self.held.remove(number);
         }
     }
 }

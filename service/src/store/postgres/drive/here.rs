@@ -14,8 +14,8 @@ impl Wake for Sleeper {
     }
 }
 
-/// What comes of it, whatever thread this is. It may use channels and locks, and no clock and no connection: those belong to a
-/// runtime.
+/// What comes of it, whatever thread this is. It may use channels and locks; a clock and a connection only where a runtime was
+/// entered, to which they belong.
 pub fn on_this_thread<T>(work: impl Future<Output = T>) -> T {
     let waker = Waker::from(Arc::new(Sleeper(thread::current())));
     let mut context = Context::from_waker(&waker);

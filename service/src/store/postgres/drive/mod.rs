@@ -17,22 +17,23 @@ mod turns;
 mod writer;
 
 pub(super) use files::Files;
+pub(super) use here::on_this_thread;
 pub(super) use together::Together;
 pub(super) use writer::Writer;
 
 use super::shared::{Shared, Stored};
 use crate::files::drive::{lost, Drive, Lost};
 use crate::latch::Latch;
+use crate::lock::lock;
 use cache::Cache;
 use files::{Bytes, Read};
-use here::on_this_thread;
 use packed::Packed;
 use std::collections::HashMap;
 use std::ffi::OsString;
 use std::future::Future;
 use std::io;
 use std::path::Path;
-use std::sync::{mpsc, Arc, Mutex, MutexGuard, PoisonError};
+use std::sync::{mpsc, Arc, Mutex};
 use std::time::Duration;
 use together::Seat;
 use tokio::runtime::Handle;
@@ -53,11 +54,6 @@ pub struct PostgresDrive {
     reader: Arc<Shared>,
     runtime: Handle,
     lost: watch::Sender<bool>,
-}
-
-fn lock<T>(mutex: &Mutex<T>) -> MutexGuard<'_, T> {
-    // Each change of what is in it is whole, or is of a process that ends.
-    mutex.lock().unwrap_or_else(PoisonError::into_inner)
 }
 
 impl PostgresDrive {
@@ -147,8 +143,8 @@ impl PostgresDrive {
         }
         lock(&self.files).is_there(&batch);
         let mut cache = lock(&self.cache);
-        for piece in batch.pieces {
-            cache.put(piece.number, piece.bytes);
+        for (number, piece) in batch.pieces {
+            cache.put(number, piece.bytes);
         }
         Ok(())
     }

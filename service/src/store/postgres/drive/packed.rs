@@ -1,10 +1,11 @@
 //! A batch in the form of the statement that writes it: columns of pieces, each packed where that is shorter.
 
-use super::files::{Batch, Bytes, Row};
+use super::files::{Batch, Bytes, Piece};
+use crate::lock::lock;
 use flate2::read::DeflateDecoder;
 use flate2::{Compress, Compression, FlushCompress, Status};
 use std::io::{self, Read};
-use std::sync::{Mutex, MutexGuard, PoisonError};
+use std::sync::Mutex;
 
 /// What one statement has at most, and a piece.
 const MOST: usize = 16 << 20;
@@ -42,8 +43,8 @@ impl Packed {
     pub fn of(batch: &Batch) -> Packed {
         let mut pieces = vec![Columns::default()];
         let (mut all, mut size) = (0, 0);
-        for row in &batch.pieces {
-            let bytes = pack(&row.bytes);
+        for (number, piece) in &batch.pieces {
+            let bytes = pack(&piece.bytes);
             all += bytes.len();
             size += bytes.len();
             if size > MOST {
@@ -51,7 +52,7 @@ impl Packed {
                 size = bytes.len();
             }
             if let Some(columns) = pieces.last_mut() {
-                columns.put(row, bytes);
+                columns.put(*number, piece, bytes);
             }
         }
         Packed {
@@ -70,11 +71,11 @@ impl Packed {
 }
 
 impl Columns {
-    fn put(&mut self, row: &Row, bytes: Bytes) {
-        self.numbers.push(row.number as i64);
-        self.files.push(row.file as i64);
-        self.places.push(row.at as i64);
-        self.lengths.push(row.bytes.len() as i32);
+    fn put(&mut self, number: u64, piece: &Piece, bytes: Bytes) {
+        self.numbers.push(number as i64);
+        self.files.push(piece.file as i64);
+        self.places.push(piece.at as i64);
+        self.lengths.push(piece.bytes.len() as i32);
         self.bytes.push(bytes);
     }
 }
@@ -84,22 +85,18 @@ fn signed(numbers: impl Iterator<Item = u64>) -> Vec<i64> {
     numbers.map(|number| number as i64).collect()
 }
 
-fn packers() -> MutexGuard<'static, Vec<Compress>> {
-    PACKERS.lock().unwrap_or_else(PoisonError::into_inner) // each change of it is one step
-}
-
 /// Packed, where that is shorter.
 fn pack(bytes: &Bytes) -> Bytes {
     if bytes.len() < LEAST {
         return bytes.clone();
     }
-    let kept = packers().pop();
+    let kept = lock(&PACKERS).pop();
     let mut packer = kept.unwrap_or_else(|| Compress::new(Compression::fast(), false));
     packer.reset();
     // There is no room for what is longer.
     let mut packed = Vec::with_capacity(bytes.len());
     let done = packer.compress_vec(bytes, &mut packed, FlushCompress::Finish);
-    let mut packers = packers();
+    let mut packers = lock(&PACKERS);
     if packers.len() < MOST_PACKERS {
         packers.push(packer);
     }
@@ -162,6 +159,6 @@ mod tests {
             assert_eq!(done.unwrap(), Status::StreamEnd);
             assert_eq!(*pack(&bytes), new);
         }
-        assert!((1..=MOST_PACKERS).contains(&packers().len()));
+        assert!((1..=MOST_PACKERS).contains(&lock(&PACKERS).len()));
     }
 }

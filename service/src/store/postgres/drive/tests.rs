@@ -211,7 +211,7 @@ fn what_goes_on_is_one_piece_until_it_is_sent_or_full() {
     let mut files = Files::found(1, Vec::new(), []);
     let file = files.create(Path::new("a")).unwrap();
     (0..100).for_each(|number| files.write(file, &[1; 10], number * 10).unwrap());
-    let lengths = |batch: Batch| batch.pieces.iter().map(|piece| piece.bytes.len()).collect::<Vec<_>>();
+    let lengths = |batch: Batch| batch.pieces.iter().map(|(_, piece)| piece.bytes.len()).collect::<Vec<_>>();
     assert_eq!(lengths(files.batch()), [1000]);
     files.write(file, &[2; (1 << 20) + 5], 1000).unwrap();
     files.write(file, &[3; 7], 0).unwrap();

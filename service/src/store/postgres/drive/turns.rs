@@ -1,6 +1,7 @@
 //! One sync at a time, and one for all that wait.
 
 use crate::files::drive::Lost;
+use crate::lock::lock;
 use std::sync::{Condvar, Mutex, MutexGuard, PoisonError};
 use std::time::{Duration, Instant};
 
@@ -21,11 +22,6 @@ struct State {
 }
 
 impl Turns {
-    fn state(&self) -> MutexGuard<'_, State> {
-        // Each change of it is one step.
-        self.state.lock().unwrap_or_else(PoisonError::into_inner)
-    }
-
     /// Returns once a turn has ended that began after this call: by this thread or another. Who takes it comes aboard first,
     /// which may take a while, and then it begins. Who waits for another's turn leaves what it has.
     pub fn ended<S>(
@@ -35,7 +31,7 @@ impl Turns {
         leave: impl Fn(),
     ) -> Result<(), Lost> {
         self.waited(|| {
-            let mut state = self.state();
+            let mut state = lock(&self.state);
             let wanted = state.begun + 1;
             loop {
                 if state.is_lost {
@@ -57,9 +53,9 @@ impl Turns {
     /// Does what waits for the store, as is seen meanwhile.
     pub fn waited<T>(&self, work: impl FnOnce() -> T) -> T {
         let began = Instant::now();
-        self.state().waiting.push(began);
+        lock(&self.state).waiting.push(began);
         let done = work();
-        let mut state = self.state();
+        let mut state = lock(&self.state);
         if let Some(place) = state.waiting.iter().position(|other| *other == began) {
             state.waiting.swap_remove(place);
         }
@@ -78,7 +74,7 @@ impl Turns {
             let number = self.begin();
             turn(aboard).map(|()| number)
         });
-        let mut state = self.state();
+        let mut state = lock(&self.state);
         state.is_busy = false;
         match done {
             Ok(number) => state.ended = number,
@@ -90,18 +86,18 @@ impl Turns {
 
     /// Who comes from here on waits for the next one.
     fn begin(&self) -> u64 {
-        let mut state = self.state();
+        let mut state = lock(&self.state);
         state.begun += 1;
         state.begun
     }
 
     pub fn lose(&self) {
-        self.state().is_lost = true;
+        lock(&self.state).is_lost = true;
         self.changed.notify_all();
     }
 
     pub fn check(&self) -> Result<(), Lost> {
-        match self.state().is_lost {
+        match lock(&self.state).is_lost {
             true => Err(Lost),
             false => Ok(()),
         }
@@ -109,7 +105,7 @@ impl Turns {
 
     /// How long the one that began first has waited.
     pub fn longest(&self) -> Duration {
-        let first = self.state().waiting.iter().min().copied();
+        let first = lock(&self.state).waiting.iter().min().copied();
         first.map_or(Duration::ZERO, |first| first.elapsed())
     }
 }
@@ -138,7 +134,7 @@ mod tests {
             })
         };
         let until = |waiting: usize| {
-            while turns.state().waiting.len() < waiting || count.load(SeqCst) == 0 {
+            while lock(&turns.state).waiting.len() < waiting || count.load(SeqCst) == 0 {
                 thread::sleep(Duration::from_millis(1));
             }
         };
@@ -196,7 +192,7 @@ mod tests {
             })
         };
         let all = [come(), come(), come()];
-        while turns.state().waiting.len() < 3 {
+        while lock(&turns.state).waiting.len() < 3 {
             thread::sleep(Duration::from_millis(1));
         }
         go.send(()).unwrap();

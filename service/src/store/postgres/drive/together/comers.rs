@@ -1,9 +1,10 @@
 //! Who waits for a write, and how long one waits for who was answered by the last one: where senders post as fast as they are
 //! answered, these come again at once, and else would wait for the next one while it is under way.
 
+use crate::lock::lock;
 use crate::work::blocking;
 use std::sync::atomic::{AtomicU64, Ordering::SeqCst};
-use std::sync::{Arc, Condvar, Mutex, MutexGuard, PoisonError};
+use std::sync::{Arc, Condvar, Mutex};
 use std::time::{Duration, Instant};
 
 /// So much of the time that the last one took they are waited for, and no longer than so long: whoever comes is answered a
@@ -36,7 +37,7 @@ impl Comers {
     /// It costs who posts nothing, as a rule.
     pub fn come(&self) {
         if self.came.fetch_add(1, SeqCst) + 1 == self.awaited.load(SeqCst) {
-            let _waits = self.waiting();
+            let _waits = lock(&self.waiting);
             self.all_are_there.notify_one();
         }
     }
@@ -45,16 +46,12 @@ impl Comers {
         self.came.load(SeqCst)
     }
 
-    fn waiting(&self) -> MutexGuard<'_, ()> {
-        self.waiting.lock().unwrap_or_else(PoisonError::into_inner) // it guards nothing
-    }
-
     /// Waits until so many have come in all, or it is so late.
     fn wait(&self, awaited: u64, late: Instant) {
         self.awaited.store(awaited, SeqCst);
         let left = late.saturating_duration_since(Instant::now());
         let lacks_some = |_: &mut ()| self.came() < awaited;
-        drop(self.all_are_there.wait_timeout_while(self.waiting(), left, lacks_some));
+        drop(self.all_are_there.wait_timeout_while(lock(&self.waiting), left, lacks_some));
     }
 }
 

@@ -1,0 +1,28 @@
+//! Statements that a connection prepares once.
+
+use rusqlite::{Connection, OptionalExtension, Params, Result, Row};
+
+/// How many rows it changed.
+pub(super) fn run(connection: &Connection, statement: &str, values: impl Params) -> Result<usize> {
+    connection.prepare_cached(statement)?.execute(values)
+}
+
+/// The first row, where there is one.
+pub(super) fn find<T>(
+    connection: &Connection,
+    query: &str,
+    values: impl Params,
+    of: impl FnOnce(&Row<'_>) -> Result<T>,
+) -> Result<Option<T>> {
+    connection.prepare_cached(query)?.query_row(values, of).optional()
+}
+
+/// The row that there is.
+pub(super) fn one<T>(
+    connection: &Connection,
+    query: &str,
+    values: impl Params,
+    of: impl FnOnce(&Row<'_>) -> Result<T>,
+) -> Result<T> {
+    connection.prepare_cached(query)?.query_row(values, of)
+}
