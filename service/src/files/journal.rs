@@ -270,14 +270,13 @@ impl Journal {
 }
 
 impl Shared {
-    fn put(&self, place: &mut Place, post: &Post, now: u64, parts: &[&[u8]; 2]) -> Ticket {
+    fn put(&self, place: &mut Place, post: &Post, now: u64, parts: &[&[u8]]) -> Ticket {
         let length = parts.iter().map(|part| part.len() as u64).sum();
         self.free_space.use_up(length);
-        // What a drive has is in memory until its sync anyway.
-        let put = match self.disk.keeps_order() {
-            true => place.segment.put(parts).map(drop),
-            false => place.segment.append(parts),
-        };
+        let put = place.segment.append(parts).and_then(|()| match self.disk.keeps_order() {
+            true => place.segment.write(), // what a drive has is in memory until its sync anyway
+            false => Ok(()),
+        });
         if let Err(fault) = put {
             let Lost = self.disk.fail(fault);
         }

@@ -76,7 +76,7 @@ impl Shared {
         let (file, path) = (place.segment.file.clone(), place.segment.path.clone());
         drop(place);
         if !bytes.is_empty() {
-            let written = self.disk.write_at(&file, &path, &[&bytes], at);
+            let written = self.disk.write_at(&file, &path, &bytes, at);
             written.map_err(|fault| self.disk.fail(fault))?;
             bytes.clear();
             bytes.shrink_to(KEPT);

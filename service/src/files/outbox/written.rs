@@ -124,7 +124,7 @@ impl Outbox {
     ) -> Result<(), Fault> {
         writer.begin(&self.disk)?;
         self.free_space.use_up(bytes.len() as u64);
-        let begin = writer.segment.put(&[bytes])?;
+        let begin = writer.segment.put(bytes)?;
         let change = change(begin, writer.segment.number);
         if !matches!(change, Change::Acknowledge { .. }) {
             writer.segment.order()?;
@@ -238,7 +238,7 @@ impl Ends {
 /// Makes a segment that begins with a snapshot. It has another name until it is whole.
 pub(super) fn begin(disk: &Disk, folder: &Path, number: u64, snapshot: &Snapshot) -> Result<Segment, Fault> {
     let mut segment = Segment::create(disk, folder, Which::Outbox, number, Ahead::Nothing, None)?;
-    segment.put(&[&snapshot.records()])?;
+    segment.put(&snapshot.records())?;
     segment.order()?;
     segment.name()?;
     disk.order_folder(folder)?;
