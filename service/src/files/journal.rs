@@ -15,6 +15,7 @@
 //! until the next write, which is for all that were appended (`write`). One thread syncs, once for all that wait; nobody who
 //! must wait for the disk holds the lock of those who append.
 
+mod by_number;
 mod earlier_segment;
 mod held;
 mod name_records;
@@ -33,6 +34,7 @@ use super::free_space::FreeSpace;
 use super::records::{self, Which};
 use super::segment::{self, Ahead, Dropped, Segment};
 use super::{lock, seconds, Durability, Fault};
+pub use by_number::ByNumber;
 pub use held::Held;
 pub use name_records::shared_ends;
 use named_numbers::NamedNumbers;
